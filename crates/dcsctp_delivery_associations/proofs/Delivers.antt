@@ -139,7 +139,7 @@ module _ (options : Options) (ends : Ends) (e : Endpoint) (queued : List Message
 
 -- ---- two sockets that were just made
 
-pub ends_begin : (never_resets : Bool) (mine options : Options) → AreEnds never_resets options (fresh_endpoint mine) [] [] [] (fresh_endpoint options) [] nothing_read
+pub ends_begin : (never_resets : ℕ → Bool) (mine options : Options) → AreEnds never_resets options (fresh_endpoint mine) [] [] [] (fresh_endpoint options) [] nothing_read
 ends_begin never_resets mine options =
     record {
       ends = record { sends = λ tag. nothing; gets = λ tag. new_end options 0; firsts = λ tag. 0; never_resets = never_resets };
@@ -164,9 +164,9 @@ ends_begin never_resets mine options =
         };
         asks = tt;
         numbered = λ tag some anew. refl;
-        kept = λ tag some never only. never;
-        dropping = λ resets tag. resets;
-        unbegun = λ never. record { unlinked = refl; idle = refl; zero = fresh_is_at_zero mine; all = λ never. record { waits = λ place below. absurd (omega (arith, below)); unpaused = tt } };
+        kept = λ tag some only id never. never;
+        dropping = λ tag id resets. resets;
+        unbegun = λ never. record { unlinked = refl; idle = refl; zero = fresh_is_at_zero mine; all = λ id never. record { waits = λ place message at. absurd (cc); unpaused = tt } };
         receiver = record { fits = record { first = 0; asking = nothing_asked; fits = tt }; current = λ transfer there. absurd (cc); left = inl refl; last = λ link is. absurd (cc); were_read = λ tag. refl; begun = λ tag. inl refl };
       };
       answered = record {
@@ -188,7 +188,7 @@ ends_begin never_resets mine options =
     }
   where
     nothing : SendingEnd
-    nothing = record { queued = []; queues = record { queue = empty_queue mine; transfer = None }; acknowledged = 0; sent = []; asking = nothing_asked; beginning = record { from_zero = true; keeps_all = never_resets } }
+    nothing = record { queued = []; queues = record { queue = empty_queue mine; transfer = None }; acknowledged = 0; sent = []; asking = nothing_asked; beginning = record { from_zero = true; keeps = never_resets } }
 
     awaits : Awaits nothing
-    awaits = record { queued = refl; sent = refl; acknowledged = refl; transfer = refl; asking = refl; begun = record { zero = λ is. fresh_at_zero mine; all = λ is. record { waits = λ place below. absurd (omega (arith, below)); unpaused = tt } } }
+    awaits = record { queued = refl; sent = refl; acknowledged = refl; transfer = refl; asking = refl; begun = record { zero = λ is. fresh_at_zero mine; all = λ id is. record { waits = λ place message at. absurd (cc); unpaused = tt } } }

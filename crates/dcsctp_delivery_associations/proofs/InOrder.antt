@@ -10,6 +10,7 @@ use Rattle.dcsctp_delivery_sending.specs.Places.{HasEntry, at_place}
 use Rattle.dcsctp_delivery_sending.specs.Log.{Message}
 use Rattle.dcsctp_delivery_sending.specs.ChunkCounts.{chunks_to}
 use Rattle.dcsctp_delivery_sending.proofs.Places.{decide, at_new, at_stays, at_cases, at_below}
+use Rattle.dcsctp_delivery_sending.proofs.HeldOn.{unlimited_on_at}
 use Rattle.dcsctp_delivery_receiving.specs.Ready.{WereQueued}
 use Rattle.dcsctp_delivery_directions.proofs.ChunkCounts.{few_for_chunks}
 use Rattle.dcsctp_delivery_directions.proofs.Directions.{directions_deliver}
@@ -17,13 +18,14 @@ use Rattle.dcsctp_delivery_directions.specs.Directions.{Direction, assigned}
 use Rattle.dcsctp_delivery_directions.specs.Requests.{requests_to}
 use Rattle.dcsctp_delivery_directions.proofs.RequestCounts.{requests_are_sent}
 use Rattle.dcsctp_delivery_directions.proofs.Forwards.{unlimited_forward_nothing}
-use Rattle.dcsctp_delivery_sending.specs.Losing.{AreUnlimited}
+use Rattle.dcsctp_delivery_sending.specs.Losing.{AreUnlimited, AreUnlimitedOn}
 use Rattle.dcsctp_spec_lemmas.proofs.MarkedItemLemmas.{le_or_lt}
 use Rattle.dcsctp_delivery_order.specs.Delivered.{DeliveredInOrder, DeliveredWithoutGaps}
-use Rattle.dcsctp_delivery_order.specs.Queue.{IsOrderedOn, ComeInOrder}
+use Rattle.dcsctp_delivery_order.specs.Queue.{IsOrderedOn, ComeInOrder, LeaveNoGap}
+use Rattle.dcsctp_delivery_order.specs.Streams.{DeliveredByStream}
 use Rattle.dcsctp_delivery_order.proofs.Directions.{directions_deliver_in_order}
 use Rattle.dcsctp_delivery_order.proofs.PlainDirections.{plain_directions_deliver_in_order}
-use Rattle.dcsctp_delivery_order.proofs.Front.{directions_deliver_without_gaps}
+use Rattle.dcsctp_delivery_order.proofs.StreamDirections.{streams_deliver_without_gaps, directions_deliver_without_gaps}
 use Rattle.dcsctp_delivery_order.proofs.FewDirections.{plain_few_deliver_in_order}
 use Rattle.dcsctp_delivery_order.specs.PlainDirections.{FewOnEachStream}
 use Rattle.dcsctp_delivery_associations.proofs.FewMarks.{few_marks}
@@ -95,18 +97,6 @@ below_at place (mark ∷ marks) below =
           record { mark = m.mark; at = at_stays place mark m.mark marks m.at }
     ]
 
--- What is read leaves no gap, marked or not.
-front_unmarked : (marks queued : List Message) (contents : List MessageContent) → AllFound marks queued → DeliveredWithoutGaps marks contents → DeliveredWithoutGaps queued contents
-front_unmarked marks queued contents found d =
-    record {
-      ordered = in_order_unmarked marks queued contents found d.ordered;
-      no_gap = λ id earlier later has on on' before. (
-          let m = mark_at marks later d.ordered.delivered.places contents d.ordered.delivered.were_queued has in
-          let first = below_at earlier marks (let below = at_below later m.mark marks m.at in omega (arith, before, below)) in
-          d.no_gap id earlier later has (is_ordered marks queued id later found m on) (is_ordered marks queued id earlier found first on') before
-          );
-    }
-
 -- Messages that were marked have no limits either.
 unlimited_at : (queued : List Message) (place : ℕ) (message : Message) → AreUnlimited queued → at_place place queued ≡ Some message → message.is_limited ≡ false
 unlimited_at [] place message are at = absurd (cc)
@@ -124,6 +114,38 @@ unlimited_marks : (marks queued : List Message) → AllFound marks queued → Ar
 unlimited_marks marks queued found are =
     unlimited_of marks (λ place mark at. (let f = found place mark at in f.is.limited ∙ unlimited_at queued place f.message are f.at))
 
+pub unlimited_on_of : (id : ℕ) (marks : List Message) → ((place : ℕ) (mark : Message) → at_place place marks ≡ Some mark → mark.stream ≡ id → mark.is_limited ≡ false) → AreUnlimitedOn id marks
+unlimited_on_of id [] each = tt
+unlimited_on_of id (mark ∷ marks) each = (each (length marks) mark (at_new mark marks), unlimited_on_of id marks (λ place m at. each place m (at_stays place mark m marks at)))
+
+unlimited_on_marks : (id : ℕ) (marks queued : List Message) → AllFound marks queued → AreUnlimitedOn id queued → AreUnlimitedOn id marks
+unlimited_on_marks id marks queued found are =
+    unlimited_on_of id marks (λ place mark at on. (let f = found place mark at in f.is.limited ∙ unlimited_on_at id queued place f.message are f.at (sym f.is.stream ∙ on)))
+
+-- What is read leaves no gap, marked or not.
+no_gap_unmarked : (marks queued : List Message) (contents : List MessageContent) (places : List ℕ) (id : ℕ) → AllFound marks queued → WereQueued marks places contents → LeaveNoGap marks id places → LeaveNoGap queued id places
+no_gap_unmarked marks queued contents places id found were gap earlier later has on on' before =
+    let m = mark_at marks later places contents were has in
+    let first = below_at earlier marks (let below = at_below later m.mark marks m.at in omega (arith, before, below)) in
+    gap earlier later has (is_ordered marks queued id later found m on) (is_ordered marks queued id earlier found first on') before
+
+front_unmarked : (marks queued : List Message) (contents : List MessageContent) → AllFound marks queued → DeliveredWithoutGaps marks contents → DeliveredWithoutGaps queued contents
+front_unmarked marks queued contents found d =
+    record {
+      ordered = in_order_unmarked marks queued contents found d.ordered;
+      no_gap = λ id. no_gap_unmarked marks queued contents d.ordered.delivered.places id found d.ordered.delivered.were_queued (d.no_gap id);
+    }
+
+-- So does what is read of a stream.
+by_stream_unmarked : (keeps never_resets : ℕ → Bool) (marks queued : List Message) (contents : List MessageContent) → AllFound marks queued → ((id : ℕ) → never_resets id ≡ true → keeps id ≡ true)
+    → DeliveredByStream keeps marks contents → DeliveredByStream never_resets queued contents
+by_stream_unmarked keeps never_resets marks queued contents found kept d =
+    record {
+      ordered = in_order_unmarked marks queued contents found d.ordered;
+      no_gap = λ id never are.
+          no_gap_unmarked marks queued contents d.ordered.delivered.places id found d.ordered.delivered.were_queued (d.no_gap id (kept id never) (unlimited_on_marks id marks queued found are));
+    }
+
 -- ---- one association
 
 nothing_in_order : (queued : List Message) (contents : List MessageContent) → contents ≡ [] → DeliveredInOrder queued contents
@@ -133,6 +155,10 @@ nothing_before : (queued : List Message) (contents : List MessageContent) → co
 nothing_before queued contents none =
     subst (DeliveredWithoutGaps queued) (sym none)
     (record { ordered = record { delivered = record { places = []; were_queued = tt; once = tt }; in_order = λ id. tt }; no_gap = λ id earlier later has on on' before. absurd has })
+
+nothing_by_stream : (never_resets : ℕ → Bool) (queued : List Message) (contents : List MessageContent) → contents ≡ [] → DeliveredByStream never_resets queued contents
+nothing_by_stream never_resets queued contents none =
+    let d = nothing_before queued contents none in record { ordered = d.ordered; no_gap = λ id never are. d.no_gap id }
 
 -- Nothing is read where nothing was queued.
 read_none : (queued : List Message) → queued ≡ [] → (contents : List MessageContent) (places : List ℕ) → WereQueued queued places contents → contents ≡ []
@@ -193,6 +219,14 @@ module _ (options : Options) (ends : Ends) (e : Endpoint) (queued : List Message
       (directions_deliver_in_order options (ends.firsts tag) options.max_receiver_window_buffer_size (own tag) (h.runs tag) (h.small tag) (little tag) (short tag)
       (sym had.kind_is ∙ interleaves had.link had.held had.tag_is) (h.numbered tag some anew)))
 
+  pub ends_deliver_by_stream : (tag : ℕ) → IsOnlyTag past tag → Interleaves past tag → DeliveredByStream ends.never_resets queued (with_tag tag reading.reads)
+  ends_deliver_by_stream tag only interleaves =
+      by_begun tag (nothing_by_stream ends.never_resets queued (with_tag tag reading.reads))
+      (λ some had. by_stream_unmarked (ends.sends tag).beginning.keeps ends.never_resets (ends.sends tag).queued queued (with_tag tag reading.reads) (h.sender.marks tag) (h.kept tag some only)
+      (subst (DeliveredByStream (ends.sends tag).beginning.keeps (ends.sends tag).queued) (sym (h.receiver.were_read tag))
+      (streams_deliver_without_gaps options (ends.firsts tag) options.max_receiver_window_buffer_size (own tag) (h.runs tag) (h.small tag) (little tag) (short tag)
+      (sym had.kind_is ∙ interleaves had.link had.held had.tag_is) (h.numbered tag some (inr only)))))
+
   module _ (window : options.max_receiver_window_buffer_size < 2 ^ 32) where
     room : options.max_receiver_window_buffer_size ≤ 2 ^ 63
     room = omega (arith, window)
@@ -217,16 +251,16 @@ module _ (options : Options) (ends : Ends) (e : Endpoint) (queued : List Message
         (λ some had. in_order_so tag (own_data tag (ends.sends tag).queues.queue.is_interleaved refl (h.numbered tag some anew) (unasked tag none) which))
 
     -- Either way of numbering leaves no gap.
-    own_front : AreUnlimited queued → (tag : ℕ) → tag ≢ 0 → ends.never_resets ≡ true → IsOnlyTag past tag → (kind : Bool) → (ends.sends tag).queues.queue.is_interleaved ≡ kind
+    own_front : AreUnlimited queued → (tag : ℕ) → tag ≢ 0 → ((id : ℕ) → ends.never_resets id ≡ true) → IsOnlyTag past tag → (kind : Bool) → (ends.sends tag).queues.queue.is_interleaved ≡ kind
         → DeliveredWithoutGaps (ends.sends tag).queued (ends.gets tag).read
     own_front are tag some never only true is =
         directions_deliver_without_gaps options (ends.firsts tag) options.max_receiver_window_buffer_size (own tag) (h.runs tag) (h.small tag) (little tag) (short tag) is
-        (h.numbered tag some (inr only)) (h.kept tag some never only) (unlimited are tag)
+        (h.numbered tag some (inr only)) (λ id. h.kept tag some only id (never id)) (unlimited are tag)
     own_front are tag some never only false is =
         plain_directions_deliver_without_gaps options (ends.firsts tag) options.max_receiver_window_buffer_size (own tag) (h.runs tag) (h.small tag) (little tag) (short tag) room is
-        (h.numbered tag some (inr only)) (h.kept tag some never only) (unlimited are tag)
+        (h.numbered tag some (inr only)) (λ id. h.kept tag some only id (never id)) (unlimited are tag)
 
-    pub ends_deliver_without_gaps : AreUnlimited queued → ends.never_resets ≡ true → (tag : ℕ) → IsOnlyTag past tag → DeliveredWithoutGaps queued (with_tag tag reading.reads)
+    pub ends_deliver_without_gaps : AreUnlimited queued → ((id : ℕ) → ends.never_resets id ≡ true) → (tag : ℕ) → IsOnlyTag past tag → DeliveredWithoutGaps queued (with_tag tag reading.reads)
     ends_deliver_without_gaps are never tag only =
         by_begun tag (nothing_before queued (with_tag tag reading.reads))
         (λ some had. front_so tag (own_front are tag some never only (ends.sends tag).queues.queue.is_interleaved refl))

@@ -21,7 +21,8 @@ use Rattle.dcsctp_delivery_sending.specs.Queueing.{QueueWaits}
 use Rattle.dcsctp_delivery_sending.specs.Marking.{all_marked}
 use Rattle.dcsctp_delivery_sending.proofs.Places.{decide, set_same, set_other}
 use Rattle.dcsctp_delivery_sending.proofs.MarkingAll.{all_marked_keep, all_marked_fit}
-use Rattle.dcsctp_delivery_directions.specs.Directions.{Direction, Asking, nothing_asked, DirectionRun, IsAwaited, BeginsAtZero, Beginning, BeginsAs, AllWait}
+use Rattle.dcsctp_delivery_sending.specs.Losing.{AllWaitOn}
+use Rattle.dcsctp_delivery_directions.specs.Directions.{Direction, Asking, nothing_asked, DirectionRun, IsAwaited, BeginsAtZero, Beginning, BeginsAs}
 use Rattle.dcsctp_delivery_turns.specs.Actions.{peer_tag, Begun}
 use Rattle.dcsctp_delivery_turns.specs.Asking.{own_of, AsksFit, AskingGrows}
 use Rattle.dcsctp_delivery_turns.specs.Addressed.{AreAddressed}
@@ -30,7 +31,7 @@ use Rattle.dcsctp_delivery_turns.proofs.Beginnings.{begun_at_zero}
 use Rattle.dcsctp_delivery_turns.proofs.Runs.{senders_begin}
 use Rattle.dcsctp_delivery_turns.proofs.Unbegun.{unbegun_begins_at_zero, unbegun_begins_waiting}
 use Rattle.dcsctp_delivery_associations.proofs.Held.{never_held, none_held, some_held}
-use Rattle.dcsctp_delivery_associations.specs.Ends.{SendingEnd, ReceivingEnd, joined, new_end, Ends, HadPeer, HadKind, IsUnbegun, NeverHeld, BeginsAnew, Awaits, Sender, NewPeer, HadTag, IsCurrentEnd, Receiver, Between, IsOnlyTag}
+use Rattle.dcsctp_delivery_associations.specs.Ends.{SendingEnd, ReceivingEnd, joined, new_end, Ends, HadPeer, HadKind, NeverHeld, KeepsThese, KeepsOnlyThese, BeginsAnew, Awaits, Sender, NewPeer, HadTag, IsCurrentEnd, Receiver, Between, IsOnlyTag}
 use Rattle.dcsctp_delivery_directions.proofs.RequestCounts.{requests_more_to, requests_are_sent}
 use Rattle.dcsctp_delivery_associations.specs.Answered.{AnswersRequests, requests_of, waiting_deferral, AreAnswered}
 use Rattle.dcsctp_delivery_associations.proofs.AskedOn.{MayBegin}
@@ -40,7 +41,7 @@ use Rattle.dcsctp_delivery_associations.specs.Laws.{AreEnds, AsksLittle}
 use Rattle.dcsctp_delivery_associations.specs.Reads.{Reading, with_tag}
 use Rattle.dcsctp_delivery_associations.proofs.Growing.{set_all}
 use Rattle.dcsctp_delivery_associations.proofs.Senders.{link_tag, renewed_end, renewed_ends, renewed}
-use Rattle.dcsctp_delivery_associations.proofs.SenderStays.{set_three, receiver_same}
+use Rattle.dcsctp_delivery_associations.proofs.SenderStays.{set_three, receiver_same, all_wait_marked}
 use Rattle.dcsctp_delivery_associations.proofs.WhatIsLeft.{ready_same}
 
 -- ---- an association begins
@@ -111,7 +112,7 @@ receiver_renewed options ends sends d past reading tag first r fresh apart =
     other t ne (inr had) = inr (subst (λ (n : ℕ). HadTag past t n) (sym (set_other tag t first ends.firsts ne)) had)
 
 module _ (options : Options) (ends : Ends) (e : Endpoint) (queued : List Message) (past : List Effect) (packets : List Emission) (d : Endpoint) (their_past : List Effect) (reading : Reading)
-    (h : Between options ends e queued past packets d their_past reading) (input : Input) (o : Outcome) (w : AreAnswered ends e past d their_past) (little : AsksLittle (packets ++ packets_in o.events)) (begun : Begun e o) (follows : o.after.options.follow_rfc ≡ e.options.follow_rfc) (same_kind : o.after.queues.queue.is_interleaved ≡ begun.held.capabilities.message_interleaving) (unbegun : NeverHeld (after_effects o.effects past) → IsUnbegun ends.never_resets o.after) where
+    (h : Between options ends e queued past packets d their_past reading) (input : Input) (o : Outcome) (w : AreAnswered ends e past d their_past) (little : AsksLittle (packets ++ packets_in o.events)) (begun : Begun e o) (follows : o.after.options.follow_rfc ≡ e.options.follow_rfc) (same_kind : o.after.queues.queue.is_interleaved ≡ begun.held.capabilities.message_interleaving) where
   abbrev pub new : AssociationIdentity
   new = identity_of begun.my begun.held
 
@@ -120,7 +121,7 @@ module _ (options : Options) (ends : Ends) (e : Endpoint) (queued : List Message
 
   abbrev pub Later : Type 0
   Later = (other : Options) (room : ℕ) (awaiting : Direction) (queued : List Message) (beginning : Beginning) → QueueWaits queued e.queues.queue → AllByRecursion Fits queued → DirectionRun other begun.my.first_tsn room awaiting → IsAwaited awaiting
-      → BeginsAs beginning begun.queue → (acknowledged : ℕ) × (asking : Asking) × AskingGrows nothing_asked asking × AsksFit begun.my.first_tsn (own_of o.after) asking
+      → BeginsAs beginning queued begun.queue → (acknowledged : ℕ) × (asking : Asking) × AskingGrows nothing_asked asking × AsksFit begun.my.first_tsn (own_of o.after) asking
       × DirectionRun other begun.my.first_tsn room (record (sender_at awaiting queued o.after.queues acknowledged (packets_in o.events) asking) { beginning = beginning })
 
   new_held : HasEffect (holds new) (after_effects o.effects past)
@@ -141,16 +142,19 @@ module _ (options : Options) (ends : Ends) (e : Endpoint) (queued : List Message
 
   -- Do the numbers of each stream begin at 0, and does it begin with all that was queued?
   abbrev begins_anew : Beginning
-  begins_anew = record { from_zero = e.options.follow_rfc || never_held past; keeps_all = ends.never_resets && never_held past }
+  begins_anew = record { from_zero = e.options.follow_rfc || never_held past; keeps = λ id. ends.never_resets id && never_held past }
 
   -- So it does.
-  begins_so : BeginsAs begins_anew begun.queue
-  begins_so = record { zero = go e.options.follow_rfc (never_held past) refl refl; all = all_wait ends.never_resets (never_held past) refl refl }
+  begins_so : BeginsAs begins_anew marks begun.queue
+  begins_so = record { zero = go e.options.follow_rfc (never_held past) refl refl; all = λ id. all_wait id (ends.never_resets id) (never_held past) refl refl }
     where
-      all_wait : (resets never : Bool) → ends.never_resets ≡ resets → never_held past ≡ never → (resets && never) ≡ true → AllWait begun.queue
-      all_wait true true is none is_so = (let before = h.unbegun (none_held past none) in unbegun_begins_waiting e o begun before.zero (before.all is))
-      all_wait true false is none is_so = absurd (cc)
-      all_wait false never is none is_so = absurd (cc)
+      all_wait : (id : ℕ) (resets never : Bool) → ends.never_resets id ≡ resets → never_held past ≡ never → (resets && never) ≡ true → AllWaitOn id marks begun.queue.streams
+      all_wait id true true is none is_so =
+          let before = h.unbegun (none_held past none) in
+          let end : SendingEnd = ends.sends (peer_tag e.core) in
+          all_wait_marked id (length end.queued) end.queues.queue.streams end.queued begun.queue.streams (unbegun_begins_waiting e o begun id end.queued before.zero (before.all id is))
+      all_wait id true false is none is_so = absurd (cc)
+      all_wait id false never is none is_so = absurd (cc)
 
       go : (follows_it never : Bool) → e.options.follow_rfc ≡ follows_it → never_held past ≡ never → (follows_it || never) ≡ true → BeginsAtZero begun.queue
       go true never is none is_so = begun_at_zero e o begun is
@@ -165,17 +169,18 @@ module _ (options : Options) (ends : Ends) (e : Endpoint) (queued : List Message
       go true none = none
       go false some = (let found = some_held past some in absurd (is.other found.0 found.1 (only found.0 (after_within o.effects past (holds found.0) found.1))))
 
-  -- It keeps all then, if the user never resets streams.
-  kept_anew : NewPeer past their_past new → (end : SendingEnd) → end.beginning ≡ begins_anew → (tag : ℕ) → tag ≢ 0 → ends.never_resets ≡ true → IsOnlyTag (after_effects o.effects past) tag
-      → (set_at begun.held.peer.tag end ends.sends tag).beginning.keeps_all ≡ true
+  -- It keeps each stream then that the user never resets.
+  kept_anew : NewPeer past their_past new → (end : SendingEnd) → end.beginning ≡ begins_anew → (tag : ℕ) → tag ≢ 0 → IsOnlyTag (after_effects o.effects past) tag
+      → KeepsThese ends.never_resets (set_at begun.held.peer.tag end ends.sends tag).beginning
   kept_anew is end here =
-      set_all (λ tag s. tag ≢ 0 → ends.never_resets ≡ true → IsOnlyTag (after_effects o.effects past) tag → s.beginning.keeps_all ≡ true) begun.held.peer.tag end ends.sends
-      (λ some never only. ap (λ (b : Beginning). b.keeps_all) here ∙ ap (λ (b : Bool). b && never_held past) never ∙ first_of_all is only)
-      (λ tag ne some never only. absurd (ne (sym (only new new_held))))
+      set_all (λ tag s. tag ≢ 0 → IsOnlyTag (after_effects o.effects past) tag → KeepsThese ends.never_resets s.beginning) begun.held.peer.tag end ends.sends
+      (λ some only id never. ap (λ (b : Beginning). b.keeps id) here ∙ ap (λ (b : Bool). b && never_held past) never ∙ first_of_all is only)
+      (λ tag ne some only. absurd (ne (sym (only new new_held))))
 
-  dropping_anew : (end : SendingEnd) → end.beginning ≡ begins_anew → ends.never_resets ≡ false → (tag : ℕ) → (set_at begun.held.peer.tag end ends.sends tag).beginning.keeps_all ≡ false
-  dropping_anew end here resets =
-      set_all (λ tag s. s.beginning.keeps_all ≡ false) begun.held.peer.tag end ends.sends (ap (λ (b : Beginning). b.keeps_all) here ∙ ap (λ (b : Bool). b && never_held past) resets) (λ tag ne. h.dropping resets tag)
+  dropping_anew : (end : SendingEnd) → end.beginning ≡ begins_anew → (tag : ℕ) → KeepsOnlyThese ends.never_resets (set_at begun.held.peer.tag end ends.sends tag).beginning
+  dropping_anew end here =
+      set_all (λ tag s. KeepsOnlyThese ends.never_resets s.beginning) begun.held.peer.tag end ends.sends
+      (λ id resets. ap (λ (b : Beginning). b.keeps id) here ∙ ap (λ (b : Bool). b && never_held past) resets) (λ tag ne. h.dropping tag)
 
   -- So they do in the new association, if it is the only one or the sender follows the RFC, and in each other as before.
   numbers_anew : NewPeer past their_past new → (end : SendingEnd) → end.beginning ≡ begins_anew → (tag : ℕ) → tag ≢ 0 → BeginsAnew o.after (after_effects o.effects past) tag
@@ -251,7 +256,7 @@ module _ (options : Options) (ends : Ends) (e : Endpoint) (queued : List Message
           numbered = numbers_anew is end refl;
           kept = kept_anew is end refl;
           dropping = dropping_anew end refl;
-          unbegun = unbegun;
+          unbegun = λ never. absurd (never new new_held);
           receiver = receiver_same options ends ends'.sends d their_past reading h.receiver;
         };
         answered = answered_by ends' linked (set_at to begun.my w.pairs)
@@ -270,7 +275,7 @@ module _ (options : Options) (ends : Ends) (e : Endpoint) (queued : List Message
       let gets : ℕ → ReceivingEnd = set_at to (new_end options first) ends.gets in
       let firsts : ℕ → ℕ = set_at to first ends.firsts in
       let run = later options options.max_receiver_window_buffer_size
-      (new_direction options first options.max_receiver_window_buffer_size [] (record { queue = empty_queue options; transfer = None }) 0 [] (record { from_zero = true; keeps_all = false })) marks begins_anew shown fit (senders_begin options options first options.max_receiver_window_buffer_size false)
+      (new_direction options first options.max_receiver_window_buffer_size [] (record { queue = empty_queue options; transfer = None }) 0 [] (record { from_zero = true; keeps = λ id. false })) marks begins_anew shown fit (senders_begin options options first options.max_receiver_window_buffer_size (λ id. false))
       (record { queued = refl; sent = refl; acknowledged = refl; transfer = refl; asking = refl }) begins_so in
       let end : SendingEnd = renewed_end ends (peer_tag e.core) e.queues queued past packets h.sender o.effects to o.after.queues run.0 ps run.1 begins_anew gets firsts in
       let ends' : Ends = renewed_ends ends (peer_tag e.core) e.queues queued past packets h.sender o.effects to o.after.queues run.0 ps run.1 begins_anew gets firsts in
@@ -289,7 +294,7 @@ module _ (options : Options) (ends : Ends) (e : Endpoint) (queued : List Message
           numbered = numbers_anew is end refl;
           kept = kept_anew is end refl;
           dropping = dropping_anew end refl;
-          unbegun = unbegun;
+          unbegun = λ never. absurd (never new new_held);
           receiver = receiver_renewed options ends ends'.sends d their_past reading to first h.receiver fresh apart;
         };
         answered = answered_by ends' linked (set_at to begun.my w.pairs)

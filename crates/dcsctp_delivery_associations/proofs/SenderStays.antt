@@ -1,5 +1,5 @@
 -- A turn of the sender in which its association continues, or ends.
-use Rattle.std.proofs.Common.{◌≡◌, ◌≢◌, ℕ, true, false, None, List, [], ◌++◌, length, refl, sym, ◌∙◌, ap, subst, inl, inr}
+use Rattle.std.proofs.Common.{◌≡◌, ◌≢◌, ℕ, Bool, true, false, None, List, [], ◌++◌, length, refl, sym, ◌∙◌, ap, subst, inl, inr}
 use Rattle.std.specs.List.{AllByRecursion}
 use Rattle.std.proofs.lemmas.List.{append-nil}
 use Rattle.dcsctp_spec_lemmas.specs.types.declared.options.Options.{Options}
@@ -13,18 +13,20 @@ use Rattle.dcsctp_spec_lemmas.specs.spec.association.Effect.{Effect, holds, iden
 use Rattle.dcsctp_spec_lemmas.specs.spec.queues.Transfer.{EndpointQueues}
 use Rattle.dcsctp_theorem_association.proofs.Growth.{after_within}
 use Rattle.dcsctp_delivery_sending.specs.Places.{set_at}
+use Rattle.dcsctp_spec_lemmas.specs.types.queues.SendStreams.{Stream}
 use Rattle.dcsctp_delivery_sending.specs.Log.{Message, Fits}
+use Rattle.dcsctp_delivery_sending.specs.Losing.{AllWaitOn}
 use Rattle.dcsctp_delivery_sending.specs.Queueing.{QueueWaits}
 use Rattle.dcsctp_delivery_sending.specs.Marking.{all_marked}
 use Rattle.dcsctp_delivery_sending.proofs.Places.{decide, set_same, set_other}
-use Rattle.dcsctp_delivery_sending.proofs.MarkingAll.{all_marked_keep, all_marked_fit}
+use Rattle.dcsctp_delivery_sending.proofs.MarkingAll.{all_are_marked, all_marked_keep, all_marked_fit}
 use Rattle.dcsctp_delivery_directions.specs.Directions.{Asking, nothing_asked, DirectionRun}
 use Rattle.dcsctp_delivery_turns.specs.Actions.{peer_tag, queued_after}
 use Rattle.dcsctp_delivery_turns.specs.Asking.{own_of, AsksFit}
 use Rattle.dcsctp_delivery_turns.specs.Addressed.{AreAddressed}
 use Rattle.dcsctp_delivery_turns.specs.Runs.{sender_at}
 use Rattle.dcsctp_delivery_turns.proofs.Runs.{begins_anew}
-use Rattle.dcsctp_delivery_associations.specs.Ends.{SendingEnd, ReceivingEnd, joined, new_end, Ends, IsUnbegun, NeverHeld, BeginsAnew, Sender, Receiver, Between, IsOnlyTag}
+use Rattle.dcsctp_delivery_associations.specs.Ends.{SendingEnd, ReceivingEnd, joined, new_end, Ends, IsUnbegun, NeverHeld, KeepsThese, KeepsOnlyThese, BeginsAnew, Sender, Receiver, Between, IsOnlyTag}
 use Rattle.dcsctp_delivery_associations.specs.Answered.{AreAnswered}
 use Rattle.dcsctp_delivery_associations.specs.Laws.{AreEnds}
 use Rattle.dcsctp_delivery_associations.specs.Reads.{Reading}
@@ -58,6 +60,18 @@ receiver_same options ends sends d past reading r =
       begun = r.begun;
     }
 
+-- What waits does so, whichever messages are marked.
+pub all_wait_marked : (id : ℕ) (count : ℕ) (marking : List Stream) (queued : List Message) (streams : List Stream) → AllWaitOn id queued streams → AllWaitOn id (all_marked count marking queued) streams
+all_wait_marked id count marking queued streams all =
+    record {
+      waits = λ place mark at on. (let f = (all_are_marked count marking queued).finds place mark at in all.waits place f.message f.at (sym f.is.stream ∙ on));
+      unpaused = all.unpaused;
+    }
+
+unbegun_marked : (never_resets : ℕ → Bool) (count : ℕ) (marking : List Stream) (queued : List Message) (e : Endpoint) → IsUnbegun never_resets queued e → IsUnbegun never_resets (all_marked count marking queued) e
+unbegun_marked never_resets count marking queued e u =
+    record { unlinked = u.unlinked; idle = u.idle; zero = u.zero; all = λ id never. all_wait_marked id count marking queued e.queues.queue.streams (u.all id never) }
+
 module _ (options : Options) (ends : Ends) (e : Endpoint) (queued : List Message) (past : List Effect) (packets : List Emission) (d : Endpoint) (their_past : List Effect) (reading : Reading)
     (h : Between options ends e queued past packets d their_past reading) (input : Input) (o : Outcome) where
   abbrev pub more : List Message
@@ -75,7 +89,7 @@ module _ (options : Options) (ends : Ends) (e : Endpoint) (queued : List Message
   abbrev pub Turned : Type 0
   Turned = AreEnds ends.never_resets options o.after (queued_after e input queued) (after_effects o.effects past) (packets ++ packets_in o.events) d their_past reading
 
-  pub goes_on : o.after.options.follow_rfc ≡ e.options.follow_rfc → (NeverHeld (after_effects o.effects past) → IsUnbegun ends.never_resets o.after) → identity_in o.after.core ≡ identity_in e.core → o.after.queues.queue.is_interleaved ≡ e.queues.queue.is_interleaved → AreAddressed (peer_tag e.core) (packets_in o.events) → (acknowledged : ℕ) (asking : Asking) → AsksFit (ends.firsts (peer_tag e.core)) (own_of o.after) asking
+  pub goes_on : o.after.options.follow_rfc ≡ e.options.follow_rfc → (NeverHeld (after_effects o.effects past) → IsUnbegun ends.never_resets (queued_after e input (ends.sends (peer_tag e.core)).queued) o.after) → identity_in o.after.core ≡ identity_in e.core → o.after.queues.queue.is_interleaved ≡ e.queues.queue.is_interleaved → AreAddressed (peer_tag e.core) (packets_in o.events) → (acknowledged : ℕ) (asking : Asking) → AsksFit (ends.firsts (peer_tag e.core)) (own_of o.after) asking
       → AreAnswered (grown_ends ends (peer_tag e.core) e.queues queued past packets h.sender o.effects more o.after.queues acknowledged (packets_in o.events) asking) o.after (after_effects o.effects past) d their_past
       → DirectionRun options (ends.firsts (peer_tag e.core)) options.max_receiver_window_buffer_size
       (sender_at (joined (ends.sends (peer_tag e.core)) (ends.gets (peer_tag e.core))) (queued_after e input (ends.sends (peer_tag e.core)).queued) o.after.queues acknowledged ((ends.sends (peer_tag e.core)).sent ++ packets_in o.events) asking)
@@ -100,10 +114,13 @@ module _ (options : Options) (ends : Ends) (e : Endpoint) (queued : List Message
               (subst (λ (s : SendingEnd). AsksFit (ends.firsts key) (own_of o.after) s.asking) (sym (set_same key end ends.sends)) fits);
           numbered = set_all (λ tag s. tag ≢ 0 → BeginsAnew o.after (after_effects o.effects past) tag → s.beginning.from_zero ≡ true) key end ends.sends (λ some anew. h.numbered key some (anew_before follows key anew))
               (λ tag ne some anew. h.numbered tag some (anew_before follows tag anew));
-          kept = set_all (λ tag s. tag ≢ 0 → ends.never_resets ≡ true → IsOnlyTag (after_effects o.effects past) tag → s.beginning.keeps_all ≡ true) key end ends.sends
-              (λ some never only. h.kept key some never (only_before key only)) (λ tag ne some never only. h.kept tag some never (only_before tag only));
-          dropping = λ resets. set_all (λ tag s. s.beginning.keeps_all ≡ false) key end ends.sends (h.dropping resets key) (λ tag ne. h.dropping resets tag);
-          unbegun = unbegun;
+          kept = set_all (λ tag s. tag ≢ 0 → IsOnlyTag (after_effects o.effects past) tag → KeepsThese ends.never_resets s.beginning) key end ends.sends
+              (λ some only. h.kept key some (only_before key only)) (λ tag ne some only. h.kept tag some (only_before tag only));
+          dropping = set_all (λ tag s. KeepsOnlyThese ends.never_resets s.beginning) key end ends.sends (h.dropping key) (λ tag ne. h.dropping tag);
+          unbegun = λ never.
+              subst (λ (k : ℕ). IsUnbegun ends.never_resets (set_at key end ends.sends k).queued o.after) (sym (same_key o.after.core e.core linked))
+              (subst (λ (s : SendingEnd). IsUnbegun ends.never_resets s.queued o.after) (sym (set_same key end ends.sends))
+              (subst (λ (l : List Message). IsUnbegun ends.never_resets l o.after) (input_adds e input (ends.sends key).queued) (unbegun never)));
           receiver = receiver_same options ends later.sends d their_past reading h.receiver;
         };
         answered = answered;
@@ -113,9 +130,9 @@ module _ (options : Options) (ends : Ends) (e : Endpoint) (queued : List Message
   abbrev pub ended_ends : (last : EndpointQueues) → ℕ → Asking → AreAddressed (peer_tag e.core) (packets_in o.events) → last.queue.is_interleaved ≡ e.queues.queue.is_interleaved → Ends
   ended_ends last acknowledged asking addressed kind =
       renewed_ends (grown_ends ends (peer_tag e.core) e.queues queued past packets h.sender o.effects more last acknowledged (packets_in o.events) asking) (peer_tag e.core) last (more ++ queued) (after_effects o.effects past)
-      (packets ++ packets_in o.events) (grown ends (peer_tag e.core) e.queues queued past packets h.sender o.effects more last acknowledged (packets_in o.events) asking addressed kind) [] 0 o.after.queues 0 [] nothing_asked (record { from_zero = false; keeps_all = false }) ends.gets ends.firsts
+      (packets ++ packets_in o.events) (grown ends (peer_tag e.core) e.queues queued past packets h.sender o.effects more last acknowledged (packets_in o.events) asking addressed kind) [] 0 o.after.queues 0 [] nothing_asked (record { from_zero = false; keeps = λ id. false }) ends.gets ends.firsts
 
-  pub ended : o.after.options.follow_rfc ≡ e.options.follow_rfc → (NeverHeld (after_effects o.effects past) → IsUnbegun ends.never_resets o.after) → identity_in o.after.core ≡ None → (addressed : AreAddressed (peer_tag e.core) (packets_in o.events)) → (last : EndpointQueues) → (kind : last.queue.is_interleaved ≡ e.queues.queue.is_interleaved) → o.after.queues ≡ record last { transfer = None }
+  pub ended : o.after.options.follow_rfc ≡ e.options.follow_rfc → (NeverHeld (after_effects o.effects past) → IsUnbegun ends.never_resets (queued_after e input (ends.sends (peer_tag e.core)).queued) o.after) → identity_in o.after.core ≡ None → (addressed : AreAddressed (peer_tag e.core) (packets_in o.events)) → (last : EndpointQueues) → (kind : last.queue.is_interleaved ≡ e.queues.queue.is_interleaved) → o.after.queues ≡ record last { transfer = None }
       → QueueWaits (queued_after e input (ends.sends (peer_tag e.core)).queued) last.queue → AllByRecursion Fits (queued_after e input (ends.sends (peer_tag e.core)).queued) → (acknowledged : ℕ) (asking : Asking)
       → AreAnswered (ended_ends last acknowledged asking addressed kind) o.after (after_effects o.effects past) d their_past
       → DirectionRun options (ends.firsts (peer_tag e.core)) options.max_receiver_window_buffer_size
@@ -127,11 +144,11 @@ module _ (options : Options) (ends : Ends) (e : Endpoint) (queued : List Message
       let end : SendingEnd = grown_end ends key e.queues queued past packets h.sender o.effects more last acknowledged ps asking in
       let middle : Ends = grown_ends ends key e.queues queued past packets h.sender o.effects more last acknowledged ps asking in
       let first : Sender middle key last (more ++ queued) (after_effects o.effects past) (packets ++ ps) = grown ends key e.queues queued past packets h.sender o.effects more last acknowledged ps asking addressed kind in
-      let marked : List Message = marked_queue middle key last (more ++ queued) (after_effects o.effects past) (packets ++ ps) first [] 0 o.after.queues 0 [] nothing_asked (record { from_zero = false; keeps_all = false }) ends.gets ends.firsts in
-      let later : Ends = renewed_ends middle key last (more ++ queued) (after_effects o.effects past) (packets ++ ps) first [] 0 o.after.queues 0 [] nothing_asked (record { from_zero = false; keeps_all = false }) ends.gets ends.firsts in
-      let new : SendingEnd = renewed_end middle key last (more ++ queued) (after_effects o.effects past) (packets ++ ps) first [] 0 o.after.queues 0 [] nothing_asked (record { from_zero = false; keeps_all = false }) ends.gets ends.firsts in
+      let marked : List Message = marked_queue middle key last (more ++ queued) (after_effects o.effects past) (packets ++ ps) first [] 0 o.after.queues 0 [] nothing_asked (record { from_zero = false; keeps = λ id. false }) ends.gets ends.firsts in
+      let later : Ends = renewed_ends middle key last (more ++ queued) (after_effects o.effects past) (packets ++ ps) first [] 0 o.after.queues 0 [] nothing_asked (record { from_zero = false; keeps = λ id. false }) ends.gets ends.firsts in
+      let new : SendingEnd = renewed_end middle key last (more ++ queued) (after_effects o.effects past) (packets ++ ps) first [] 0 o.after.queues 0 [] nothing_asked (record { from_zero = false; keeps = λ id. false }) ends.gets ends.firsts in
       let second : Sender later 0 o.after.queues (more ++ queued) (after_effects o.effects past) ((packets ++ ps) ++ []) =
-      renewed middle key last (more ++ queued) (after_effects o.effects past) (packets ++ ps) first [] 0 o.after.queues 0 [] nothing_asked (record { from_zero = false; keeps_all = false }) ends.gets ends.firsts (inl refl) (λ some. absurd (some refl)) (λ tag ne. refl) tt (λ some. absurd (some refl)) in
+      renewed middle key last (more ++ queued) (after_effects o.effects past) (packets ++ ps) first [] 0 o.after.queues 0 [] nothing_asked (record { from_zero = false; keeps = λ id. false }) ends.gets ends.firsts (inl refl) (λ some. absurd (some refl)) (λ tag ne. refl) tt (λ some. absurd (some refl)) in
       let adds : queued_after e input (ends.sends key).queued ≡ end.queued = input_adds e input (ends.sends key).queued in
       let shown' : QueueWaits end.queued last.queue = subst (λ (l : List Message). QueueWaits l last.queue) adds shown in
       let fit' : AllByRecursion Fits end.queued = subst (λ (l : List Message). AllByRecursion Fits l) adds fit in
@@ -159,12 +176,17 @@ module _ (options : Options) (ends : Ends) (e : Endpoint) (queued : List Message
           numbered = set_all (λ tag s. tag ≢ 0 → BeginsAnew o.after (after_effects o.effects past) tag → s.beginning.from_zero ≡ true) 0 new middle.sends (λ some anew. absurd (some refl))
               (λ tag ne. set_all (λ t s. t ≢ 0 → BeginsAnew o.after (after_effects o.effects past) t → s.beginning.from_zero ≡ true) key end ends.sends (λ some anew. h.numbered key some (anew_before follows key anew))
               (λ t ne' some anew. h.numbered t some (anew_before follows t anew)) tag);
-          kept = set_all (λ tag s. tag ≢ 0 → ends.never_resets ≡ true → IsOnlyTag (after_effects o.effects past) tag → s.beginning.keeps_all ≡ true) 0 new middle.sends (λ some never only. absurd (some refl))
-              (λ tag ne. set_all (λ t s. t ≢ 0 → ends.never_resets ≡ true → IsOnlyTag (after_effects o.effects past) t → s.beginning.keeps_all ≡ true) key end ends.sends
-              (λ some never only. h.kept key some never (only_before key only)) (λ t ne' some never only. h.kept t some never (only_before t only)) tag);
-          dropping = λ resets. set_all (λ tag s. s.beginning.keeps_all ≡ false) 0 new middle.sends refl
-              (λ tag ne. set_all (λ t s. s.beginning.keeps_all ≡ false) key end ends.sends (h.dropping resets key) (λ t ne'. h.dropping resets t) tag);
-          unbegun = unbegun;
+          kept = set_all (λ tag s. tag ≢ 0 → IsOnlyTag (after_effects o.effects past) tag → KeepsThese ends.never_resets s.beginning) 0 new middle.sends (λ some only. absurd (some refl))
+              (λ tag ne. set_all (λ t s. t ≢ 0 → IsOnlyTag (after_effects o.effects past) t → KeepsThese ends.never_resets s.beginning) key end ends.sends
+              (λ some only. h.kept key some (only_before key only)) (λ t ne' some only. h.kept t some (only_before t only)) tag);
+          dropping = set_all (λ tag s. KeepsOnlyThese ends.never_resets s.beginning) 0 new middle.sends (λ id resets. refl)
+              (λ tag ne. set_all (λ t s. KeepsOnlyThese ends.never_resets s.beginning) key end ends.sends (h.dropping key) (λ t ne'. h.dropping t) tag);
+          unbegun = λ never.
+              subst (λ (k : ℕ). IsUnbegun ends.never_resets (set_at 0 new middle.sends k).queued o.after) (sym (no_key o.after.core none))
+              (subst (λ (s : SendingEnd). IsUnbegun ends.never_resets s.queued o.after) (sym (set_same 0 new middle.sends))
+              (subst (λ (s : SendingEnd). IsUnbegun ends.never_resets (all_marked (length s.queued) s.queues.queue.streams s.queued) o.after) (sym (set_same key end ends.sends))
+              (unbegun_marked ends.never_resets (length end.queued) last.queue.streams end.queued o.after
+              (subst (λ (l : List Message). IsUnbegun ends.never_resets l o.after) adds (unbegun never)))));
           receiver = receiver_same options ends later.sends d their_past reading h.receiver;
         };
         answered = answered;

@@ -1,5 +1,8 @@
 -- Each turn of the sender.
 use Rattle.std.proofs.Common.{Bool, true, false, None, Some, ◌≡◌, ◌≢◌, ◌<◌, ◌-◌, ◌^◌, ℕ, Option, List, [], ◌∷◌, ◌++◌, length, refl, sym, ◌∙◌, ap, arith, subst, inl, Bool, false}
+use Rattle.std.specs.Prelude.{◌==◌, ◌||◌}
+use Rattle.std.specs.List.{AllByRecursion}
+use Rattle.std.proofs.lemmas.Bool.{eq-eqb}
 use Rattle.std.proofs.lemmas.List.{length-append}
 use Rattle.dcsctp_spec_lemmas.specs.types.declared.options.Options.{Options}
 use Rattle.dcsctp_spec_lemmas.specs.types.declared.association.Pair.{Pair}
@@ -10,17 +13,21 @@ use Rattle.dcsctp_spec_lemmas.specs.spec.Packet.{Emission}
 use Rattle.dcsctp_spec_lemmas.specs.spec.endpoint.Turn.{Input, Turn}
 use Rattle.dcsctp_spec_runs.specs.World.{after_effects}
 use Rattle.dcsctp_spec_lemmas.specs.spec.association.Effect.{AssociationIdentity, identity_in, Effect, holds, identity_of}
+use Rattle.dcsctp_spec_lemmas.specs.spec.queues.Incoming.{is_named}
 use Rattle.dcsctp_spec_lemmas.specs.spec.queues.Transfer.{EndpointQueues}
 use Rattle.dcsctp_theorem_association.proofs.Growth.{after_within}
 use Rattle.dcsctp_delivery_sending.specs.Places.{set_at}
 use Rattle.dcsctp_delivery_sending.specs.Log.{Message}
+use Rattle.dcsctp_delivery_sending.specs.Queueing.{QueueWaits}
 use Rattle.dcsctp_delivery_directions.specs.Directions.{Direction, Asking, DirectionRun}
+use Rattle.dcsctp_delivery_directions.proofs.Directions.{direction_queues}
 use Rattle.dcsctp_delivery_directions.proofs.RequestCounts.{requests_more, requests_more_to, requests_are_sent}
-use Rattle.dcsctp_delivery_turns.specs.Actions.{IsOpening, came_by, peer_tag, queued_after, Begun, IsCall}
+use Rattle.dcsctp_delivery_turns.specs.Actions.{IsOpening, came_by, peer_tag, queued_after, resets_stream, Begun, IsCall}
 use Rattle.dcsctp_delivery_turns.specs.Addressed.{AreAddressed}
 use Rattle.dcsctp_delivery_turns.specs.Asking.{own_in, own_of, AsksFit, AskingGrows}
 use Rattle.dcsctp_delivery_turns.specs.Runs.{sender_at, IsBetween, EndsPerformed, RefusesNone, HasNewTag, SenderTurns, run_goes_on, run_ends, run_begins, MayDrop}
 use Rattle.dcsctp_delivery_turns.proofs.Completing.{completes_own}
+use Rattle.dcsctp_delivery_turns.proofs.ResetInputs.{named_by}
 use Rattle.dcsctp_delivery_turns.proofs.Runs.{senders_go_on}
 use Rattle.dcsctp_delivery_turns.specs.Unbegun.{UnbegunTurns, stays_unbegun, begins_first}
 use Rattle.dcsctp_delivery_turns.proofs.Unbegun.{stays_at_zero}
@@ -201,48 +208,76 @@ module _ (options : Options) (ends : Ends) (e : Endpoint) (queued : List Message
       as_it_was_asked : MayGo (requests_of ends w.pairs link.peer.tag) their_past (ends.sends link.peer.tag).asking
       as_it_was_asked = ends_so _ asked.as_it_was
 
+  -- Few messages were queued at this end,
+  few_queued : length (queued_after e input queued) < 2 ^ 64 → length (queued_after e input (ends.sends key).queued) < 2 ^ 64
+  few_queued few =
+      let long = ap (λ (l : List Message). length l) (input_adds e input (ends.sends key).queued) ∙ length-append (queued_after e input []) (ends.sends key).queued in
+      let same = ap (λ (l : List Message). length l) (input_adds e input queued) ∙ length-append (queued_after e input []) queued in
+      let size = h.sender.long in
+      omega (arith, few, long, same, size)
+
+  -- and what waits was queued there.
+  waits_before : length (queued_after e input queued) < 2 ^ 64 → QueueWaits (ends.sends key).queued e.queues.queue
+  waits_before few =
+      let long = ap (λ (l : List Message). length l) (input_adds e input (ends.sends key).queued) ∙ length-append (queued_after e input []) (ends.sends key).queued in
+      let later = few_queued few in
+      subst (λ (b : EndpointQueues). QueueWaits (ends.sends key).queued b.queue) h.sender.queues_are
+      (direction_queues options (ends.firsts key) options.max_receiver_window_buffer_size now (h.runs key) (h.small key) (omega (arith, later, long))).0
+
   -- A sender that had no association has none after the turn, or one begins.
-  unbegun_after : ResetsAs ends.never_resets input → IsCall input → Turn e input o → NeverHeld (after_effects o.effects past) → IsUnbegun ends.never_resets o.after
-  unbegun_after resets may turn never =
+  unbegun_after : length (queued_after e input queued) < 2 ^ 64 → ResetsAs ends.never_resets input → IsCall input → Turn e input o → NeverHeld (after_effects o.effects past)
+      → IsUnbegun ends.never_resets (queued_after e input (ends.sends key).queued) o.after
+  unbegun_after few resets may turn never =
       let before = h.unbegun (λ link held. never link (after_within o.effects past (holds link) held)) in
       go before (stays_at_zero e input o before.unlinked before.idle before.zero may turn)
     where
-      go : IsUnbegun ends.never_resets e → UnbegunTurns e input o → IsUnbegun ends.never_resets o.after
-      go before (stays_unbegun unlinked idle at waits) = record { unlinked = unlinked; idle = idle; zero = at; all = λ never_so. waits (resets never_so, before.all never_so) }
+      go : IsUnbegun ends.never_resets (ends.sends key).queued e → UnbegunTurns e input o → IsUnbegun ends.never_resets (queued_after e input (ends.sends key).queued) o.after
+      go before (stays_unbegun unlinked idle at waits) =
+          record {
+            unlinked = unlinked;
+            idle = idle;
+            zero = at;
+            all = λ id never_so. waits id (ends.sends key).queued (waits_before few) (few_queued few) (resets id never_so) (before.all id never_so);
+          }
       go before (begins_first begun opening linked) =
           absurd (never (identity_of begun.my begun.held) (subst (λ (l : List Effect). HasEffect (holds (identity_of begun.my begun.held)) (after_effects l past)) (sym begun.noted)
           (after_within begun.later (holds (identity_of begun.my begun.held) ∷ past) (holds (identity_of begun.my begun.held)) (inl refl))))
 
-  by_turn : o.after.options.follow_rfc ≡ e.options.follow_rfc → ResetsAs ends.never_resets input → IsCall input → Turn e input o → RefusesNone e o → CompletesPerformed their_past o
+  by_turn : length (queued_after e input queued) < 2 ^ 64 → o.after.options.follow_rfc ≡ e.options.follow_rfc → ResetsAs ends.never_resets input → IsCall input → Turn e input o → RefusesNone e o → CompletesPerformed their_past o
       → SenderTurns options (ends.firsts (peer_tag e.core)) options.max_receiver_window_buffer_size (joined (ends.sends (peer_tag e.core)) (ends.gets (peer_tag e.core))) e input o
       → AreEnds ends.never_resets options o.after (queued_after e input queued) (after_effects o.effects past) (packets ++ packets_in o.events) d their_past reading
-  by_turn follows resets may turn refuses completes_so (run_goes_on linked addressed kind' acknowledged between asking is grows fit run) =
-      goes_on options ends e queued past packets d their_past reading h input o follows (unbegun_after resets may turn) linked kind' addressed acknowledged asking fit
+  by_turn few follows resets may turn refuses completes_so (run_goes_on linked addressed kind' acknowledged between asking is grows fit run) =
+      goes_on options ends e queued past packets d their_past reading h input o follows (unbegun_after few resets may turn) linked kind' addressed acknowledged asking fit
       (goes_answered (identity_in e.core) refl may turn refuses completes_so linked addressed kind' acknowledged between asking is grows fit (few_then addressed o.after.queues acknowledged asking run)) run
-  by_turn follows resets may turn refuses completes_so (run_ends none addressed last kind' acknowledged asking grows fit run is shown fit') =
-      ended options ends e queued past packets d their_past reading h input o follows (unbegun_after resets may turn) none addressed last kind' is shown fit' acknowledged asking
+  by_turn few follows resets may turn refuses completes_so (run_ends none addressed last kind' acknowledged asking grows fit run is shown fit') =
+      ended options ends e queued past packets d their_past reading h input o follows (unbegun_after few resets may turn) none addressed last kind' is shown fit' acknowledged asking
       (ends_answered (identity_in e.core) refl may turn completes_so none addressed last kind' acknowledged asking grows fit (few_then addressed last acknowledged asking run)) run
-  by_turn follows resets may turn refuses completes_so (run_begins begun opening linked addressed kind' same shown fit later) =
+  by_turn few follows resets may turn refuses completes_so (run_begins begun opening linked addressed kind' same shown fit later) =
       let none : queued_after e input [] ≡ [] = queues_none (queued_after e input []) (ends.sends (peer_tag e.core)).queued (sym (input_adds e input (ends.sends (peer_tag e.core)).queued) ∙ same) in
       let stays : queued_after e input queued ≡ queued = input_adds e input queued ∙ ap (λ (l : List Message). l ++ queued) none in
       subst (λ (l : List Message). AreEnds ends.never_resets options o.after l (after_effects o.effects past) (packets ++ packets_in o.events) d their_past reading) (sym stays)
-      (begins options ends e queued past packets d their_past reading h input o w little begun follows kind' (unbegun_after resets may turn) (new begun opening linked) linked addressed shown fit later)
+      (begins options ends e queued past packets d their_past reading h input o w little begun follows kind' (new begun opening linked) linked addressed shown fit later)
 
-  -- Where the user resets streams, messages may be dropped.
+  -- The sender doesn't keep the streams that its user resets.
   may_drop : ResetsAs ends.never_resets input → MayDrop input (ends.sends (peer_tag e.core)).beginning
-  may_drop resets is = h.dropping (resets_some ends.never_resets refl) (peer_tag e.core)
+  may_drop resets ids is = among_dropped ids (λ id named. h.dropping key id (resets_some id (named_by input ids id is ∙ named) (ends.never_resets id) refl))
     where
-      resets_some : (b : Bool) → ends.never_resets ≡ b → ends.never_resets ≡ false
-      resets_some true never = absurd (let clash : true ≡ false = sym is ∙ resets never in cc)
-      resets_some false not_never = not_never
+      resets_some : (id : ℕ) → resets_stream id input ≡ true → (b : Bool) → ends.never_resets id ≡ b → ends.never_resets id ≡ false
+      resets_some id does true never = absurd (let clash : true ≡ false = sym does ∙ resets id never in cc)
+      resets_some id does false not_never = not_never
+
+      or_true : (b : Bool) → (b || true) ≡ true
+      or_true true = refl
+      or_true false = refl
+
+      among_dropped : (some : List ℕ) → ((id : ℕ) → is_named some id ≡ true → (ends.sends key).beginning.keeps id ≡ false) → AllByRecursion (λ id. (ends.sends key).beginning.keeps id ≡ false) some
+      among_dropped [] each = tt
+      among_dropped (id ∷ some) each = (each id (rw (eq-eqb id id refl) refl), among_dropped some (λ other named. each other (rw named (or_true (id == other)))))
 
   pub sender_turns : length (queued_after e input queued) < 2 ^ 64 → RefusesNone e o → ResetsAs ends.never_resets input → CompletesPerformed their_past o → o.after.options.follow_rfc ≡ e.options.follow_rfc → IsCall input → Turn e input o
       → AreEnds ends.never_resets options o.after (queued_after e input queued) (after_effects o.effects past) (packets ++ packets_in o.events) d their_past reading
   sender_turns few refuses resets completes_so follows may turn =
-      by_turn follows resets may turn refuses completes_so
+      by_turn few follows resets may turn refuses completes_so
       (senders_go_on options (ends.firsts key) options.max_receiver_window_buffer_size now e input o (h.runs key) (h.small key) h.sender.queues_are h.asks
       (performed_by (identity_in e.core) refl may turn completes_so) refuses (may_drop resets) (λ begun opening linked. (new begun opening linked).small) has_new_tag
-      (let long = ap (λ (l : List Message). length l) (input_adds e input (ends.sends key).queued) ∙ length-append (queued_after e input []) (ends.sends key).queued in
-      let same = ap (λ (l : List Message). length l) (input_adds e input queued) ∙ length-append (queued_after e input []) queued in
-      let size = h.sender.long in
-      omega (arith, few, long, same, size)) may turn)
+      (few_queued few) may turn)

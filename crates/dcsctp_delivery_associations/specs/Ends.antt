@@ -14,10 +14,11 @@ use Rattle.dcsctp_spec_lemmas.specs.spec.queues.Transfer.{Transfer, EndpointQueu
 use Rattle.dcsctp_delivery_sending.specs.Places as places
 use Rattle.dcsctp_delivery_sending.specs.Places.{at_place}
 use Rattle.dcsctp_delivery_sending.specs.Log.{Message}
+use Rattle.dcsctp_delivery_sending.specs.Losing.{AllWaitOn}
 use Rattle.dcsctp_delivery_sending.specs.Flushes.{NoData}
 use Rattle.dcsctp_delivery_sending.specs.ChunkCounts.{chunks_in, chunks_to}
 use Rattle.dcsctp_delivery_sending.specs.Marking.{WaitsNoLonger, FindsMarked, IsMarked}
-use Rattle.dcsctp_delivery_directions.specs.Directions.{Direction, Beginning, BeginsAs, AllWait, Asking, nothing_asked, DirectionRun}
+use Rattle.dcsctp_delivery_directions.specs.Directions.{Direction, Beginning, BeginsAs, Asking, nothing_asked, DirectionRun}
 use Rattle.dcsctp_delivery_directions.specs.Requests.{requests_in, requests_to}
 use Rattle.dcsctp_delivery_turns.specs.Asking.{own_of, AsksFit, SomeFit}
 use Rattle.dcsctp_delivery_turns.specs.Actions.{NoEnd, peer_tag}
@@ -62,8 +63,8 @@ pub record Ends : Type 0 where
   pub sends : ℕ → SendingEnd
   pub gets : ℕ → ReceivingEnd
   pub firsts : ℕ → ℕ
-  -- Does the user of the sender reset no stream?
-  pub never_resets : Bool
+  -- Which streams does the user of the sender never reset?
+  pub never_resets : ℕ → Bool
 
 abbrev pub EndsRun : Options → Ends → Type 0
 EndsRun options ends = (tag : ℕ) → DirectionRun options (ends.firsts tag) options.max_receiver_window_buffer_size (joined (ends.sends tag) (ends.gets tag))
@@ -88,12 +89,12 @@ pub record HadKind (past : List Effect) (tag : ℕ) (is_interleaved : Bool) : Ty
   pub tag_is : link.peer.tag ≡ tag
   pub kind_is : link.capabilities.message_interleaving ≡ is_interleaved
 
--- The sender had no association yet, and has numbered no message. All that was queued waits, unless streams are reset.
-pub record IsUnbegun (never_resets : Bool) (e : Endpoint) : Type 0 where
+-- The sender had no association yet, and has numbered no message. All that was queued on a stream waits, unless that is reset.
+pub record IsUnbegun (never_resets : ℕ → Bool) (queued : List Message) (e : Endpoint) : Type 0 where
   pub unlinked : identity_in e.core ≡ None
   pub idle : e.queues.transfer ≡ None
   pub zero : IsAtZero e.queues.queue
-  pub all : never_resets ≡ true → AllWait e.queues.queue
+  pub all : (id : ℕ) → never_resets id ≡ true → AllWaitOn id queued e.queues.queue.streams
 
 abbrev pub NeverHeld : List Effect → Type 0
 NeverHeld past = (link : AssociationIdentity) → HasEffect (holds link) past → ⊥
@@ -107,6 +108,14 @@ IsOnlyTag past tag = (link : AssociationIdentity) → HasEffect (holds link) pas
 abbrev pub BeginsAnew : Endpoint → List Effect → ℕ → Type 0
 BeginsAnew e past tag = (e.options.follow_rfc ≡ true) ⊎ IsOnlyTag past tag
 
+-- A sender that begins so keeps these streams,
+abbrev pub KeepsThese : (ℕ → Bool) → Beginning → Type 0
+KeepsThese never_resets beginning = (id : ℕ) → never_resets id ≡ true → beginning.keeps id ≡ true
+
+-- and no other.
+abbrev pub KeepsOnlyThese : (ℕ → Bool) → Beginning → Type 0
+KeepsOnlyThese never_resets beginning = (id : ℕ) → never_resets id ≡ false → beginning.keeps id ≡ false
+
 -- Nothing was sent at this end yet.
 pub record Awaits (sends : SendingEnd) : Type 0 where
   pub queued : sends.queued ≡ []
@@ -114,7 +123,7 @@ pub record Awaits (sends : SendingEnd) : Type 0 where
   pub acknowledged : sends.acknowledged ≡ 0
   pub transfer : sends.queues.transfer ≡ None
   pub asking : sends.asking ≡ nothing_asked
-  pub begun : BeginsAs sends.beginning sends.queues.queue
+  pub begun : BeginsAs sends.beginning sends.queued sends.queues.queue
 
 -- Packets with data are of the association of their tag. No data is ever handled under the tag 0.
 abbrev pub IsOfEnds : Ends → Emission → Type 0
@@ -197,7 +206,7 @@ pub record Between (options : Options) (ends : Ends) (e : Endpoint) (queued : Li
   pub sender : Sender ends (peer_tag e.core) e.queues queued past packets
   pub asks : AsksFit (ends.firsts (peer_tag e.core)) (own_of e) (ends.sends (peer_tag e.core)).asking
   pub numbered : (tag : ℕ) → tag ≢ 0 → BeginsAnew e past tag → (ends.sends tag).beginning.from_zero ≡ true
-  pub kept : (tag : ℕ) → tag ≢ 0 → ends.never_resets ≡ true → IsOnlyTag past tag → (ends.sends tag).beginning.keeps_all ≡ true
-  pub dropping : ends.never_resets ≡ false → (tag : ℕ) → (ends.sends tag).beginning.keeps_all ≡ false
-  pub unbegun : NeverHeld past → IsUnbegun ends.never_resets e
+  pub kept : (tag : ℕ) → tag ≢ 0 → IsOnlyTag past tag → KeepsThese ends.never_resets (ends.sends tag).beginning
+  pub dropping : (tag : ℕ) → KeepsOnlyThese ends.never_resets (ends.sends tag).beginning
+  pub unbegun : NeverHeld past → IsUnbegun ends.never_resets (ends.sends (peer_tag e.core)).queued e
   pub receiver : Receiver options ends other their_past reading

@@ -12,6 +12,7 @@ use Rattle.dcsctp_delivery_sending.specs.Losing.{AreUnlimited}
 use Rattle.dcsctp_delivery_directions.specs.Requests.{requests_to}
 use Rattle.dcsctp_delivery_order.specs.PlainDirections.{FewOnEachStream}
 use Rattle.dcsctp_delivery_order.specs.Delivered.{DeliveredInOrder, DeliveredWithoutGaps}
+use Rattle.dcsctp_delivery_order.specs.Streams.{DeliveredByStream}
 use Rattle.dcsctp_delivery_associations.specs.Ends.{Ends, IsOnlyTag, BeginsAnew, Between}
 use Rattle.dcsctp_delivery_associations.specs.Reads.{Reading, with_tag}
 
@@ -34,10 +35,18 @@ EndsDeliverDataInOrder =
     → Between options ends e queued past packets other their_past reading → length queued < 2 ^ 64 → ((tag : ℕ) → chunks_to tag packets < 2 ^ 30) → options.max_receiver_window_buffer_size < 2 ^ 32
     → AreUnlimited queued ⊎ FewOnEachStream queued → (tag : ℕ) → BeginsAnew e past tag → requests_to tag packets ≡ 0 → DeliveredInOrder queued (with_tag tag reading.reads)
 
--- What was read of a stream's ordered messages is a prefix of what was queued, if no message may be abandoned, no stream is
--- reset, and the association is the only one.
+-- Where messages interleave, and the association is the only one, what was read of a stream's ordered messages is a prefix of what
+-- was queued, if the stream is never reset, and no message on it may be abandoned.
+abbrev pub EndsDeliverByStream : Type 0
+EndsDeliverByStream =
+    (options : Options) (ends : Ends) (e : Endpoint) (queued : List Message) (past : List Effect) (packets : List Emission) (other : Endpoint) (their_past : List Effect) (reading : Reading)
+    → Between options ends e queued past packets other their_past reading → length queued < 2 ^ 64 → ((tag : ℕ) → chunks_to tag packets < 2 ^ 30)
+    → (tag : ℕ) → IsOnlyTag past tag → Interleaves past tag → DeliveredByStream ends.never_resets queued (with_tag tag reading.reads)
+
+-- Also where they don't it is so of each stream, if no message may be abandoned, no stream is reset, and the association is the
+-- only one.
 abbrev pub EndsDeliverWithoutGaps : Type 0
 EndsDeliverWithoutGaps =
     (options : Options) (ends : Ends) (e : Endpoint) (queued : List Message) (past : List Effect) (packets : List Emission) (other : Endpoint) (their_past : List Effect) (reading : Reading)
     → Between options ends e queued past packets other their_past reading → length queued < 2 ^ 64 → ((tag : ℕ) → chunks_to tag packets < 2 ^ 30) → options.max_receiver_window_buffer_size < 2 ^ 32
-    → AreUnlimited queued → ends.never_resets ≡ true → (tag : ℕ) → IsOnlyTag past tag → DeliveredWithoutGaps queued (with_tag tag reading.reads)
+    → AreUnlimited queued → ((id : ℕ) → ends.never_resets id ≡ true) → (tag : ℕ) → IsOnlyTag past tag → DeliveredWithoutGaps queued (with_tag tag reading.reads)

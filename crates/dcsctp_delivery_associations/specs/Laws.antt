@@ -14,7 +14,7 @@ use Rattle.dcsctp_spec_lemmas.specs.spec.queues.Transfer.{Transfer}
 use Rattle.dcsctp_delivery_sending.specs.Log.{Message}
 use Rattle.dcsctp_delivery_sending.specs.ChunkCounts.{chunks_to}
 use Rattle.dcsctp_delivery_directions.specs.Directions.{Delivered}
-use Rattle.dcsctp_delivery_turns.specs.Actions.{IsOpening, came_by, queued_after, Begun, resets_streams, IsCall}
+use Rattle.dcsctp_delivery_turns.specs.Actions.{IsOpening, came_by, queued_after, Begun, resets_stream, IsCall}
 use Rattle.dcsctp_delivery_turns.specs.Runs.{RefusesNone}
 use Rattle.dcsctp_delivery_turns.specs.PeerRequests.{KnowsPeerIn}
 use Rattle.dcsctp_spec_lemmas.specs.types.declared.association.Pair.{Pair}
@@ -34,12 +34,12 @@ CompletesPerformed their_past o = (my : Pair) (number : ℕ) → HasEffect (comp
 abbrev pub AsksLittle : List Emission → Type 0
 AsksLittle packets = (tag : ℕ) → requests_to tag packets < 2 ^ 32 - 1
 
--- The user resets no stream by this call, if it never does.
-abbrev pub ResetsAs : Bool → Input → Type 0
-ResetsAs never_resets input = never_resets ≡ true → resets_streams input ≡ false
+-- The user resets none of these streams by this call.
+abbrev pub ResetsAs : (ℕ → Bool) → Input → Type 0
+ResetsAs never_resets input = (id : ℕ) → never_resets id ≡ true → resets_stream id input ≡ false
 
--- There are ends for what was done so far, and for what was read, where the sender's user resets streams, or doesn't.
-pub record AreEnds (never_resets : Bool) (options : Options) (e : Endpoint) (queued : List Message) (past : List Effect) (packets : List Emission) (other : Endpoint) (their_past : List Effect) (reading : Reading) : Type 0 where
+-- There are ends for what was done so far, and for what was read, where the sender's user never resets these streams.
+pub record AreEnds (never_resets : ℕ → Bool) (options : Options) (e : Endpoint) (queued : List Message) (past : List Effect) (packets : List Emission) (other : Endpoint) (their_past : List Effect) (reading : Reading) : Type 0 where
   pub ends : Ends
   pub is : ends.never_resets ≡ never_resets
   pub between : Between options ends e queued past packets other their_past reading
@@ -47,7 +47,7 @@ pub record AreEnds (never_resets : Bool) (options : Options) (e : Endpoint) (que
 
 -- Two sockets that were just made have them; `options` are those of the receiver.
 abbrev pub EndsBegin : Type 0
-EndsBegin = (never_resets : Bool) (mine options : Options) → AreEnds never_resets options (fresh_endpoint mine) [] [] [] (fresh_endpoint options) [] nothing_read
+EndsBegin = (never_resets : ℕ → Bool) (mine options : Options) → AreEnds never_resets options (fresh_endpoint mine) [] [] [] (fresh_endpoint options) [] nothing_read
 
 -- Each association that is recorded has another own tag than those before.
 abbrev pub NewOwnTags : List Effect → Outcome → Type 0

@@ -1,6 +1,6 @@
 //! The laws of this crate.
 
-ghost use Rattle.dcsctp_delivery_associations.specs.InOrder.{EndsDeliverDataInOrder, EndsDeliverWithoutGaps, EndsDeliverInOrder};
+ghost use Rattle.dcsctp_delivery_associations.specs.InOrder.{EndsDeliverByStream, EndsDeliverDataInOrder, EndsDeliverWithoutGaps, EndsDeliverInOrder};
 ghost use Rattle.dcsctp_delivery_associations.specs.Laws.{EndsBegin, EndsDeliver, ReceiversTurn, SendersTurn};
 
 /// Two sockets that were just made have nothing between them.
@@ -35,8 +35,10 @@ pub fn ends_deliver_in_order()
     ensures plain { EndsDeliverDataInOrder }
 {}
 
-/// Where the sender had one association, sets no limits on messages and resets no stream, what was read of a stream's
-/// ordered messages is a prefix of what was queued: none is missing before one that was read.
+/// Where the sender had one association, what was read of a stream's ordered messages is a prefix of what was queued:
+/// none is missing before one that was read. With interleaving that takes no limits on messages of the stream, and no
+/// reset of it. Without it takes this of all streams.
 pub fn ends_deliver_without_gaps()
-    ensures { EndsDeliverWithoutGaps }
+    ensures streams { EndsDeliverByStream }
+    ensures all { EndsDeliverWithoutGaps }
 {}

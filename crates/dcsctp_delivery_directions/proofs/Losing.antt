@@ -12,19 +12,19 @@ use Rattle.dcsctp_spec.specs.queues.Transfer.{EndpointQueues}
 use Rattle.dcsctp_delivery_sending.specs.Places.{at_place}
 use Rattle.dcsctp_delivery_sending.specs.Log.{Message, Slot, History}
 use Rattle.dcsctp_delivery_sending.specs.Flushes.{InFlight}
-use Rattle.dcsctp_delivery_sending.specs.Losing.{AreUnlimited, StillWaits, IsKept, NoneLost}
-use Rattle.dcsctp_delivery_sending.specs.Queueing.{message_of, QueueWaits}
+use Rattle.dcsctp_delivery_sending.specs.Losing.{AreUnlimited, AllWaitOn, StillWaits, IsKept, NoneLost}
+use Rattle.dcsctp_delivery_sending.specs.Queueing.{message_of}
 use Rattle.dcsctp_delivery_sending.proofs.Losing.{KeepsQueues, FreeQueues, flush_keeps, free_below, kept_more, kept_on}
-use Rattle.dcsctp_delivery_sending.proofs.Places.{at_cases, at_below}
+use Rattle.dcsctp_delivery_sending.proofs.Places.{at_cases}
 use Rattle.dcsctp_delivery_sending.proofs.StillWaiting.{queued_waits, queueing_waits, setting_waits, committing_waits, rolling_back_waits}
-use Rattle.dcsctp_delivery_directions.specs.Directions.{Direction, Beginning, Asking, AllWait, DirectionRun, begins, goes_on, starts, DirectionStep, queues, sets, prepares, commits, rolls_back, flushes, resends, resends_nothing, speaks, asks_again, renews, turns_aside, acknowledges, loses, receives, forwards, receives_interleaved, forwards_interleaved, tracks, defers, performs, performs_earlier, resets, takes}
+use Rattle.dcsctp_delivery_directions.specs.Directions.{Direction, Beginning, KeepsAll, Asking, DirectionRun, begins, goes_on, starts, DirectionStep, queues, sets, prepares, commits, rolls_back, flushes, resends, resends_nothing, speaks, asks_again, renews, turns_aside, acknowledges, loses, receives, forwards, receives_interleaved, forwards_interleaved, tracks, defers, performs, performs_earlier, resets, takes}
 use Rattle.dcsctp_delivery_directions.specs.Losing.{LeavesOutNone, KeptAskNothing}
 use Rattle.dcsctp_delivery_directions.proofs.Calm.{Continues, calm_continues, stays_unperformed, none_asked, unasked_calm}
 use Rattle.dcsctp_delivery_directions.proofs.Continuing.{begun_history, started_history}
 use Rattle.dcsctp_delivery_directions.proofs.Directions.{begun_stands, started_stands, run_stands}
 use Rattle.dcsctp_delivery_directions.proofs.Standing.{Stands}
 use Rattle.dcsctp_delivery_directions.proofs.Steps.{stepped, more_queued}
-use Rattle.dcsctp_delivery_directions.proofs.Unpaused.{IsUnpaused, stays_unpaused}
+use Rattle.dcsctp_delivery_directions.proofs.Unpaused.{IsUnpaused, none_prepared, all_open, stays_unpaused}
 
 -- ---- one step
 
@@ -40,10 +40,10 @@ module _ (first : ℕ) (old : Direction) (s : Stands first old) (are : AreUnlimi
   same_waits : IsKept new.log old.queues.queue.streams place
   same_waits = kept_more s.history new more old.queues.queue.streams place grows kept
 
-  pub step_keeps : (direction : Direction) (step : DirectionStep old direction) → old.beginning.keeps_all ≡ true → InFlight new first direction.acknowledged direction.queues.transfer → IsKept new.log direction.queues.queue.streams place
+  pub step_keeps : (direction : Direction) (step : DirectionStep old direction) → KeepsAll old.beginning → InFlight new first direction.acknowledged direction.queues.transfer → IsKept new.log direction.queues.queue.streams place
   step_keeps _ (queues now sending fits some) keeps flight = kept_waits s.history new more old.queues.queue.streams (sending_queued now sending old.queues.queue).streams place grows (queueing_waits now sending old.queues.queue place) kept
   step_keeps _ (sets setting fits) keeps flight = kept_waits s.history new more old.queues.queue.streams (set_in_queue setting old.queues.queue).streams place grows (setting_waits setting old.queues.queue place) kept
-  step_keeps _ (prepares ids fit dropped) keeps flight = (let no : true ≡ false = sym keeps ∙ dropped in absurd (cc))
+  step_keeps _ (prepares ids fit dropped) keeps flight = subst (λ (q : SendQueueState). IsKept new.log q.streams place) (sym (none_prepared old.beginning ids old.queues.queue keeps dropped)) same_waits
   step_keeps _ (commits go_on) keeps flight = kept_waits s.history new more old.queues.queue.streams (queue_committed old.queues.queue).streams place grows (committing_waits old.queues.queue place) kept
   step_keeps _ (rolls_back unmixed) keeps flight = kept_waits s.history new more old.queues.queue.streams (queue_rolled_back old.queues.queue).streams place grows (rolling_back_waits old.queues.queue place) kept
   step_keeps _ (flushes e draft answers same no_data allowed) keeps flight =
@@ -135,7 +135,7 @@ was_before first old s _ (performs_earlier newest earlier next asks unknown reac
 was_before first old s _ (takes taken messages ready) place message at = inl at
 
 -- Each step leaves out none.
-pub step_loses_none : (first : ℕ) (old : Direction) (s : Stands first old) (direction : Direction) (step : DirectionStep old direction) → old.beginning.keeps_all ≡ true → AreUnlimited direction.queued
+pub step_loses_none : (first : ℕ) (old : Direction) (s : Stands first old) (direction : Direction) (step : DirectionStep old direction) → KeepsAll old.beginning → AreUnlimited direction.queued
     → (after : Stands first direction) (more : List Slot) → after.history.log ≡ more ++ s.history.log → NoneLost old.queued s.history.log old.queues.queue.streams → NoneLost direction.queued after.history.log direction.queues.queue.streams
 step_loses_none first old s direction step keeps are after more grows none place message at =
     elim (was_before first old s direction step place message at) [
@@ -171,23 +171,27 @@ same_beginning old _ (resets streams new unmixed some leaves) = refl
 same_beginning old _ (performs_earlier newest earlier new asks unknown reached own leaves) = refl
 same_beginning old _ (takes message messages ready) = refl
 
+-- So it kept each stream before, if it does afterwards.
+pub keeps_before : (old direction : Direction) → DirectionStep old direction → KeepsAll direction.beginning → KeepsAll old.beginning
+keeps_before old direction step keeps id = sym (ap (λ (b : Beginning). b.keeps id) (same_beginning old direction step)) ∙ keeps id
+
 -- ---- a run
 
 -- Where the sender keeps all, it pauses no stream.
-run_unpaused : (options : Options) (first size : ℕ) (direction : Direction) → DirectionRun options first size direction → direction.beginning.keeps_all ≡ true → IsUnpaused direction
-run_unpaused options first size _ (begins direction b) keeps = record { unpaused = (b.begun.all keeps).unpaused; unasked = ap (λ (a : Asking). a.requests) b.asking }
+run_unpaused : (options : Options) (first size : ℕ) (direction : Direction) → DirectionRun options first size direction → KeepsAll direction.beginning → IsUnpaused direction
+run_unpaused options first size _ (begins direction b) keeps = record { unpaused = all_open direction.queues.queue.streams (λ id. (b.begun.all id (keeps id)).unpaused); unasked = ap (λ (a : Asking). a.requests) b.asking }
 run_unpaused options first size _ (goes_on old direction run step) keeps =
-    let kept : old.beginning.keeps_all ≡ true = sym (ap (λ (b : Beginning). b.keeps_all) (same_beginning old direction step)) ∙ keeps in
+    let kept : KeepsAll old.beginning = keeps_before old direction step keeps in
     stays_unpaused old direction step kept (run_unpaused options first size old run kept)
 run_unpaused options first size _ (starts old queued below beginning run awaited fit waits idle begun) keeps =
-    record { unpaused = (begun.all keeps).unpaused; unasked = ap (λ (a : Asking). a.requests) awaited.asking }
+    record { unpaused = all_open below.queue.streams (λ id. (begun.all id (keeps id)).unpaused); unasked = ap (λ (a : Asking). a.requests) awaited.asking }
 
 pub kept_ask_nothing : KeptAskNothing
 kept_ask_nothing options first size direction run keeps = (run_unpaused options first size direction run keeps).unasked
 
 -- All that was queued waits where nothing was sent yet.
-pub none_lost_yet : (queued : List Message) (queue : SendQueueState) → QueueWaits queued queue → AllWait queue → NoneLost queued [] queue.streams
-none_lost_yet queued queue waits all place message at = inr (all.waits place (let below = at_below place message queued at in let next = waits.holds.next in omega (arith, below, next)))
+pub none_lost_yet : (queued : List Message) (streams : List Stream) → ((id : ℕ) → AllWaitOn id queued streams) → NoneLost queued [] streams
+none_lost_yet queued streams all place message at = inr ((all message.stream).waits place message at refl)
 
 -- what holds throughout it
 record LosesNone (first : ℕ) (direction : Direction) : Type 0 where
@@ -196,18 +200,18 @@ record LosesNone (first : ℕ) (direction : Direction) : Type 0 where
   none : NoneLost direction.queued stands.history.log direction.queues.queue.streams
 
 run_loses_none : (options : Options) (first size : ℕ) (direction : Direction) → first < 2 ^ 32 → length direction.queued < 2 ^ 64 → AreUnlimited direction.queued → DirectionRun options first size direction
-    → direction.beginning.keeps_all ≡ true → direction.asking.requests ≡ [] → LosesNone first direction
+    → KeepsAll direction.beginning → direction.asking.requests ≡ [] → LosesNone first direction
 run_loses_none options first size _ small few are (begins direction b) keeps unasked =
     let is = begun_history options first size direction small b in
     record {
       stands = begun_stands options first size direction small b;
       unperformed = ap (λ (a : Asking). a.is_performed) b.asking;
-      none = subst (λ (h : History). NoneLost direction.queued h.log direction.queues.queue.streams) (sym is) (none_lost_yet direction.queued direction.queues.queue b.queues (b.begun.all keeps));
+      none = subst (λ (h : History). NoneLost direction.queued h.log direction.queues.queue.streams) (sym is) (none_lost_yet direction.queued direction.queues.queue.streams (λ id. b.begun.all id (keeps id)));
     }
 run_loses_none options first size _ small few are (goes_on old direction run step) keeps unasked =
     let before = none_asked old direction step unasked in
     let calm = unasked_calm old direction step before in
-    let kept : old.beginning.keeps_all ≡ true = sym (ap (λ (b : Beginning). b.keeps_all) (same_beginning old direction step)) ∙ keeps in
+    let kept : KeepsAll old.beginning = keeps_before old direction step keeps in
     let earlier = run_loses_none options first size old small (omega (arith, few, more_queued old direction step)) (unlimited_before old direction step are) run kept before in
     let s = stepped first old small earlier.stands direction few step in
     let c : Continues earlier.stands.history s.history = calm_continues first old small earlier.stands direction few step calm earlier.unperformed in
@@ -223,11 +227,11 @@ run_loses_none options first size _ small few are (starts old queued below begin
     record {
       stands = started_stands first old queued below beginning before awaited small fit waits idle;
       unperformed = ap (λ (a : Asking). a.is_performed) awaited.asking;
-      none = subst (λ (h : History). NoneLost queued h.log below.queue.streams) (sym is) (none_lost_yet queued below.queue waits (begun.all keeps));
+      none = subst (λ (h : History). NoneLost queued h.log below.queue.streams) (sym is) (none_lost_yet queued below.queue.streams (λ id. begun.all id (keeps id)));
     }
 
 pub unlimited_leave_out_none : (options : Options) (first size : ℕ) (direction : Direction) → DirectionRun options first size direction → first < 2 ^ 32 → length direction.queued < 2 ^ 64 → AreUnlimited direction.queued
-    → direction.beginning.keeps_all ≡ true → LeavesOutNone first direction
+    → KeepsAll direction.beginning → LeavesOutNone first direction
 unlimited_leave_out_none options first size direction run small few are keeps =
     let l = run_loses_none options first size direction small few are run keeps (kept_ask_nothing options first size direction run keeps) in
     record { history = l.stands.history; queues = l.stands.queues; packets = l.stands.packets; none = l.none }

@@ -1,24 +1,43 @@
 -- A sender that keeps all that was queued pauses no stream, and begins no reset.
-use Rattle.std.proofs.Common.{◌≡◌, true, false, [], ◌∷◌, sym, ◌∙◌, ap, subst}
+use Rattle.std.proofs.Common.{◌≡◌, ℕ, true, false, List, [], ◌∷◌, refl, sym, ◌∙◌, ap, subst}
 use Rattle.std.specs.Prelude.{Option, None}
+use Rattle.std.specs.List.{AllByRecursion}
 use Rattle.dcsctp_spec.specs.endpoint.BegunResets.{BegunReset}
 use Rattle.dcsctp_spec.specs.endpoint.FlushOutcomes.{first_ask, packets_allowed}
+use Rattle.dcsctp_spec.specs.queues.OwnResets.{prepared_all}
+use Rattle.dcsctp_spec.specs.queues.SendQueue.{SendQueueState}
 use Rattle.dcsctp_spec.specs.queues.Transfer.{EndpointQueues}
+use Rattle.dcsctp_spec.specs.types.queues.SendStreams.{Stream}
 use Rattle.dcsctp_delivery_sending.specs.Flushes.{reset_begun_by}
-use Rattle.dcsctp_delivery_sending.specs.Losing.{AreOpen}
+use Rattle.dcsctp_delivery_sending.specs.Losing.{AreOpen, IsOpenOn}
 use Rattle.dcsctp_delivery_sending.proofs.OpenStreams.{queueing_open, setting_open, committing_open, rolling_back_open, flush_open, flush_asks_none}
-use Rattle.dcsctp_delivery_directions.specs.Directions.{Direction, asking_with, DirectionStep, queues, sets, prepares, commits, rolls_back, flushes, resends, resends_nothing, speaks, asks_again, renews, turns_aside, acknowledges, loses, receives, forwards, receives_interleaved, forwards_interleaved, tracks, defers, performs, performs_earlier, resets, takes}
+use Rattle.dcsctp_delivery_directions.specs.Directions.{Beginning, KeepsAll, Direction, asking_with, DirectionStep, queues, sets, prepares, commits, rolls_back, flushes, resends, resends_nothing, speaks, asks_again, renews, turns_aside, acknowledges, loses, receives, forwards, receives_interleaved, forwards_interleaved, tracks, defers, performs, performs_earlier, resets, takes}
 
 -- No stream is to be reset, and none ever was.
 pub record IsUnpaused (direction : Direction) : Type 0 where
   pub unpaused : AreOpen direction.queues.queue.streams
   pub unasked : direction.asking.requests ≡ []
 
+-- Each stream is open.
+pub all_open : (streams : List Stream) → ((id : ℕ) → IsOpenOn id streams) → AreOpen streams
+all_open [] each = tt
+all_open (stream ∷ streams) each = ((each stream.id).0 refl, all_open streams (λ id. (each id).1))
+
+-- Where the sender keeps all, it prepares no stream to be reset.
+pub none_prepared : (beginning : Beginning) (ids : List ℕ) (queue : SendQueueState) → KeepsAll beginning
+    → AllByRecursion (λ id. beginning.keeps id ≡ false) ids → prepared_all ids queue ≡ queue
+none_prepared beginning [] queue keeps dropped = refl
+none_prepared beginning (id ∷ ids) queue keeps dropped = absurd (let no : true ≡ false = sym (keeps id) ∙ dropped.0 in cc)
+
 -- This stays so, where the sender keeps all.
-pub stays_unpaused : (old direction : Direction) → DirectionStep old direction → old.beginning.keeps_all ≡ true → IsUnpaused old → IsUnpaused direction
+pub stays_unpaused : (old direction : Direction) → DirectionStep old direction → KeepsAll old.beginning → IsUnpaused old → IsUnpaused direction
 stays_unpaused old _ (queues now sending fits some) keeps u = record { unpaused = queueing_open now sending old.queues.queue u.unpaused; unasked = u.unasked }
 stays_unpaused old _ (sets setting fits) keeps u = record { unpaused = setting_open setting old.queues.queue u.unpaused; unasked = u.unasked }
-stays_unpaused old _ (prepares ids fit dropped) keeps u = absurd (let no : true ≡ false = sym keeps ∙ dropped in cc)
+stays_unpaused old _ (prepares ids fit dropped) keeps u =
+    record {
+      unpaused = subst (λ (q : SendQueueState). AreOpen q.streams) (sym (none_prepared old.beginning ids old.queues.queue keeps dropped)) u.unpaused;
+      unasked = u.unasked;
+    }
 stays_unpaused old _ (commits go_on) keeps u = record { unpaused = committing_open old.queues.queue u.unpaused; unasked = u.unasked }
 stays_unpaused old _ (rolls_back unmixed) keeps u = record { unpaused = rolling_back_open old.queues.queue u.unpaused; unasked = u.unasked }
 stays_unpaused old _ (flushes e draft answers same no_data allowed) keeps u =

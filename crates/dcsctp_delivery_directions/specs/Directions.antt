@@ -30,7 +30,7 @@ use Rattle.dcsctp_spec.specs.endpoint.TransferMoves.{ReceivesData, MovesForward,
 use Rattle.dcsctp_delivery_sending.specs.Numbers.{stream_named, next_mid}
 use Rattle.dcsctp_delivery_sending.specs.Places.{HasEntry}
 use Rattle.dcsctp_delivery_sending.specs.Log.{Fits, Message}
-use Rattle.dcsctp_delivery_sending.specs.Losing.{StillWaits, AreOpen}
+use Rattle.dcsctp_delivery_sending.specs.Losing.{AllWaitOn}
 use Rattle.dcsctp_spec.specs.Reconfiguration.{RequestedReset}
 use Rattle.dcsctp_spec.specs.association.FlushChanges.{reset_request}
 use Rattle.dcsctp_spec.specs.queues.Numbers.{is_tsn_beyond}
@@ -57,8 +57,12 @@ nothing_asked = record { requests = []; out = 0; is_performed = false }
 pub record Beginning : Type 0 where
   -- With number 0 on each stream (RFC 9260, section 6.5)?
   pub from_zero : Bool
-  -- With all that was queued before and no stream to be reset, and does it drop nothing for a reset of a stream?
-  pub keeps_all : Bool
+  -- On which streams with all that was queued before, and does it never reset them?
+  pub keeps : ℕ → Bool
+
+-- It keeps each stream so.
+abbrev pub KeepsAll : Beginning → Type 0
+KeepsAll beginning = (id : ℕ) → beginning.keeps id ≡ true
 
 -- One direction of an association, as both of its ends have it.
 pub record Direction : Type 0 where
@@ -117,7 +121,8 @@ pub data DirectionStep (old : Direction) : Direction → Type 0 where
   -- dropped; or a reset was performed, or was not. With interleaving it is the only one that has no end, the receiver has performed
   -- it, and none fails.
   sets : (setting : Setting) → SettingFits setting → DirectionStep old (record old { queues = record old.queues { queue = set_in_queue setting old.queues.queue } })
-  prepares : (ids : List ℕ) → AllByRecursion (λ id. id < 2 ^ 16) ids → old.beginning.keeps_all ≡ false → DirectionStep old (record old { queues = record old.queues { queue = prepared_all ids old.queues.queue } })
+  prepares : (ids : List ℕ) → AllByRecursion (λ id. id < 2 ^ 16) ids → AllByRecursion (λ id. old.beginning.keeps id ≡ false) ids
+      → DirectionStep old (record old { queues = record old.queues { queue = prepared_all ids old.queues.queue } })
   commits : (old.queues.queue.is_interleaved ≡ true → (old.asking.out ≤ 1) × (old.asking.is_performed ≡ true))
       → DirectionStep old (record old { queues = record old.queues { queue = queue_committed old.queues.queue }; asking = all_ended old.asking })
   rolls_back : old.queues.queue.is_interleaved ≡ false → DirectionStep old (record old { queues = record old.queues { queue = queue_rolled_back old.queues.queue }; asking = all_ended old.asking })
@@ -204,15 +209,10 @@ pub record BeginsAtZero (queue : SendQueueState) : Type 0 where
   pub zero : (id : ℕ) → next_mid false (stream_named id queue.streams) % 2 ^ 32 ≡ 0
   pub ssn : (id : ℕ) → (next_numbers false (stream_named id queue.streams)).0 ≡ 0
 
--- All that was ever queued waits, and no stream is to be reset.
-pub record AllWait (queue : SendQueueState) : Type 0 where
-  pub waits : (place : ℕ) → place < queue.next_message_id → StillWaits queue.streams place
-  pub unpaused : AreOpen queue.streams
-
--- The sender begins so with this queue.
-pub record BeginsAs (beginning : Beginning) (queue : SendQueueState) : Type 0 where
+-- The sender begins so with this queue, once all this was queued.
+pub record BeginsAs (beginning : Beginning) (queued : List Message) (queue : SendQueueState) : Type 0 where
   pub zero : beginning.from_zero ≡ true → BeginsAtZero queue
-  pub all : beginning.keeps_all ≡ true → AllWait queue
+  pub all : (id : ℕ) → beginning.keeps id ≡ true → AllWaitOn id queued queue.streams
 
 -- An association begins; what was queued before may wait.
 pub record BeginsDirection (options : Options) (first size : ℕ) (direction : Direction) : Type 0 where
@@ -225,7 +225,7 @@ pub record BeginsDirection (options : Options) (first size : ℕ) (direction : D
   pub reassembly : direction.reassembly ≡ new_reassembly size (part_overhead options)
   pub read : direction.read ≡ []
   pub asking : direction.asking ≡ nothing_asked
-  pub begun : BeginsAs direction.beginning direction.queues.queue
+  pub begun : BeginsAs direction.beginning direction.queued direction.queues.queue
 
 -- Its sender has no association yet.
 pub record IsAwaited (direction : Direction) : Type 0 where
@@ -241,7 +241,7 @@ pub data DirectionRun (options : Options) (first size : ℕ) : Direction → Typ
   goes_on : (old direction : Direction) → DirectionRun options first size old → DirectionStep old direction → DirectionRun options first size direction
   -- The sender begins after the receiver.
   starts : (old : Direction) (queued : List Message) (sender_queues : EndpointQueues) (beginning : Beginning) → DirectionRun options first size old → IsAwaited old → AllByRecursion Fits queued → QueueWaits queued sender_queues.queue → NoneInFlight first sender_queues.queue.is_interleaved sender_queues.transfer
-      → BeginsAs beginning sender_queues.queue → DirectionRun options first size (record old { queued = queued; queues = sender_queues; beginning = beginning })
+      → BeginsAs beginning queued sender_queues.queue → DirectionRun options first size (record old { queued = queued; queues = sender_queues; beginning = beginning })
 
 -- Each message that was read was queued, and none twice.
 pub record Delivered (queued : List Message) (read : List MessageContent) : Type 0 where

@@ -28,7 +28,6 @@ pub mod Raised
 pub mod Quiet
 pub mod Steps
 pub mod Beginning
-pub mod FrontReceived
 pub mod PlainReceived
 pub mod PlainGrowing
 pub mod FewGrowing
@@ -45,5 +44,3 @@ pub mod FewEntries
 pub mod PlainFront
 pub mod Directions
 pub mod StreamDirections
-pub mod FrontSteps
-pub mod Front

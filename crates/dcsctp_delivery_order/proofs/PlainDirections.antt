@@ -27,7 +27,7 @@ use Rattle.dcsctp_delivery_receiving.proofs.Distinct.{distinct_with}
 use Rattle.dcsctp_delivery_receiving.proofs.Growing.{were_more}
 use Rattle.dcsctp_delivery_receiving.proofs.Waiting.{both_queued}
 use Rattle.dcsctp_delivery_directions.specs.Calm.{ResetsNothing}
-use Rattle.dcsctp_delivery_directions.specs.Directions.{Beginning, BeginsAs, Direction, Asking, assigned, BeginsDirection, IsAwaited, NoneInFlight, DirectionRun, begins, goes_on, starts, DirectionStep, queues, sets, prepares, commits, rolls_back, flushes, resends, resends_nothing, speaks, asks_again, renews, turns_aside, acknowledges, loses, receives, forwards, receives_interleaved, forwards_interleaved, tracks, defers, performs, resets, performs_earlier, takes}
+use Rattle.dcsctp_delivery_directions.specs.Directions.{Beginning, KeepsAll, BeginsAs, Direction, Asking, assigned, BeginsDirection, IsAwaited, NoneInFlight, DirectionRun, begins, goes_on, starts, DirectionStep, queues, sets, prepares, commits, rolls_back, flushes, resends, resends_nothing, speaks, asks_again, renews, turns_aside, acknowledges, loses, receives, forwards, receives_interleaved, forwards_interleaved, tracks, defers, performs, resets, performs_earlier, takes}
 use Rattle.dcsctp_delivery_directions.proofs.Calm.{Continues, continues_same, calm_continues, stays_unperformed, none_asked, unasked_calm}
 use Rattle.dcsctp_delivery_directions.proofs.Continuing.{begun_history, started_history}
 use Rattle.dcsctp_delivery_directions.proofs.Directions.{begun_stands, started_stands, direction_queues}
@@ -38,7 +38,7 @@ use Rattle.dcsctp_delivery_order.specs.Delivered.{DeliveredInOrder}
 use Rattle.dcsctp_delivery_order.specs.Plain.{CountsPlain, IncomingPlain}
 use Rattle.dcsctp_delivery_directions.specs.Forwards.{NoneForwards}
 use Rattle.dcsctp_delivery_directions.proofs.Forwards.{forwards_never, i_forwards_never}
-use Rattle.dcsctp_delivery_directions.proofs.Losing.{same_beginning, unlimited_before, none_lost_yet, step_loses_none}
+use Rattle.dcsctp_delivery_directions.proofs.Losing.{same_beginning, keeps_before, unlimited_before, none_lost_yet, step_loses_none}
 use Rattle.dcsctp_delivery_order.proofs.Beginning.{waits_from}
 use Rattle.dcsctp_delivery_order.proofs.PlainGrowing.{takes_plain, counts_before, received_more, received_nothing}
 use Rattle.dcsctp_delivery_order.proofs.PlainReceived.{ReassemblesPlain, none_handled, some_handled, HasReceivedPlain, tracked_plain, received_plain, IsIdleAs, stays_idle}
@@ -58,7 +58,7 @@ pub record GoesPlain (first size : ℕ) (direction : Direction) : Type 0 where
   pub stands : Stands first direction
   pub unperformed : direction.asking.is_performed ≡ false
   pub zero : direction.beginning.from_zero ≡ true → direction.queues.queue.is_interleaved ≡ false → (id : ℕ) → stands.history.floors id false ≡ 0
-  pub kept : direction.beginning.keeps_all ≡ true → AreUnlimited direction.queued → NoneLost direction.queued stands.history.log direction.queues.queue.streams
+  pub kept : KeepsAll direction.beginning → AreUnlimited direction.queued → NoneLost direction.queued stands.history.log direction.queues.queue.streams
   pub idle : NoneForwards direction.sent → (direction.reassembly.deferral ≡ None) × (direction.reassembly.max_size ≡ size)
   pub arrives : CountsPlain stands.history → CanBeCounted size direction.queued → NoneForwards direction.sent → Arrives first stands.history direction.queued direction.read direction.tracker direction.reassembly
 
@@ -195,7 +195,7 @@ steps_plain first size old small g unasked direction few step calm =
       unperformed = stays_unperformed old direction step calm g.unperformed;
       zero = λ from kind id. ap (λ (floors : ℕ → Bool → ℕ). floors id false) c.floors ∙ g.zero (sym (ap (λ (b : Beginning). b.from_zero) (same_beginning old direction step)) ∙ from) (sym (same_kind old direction step) ∙ kind) id;
       kept = λ keeps are. (
-          let kept : old.beginning.keeps_all ≡ true = sym (ap (λ (b : Beginning). b.keeps_all) (same_beginning old direction step)) ∙ keeps in
+          let kept : KeepsAll old.beginning = keeps_before old direction step keeps in
           step_loses_none first old g.stands direction step kept are s c.more c.log (g.kept kept (unlimited_before old direction step are))
           );
       idle = λ none. (
@@ -225,13 +225,13 @@ begins_plain options first size direction small b =
       stands = begun_stands options first size direction small b';
       unperformed = ap (λ (a : Asking). a.is_performed) b.asking;
       zero = λ from kind id. ap (λ (h : History). h.floors id false) is ∙ w.plain kind (b.begun.zero from) id;
-      kept = λ keeps are. subst (λ (h : History). NoneLost direction.queued h.log direction.queues.queue.streams) (sym is) (none_lost_yet direction.queued direction.queues.queue b.queues (b.begun.all keeps));
+      kept = λ keeps are. subst (λ (h : History). NoneLost direction.queued h.log direction.queues.queue.streams) (sym is) (none_lost_yet direction.queued direction.queues.queue.streams (λ id. b.begun.all id (keeps id)));
       idle = λ none. (ap (λ (r : ReassemblyState). r.deferral) b.reassembly, ap (λ (r : ReassemblyState). r.max_size) b.reassembly);
       arrives = λ counts can none. arrives_none first direction (begun_stands options first size direction small b') w.waits.floors is counts;
     }
 
 starts_plain : (first size : ℕ) (old : Direction) (queued : List Message) (below : EndpointQueues) (beginning : Beginning) → first < 2 ^ 32 → (g : GoesPlain first size old) → (awaited : IsAwaited old) → AllByRecursion Fits queued → QueueWaits queued below.queue
-    → NoneInFlight first below.queue.is_interleaved below.transfer → BeginsAs beginning below.queue → GoesPlain first size (record old { queued = queued; queues = below; beginning = beginning })
+    → NoneInFlight first below.queue.is_interleaved below.transfer → BeginsAs beginning queued below.queue → GoesPlain first size (record old { queued = queued; queues = below; beginning = beginning })
 starts_plain first size old queued below beginning small g awaited fit waits none begun =
     let w = waits_from queued below.queue waits in
     let s = started_stands first old queued below beginning g.stands awaited small fit w.waits none in
@@ -240,7 +240,7 @@ starts_plain first size old queued below beginning small g awaited fit waits non
       stands = s;
       unperformed = ap (λ (a : Asking). a.is_performed) awaited.asking;
       zero = λ from kind id. ap (λ (h : History). h.floors id false) is ∙ w.plain kind (begun.zero from) id;
-      kept = λ keeps are. subst (λ (h : History). NoneLost queued h.log below.queue.streams) (sym is) (none_lost_yet queued below.queue waits (begun.all keeps));
+      kept = λ keeps are. subst (λ (h : History). NoneLost queued h.log below.queue.streams) (sym is) (none_lost_yet queued below.queue.streams (λ id. begun.all id (keeps id)));
       idle = g.idle;
       arrives = λ counts can none'. arrives_none first (record old { queued = queued; queues = below; beginning = beginning }) s w.waits.floors is counts;
     }

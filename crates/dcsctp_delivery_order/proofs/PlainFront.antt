@@ -10,7 +10,7 @@ use Rattle.dcsctp_delivery_sending.specs.Log.{Message, History, Cut}
 use Rattle.dcsctp_delivery_sending.specs.Losing.{AreUnlimited, NoneLost}
 use Rattle.dcsctp_delivery_sending.specs.Pieces.{HoldsQueued}
 use Rattle.dcsctp_delivery_sending.specs.Turns.{turn_at}
-use Rattle.dcsctp_delivery_directions.specs.Directions.{Direction, DirectionRun, assigned}
+use Rattle.dcsctp_delivery_directions.specs.Directions.{Direction, KeepsAll, DirectionRun, assigned}
 use Rattle.dcsctp_delivery_directions.proofs.Forwards.{unlimited_forward_nothing}
 use Rattle.dcsctp_delivery_order.specs.Queue.{LeaveNoGap}
 use Rattle.dcsctp_delivery_order.specs.Delivered.{DeliveredWithoutGaps}
@@ -60,7 +60,7 @@ module _ (queued : List Message) (history : History) (cut : Cut queued history.l
 
 pub plain_directions_deliver_without_gaps : (options : Options) (first size : ℕ) (direction : Direction) → DirectionRun options first size direction
     → first < 2 ^ 32 → assigned direction < 2 ^ 31 → length direction.queued < 2 ^ 64 → size ≤ 2 ^ 63 → direction.queues.queue.is_interleaved ≡ false
-    → direction.beginning.from_zero ≡ true → direction.beginning.keeps_all ≡ true → AreUnlimited direction.queued → DeliveredWithoutGaps direction.queued direction.read
+    → direction.beginning.from_zero ≡ true → KeepsAll direction.beginning → AreUnlimited direction.queued → DeliveredWithoutGaps direction.queued direction.read
 plain_directions_deliver_without_gaps options first size direction run small little few window kind from keeps are =
     let unasked = kept_ask_nothing options first size direction run keeps in
     let g = run_plain options first size direction small few run unasked in

@@ -1,9 +1,9 @@
--- With interleaving, on a stream that is never reset and has no limits, what is read is a prefix of
--- what was queued, also where other streams are reset, and messages of others are abandoned.
+-- With interleaving, on each stream that is never reset and has no limits, what is read is a prefix
+-- of what was queued, also where other streams are reset, and messages of others are abandoned.
 use Rattle.std.proofs.Common.{◌≡◌, ◌==◌, ℕ, Bool, true, false, ◌<◌, ◌≤◌, ◌%◌, ◌+◌, ◌*◌, ◌^◌, List, [], ◌∷◌, ◌++◌, length, length-append, refl, sym, ◌∙◌, ap, arith, subst, inl, inr}
-use Rattle.std.specs.Prelude.{Some, if◌then◌else◌}
+use Rattle.std.specs.Prelude.{◌&&◌, ◌||◌, not, Some, if◌then◌else◌}
 use Rattle.std.specs.List.{AllByRecursion}
-use Rattle.std.proofs.lemmas.Bool.{eqb-true, eq-eqb}
+use Rattle.std.proofs.lemmas.Bool.{eq-eqb}
 use Rattle.std.proofs.lemmas.Bool.Decides.{eqb_tells}
 use Rattle.dcsctp_spec_lemmas.specs.types.declared.options.Options.{Options}
 use Rattle.dcsctp_spec_lemmas.specs.types.queues.SendStreams.{Stream, stream_at}
@@ -16,9 +16,9 @@ use Rattle.dcsctp_spec_lemmas.specs.spec.endpoint.SettingOutcomes.{set_in_queue}
 use Rattle.dcsctp_delivery_sending.specs.Places.{at_place}
 use Rattle.dcsctp_delivery_sending.specs.Log.{Fits, Message, Slot, History, Cut, new_history}
 use Rattle.dcsctp_delivery_sending.specs.Flushes.{InFlight}
-use Rattle.dcsctp_delivery_sending.specs.Losing.{IsOpenOn, AllWaitOn, AreUnlimitedOn, StillWaits, IsKept}
+use Rattle.dcsctp_delivery_sending.specs.Losing.{IsOpenOn, AllWaitOn, AreUnlimited, AreUnlimitedOn, StillWaits, IsKept}
 use Rattle.dcsctp_delivery_sending.specs.Numbers.{is_handed_out, stream_named}
-use Rattle.dcsctp_delivery_sending.specs.Queueing.{QueueWaits}
+use Rattle.dcsctp_delivery_sending.specs.Queueing.{QueueWaits, floors_raised}
 use Rattle.dcsctp_delivery_sending.proofs.Chunks.{kinds_of}
 use Rattle.dcsctp_delivery_sending.proofs.Counting.{told}
 use Rattle.dcsctp_delivery_sending.proofs.Places.{at_either}
@@ -26,17 +26,19 @@ use Rattle.dcsctp_delivery_sending.proofs.HeldOn.{FreeQueuesOn, HoldsQueues, IsP
 use Rattle.dcsctp_delivery_sending.proofs.Losing.{kept_more, queued_of}
 use Rattle.dcsctp_delivery_sending.proofs.StillWaiting.{queueing_waits, setting_waits, committing_waits, rolling_back_waits}
 use Rattle.dcsctp_delivery_receiving.specs.Ready.{AreDistinct, WereQueued}
-use Rattle.dcsctp_delivery_directions.specs.Directions.{Direction, Beginning, Asking, BeginsAs, BeginsDirection, IsAwaited, NoneInFlight, assigned, DirectionRun, begins, goes_on, starts, DirectionStep, queues, sets, prepares, commits, rolls_back, flushes, resends, resends_nothing, speaks, asks_again, renews, turns_aside, acknowledges, loses, receives, forwards, receives_interleaved, forwards_interleaved, tracks, defers, performs, performs_earlier, resets, takes}
+use Rattle.dcsctp_delivery_receiving.proofs.Joining.{both}
+use Rattle.dcsctp_delivery_directions.specs.Directions.{Direction, Beginning, KeepsAll, Asking, BeginsAs, BeginsDirection, IsAwaited, NoneInFlight, assigned, DirectionRun, begins, goes_on, starts, DirectionStep, queues, sets, prepares, commits, rolls_back, flushes, resends, resends_nothing, speaks, asks_again, renews, turns_aside, acknowledges, loses, receives, forwards, receives_interleaved, forwards_interleaved, tracks, defers, performs, performs_earlier, resets, takes}
 use Rattle.dcsctp_delivery_directions.proofs.Continuing.{Continues, NamedAreOut, EndsNone, step_continues, ended_raises, begun_history, started_history}
 use Rattle.dcsctp_delivery_directions.proofs.Directions.{begun_stands, started_stands, run_stands}
-use Rattle.dcsctp_delivery_directions.proofs.Losing.{was_before}
+use Rattle.dcsctp_delivery_directions.proofs.Losing.{was_before, same_beginning}
 use Rattle.dcsctp_delivery_directions.proofs.Standing.{Stands}
 use Rattle.dcsctp_delivery_directions.proofs.Steps.{stepped, more_queued}
+use Rattle.dcsctp_delivery_order.specs.Delivered.{DeliveredWithoutGaps}
 use Rattle.dcsctp_delivery_order.specs.Gaps.{SendsInTurn}
 use Rattle.dcsctp_delivery_order.specs.Incoming.{IncomingOrdered, OrderWhere, NoneLimitedOn}
 use Rattle.dcsctp_delivery_order.specs.Reading.{CountsFromZero, OrderedStream}
 use Rattle.dcsctp_delivery_order.specs.Received.{none_quiet, ReassemblesInOrder, none_handled, some_handled}
-use Rattle.dcsctp_delivery_order.specs.Streams.{NoneLostOn, CurrentOn, KeepsOn, KeepsStream, DeliveredOn}
+use Rattle.dcsctp_delivery_order.specs.Streams.{NoneLostOn, CurrentOn, DeliveredByStream}
 use Rattle.dcsctp_delivery_order.proofs.Beginning.{waits_from}
 use Rattle.dcsctp_delivery_order.proofs.Delivered.{no_gap_front}
 use Rattle.dcsctp_delivery_order.proofs.Directions.{Unended, step_keeps, raised_zero}
@@ -50,13 +52,26 @@ use Rattle.dcsctp_delivery_order.proofs.Sending.{sends_in_turn_on}
 use Rattle.dcsctp_delivery_order.proofs.Steps.{arrives_on, committing_arrives}
 use Rattle.dcsctp_delivery_order.proofs.Unsent.{received_none}
 
--- the stream alone
-abbrev on_stream : ℕ → ℕ → Bool
-on_stream id other = other == id
+-- No message that was queued on these streams may be abandoned.
+abbrev AreFree : (ℕ → Bool) → List Message → Type 0
+AreFree gapless queued = (id : ℕ) → gapless id ≡ true → AreUnlimitedOn id queued
 
--- no message that was sent on it has limits
-free_on : (id : ℕ) (queued : List Message) (log : List Slot) → Cut queued log → AreUnlimitedOn id queued → NoneLimitedOn (on_stream id) log
-free_on id queued log cut are n f at on = unlimited_on_at id queued f.place f.message are (cut.pieces n f at).at (eqb-true f.message.stream id on)
+-- They are kept by a sender that began so.
+abbrev AreKept : (ℕ → Bool) → Beginning → Type 0
+AreKept gapless beginning = (id : ℕ) → gapless id ≡ true → beginning.keeps id ≡ true
+
+-- So none that was sent on them may be.
+free_on : (gapless : ℕ → Bool) (queued : List Message) (log : List Slot) → Cut queued log → AreFree gapless queued → NoneLimitedOn gapless log
+free_on gapless queued log cut are n f at on = unlimited_on_at f.message.stream queued f.place f.message (are f.message.stream on) (cut.pieces n f at).at refl
+
+-- A stream that is kept isn't among those that are prepared to be reset.
+not_named : (keeps : ℕ → Bool) (id : ℕ) (ids : List ℕ) → keeps id ≡ true → AllByRecursion (λ other. keeps other ≡ false) ids → is_named ids id ≡ false
+not_named keeps id [] kept dropped = refl
+not_named keeps id (other ∷ ids) kept dropped =
+    elim (eqb_tells other id) [
+      | inl e ↦ absurd (let no : true ≡ false = sym kept ∙ ap keeps (sym e.1) ∙ dropped.0 in cc)
+      | inr e ↦ rw e.0 (not_named keeps id ids kept dropped.1)
+    ]
 
 -- It isn't handed out.
 not_handed : (id : ℕ) (streams : List Stream) → IsOpenOn id streams → is_handed_out (stream_named id streams).pause ≡ false
@@ -96,10 +111,10 @@ unlimited_earlier id old _ (takes message messages ready) are = are
 
 -- ---- one step
 
-step_open : (id : ℕ) (old direction : Direction) (step : DirectionStep old direction) → KeepsOn id old direction step → IsOpenOn id old.queues.queue.streams → IsOpenOn id direction.queues.queue.streams
+step_open : (id : ℕ) (old direction : Direction) (step : DirectionStep old direction) → old.beginning.keeps id ≡ true → IsOpenOn id old.queues.queue.streams → IsOpenOn id direction.queues.queue.streams
 step_open id old _ (queues now sending fits some) keeps are = queueing_open_on id now sending old.queues.queue are
 step_open id old _ (sets setting fits) keeps are = setting_open_on id setting old.queues.queue are
-step_open id old _ (prepares ids fit dropped) keeps are = preparing_open_on id ids old.queues.queue keeps are
+step_open id old _ (prepares ids fit dropped) keeps are = preparing_open_on id ids old.queues.queue (not_named old.beginning.keeps id ids keeps dropped) are
 step_open id old _ (commits go_on) keeps are = committing_open_on id old.queues.queue are
 step_open id old _ (rolls_back unmixed) keeps are = rolling_back_open_on id old.queues.queue are
 step_open id old _ (flushes e draft answers same no_data allowed) keeps are =
@@ -149,10 +164,10 @@ module _ (id first : ℕ) (old : Direction) (s : Stands first old) (are : AreUnl
       let left = preparing_waits id ids old.queues.queue waits.waiting none (record { q = waits.q; on = on_it waits; has = waits.has }) in
       record { q = left.q; waiting = waits.waiting; has = left.has; is = waits.is }
 
-  keeps_on : (direction : Direction) (step : DirectionStep old direction) → KeepsOn id old direction step → InFlight new first direction.acknowledged direction.queues.transfer → IsKept new.log direction.queues.queue.streams place
+  keeps_on : (direction : Direction) (step : DirectionStep old direction) → old.beginning.keeps id ≡ true → InFlight new first direction.acknowledged direction.queues.transfer → IsKept new.log direction.queues.queue.streams place
   keeps_on _ (queues now sending fits some) keeps flight = kept_waits s.history new more old.queues.queue.streams (sending_queued now sending old.queues.queue).streams place grows (queueing_waits now sending old.queues.queue place) kept
   keeps_on _ (sets setting fits) keeps flight = kept_waits s.history new more old.queues.queue.streams (set_in_queue setting old.queues.queue).streams place grows (setting_waits setting old.queues.queue place) kept
-  keeps_on _ (prepares ids fit dropped) keeps flight = kept_waits s.history new more old.queues.queue.streams (prepared_all ids old.queues.queue).streams place grows (prepares_keeps ids keeps) kept
+  keeps_on _ (prepares ids fit dropped) keeps flight = kept_waits s.history new more old.queues.queue.streams (prepared_all ids old.queues.queue).streams place grows (prepares_keeps ids (not_named old.beginning.keeps id ids keeps dropped)) kept
   keeps_on _ (commits go_on) keeps flight = kept_waits s.history new more old.queues.queue.streams (queue_committed old.queues.queue).streams place grows (committing_waits old.queues.queue place) kept
   keeps_on _ (rolls_back unmixed) keeps flight = kept_waits s.history new more old.queues.queue.streams (queue_rolled_back old.queues.queue).streams place grows (rolling_back_waits old.queues.queue place) kept
   keeps_on _ (flushes e draft answers same no_data allowed) keeps flight =
@@ -181,7 +196,7 @@ module _ (id first : ℕ) (old : Direction) (s : Stands first old) (are : AreUnl
   keeps_on _ (performs_earlier newest earlier next asks unknown reached own leaves) keeps flight = same_waits
   keeps_on _ (takes message' messages ready) keeps flight = same_waits
 
-step_keeps_on : (id first : ℕ) (old : Direction) (s : Stands first old) (direction : Direction) (step : DirectionStep old direction) → KeepsOn id old direction step → AreUnlimitedOn id direction.queued
+step_keeps_on : (id first : ℕ) (old : Direction) (s : Stands first old) (direction : Direction) (step : DirectionStep old direction) → old.beginning.keeps id ≡ true → AreUnlimitedOn id direction.queued
     → (after : Stands first direction) (more : List Slot) → after.history.log ≡ more ++ s.history.log → NoneLostOn id old.queued s.history.log old.queues.queue.streams → NoneLostOn id direction.queued after.history.log direction.queues.queue.streams
 step_keeps_on id first old s direction step keeps are after more grows none place message at on =
     elim (was_before first old s direction step place message at) [
@@ -192,31 +207,41 @@ step_keeps_on id first old s direction step keeps are after more grows none plac
 
 -- ---- what holds throughout
 
-record GoesOnStream (id first : ℕ) (direction : Direction) : Type 0 where
+-- The history, and what the receiver has, where the sender keeps these streams, and no message on them has limits: they are open,
+-- each piece that was sent on them came after their last reset, and none was left out.
+record GoesOnGapless (gapless : ℕ → Bool) (first : ℕ) (direction : Direction) : Type 0 where
   stands : Stands first direction
   named : NamedAreOut stands.history direction.asking.out direction.queues.queue.streams
   unended : direction.queues.queue.is_interleaved ≡ true → Unended direction.asking
-  zero : direction.queues.queue.is_interleaved ≡ true → direction.beginning.from_zero ≡ true → (other : ℕ) → stands.history.floors other false % 2 ^ 32 ≡ 0
-  unpaused : IsOpenOn id direction.queues.queue.streams
-  current : direction.queues.queue.is_interleaved ≡ true → CurrentOn id stands.history
-  lost : direction.queues.queue.is_interleaved ≡ true → NoneLostOn id direction.queued stands.history.log direction.queues.queue.streams
+  zero : direction.queues.queue.is_interleaved ≡ true → direction.beginning.from_zero ≡ true → (id : ℕ) → stands.history.floors id false % 2 ^ 32 ≡ 0
+  unpaused : (id : ℕ) → gapless id ≡ true → IsOpenOn id direction.queues.queue.streams
+  current : direction.queues.queue.is_interleaved ≡ true → (id : ℕ) → gapless id ≡ true → CurrentOn id stands.history
+  lost : direction.queues.queue.is_interleaved ≡ true → (id : ℕ) → gapless id ≡ true → NoneLostOn id direction.queued stands.history.log direction.queues.queue.streams
   arrives : length stands.history.log < 2 ^ 31 → direction.queues.queue.is_interleaved ≡ true → direction.beginning.from_zero ≡ true
-      → Arrives (on_stream id) first stands.history direction.queued direction.read direction.tracker direction.reassembly direction.queues.queue.streams
+      → Arrives gapless first stands.history direction.queued direction.read direction.tracker direction.reassembly direction.queues.queue.streams
+
+-- They were kept before a step, and none of them had limits.
+kept_before : (gapless : ℕ → Bool) (old direction : Direction) → DirectionStep old direction → AreKept gapless direction.beginning → AreKept gapless old.beginning
+kept_before gapless old direction step kept id is = sym (ap (λ (b : Beginning). b.keeps id) (same_beginning old direction step)) ∙ kept id is
+
+free_before : (gapless : ℕ → Bool) (old direction : Direction) → DirectionStep old direction → AreFree gapless direction.queued → AreFree gapless old.queued
+free_before gapless old direction step are id is = unlimited_earlier id old direction step (are id is)
 
 -- ---- an association begins
 
-begins_so : (id first : ℕ) (direction : Direction) (s : Stands first direction) (floors : ℕ → Bool → ℕ) → s.history ≡ new_history floors → direction.asking.out ≡ 0 → direction.asking.requests ≡ []
-    → (direction.beginning.from_zero ≡ true → (other : ℕ) → floors other false % 2 ^ 32 ≡ 0) → AllWaitOn id direction.queued direction.queues.queue.streams → GoesOnStream id first direction
-begins_so id first direction s floors is none_out none_asked at_zero all =
+begins_so : (gapless : ℕ → Bool) (first : ℕ) (direction : Direction) (s : Stands first direction) (floors : ℕ → Bool → ℕ) → s.history ≡ new_history floors → direction.asking.out ≡ 0 → direction.asking.requests ≡ []
+    → (direction.beginning.from_zero ≡ true → (id : ℕ) → floors id false % 2 ^ 32 ≡ 0)
+    → ((id : ℕ) → gapless id ≡ true → AllWaitOn id direction.queued direction.queues.queue.streams) → GoesOnGapless gapless first direction
+begins_so gapless first direction s floors is none_out none_asked at_zero all =
     let empty : s.history.log ≡ [] = ap (λ (h : History). h.log) is in
     record {
       stands = s;
       named = λ mark earlier has some. absurd (omega (arith, some, none_out));
       unended = λ interleaved unknown. inl none_asked;
-      zero = λ interleaved from other. ap (λ (h : History). h.floors other false % 2 ^ 32) is ∙ at_zero from other;
-      unpaused = all.unpaused;
-      current = λ interleaved n f at. absurd (let none : at_place n [] ≡ Some (Some f) = ap (λ (l : List Slot). at_place n l) (sym empty) ∙ at in cc);
-      lost = λ interleaved place message at on. inr (all.waits place message at on);
+      zero = λ interleaved from id. ap (λ (h : History). h.floors id false % 2 ^ 32) is ∙ at_zero from id;
+      unpaused = λ id is. (all id is).unpaused;
+      current = λ interleaved id is n f at. absurd (let none : at_place n [] ≡ Some (Some f) = ap (λ (l : List Slot). at_place n l) (sym empty) ∙ at in cc);
+      lost = λ interleaved id is place message at on. inr ((all id is).waits place message at on);
       arrives = λ little interleaved from. (
           let a = s.arrived little in
           record {
@@ -224,7 +249,7 @@ begins_so id first direction s floors is none_out none_asked at_zero all =
             were = a.were;
             once = a.once;
             quiet = none_quiet;
-            received = received_none direction.queued s.history empty (on_stream id) first a.places direction.tracker direction.reassembly a.received;
+            received = received_none direction.queued s.history empty gapless first a.places direction.tracker direction.reassembly a.received;
             silent = λ other silent. absurd (cc);
           }
           );
@@ -232,162 +257,217 @@ begins_so id first direction s floors is none_out none_asked at_zero all =
 
 -- ---- a step that ends no reset
 
-goes_on_stream : (id first : ℕ) (old : Direction) → first < 2 ^ 32 → GoesOnStream id first old → (direction : Direction) → length direction.queued < 2 ^ 64 → AreUnlimitedOn id direction.queued
-    → (step : DirectionStep old direction) → KeepsOn id old direction step → EndsNone old direction step → GoesOnStream id first direction
-goes_on_stream id first old small g direction few are step keeps ends =
+gapless_goes_on : (gapless : ℕ → Bool) (first : ℕ) (old : Direction) → first < 2 ^ 32 → GoesOnGapless gapless first old → (direction : Direction) → length direction.queued < 2 ^ 64 → AreFree gapless direction.queued
+    → (step : DirectionStep old direction) → AreKept gapless old.beginning → EndsNone old direction step → GoesOnGapless gapless first direction
+gapless_goes_on gapless first old small g direction few are step kept ends =
     let s = stepped first old small g.stands direction few step in
     let c : Continues g.stands.history s.history old.queues.queue.streams direction.queues.queue.streams old.asking.out direction.asking.out = step_continues first old small g.stands direction few step ends in
     let k = step_keeps old direction step ends in
-    let free : NoneLimitedOn (on_stream id) g.stands.history.log = free_on id old.queued g.stands.history.log g.stands.queues.cut (unlimited_earlier id old direction step are) in
+    let free : NoneLimitedOn gapless g.stands.history.log = free_on gapless old.queued g.stands.history.log g.stands.queues.cut (free_before gapless old direction step are) in
     record {
       stands = s;
       named = c.named g.named;
       unended = λ interleaved. k.unended (g.unended (sym k.kind ∙ interleaved));
-      zero = λ interleaved from other. ap (λ (floors : ℕ → Bool → ℕ). floors other false % 2 ^ 32) c.floors ∙ g.zero (sym k.kind ∙ interleaved) (sym k.start ∙ from) other;
-      unpaused = step_open id old direction step keeps g.unpaused;
-      current = λ interleaved n f at on kind. subst (λ (floors : ℕ → Bool → ℕ). floors f.message.stream f.message.is_unordered ≤ f.mid) (sym c.floors) (
+      zero = λ interleaved from id. ap (λ (floors : ℕ → Bool → ℕ). floors id false % 2 ^ 32) c.floors ∙ g.zero (sym k.kind ∙ interleaved) (sym k.start ∙ from) id;
+      unpaused = λ id is. step_open id old direction step (kept id is) (g.unpaused id is);
+      current = λ interleaved id is n f at on kind. subst (λ (floors : ℕ → Bool → ℕ). floors f.message.stream f.message.is_unordered ≤ f.mid) (sym c.floors) (
           elim (at_either c.more g.stands.history.log n (Some f) (ap (λ (l : List Slot). at_place n l) (sym c.log) ∙ at)) [
             | inl e ↦ c.current e.0 f e.1 kind
-            | inr e ↦ g.current (sym k.kind ∙ interleaved) n f e on kind
+            | inr e ↦ g.current (sym k.kind ∙ interleaved) id is n f e on kind
           ]
           );
-      lost = λ interleaved. step_keeps_on id first old g.stands direction step keeps are s c.more c.log (g.lost (sym k.kind ∙ interleaved));
+      lost = λ interleaved id is. step_keeps_on id first old g.stands direction step (kept id is) (are id is) s c.more c.log (g.lost (sym k.kind ∙ interleaved) id is);
       arrives = λ little interleaved from. (
           let sizes : length s.history.log ≡ length (c.more ++ g.stands.history.log) = ap (λ (l : List Slot). length l) c.log in
           let before : length g.stands.history.log < 2 ^ 31 = omega (arith, little, sizes, length-append c.more g.stands.history.log) in
           let was : old.queues.queue.is_interleaved ≡ true = sym k.kind ∙ interleaved in
-          arrives_later (on_stream id) first g.stands.history s.history old.queues.queue.streams direction.queues.queue.streams old.asking.out direction.asking.out c direction.queued [] direction.read direction.tracker direction.reassembly
-          (arrives_on (on_stream id) first old small g.stands free before was direction step ends g.named (g.unended was) (g.arrives before was (sym k.start ∙ from)))
+          arrives_later gapless first g.stands.history s.history old.queues.queue.streams direction.queues.queue.streams old.asking.out direction.asking.out c direction.queued [] direction.read direction.tracker direction.reassembly
+          (arrives_on gapless first old small g.stands free before was direction step ends g.named (g.unended was) (g.arrives before was (sym k.start ∙ from)))
           );
     }
 
 -- ---- a step that ends a reset
 
-stream_steps : (id first : ℕ) (old : Direction) → first < 2 ^ 32 → GoesOnStream id first old → (direction : Direction) → length direction.queued < 2 ^ 64 → AreUnlimitedOn id direction.queued
-    → (step : DirectionStep old direction) → KeepsOn id old direction step → GoesOnStream id first direction
-stream_steps id first old small g _ few are (commits go_on) keeps =
+-- Where a stream isn't handed out, its floor isn't raised, and each piece that was sent on it stays current.
+current_raised : (id : ℕ) (history : History) (streams : List Stream) → IsOpenOn id streams → CurrentOn id history → CurrentOn id (floors_raised streams history)
+current_raised id history streams are current n f at on kind =
+    let shut = not_handed id streams are in
+    subst (λ (b : Bool). (if b then 2 ^ 32 * (history.floors f.message.stream f.message.is_unordered + length history.log + 1) else history.floors f.message.stream f.message.is_unordered) ≤ f.mid)
+    (sym (ap (λ (k : ℕ). is_handed_out (stream_named k streams).pause) on ∙ shut)) (current n f at on kind)
+
+gapless_steps : (gapless : ℕ → Bool) (first : ℕ) (old : Direction) → first < 2 ^ 32 → GoesOnGapless gapless first old → (direction : Direction) → length direction.queued < 2 ^ 64 → AreFree gapless direction.queued
+    → DirectionStep old direction → AreKept gapless old.beginning → GoesOnGapless gapless first direction
+gapless_steps gapless first old small g _ few are (commits go_on) kept =
     let s = stepped first old small g.stands _ few (commits go_on) in
-    let free : NoneLimitedOn (on_stream id) g.stands.history.log = free_on id old.queued g.stands.history.log g.stands.queues.cut are in
-    let shut = not_handed id old.queues.queue.streams g.unpaused in
+    let free : NoneLimitedOn gapless g.stands.history.log = free_on gapless old.queued g.stands.history.log g.stands.queues.cut are in
+    let raises : old.queues.queue.is_interleaved ≡ true → s.history ≡ floors_raised old.queues.queue.streams g.stands.history = ended_raises first old small g.stands few go_on in
     record {
       stands = s;
       named = λ mark earlier is some. absurd (omega (arith, some));
       unended = λ interleaved unknown. absurd (let clash : true ≡ false = sym (go_on interleaved).1 ∙ unknown in cc);
-      zero = λ interleaved from other.
-          subst (λ (h : History). h.floors other false % 2 ^ 32 ≡ 0) (sym (ended_raises first old small g.stands few go_on interleaved))
-          (raised_zero (is_handed_out (stream_named other old.queues.queue.streams).pause) (g.stands.history.floors other false) (length g.stands.history.log) (g.zero interleaved from other));
-      unpaused = committing_open_on id old.queues.queue g.unpaused;
-      current = λ interleaved. subst (λ (h : History). CurrentOn id h) (sym (ended_raises first old small g.stands few go_on interleaved))
-          (λ n f at on kind.
-          subst (λ (b : Bool). (if b then 2 ^ 32 * (g.stands.history.floors f.message.stream f.message.is_unordered + length g.stands.history.log + 1) else g.stands.history.floors f.message.stream f.message.is_unordered) ≤ f.mid)
-          (sym (ap (λ (k : ℕ). is_handed_out (stream_named k old.queues.queue.streams).pause) on ∙ shut)) (g.current interleaved n f at on kind));
-      lost = λ interleaved.
-          step_keeps_on id first old g.stands _ (commits go_on) keeps are s [] (ap (λ (h : History). h.log) (ended_raises first old small g.stands few go_on interleaved)) (g.lost interleaved);
+      zero = λ interleaved from id. subst (λ (h : History). h.floors id false % 2 ^ 32 ≡ 0) (sym (raises interleaved))
+          (raised_zero (is_handed_out (stream_named id old.queues.queue.streams).pause) (g.stands.history.floors id false) (length g.stands.history.log) (g.zero interleaved from id));
+      unpaused = λ id is. committing_open_on id old.queues.queue (g.unpaused id is);
+      current = λ interleaved id is. subst (λ (h : History). CurrentOn id h) (sym (raises interleaved))
+          (current_raised id g.stands.history old.queues.queue.streams (g.unpaused id is) (g.current interleaved id is));
+      lost = λ interleaved id is.
+          step_keeps_on id first old g.stands _ (commits go_on) (kept id is) (are id is) s [] (ap (λ (h : History). h.log) (raises interleaved)) (g.lost interleaved id is);
       arrives = λ little interleaved from. (
-          let raises = ended_raises first old small g.stands few go_on interleaved in
-          let before : length g.stands.history.log < 2 ^ 31 = subst (λ (h : History). length h.log < 2 ^ 31) raises little in
-          subst (λ (h : History). Arrives (on_stream id) first h old.queued old.read old.tracker old.reassembly (queue_committed old.queues.queue).streams) (sym raises)
-          (committing_arrives (on_stream id) first old small g.stands free before interleaved (go_on interleaved).0 (go_on interleaved).1 (g.zero interleaved from) (g.arrives before interleaved from))
+          let before : length g.stands.history.log < 2 ^ 31 = subst (λ (h : History). length h.log < 2 ^ 31) (raises interleaved) little in
+          subst (λ (h : History). Arrives gapless first h old.queued old.read old.tracker old.reassembly (queue_committed old.queues.queue).streams) (sym (raises interleaved))
+          (committing_arrives gapless first old small g.stands free before interleaved (go_on interleaved).0 (go_on interleaved).1 (g.zero interleaved from) (g.arrives before interleaved from))
           );
     }
-stream_steps id first old small g _ few are (rolls_back unmixed) keeps =
+gapless_steps gapless first old small g _ few are (rolls_back unmixed) kept =
     record {
       stands = stepped first old small g.stands _ few (rolls_back unmixed);
       named = λ mark earlier is some. absurd (omega (arith, some));
       unended = λ interleaved. absurd (let clash : true ≡ false = sym interleaved ∙ unmixed in cc);
       zero = λ interleaved. absurd (let clash : true ≡ false = sym interleaved ∙ unmixed in cc);
-      unpaused = rolling_back_open_on id old.queues.queue g.unpaused;
+      unpaused = λ id is. rolling_back_open_on id old.queues.queue (g.unpaused id is);
       current = λ interleaved. absurd (let clash : true ≡ false = sym interleaved ∙ unmixed in cc);
       lost = λ interleaved. absurd (let clash : true ≡ false = sym interleaved ∙ unmixed in cc);
       arrives = λ little interleaved. absurd (let clash : true ≡ false = sym interleaved ∙ unmixed in cc);
     }
-stream_steps id first old small g _ few are (queues now sending fits some) keeps = goes_on_stream id first old small g _ few are (queues now sending fits some) keeps tt
-stream_steps id first old small g _ few are (sets setting fits) keeps = goes_on_stream id first old small g _ few are (sets setting fits) keeps tt
-stream_steps id first old small g _ few are (prepares ids fit kept) keeps = goes_on_stream id first old small g _ few are (prepares ids fit kept) keeps tt
-stream_steps id first old small g _ few are (flushes e draft answers same no_data allowed) keeps = goes_on_stream id first old small g _ few are (flushes e draft answers same no_data allowed) keeps tt
-stream_steps id first old small g _ few are (resends now room transfer left tsns chunks emission known sends are' contents) keeps = goes_on_stream id first old small g _ few are (resends now room transfer left tsns chunks emission known sends are' contents) keeps tt
-stream_steps id first old small g _ few are (resends_nothing now room transfer left tsns known sends) keeps = goes_on_stream id first old small g _ few are (resends_nothing now room transfer left tsns known sends) keeps tt
-stream_steps id first old small g _ few are (speaks emission no_data) keeps = goes_on_stream id first old small g _ few are (speaks emission no_data) keeps tt
-stream_steps id first old small g _ few are (asks_again emission begun was contents) keeps = goes_on_stream id first old small g _ few are (asks_again emission begun was contents) keeps tt
-stream_steps id first old small g _ few are (renews emission newest earlier number asks out contents) keeps = goes_on_stream id first old small g _ few are (renews emission newest earlier number asks out contents) keeps tt
-stream_steps id first old small g _ few are (turns_aside transfer new known same) keeps = goes_on_stream id first old small g _ few are (turns_aside transfer new known same) keeps tt
-stream_steps id first old small g _ few are (acknowledges now sack transfer new known valid does) keeps = goes_on_stream id first old small g _ few are (acknowledges now sack transfer new known valid does) keeps tt
-stream_steps id first old small g _ few are (loses now transfer known) keeps = goes_on_stream id first old small g _ few are (loses now transfer known) keeps tt
-stream_steps id first old small g _ few are (receives emission chunk theirs new was holds some same same' does) keeps = goes_on_stream id first old small g _ few are (receives emission chunk theirs new was holds some same same' does) keeps tt
-stream_steps id first old small g _ few are (forwards emission tsn streams theirs new was holds same same' does) keeps = goes_on_stream id first old small g _ few are (forwards emission tsn streams theirs new was holds same same' does) keeps tt
-stream_steps id first old small g _ few are (receives_interleaved emission chunk theirs new was holds some same same' does) keeps = goes_on_stream id first old small g _ few are (receives_interleaved emission chunk theirs new was holds some same same' does) keeps tt
-stream_steps id first old small g _ few are (forwards_interleaved emission tsn streams theirs new was holds same same' does) keeps = goes_on_stream id first old small g _ few are (forwards_interleaved emission tsn streams theirs new was holds same same' does) keeps tt
-stream_steps id first old small g _ few are (tracks new cumulative ranges) keeps = goes_on_stream id first old small g _ few are (tracks new cumulative ranges) keeps tt
-stream_steps id first old small g _ few are (defers last_tsn streams some) keeps = goes_on_stream id first old small g _ few are (defers last_tsn streams some) keeps tt
-stream_steps id first old small g _ few are (performs newest earlier new asks unknown reached own leaves) keeps = goes_on_stream id first old small g _ few are (performs newest earlier new asks unknown reached own leaves) keeps tt
-stream_steps id first old small g _ few are (performs_earlier newest earlier new asks unknown reached own leaves) keeps = goes_on_stream id first old small g _ few are (performs_earlier newest earlier new asks unknown reached own leaves) keeps tt
-stream_steps id first old small g _ few are (resets streams new unmixed some leaves) keeps = goes_on_stream id first old small g _ few are (resets streams new unmixed some leaves) keeps tt
-stream_steps id first old small g _ few are (takes message messages ready) keeps = goes_on_stream id first old small g _ few are (takes message messages ready) keeps tt
+gapless_steps gapless first old small g _ few are (queues now sending fits some) kept = gapless_goes_on gapless first old small g _ few are (queues now sending fits some) kept tt
+gapless_steps gapless first old small g _ few are (sets setting fits) kept = gapless_goes_on gapless first old small g _ few are (sets setting fits) kept tt
+gapless_steps gapless first old small g _ few are (prepares ids fit dropped) kept = gapless_goes_on gapless first old small g _ few are (prepares ids fit dropped) kept tt
+gapless_steps gapless first old small g _ few are (flushes e draft answers same no_data allowed) kept = gapless_goes_on gapless first old small g _ few are (flushes e draft answers same no_data allowed) kept tt
+gapless_steps gapless first old small g _ few are (resends now room transfer left tsns chunks emission known sends are' contents) kept = gapless_goes_on gapless first old small g _ few are (resends now room transfer left tsns chunks emission known sends are' contents) kept tt
+gapless_steps gapless first old small g _ few are (resends_nothing now room transfer left tsns known sends) kept = gapless_goes_on gapless first old small g _ few are (resends_nothing now room transfer left tsns known sends) kept tt
+gapless_steps gapless first old small g _ few are (speaks emission no_data) kept = gapless_goes_on gapless first old small g _ few are (speaks emission no_data) kept tt
+gapless_steps gapless first old small g _ few are (asks_again emission begun was contents) kept = gapless_goes_on gapless first old small g _ few are (asks_again emission begun was contents) kept tt
+gapless_steps gapless first old small g _ few are (renews emission newest earlier number asks out contents) kept = gapless_goes_on gapless first old small g _ few are (renews emission newest earlier number asks out contents) kept tt
+gapless_steps gapless first old small g _ few are (turns_aside transfer new known same) kept = gapless_goes_on gapless first old small g _ few are (turns_aside transfer new known same) kept tt
+gapless_steps gapless first old small g _ few are (acknowledges now sack transfer new known valid does) kept = gapless_goes_on gapless first old small g _ few are (acknowledges now sack transfer new known valid does) kept tt
+gapless_steps gapless first old small g _ few are (loses now transfer known) kept = gapless_goes_on gapless first old small g _ few are (loses now transfer known) kept tt
+gapless_steps gapless first old small g _ few are (receives emission chunk theirs new was holds some same same' does) kept = gapless_goes_on gapless first old small g _ few are (receives emission chunk theirs new was holds some same same' does) kept tt
+gapless_steps gapless first old small g _ few are (forwards emission tsn streams theirs new was holds same same' does) kept = gapless_goes_on gapless first old small g _ few are (forwards emission tsn streams theirs new was holds same same' does) kept tt
+gapless_steps gapless first old small g _ few are (receives_interleaved emission chunk theirs new was holds some same same' does) kept = gapless_goes_on gapless first old small g _ few are (receives_interleaved emission chunk theirs new was holds some same same' does) kept tt
+gapless_steps gapless first old small g _ few are (forwards_interleaved emission tsn streams theirs new was holds same same' does) kept = gapless_goes_on gapless first old small g _ few are (forwards_interleaved emission tsn streams theirs new was holds same same' does) kept tt
+gapless_steps gapless first old small g _ few are (tracks new cumulative ranges) kept = gapless_goes_on gapless first old small g _ few are (tracks new cumulative ranges) kept tt
+gapless_steps gapless first old small g _ few are (defers last_tsn streams some) kept = gapless_goes_on gapless first old small g _ few are (defers last_tsn streams some) kept tt
+gapless_steps gapless first old small g _ few are (performs newest earlier new asks unknown reached own leaves) kept = gapless_goes_on gapless first old small g _ few are (performs newest earlier new asks unknown reached own leaves) kept tt
+gapless_steps gapless first old small g _ few are (performs_earlier newest earlier new asks unknown reached own leaves) kept = gapless_goes_on gapless first old small g _ few are (performs_earlier newest earlier new asks unknown reached own leaves) kept tt
+gapless_steps gapless first old small g _ few are (resets streams new unmixed some leaves) kept = gapless_goes_on gapless first old small g _ few are (resets streams new unmixed some leaves) kept tt
+gapless_steps gapless first old small g _ few are (takes message messages ready) kept = gapless_goes_on gapless first old small g _ few are (takes message messages ready) kept tt
 
 -- ---- a run
 
-begins_stream : (id : ℕ) (options : Options) (first size : ℕ) (direction : Direction) → first < 2 ^ 32 → BeginsDirection options first size direction → AllWaitOn id direction.queued direction.queues.queue.streams → GoesOnStream id first direction
-begins_stream id options first size direction small b all =
+begins_gapless : (gapless : ℕ → Bool) (options : Options) (first size : ℕ) (direction : Direction) → first < 2 ^ 32 → BeginsDirection options first size direction
+    → AreKept gapless direction.beginning → GoesOnGapless gapless first direction
+begins_gapless gapless options first size direction small b kept =
     let w = waits_from direction.queued direction.queues.queue b.queues in
     let b' : BeginsDirection options first size direction = record b { queues = w.waits } in
     let is = begun_history options first size direction small b' in
-    begins_so id first direction (begun_stands options first size direction small b') w.waits.floors is (ap (λ (a : Asking). a.out) b.asking) (ap (λ (a : Asking). a.requests) b.asking) (λ from. w.zero (b.begun.zero from)) all
+    begins_so gapless first direction (begun_stands options first size direction small b') w.waits.floors is (ap (λ (a : Asking). a.out) b.asking) (ap (λ (a : Asking). a.requests) b.asking)
+    (λ from. w.zero (b.begun.zero from)) (λ id is. b.begun.all id (kept id is))
 
-starts_stream : (id first : ℕ) (old : Direction) (queued : List Message) (below : EndpointQueues) (beginning : Beginning) → first < 2 ^ 32 → (stands : Stands first old) → (awaited : IsAwaited old) → AllByRecursion Fits queued → QueueWaits queued below.queue
-    → NoneInFlight first below.queue.is_interleaved below.transfer → BeginsAs beginning below.queue → AllWaitOn id queued below.queue.streams → GoesOnStream id first (record old { queued = queued; queues = below; beginning = beginning })
-starts_stream id first old queued below beginning small stands awaited fit waits none begun all =
+starts_gapless : (gapless : ℕ → Bool) (first : ℕ) (old : Direction) (queued : List Message) (below : EndpointQueues) (beginning : Beginning) → first < 2 ^ 32 → (stands : Stands first old) → (awaited : IsAwaited old) → AllByRecursion Fits queued
+    → QueueWaits queued below.queue → NoneInFlight first below.queue.is_interleaved below.transfer → BeginsAs beginning queued below.queue → AreKept gapless beginning
+    → GoesOnGapless gapless first (record old { queued = queued; queues = below; beginning = beginning })
+starts_gapless gapless first old queued below beginning small stands awaited fit waits none begun kept =
     let w = waits_from queued below.queue waits in
     let s = started_stands first old queued below beginning stands awaited small fit w.waits none in
     let is = started_history first old queued below beginning stands awaited small fit w.waits none in
-    begins_so id first (record old { queued = queued; queues = below; beginning = beginning }) s w.waits.floors is (ap (λ (a : Asking). a.out) awaited.asking) (ap (λ (a : Asking). a.requests) awaited.asking) (λ from. w.zero (begun.zero from)) all
+    begins_so gapless first (record old { queued = queued; queues = below; beginning = beginning }) s w.waits.floors is (ap (λ (a : Asking). a.out) awaited.asking) (ap (λ (a : Asking). a.requests) awaited.asking)
+    (λ from. w.zero (begun.zero from)) (λ id is. begun.all id (kept id is))
 
-run_stream : (id : ℕ) (options : Options) (first size : ℕ) (direction : Direction) → first < 2 ^ 32 → length direction.queued < 2 ^ 64 → AreUnlimitedOn id direction.queued
-    → (run : DirectionRun options first size direction) → KeepsStream id options first size direction run → GoesOnStream id first direction
-run_stream id options first size _ small few are (begins direction b) keeps = begins_stream id options first size direction small b keeps
-run_stream id options first size _ small few are (goes_on old direction run step) keeps =
-    stream_steps id first old small (run_stream id options first size old small (omega (arith, few, more_queued old direction step)) (unlimited_earlier id old direction step are) run keeps.0) direction few are step keeps.1
-run_stream id options first size _ small few are (starts old queued below beginning run awaited fit waits idle begun) keeps =
+run_gapless : (gapless : ℕ → Bool) (options : Options) (first size : ℕ) (direction : Direction) → first < 2 ^ 32 → length direction.queued < 2 ^ 64 → AreFree gapless direction.queued
+    → DirectionRun options first size direction → AreKept gapless direction.beginning → GoesOnGapless gapless first direction
+run_gapless gapless options first size _ small few are (begins direction b) kept = begins_gapless gapless options first size direction small b kept
+run_gapless gapless options first size _ small few are (goes_on old direction run step) kept =
+    let before = kept_before gapless old direction step kept in
+    let few_before : length old.queued < 2 ^ 64 = omega (arith, few, more_queued old direction step) in
+    gapless_steps gapless first old small (run_gapless gapless options first size old small few_before (free_before gapless old direction step are) run before) direction few are step before
+run_gapless gapless options first size _ small few are (starts old queued below beginning run awaited fit waits idle begun) kept =
     let none_queued : length old.queued ≡ 0 = ap (λ (l : List Message). length l) awaited.queued in
-    starts_stream id first old queued below beginning small (run_stands options first size old small (omega (arith, none_queued)) run) awaited fit waits idle begun keeps
+    starts_gapless gapless first old queued below beginning small (run_stands options first size old small (omega (arith, none_queued)) run) awaited fit waits idle begun kept
+
+-- ---- which streams have no limits
+
+-- May no message that was queued on the stream be abandoned?
+abbrev are_unlimited_on : ℕ → List Message → Bool
+are_unlimited_on id [] = true
+are_unlimited_on id (message ∷ queued) = (not (message.stream == id) || not message.is_limited) && are_unlimited_on id queued
+
+unlimited_so : (id : ℕ) (queued : List Message) → are_unlimited_on id queued ≡ true → AreUnlimitedOn id queued
+unlimited_so id [] is = tt
+unlimited_so id (message ∷ queued) is =
+    let parts = both (not (message.stream == id) || not message.is_limited) (are_unlimited_on id queued) is in
+    (λ on. not_limited message.is_limited (subst (λ (b : Bool). (not b || not message.is_limited) ≡ true) (eq-eqb message.stream id on) parts.0), unlimited_so id queued parts.1)
+  where
+    not_limited : (b : Bool) → not b ≡ true → b ≡ false
+    not_limited false is' = refl
+    not_limited true is' = absurd (cc)
+
+so_unlimited : (id : ℕ) (queued : List Message) → AreUnlimitedOn id queued → are_unlimited_on id queued ≡ true
+so_unlimited id [] are = refl
+so_unlimited id (message ∷ queued) are =
+    elim (eqb_tells message.stream id) [
+      | inl e ↦ rw e.0 (rw (are.0 e.1) (so_unlimited id queued are.1))
+      | inr e ↦ rw e.0 (so_unlimited id queued are.1)
+    ]
 
 -- ---- what was read
 
-pub streams_deliver_without_gaps : (options : Options) (first size : ℕ) (direction : Direction) (run : DirectionRun options first size direction) (id : ℕ) → KeepsStream id options first size direction run
+-- the streams that the sender keeps, and on which no message may be abandoned
+abbrev gapless_of : Direction → ℕ → Bool
+gapless_of direction id = direction.beginning.keeps id && are_unlimited_on id direction.queued
+
+module _ (direction : Direction) (history : History) (counts : (id : ℕ) → CountsFromZero history id)
+    (turns : (id : ℕ) → gapless_of direction id ≡ true → SendsInTurn direction.queued history id) where
+  read_gapless : (quiet : ℕ → Bool) → ((id : ℕ) → gapless_of direction id ≡ true → quiet id ≡ false) → (got : List ℕ) (base : ℕ) (places : List ℕ) → WereQueued direction.queued places direction.read → AreDistinct places
+      → IncomingOrdered (gapless_of direction) direction.queued history quiet got base places direction.reassembly.incoming → DeliveredByStream direction.beginning.keeps direction.queued direction.read
+  read_gapless quiet loud got base places were once o =
+      record {
+        ordered = record {
+          delivered = record { places = places; were_queued = were; once = once };
+          in_order = λ id. ordered_was_read (gapless_of direction) direction.queued history quiet got base places direction.reassembly.incoming id (counts id) o;
+        };
+        no_gap = λ id kept are. (
+            let is : gapless_of direction id ≡ true = rw kept (so_unlimited id direction.queued are) in
+            let here : OrderedStream (gapless_of direction id) direction.queued history id (places ++ o.holds.places) (o.holds.waits id) (stream_on id direction.reassembly.incoming.streams) =
+            subst (λ (b : Bool). OrderWhere (gapless_of direction id) b direction.queued history id (places ++ o.holds.places) (o.holds.waits id) (stream_on id direction.reassembly.incoming.streams)) (loud id is) (o.order id (counts id)) in
+            no_gap_front direction.queued id places o.holds.places here.order.in_order
+            (filled_no_gap direction.queued history id (places ++ o.holds.places) (o.holds.waits id) (stream_on id direction.reassembly.incoming.streams) (counts id) (turns id is) here.order (here.filled is))
+            );
+      }
+
+  read_so : (quiet : ℕ → Bool) → ((id : ℕ) → gapless_of direction id ≡ true → quiet id ≡ false) → (first : ℕ) (got places : List ℕ) → WereQueued direction.queued places direction.read → AreDistinct places
+      → ReassemblesInOrder (gapless_of direction) direction.queued history quiet first got places direction.reassembly.incoming → DeliveredByStream direction.beginning.keeps direction.queued direction.read
+  read_so quiet loud first got places were once (none_handled none last empty) = read_gapless quiet loud [] 0 places were once (empty 0)
+  read_so quiet loud first got places were once (some_handled base at holds) = read_gapless quiet loud got base places were once holds
+
+pub streams_deliver_without_gaps : (options : Options) (first size : ℕ) (direction : Direction) → DirectionRun options first size direction
     → first < 2 ^ 32 → assigned direction < 2 ^ 31 → length direction.queued < 2 ^ 64 → direction.queues.queue.is_interleaved ≡ true
-    → direction.beginning.from_zero ≡ true → AreUnlimitedOn id direction.queued → DeliveredOn id direction
-streams_deliver_without_gaps options first size direction run id keeps small little few interleaved from are =
-    let g = run_stream id options first size direction small few are run keeps in
+    → direction.beginning.from_zero ≡ true → DeliveredByStream direction.beginning.keeps direction.queued direction.read
+streams_deliver_without_gaps options first size direction run small little few interleaved from =
+    let which : ((id : ℕ) → gapless_of direction id ≡ true → (direction.beginning.keeps id ≡ true) × (are_unlimited_on id direction.queued ≡ true)) =
+    λ id is. both (direction.beginning.keeps id) (are_unlimited_on id direction.queued) is in
+    let g = run_gapless (gapless_of direction) options first size direction small few (λ id is. unlimited_so id direction.queued (which id is).1) run (λ id is. (which id is).0) in
     let s = g.stands in
     let count = s.count in
     let low : length s.history.log < 2 ^ 31 = omega (arith, count, little) in
     let a = g.arrives low interleaved from in
     let known = told s.history direction.queues.queue s.queues.numbers low in
     let kinds = kinds_of s.queues.numbers (sym interleaved) in
-    let counts : ((other : ℕ) → CountsFromZero s.history other) = λ other. counts_from_zero direction.queued s.history other s.queues.cut known kinds (g.zero interleaved from other) in
-    let turns : SendsInTurn direction.queued s.history id =
-    sends_in_turn_on direction.queued s.history id direction.queues.queue (counts id) (g.current interleaved) s.queues.cut s.queues.queue_holds (g.lost interleaved) in
-    let loud : a.quiet id ≡ false = loud_by a.quiet id (λ is. (let clash : true ≡ false = sym (a.silent id is).handed ∙ not_handed id direction.queues.queue.streams g.unpaused in cc)) in
-    go s.history a.quiet loud a.received.got a.places a.were a.once counts turns a.received.holds
-  where
-    delivered : (history : History) (quiet : ℕ → Bool) → quiet id ≡ false → (got : List ℕ) (base : ℕ) (places : List ℕ) → WereQueued direction.queued places direction.read → AreDistinct places
-        → ((other : ℕ) → CountsFromZero history other) → SendsInTurn direction.queued history id
-        → IncomingOrdered (on_stream id) direction.queued history quiet got base places direction.reassembly.incoming → DeliveredOn id direction
-    delivered history quiet loud got base places were once counts turns o =
-        record {
-          ordered = record {
-            delivered = record { places = places; were_queued = were; once = once };
-            in_order = λ other. ordered_was_read (on_stream id) direction.queued history quiet got base places direction.reassembly.incoming other (counts other) o;
-          };
-          no_gap = (
-              let here : OrderedStream (on_stream id id) direction.queued history id (places ++ o.holds.places) (o.holds.waits id) (stream_on id direction.reassembly.incoming.streams) =
-              subst (λ (b : Bool). OrderWhere (on_stream id id) b direction.queued history id (places ++ o.holds.places) (o.holds.waits id) (stream_on id direction.reassembly.incoming.streams)) loud (o.order id (counts id)) in
-              no_gap_front direction.queued id places o.holds.places here.order.in_order
-              (filled_no_gap direction.queued history id (places ++ o.holds.places) (o.holds.waits id) (stream_on id direction.reassembly.incoming.streams) (counts id) turns here.order (here.filled (eq-eqb id id refl)))
-              );
-        }
+    let counts : ((id : ℕ) → CountsFromZero s.history id) = λ id. counts_from_zero direction.queued s.history id s.queues.cut known kinds (g.zero interleaved from id) in
+    let turns : ((id : ℕ) → gapless_of direction id ≡ true → SendsInTurn direction.queued s.history id) =
+    λ id is. sends_in_turn_on direction.queued s.history id direction.queues.queue (counts id) (g.current interleaved id is) s.queues.cut s.queues.queue_holds (g.lost interleaved id is) in
+    let loud : ((id : ℕ) → gapless_of direction id ≡ true → a.quiet id ≡ false) =
+    λ id is. loud_by a.quiet id (λ silent. (let clash : true ≡ false = sym (a.silent id silent).handed ∙ not_handed id direction.queues.queue.streams (g.unpaused id is) in cc)) in
+    read_so direction s.history counts turns a.quiet loud first a.received.got a.places a.were a.once a.received.holds
 
-    go : (history : History) (quiet : ℕ → Bool) → quiet id ≡ false → (got places : List ℕ) → WereQueued direction.queued places direction.read → AreDistinct places
-        → ((other : ℕ) → CountsFromZero history other) → SendsInTurn direction.queued history id
-        → ReassemblesInOrder (on_stream id) direction.queued history quiet first got places direction.reassembly.incoming → DeliveredOn id direction
-    go history quiet loud got places were once counts turns (none_handled none' last empty) = delivered history quiet loud [] 0 places were once counts turns (empty 0)
-    go history quiet loud got places were once counts turns (some_handled base at holds) = delivered history quiet loud got base places were once counts turns holds
+-- ---- where all streams are kept, and none has limits
+
+all_unlimited : (id : ℕ) (queued : List Message) → AreUnlimited queued → AreUnlimitedOn id queued
+all_unlimited id [] are = tt
+all_unlimited id (message ∷ queued) are = (λ on. are.0, all_unlimited id queued are.1)
+
+pub directions_deliver_without_gaps : (options : Options) (first size : ℕ) (direction : Direction) → DirectionRun options first size direction
+    → first < 2 ^ 32 → assigned direction < 2 ^ 31 → length direction.queued < 2 ^ 64 → direction.queues.queue.is_interleaved ≡ true
+    → direction.beginning.from_zero ≡ true → KeepsAll direction.beginning → AreUnlimited direction.queued → DeliveredWithoutGaps direction.queued direction.read
+directions_deliver_without_gaps options first size direction run small little few interleaved from keeps are =
+    let d = streams_deliver_without_gaps options first size direction run small little few interleaved from in
+    record { ordered = d.ordered; no_gap = λ id. d.no_gap id (keeps id) (all_unlimited id direction.queued are) }

@@ -3,7 +3,7 @@
 use Rattle.std.specs.Prelude.{◌≡◌, ◌<◌, ◌^◌, ℕ, true, length}
 use Rattle.dcsctp_spec_lemmas.specs.types.declared.options.Options.{Options}
 use Rattle.dcsctp_delivery_sending.specs.Losing.{AreUnlimited}
-use Rattle.dcsctp_delivery_directions.specs.Directions.{Direction, DirectionRun, assigned}
+use Rattle.dcsctp_delivery_directions.specs.Directions.{Direction, KeepsAll, DirectionRun, assigned}
 use Rattle.dcsctp_delivery_order.specs.Delivered.{DeliveredInOrder, DeliveredWithoutGaps}
 
 -- With interleaving each message that was read was queued, none twice, and the ordered ones of each stream in the order of
@@ -22,5 +22,5 @@ abbrev pub DirectionsDeliverWithoutGaps : Type 0
 DirectionsDeliverWithoutGaps =
     (options : Options) (first size : ℕ) (direction : Direction) → DirectionRun options first size direction
     → first < 2 ^ 32 → assigned direction < 2 ^ 31 → length direction.queued < 2 ^ 64 → direction.queues.queue.is_interleaved ≡ true
-    → direction.beginning.from_zero ≡ true → direction.beginning.keeps_all ≡ true → AreUnlimited direction.queued
+    → direction.beginning.from_zero ≡ true → KeepsAll direction.beginning → AreUnlimited direction.queued
     → DeliveredWithoutGaps direction.queued direction.read

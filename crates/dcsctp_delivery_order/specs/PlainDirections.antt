@@ -5,7 +5,7 @@ use Rattle.dcsctp_spec_lemmas.specs.types.declared.options.Options.{Options}
 use Rattle.dcsctp_delivery_sending.specs.Log.{Message}
 use Rattle.dcsctp_delivery_sending.specs.Losing.{AreUnlimited}
 use Rattle.dcsctp_delivery_directions.specs.Forwards.{NoneForwards}
-use Rattle.dcsctp_delivery_directions.specs.Directions.{Direction, DirectionRun, assigned}
+use Rattle.dcsctp_delivery_directions.specs.Directions.{Direction, KeepsAll, DirectionRun, assigned}
 use Rattle.dcsctp_delivery_order.specs.Delivered.{DeliveredInOrder, DeliveredWithoutGaps}
 
 -- Without interleaving each message that was read was queued, none twice, and the ordered ones of each stream in the order of
@@ -25,7 +25,7 @@ abbrev pub PlainDirectionsDeliverWithoutGaps : Type 0
 PlainDirectionsDeliverWithoutGaps =
     (options : Options) (first size : ℕ) (direction : Direction) → DirectionRun options first size direction
     → first < 2 ^ 32 → assigned direction < 2 ^ 31 → length direction.queued < 2 ^ 64 → size ≤ 2 ^ 63 → direction.queues.queue.is_interleaved ≡ false
-    → direction.beginning.from_zero ≡ true → direction.beginning.keeps_all ≡ true → AreUnlimited direction.queued → DeliveredWithoutGaps direction.queued direction.read
+    → direction.beginning.from_zero ≡ true → KeepsAll direction.beginning → AreUnlimited direction.queued → DeliveredWithoutGaps direction.queued direction.read
 
 -- ---- few messages on each stream
 

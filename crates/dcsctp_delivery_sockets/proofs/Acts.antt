@@ -51,7 +51,7 @@ packets_apart packets t turns = append_assoc packets (packets_in t.outcome.event
 asks_little : (packets more : List Emission) → AsksLittle (packets ++ more) → AsksLittle packets
 asks_little packets more little tag = (let both = requests_more_to tag packets more in let few = little tag in omega (arith, both, few))
 
-module _ (never_resets : Bool) (options : Options) (d : Endpoint) (their_past : List Effect) (reading : Reading) where
+module _ (never_resets : ℕ → Bool) (options : Options) (d : Endpoint) (their_past : List Effect) (reading : Reading) where
   pub senders_act : (turns : List Transition) (e : Endpoint) (queued : List Message) (past : List Effect) (packets : List Emission) → AreEnds never_resets options e queued past packets d their_past reading → AreTurns e turns
       → AlongTurns (ResetsIn never_resets) e turns → AreNewPeers past their_past e turns → length (queued_through e turns queued) < 2 ^ 64 → AsksLittle (packets ++ packets_in (events_of turns))
       → AreEnds never_resets options (after_all e turns) (queued_through e turns queued) (after_effects (effects_of turns) past) (packets ++ packets_in (events_of turns)) d their_past reading
@@ -60,9 +60,9 @@ module _ (never_resets : Bool) (options : Options) (d : Endpoint) (their_past : 
       let grows = queued_grows t.outcome.after turns (queued_after e t.input queued) in
       let all : AsksLittle ((packets ++ packets_in t.outcome.events) ++ packets_in (events_of turns)) = subst AsksLittle (sym (packets_apart packets t turns)) little in
       let first : AreEnds never_resets options t.outcome.after (queued_after e t.input queued) (after_effects t.outcome.effects past) (packets ++ packets_in t.outcome.events) d their_past reading =
-      (subst (λ (n : Bool). AreEnds n options t.outcome.after (queued_after e t.input queued) (after_effects t.outcome.effects past) (packets ++ packets_in t.outcome.events) d their_past reading) h.is
+      (subst (λ (n : ℕ → Bool). AreEnds n options t.outcome.after (queued_after e t.input queued) (after_effects t.outcome.effects past) (packets ++ packets_in t.outcome.events) d their_past reading) h.is
       (sender_turns options h.ends e queued past packets d their_past reading h.between t.input t.outcome new.1 h.answered
-      (asks_little (packets ++ packets_in t.outcome.events) (packets_in (events_of turns)) all) new.5 (omega (arith, few, grows)) new.2 (λ never. resets.0 (sym h.is ∙ never)) new.3 new.4 new.0 taken.0)) in
+      (asks_little (packets ++ packets_in t.outcome.events) (packets_in (events_of turns)) all) new.5 (omega (arith, few, grows)) new.2 (λ id never. resets.0 id (sym (ap (λ (n : ℕ → Bool). n id) h.is) ∙ never)) new.3 new.4 new.0 taken.0)) in
       let rest = senders_act turns t.outcome.after (queued_after e t.input queued) (after_effects t.outcome.effects past) (packets ++ packets_in t.outcome.events) first taken.1 resets.1 new.6 few all in
       subst (λ (l : List Effect). AreEnds never_resets options (after_all t.outcome.after turns) (queued_through t.outcome.after turns (queued_after e t.input queued)) l (packets ++ packets_in (t.outcome.events ++ events_of turns)) d their_past reading)
       (sym (after_effects-append t.outcome.effects (effects_of turns) past))
@@ -87,14 +87,14 @@ none_sent sent (inputs.timer_expires timer) none = tt
 none_sent sent (inputs.time_passes moment) none = tt
 none_sent sent (inputs.restores state) none = tt
 
-module _ (never_resets : Bool) (options : Options) (e : Endpoint) (queued : List Message) (past : List Effect) (packets : List Emission) (few : length queued < 2 ^ 64) (little : AsksLittle packets) where
+module _ (never_resets : ℕ → Bool) (options : Options) (e : Endpoint) (queued : List Message) (past : List Effect) (packets : List Emission) (few : length queued < 2 ^ 64) (little : AsksLittle packets) where
   pub receivers_act : (turns : List Transition) (d : Endpoint) (their_past : List Effect) (reading : Reading) → AreEnds never_resets options e queued past packets d their_past reading → NoChunks turns → AreTurns d turns
       → AllByRecursion (λ turn. IsCall turn.input) turns → AreNewTags options their_past past d turns
       → AreEnds never_resets options e queued past packets (after_all d turns) (after_effects (effects_of turns) their_past) (reading_through d turns reading)
   receivers_act [] d their_past reading h none taken may new = h
   receivers_act (t ∷ turns) d their_past reading h none taken may new =
       let first : AreEnds never_resets options e queued past packets t.outcome.after (after_effects t.outcome.effects their_past) (reading_after d t.input t.outcome.after reading) =
-      (subst (λ (n : Bool). AreEnds n options e queued past packets t.outcome.after (after_effects t.outcome.effects their_past) (reading_after d t.input t.outcome.after reading)) h.is
+      (subst (λ (n : ℕ → Bool). AreEnds n options e queued past packets t.outcome.after (after_effects t.outcome.effects their_past) (reading_after d t.input t.outcome.after reading)) h.is
       (receiver_turns options h.ends e queued past packets d their_past reading h.between few new.0 t.input t.outcome new.1 h.answered little new.3 may.0 taken.0 new.2
       (λ transfer link there linked. none_sent (h.ends.sends link.my.tag).sent t.input none.0))) in
       let rest = receivers_act turns t.outcome.after (after_effects t.outcome.effects their_past) (reading_after d t.input t.outcome.after reading) first none.1 taken.1 may.1 new.4 in

@@ -29,23 +29,24 @@ use Rattle.dcsctp_delivery_sending.specs.Places as places
 use Rattle.dcsctp_delivery_directions.specs.Directions.{Delivered}
 use Rattle.dcsctp_delivery_associations.specs.Reads.{nothing_read, messages_of}
 use Rattle.dcsctp_delivery_sockets.specs.Echoes.{GoesToMaker}
-use Rattle.dcsctp_delivery_sockets.specs.Ordered.{AllowsOrder, IsDeliveredInOrder, read_under, AllowsNoGaps, IsDeliveredWithoutGaps, AllowsDataOrder}
+use Rattle.dcsctp_delivery_sockets.specs.Ordered.{AllowsOrder, IsDeliveredInOrder, read_under, AllowsNoGaps, IsDeliveredWithoutGaps, IsReliable, IsDeliveredByStream, AllowsDataOrder}
 use Rattle.dcsctp_delivery_sockets.specs.UserMessages.{messages_sent_in, sendings_in, read_of, IsDelivered}
 use Rattle.dcsctp_delivery_sockets.specs.Delivery.{FitsStep, AreInMemory, MatchByTags, SendsLittle, TurnsAllowDelivery, Delivers, SocketsDeliver}
 use Rattle.dcsctp_delivery_associations.proofs.Delivers.{ends_begin, ends_deliver}
 use Rattle.dcsctp_delivery_sockets.specs.Acts.{ResetsIn}
-use Rattle.dcsctp_delivery_turns.specs.Actions.{resets_streams}
+use Rattle.dcsctp_delivery_turns.specs.Actions.{resets_streams, resets_stream}
 use Rattle.std.specs.List.{AllByRecursion}
 use Rattle.std.specs.Prelude.{not, ◌&&◌}
 use Rattle.dcsctp_delivery_order.specs.Delivered.{DeliveredInOrder}
 use Rattle.dcsctp_delivery_associations.specs.InOrder.{Interleaves}
-use Rattle.dcsctp_delivery_associations.specs.Ends.{BeginsAnew}
+use Rattle.dcsctp_delivery_associations.specs.Ends.{BeginsAnew, IsOnlyTag}
 use Rattle.dcsctp_spec_lemmas.specs.spec.endpoint.MessageOutcomes.{Sending}
+use Rattle.dcsctp_spec_lemmas.specs.spec.endpoint.Turn.{Input, arrival, refusal, packet_begins, chunk_input, packet_ends, act_input, user_sets, user_sends, user_resets, user_takes, timer_expires, time_passes, restores}
 use Rattle.dcsctp_delivery_order.specs.PlainDirections.{FewOnEachStream}
 use Rattle.dcsctp_delivery_sending.specs.Losing.{AreUnlimited}
 use Rattle.dcsctp_delivery_sockets.specs.Ordered.{SetsNoLimits, SendsFew}
 use Rattle.dcsctp_delivery_sockets.proofs.FewSent.{few_queued_on}
-use Rattle.dcsctp_delivery_associations.proofs.InOrder.{ends_deliver_in_order, ends_deliver_data_in_order, ends_deliver_without_gaps}
+use Rattle.dcsctp_delivery_associations.proofs.InOrder.{ends_deliver_in_order, ends_deliver_data_in_order, ends_deliver_by_stream, ends_deliver_without_gaps}
 use Rattle.dcsctp_delivery_sockets.proofs.Calls.{AreCalls, call_without, call_is, input_is}
 use Rattle.dcsctp_delivery_sockets.proofs.Echoes.{echoes_go_to_makers}
 use Rattle.dcsctp_delivery_sockets.proofs.KnownPeers.{IsMove}
@@ -53,7 +54,7 @@ use Rattle.dcsctp_delivery_sockets.proofs.NewLinks.{AllOpenFitting, none_open, m
 use Rattle.dcsctp_delivery_sockets.proofs.Performed.{BothPerformed, both_performed, fresh_front}
 use Rattle.dcsctp_delivery_sockets.proofs.Known.{same_rules_after, own_turn, IsOwn, GoodPacket, SideKnown, BothKnown, both_front}
 use Rattle.dcsctp_delivery_sockets.proofs.Stands.{Stand, queued_of, packets_of, reading_of, queued_same, sender_more, receiver_calls, receiver_handles, few_queued}
-use Rattle.dcsctp_delivery_sockets.proofs.UserMessages.{is_without_gaps, SaysSame, are_unlimited, nothing_same, turns_same, turns_read, is_delivered, is_in_order, SaysSame, is_without_gaps}
+use Rattle.dcsctp_delivery_sockets.proofs.UserMessages.{is_without_gaps, is_by_stream, SaysSame, are_unlimited, are_unlimited_on, nothing_same, turns_same, turns_read, is_delivered, is_in_order, SaysSame, is_without_gaps}
 
 -- ---- a packet that is delivered
 
@@ -72,11 +73,11 @@ good_among all (event ∷ events) within each = (tt, good_among all events withi
 -- ---- an act of one side
 
 -- both directions, once the side that acts has taken these turns
-record ActedSide (never_resets their_never : Bool) (mine theirs : Options) (turns others more : List Transition) : Type 0 where
+record ActedSide (never_resets their_never : ℕ → Bool) (mine theirs : Options) (turns others more : List Transition) : Type 0 where
   sends : Stand never_resets mine theirs (turns ++ more) others
   receives : Stand their_never theirs mine others (turns ++ more)
 
-module _ (law : Below) (never_resets their_never : Bool) (mine theirs : Options) (turns others more : List Transition) (fits : FitsEndpoint (endpoint_after mine turns)) (their_fits : FitsOptions theirs)
+module _ (law : Below) (never_resets their_never : ℕ → Bool) (mine theirs : Options) (turns others more : List Transition) (fits : FitsEndpoint (endpoint_after mine turns)) (their_fits : FitsOptions theirs)
     (known : SideKnown never_resets mine (turns ++ more)) (their_known : SideKnown their_never theirs others) (matched : MatchByTags (noted_past (turns ++ more)) (noted_past others))
     (performed : AllPerformed (noted_past (turns ++ more)) (noted_past others)) (sends : Stand never_resets mine theirs turns others)
     (receives : Stand their_never theirs mine others turns) where
@@ -117,11 +118,11 @@ module _ (law : Below) (never_resets their_never : Bool) (mine theirs : Options)
 
 -- ---- a run
 
-record BothStand (never_resets : Both Bool) (options : Both Options) (turns : Both (List Transition)) : Type 0 where
+record BothStand (never_resets : Both (ℕ → Bool)) (options : Both Options) (turns : Both (List Transition)) : Type 0 where
   to_b : Stand never_resets.a options.a options.b turns.a turns.b
   to_a : Stand never_resets.b options.b options.a turns.b turns.a
 
-stepped : Below → (never_resets : Both Bool) (options : Both Options) (turns : Both (List Transition)) (step : StepContent) (more : List Transition) (side : Side) → AreUsable options → Joined options turns → BothKnown never_resets options (side_turns_added side more turns)
+stepped : Below → (never_resets : Both (ℕ → Bool)) (options : Both Options) (turns : Both (List Transition)) (step : StepContent) (more : List Transition) (side : Side) → AreUsable options → Joined options turns → BothKnown never_resets options (side_turns_added side more turns)
     → BothPerformed (side_turns_added side more turns) → FitsStep step → BothStand never_resets options turns → StepTurns (endpoint_after (of_side side options) (of_side side turns)) (packets_shown (of_other side options) (of_other side turns)) step more
     → BothStand never_resets options (side_turns_added side more turns)
 stepped law never_resets options turns step more sides.A are j known performed in_memory h taken =
@@ -132,12 +133,12 @@ stepped law never_resets options turns step more sides.B are j known performed i
     (matched_swapped (noted_past turns.a) (noted_past (turns.b ++ more)) known.matched) performed.b h.to_a h.to_b step in_memory taken in
     record { to_b = done.receives; to_a = done.sends }
 
-acted : Below → (never_resets : Both Bool) (options : Both Options) (turns : Both (List Transition)) (act : ActContent) (more : List Transition) → AreUsable options → IsHonestAct act → AreInMemory (act ∷ []) → Joined options turns
+acted : Below → (never_resets : Both (ℕ → Bool)) (options : Both Options) (turns : Both (List Transition)) (act : ActContent) (more : List Transition) → AreUsable options → IsHonestAct act → AreInMemory (act ∷ []) → Joined options turns
     → BothKnown never_resets options (side_turns_added (side_of_act act) more turns) → BothPerformed (side_turns_added (side_of_act act) more turns) → BothStand never_resets options turns → NextTurns options turns act more → BothStand never_resets options (side_turns_added (side_of_act act) more turns)
 acted law never_resets options turns (step_act step) more are honest in_memory j known performed h taken = stepped law never_resets options turns step more (side_of step) are j known performed in_memory.0 h taken
 acted law never_resets options turns (outside_act outside) more are honest in_memory j known performed h taken = absurd honest
 
-both_stand : Below → AnswerKeepsAgreement → (never_resets : Both Bool) (options : Both Options) (run : List PerformedAct) → AreUsable options → SocketRun options run → AreHonest (acts_of run) → AreFresh (turns_after run) → AreInMemory (acts_of run)
+both_stand : Below → AnswerKeepsAgreement → (never_resets : Both (ℕ → Bool)) (options : Both Options) (run : List PerformedAct) → AreUsable options → SocketRun options run → AreHonest (acts_of run) → AreFresh (turns_after run) → AreInMemory (acts_of run)
     → BothKnown never_resets options (turns_after run)
     → BothStand never_resets options (turns_after run)
 both_stand law answers never_resets options [] are runs honest fresh in_memory known = record { to_b = ends_begin never_resets.a options.a options.b; to_a = ends_begin never_resets.b options.b options.a }
@@ -163,25 +164,47 @@ good_all : (events : List (Event Emission)) → AllSent IsSendable events → Al
 good_all [] sendable goes = tt
 good_all (event ∷ events) sendable goes = (good_one event sendable.0 goes.0, good_all events sendable.1 goes.1)
 
--- does its user never reset streams?
-abbrev resets_none : List Transition → Bool
-resets_none [] = true
-resets_none (turn ∷ turns) = not (resets_streams turn.input) && resets_none turns
+-- does its user never reset the stream?
+abbrev resets_none : List Transition → ℕ → Bool
+resets_none [] stream = true
+resets_none (turn ∷ turns) stream = not (resets_stream stream turn.input) && resets_none turns stream
 
 not_false : (b c : Bool) → (not b && c) ≡ true → (b ≡ false) × (c ≡ true)
 not_false true c is = absurd (cc)
 not_false false c is = (refl, is)
 
-resets_so : (e : Endpoint) (never : Bool) (turns : List Transition) → (never ≡ true → resets_none turns ≡ true) → AlongTurns (ResetsIn never) e turns
+resets_so : (e : Endpoint) (never : ℕ → Bool) (turns : List Transition) → ((stream : ℕ) → never stream ≡ true → resets_none turns stream ≡ true) → AlongTurns (ResetsIn never) e turns
 resets_so e never [] is = tt
 resets_so e never (turn ∷ turns) is =
-    ((λ never_so. (not_false (resets_streams turn.input) (resets_none turns) (is never_so)).0), resets_so turn.outcome.after never turns (λ never_so. (not_false (resets_streams turn.input) (resets_none turns) (is never_so)).1))
+    let each : ((stream : ℕ) → never stream ≡ true → (resets_stream stream turn.input ≡ false) × (resets_none turns stream ≡ true)) =
+    λ stream never_so. not_false (resets_stream stream turn.input) (resets_none turns stream) (is stream never_so) in
+    ((λ stream never_so. (each stream never_so).0), resets_so turn.outcome.after never turns (λ stream never_so. (each stream never_so).1))
 
-none_reset : (turns : List Transition) → AllByRecursion (λ turn. resets_streams turn.input ≡ false) turns → resets_none turns ≡ true
-none_reset [] each = refl
-none_reset (turn ∷ turns) each = ap (λ (b : Bool). not b && resets_none turns) each.0 ∙ none_reset turns each.1
+none_reset : (stream : ℕ) (turns : List Transition) → AllByRecursion (λ turn. resets_stream stream turn.input ≡ false) turns → resets_none turns stream ≡ true
+none_reset stream [] each = refl
+none_reset stream (turn ∷ turns) each = ap (λ (b : Bool). not b && resets_none turns stream) each.0 ∙ none_reset stream turns each.1
 
-abbrev both_resets_none : Both (List Transition) → Both Bool
+-- A call that resets no stream resets none of them.
+not_this : (input : Input) (stream : ℕ) → resets_streams input ≡ false → resets_stream stream input ≡ false
+not_this arrival stream none = refl
+not_this (refusal x0) stream none = refl
+not_this (packet_begins x0) stream none = refl
+not_this (chunk_input x0 x1) stream none = refl
+not_this packet_ends stream none = refl
+not_this (act_input x0) stream none = refl
+not_this (user_sets x0) stream none = refl
+not_this (user_sends x0) stream none = refl
+not_this (user_resets x0) stream none = absurd (cc)
+not_this user_takes stream none = refl
+not_this (timer_expires x0) stream none = refl
+not_this (time_passes x0) stream none = refl
+not_this (restores x0) stream none = refl
+
+none_of_all : (stream : ℕ) (turns : List Transition) → AllByRecursion (λ turn. resets_streams turn.input ≡ false) turns → AllByRecursion (λ turn. resets_stream stream turn.input ≡ false) turns
+none_of_all stream [] each = tt
+none_of_all stream (turn ∷ turns) each = (not_this turn.input stream each.0, none_of_all stream turns each.1)
+
+abbrev both_resets_none : Both (List Transition) → Both (ℕ → Bool)
 both_resets_none turns = record { a = resets_none turns.a; b = resets_none turns.b }
 
 both_known : DeliveryLaws → (options : Both Options) (run : List PerformedAct) → AreUsable options → SocketRun options run → AreHonest (acts_of run) → AreFresh (turns_after run) → TurnsAllowDelivery options (turns_after run)
@@ -195,7 +218,7 @@ both_known law options run are runs honest fresh allows =
         packets = good_all (events_of (turns_after run).a) (all_sent_map (λ emission went. went.sendable) (events_of (turns_after run).a) j.a.went)
             (echoes_go_to_makers law.below law.answers options run are runs honest fresh sides.A);
         refused = allows.refused sides.A;
-        resets = resets_so (fresh_endpoint options.a) (resets_none (turns_after run).a) (turns_after run).a (λ is. is);
+        resets = resets_so (fresh_endpoint options.a) (resets_none (turns_after run).a) (turns_after run).a (λ stream is. is);
         tags = allows.tags.a;
         little = allows.little sides.A;
       };
@@ -205,7 +228,7 @@ both_known law options run are runs honest fresh allows =
         packets = good_all (events_of (turns_after run).b) (all_sent_map (λ emission went. went.sendable) (events_of (turns_after run).b) j.b.went)
             (echoes_go_to_makers law.below law.answers options run are runs honest fresh sides.B);
         refused = allows.refused sides.B;
-        resets = resets_so (fresh_endpoint options.b) (resets_none (turns_after run).b) (turns_after run).b (λ is. is);
+        resets = resets_so (fresh_endpoint options.b) (resets_none (turns_after run).b) (turns_after run).b (λ stream is. is);
         tags = allows.tags.b;
         little = allows.little sides.B;
       };
@@ -214,7 +237,7 @@ both_known law options run are runs honest fresh allows =
 
 -- ---- what was read
 
-module _ (never_resets : Bool) (mine theirs : Options) (turns others : List Transition) (little : SendsLittle mine turns) (h : Stand never_resets mine theirs turns others) (window : theirs.max_receiver_window_buffer_size < 2 ^ 32) where
+module _ (never_resets : ℕ → Bool) (mine theirs : Options) (turns others : List Transition) (little : SendsLittle mine turns) (h : Stand never_resets mine theirs turns others) (window : theirs.max_receiver_window_buffer_size < 2 ^ 32) where
   one_way : IsDelivered (messages_sent_in (fresh_endpoint mine) turns) (read_of (fresh_endpoint theirs) others)
   one_way =
       let same = queued_same mine turns in
@@ -249,12 +272,23 @@ module _ (never_resets : Bool) (mine theirs : Options) (turns others : List Tran
       is_in_order (queued_of mine turns) sent_all (read_under tag theirs others) sent_same
       (by_order tag (elim allows.starts_at_zero [ inl follows ↦ inl (rules ∙ follows) | inr only ↦ inr only ]) allows.numbering)
 
-  one_without_gaps : (resets_none turns ≡ true → never_resets ≡ true) → (tag : ℕ) → AllowsNoGaps mine turns tag → IsDeliveredWithoutGaps sent_all (read_under tag theirs others)
+  one_without_gaps : ((stream : ℕ) → resets_none turns stream ≡ true → never_resets stream ≡ true) → (tag : ℕ) → AllowsNoGaps mine turns tag → IsDeliveredWithoutGaps sent_all (read_under tag theirs others)
   one_without_gaps never tag leaves =
       is_without_gaps (queued_of mine turns) sent_all (read_under tag theirs others) sent_same
       (ends_deliver_without_gaps theirs h.ends (endpoint_after mine turns) (queued_of mine turns) (noted_past turns) (packets_of turns) (endpoint_after theirs others) (noted_past others) (reading_of theirs others) h.between
       (few_queued mine turns little) little.chunks window (are_unlimited (queued_of mine turns) sent_all sent_same leaves.unlimited)
-      (h.is ∙ never (none_reset turns leaves.never_resets)) tag leaves.only_association)
+      (λ stream. ap (λ (n : ℕ → Bool). n stream) h.is ∙ never stream (none_reset stream turns (none_of_all stream turns leaves.never_resets))) tag leaves.only_association)
+
+  one_by_stream : ((stream : ℕ) → resets_none turns stream ≡ true → never_resets stream ≡ true) → (tag : ℕ) → IsOnlyTag (noted_past turns) tag → Interleaves (noted_past turns) tag
+      → IsDeliveredByStream (IsReliable mine turns) sent_all (read_under tag theirs others)
+  one_by_stream never tag only interleaves =
+      is_by_stream h.ends.never_resets (IsReliable mine turns) (queued_of mine turns) sent_all (read_under tag theirs others) sent_same
+      (λ stream reliable. (
+        ap (λ (n : ℕ → Bool). n stream) h.is ∙ never stream (none_reset stream turns reliable.never_resets),
+        are_unlimited_on stream (queued_of mine turns) sent_all sent_same reliable.unlimited,
+      ))
+      (ends_deliver_by_stream theirs h.ends (endpoint_after mine turns) (queued_of mine turns) (noted_past turns) (packets_of turns) (endpoint_after theirs others) (noted_past others) (reading_of theirs others) h.between
+      (few_queued mine turns little) little.chunks tag only interleaves)
 
 pub sockets_deliver : DeliveryLaws → SocketsDeliver
 sockets_deliver law options run are in_memory runs honest fresh allows side =
@@ -274,11 +308,13 @@ sockets_deliver law options run are in_memory runs honest fresh allows side =
         record {
           once = one_way (resets_none turns.b) options.b options.a turns.b turns.a (allows.little sides.B) h.to_a (window sides.A);
           in_order = one_in_order (resets_none turns.b) options.b options.a turns.b turns.a (allows.little sides.B) h.to_a (window sides.A) (same_rules_after (resets_none turns.b) options.b turns.b known.b);
-          no_gaps = one_without_gaps (resets_none turns.b) options.b options.a turns.b turns.a (allows.little sides.B) h.to_a (window sides.A) (λ is. is);
+          no_gaps = one_without_gaps (resets_none turns.b) options.b options.a turns.b turns.a (allows.little sides.B) h.to_a (window sides.A) (λ stream is. is);
+          by_stream = one_by_stream (resets_none turns.b) options.b options.a turns.b turns.a (allows.little sides.B) h.to_a (window sides.A) (λ stream is. is);
         }
     both_deliver h sides.B =
         record {
           once = one_way (resets_none turns.a) options.a options.b turns.a turns.b (allows.little sides.A) h.to_b (window sides.B);
           in_order = one_in_order (resets_none turns.a) options.a options.b turns.a turns.b (allows.little sides.A) h.to_b (window sides.B) (same_rules_after (resets_none turns.a) options.a turns.a known.a);
-          no_gaps = one_without_gaps (resets_none turns.a) options.a options.b turns.a turns.b (allows.little sides.A) h.to_b (window sides.B) (λ is. is);
+          no_gaps = one_without_gaps (resets_none turns.a) options.a options.b turns.a turns.b (allows.little sides.A) h.to_b (window sides.B) (λ stream is. is);
+          by_stream = one_by_stream (resets_none turns.a) options.a options.b turns.a turns.b (allows.little sides.A) h.to_b (window sides.B) (λ stream is. is);
         }

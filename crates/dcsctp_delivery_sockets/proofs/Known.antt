@@ -1,5 +1,5 @@
 -- What is known of each side of a run, and so of each first part of it.
-use Rattle.std.proofs.Common.{◌≡◌, List, [], ◌∷◌, ◌++◌, length, refl, sym, ◌∙◌, ap, arith, subst, append_assoc, Bool}
+use Rattle.std.proofs.Common.{◌≡◌, ℕ, List, [], ◌∷◌, ◌++◌, length, refl, sym, ◌∙◌, ap, arith, subst, append_assoc, Bool}
 use Rattle.dcsctp_spec_lemmas.specs.types.declared.options.Options.{Options}
 use Rattle.dcsctp_spec_lemmas.specs.types.declared.schedule.Side.{Side}
 use Rattle.dcsctp_spec_lemmas.specs.types.declared.schedule.Side.TheVariants as sides
@@ -70,7 +70,7 @@ pub record GoodPacket (emission : Emission) : Type 0 where
   pub sendable : IsSendable emission
   pub goes : GoesToMaker emission
 
-pub record SideKnown (never_resets : Bool) (options : Options) (turns : List Transition) : Type 0 where
+pub record SideKnown (never_resets : ℕ → Bool) (options : Options) (turns : List Transition) : Type 0 where
   pub own : AlongTurns IsOwn (fresh_endpoint options) turns
   pub moves : AlongTurns IsMove (fresh_endpoint options) turns
   pub refused : AlongTurns IsUnrefused (fresh_endpoint options) turns
@@ -79,7 +79,7 @@ pub record SideKnown (never_resets : Bool) (options : Options) (turns : List Tra
   pub tags : Each IsOfNewTags (noted_past turns)
   pub little : SendsLittle options turns
 
-pub side_front : (never_resets : Bool) (options : Options) (turns more : List Transition) → SideKnown never_resets options (turns ++ more) → SideKnown never_resets options turns
+pub side_front : (never_resets : ℕ → Bool) (options : Options) (turns more : List Transition) → SideKnown never_resets options (turns ++ more) → SideKnown never_resets options turns
 side_front never_resets options turns more h =
     record {
       own = along_front IsOwn (fresh_endpoint options) turns more h.own;
@@ -109,34 +109,34 @@ side_front never_resets options turns more h =
     }
 
 -- what is known of the turns of an act
-pub rest_turns : (never_resets : Bool) (options : Options) (turns more : List Transition) → SideKnown never_resets options (turns ++ more) → AreTurns (endpoint_after options turns) more
+pub rest_turns : (never_resets : ℕ → Bool) (options : Options) (turns more : List Transition) → SideKnown never_resets options (turns ++ more) → AreTurns (endpoint_after options turns) more
 rest_turns never_resets options turns more h = are_turns (endpoint_after options turns) more (along_rest IsOwn (fresh_endpoint options) turns more h.own)
 
-pub rest_moves : (never_resets : Bool) (options : Options) (turns more : List Transition) → SideKnown never_resets options (turns ++ more) → AlongTurns IsMove (endpoint_after options turns) more
+pub rest_moves : (never_resets : ℕ → Bool) (options : Options) (turns more : List Transition) → SideKnown never_resets options (turns ++ more) → AlongTurns IsMove (endpoint_after options turns) more
 rest_moves never_resets options turns more h = along_rest IsMove (fresh_endpoint options) turns more h.moves
 
-pub rest_refused : (never_resets : Bool) (options : Options) (turns more : List Transition) → SideKnown never_resets options (turns ++ more) → AlongTurns IsUnrefused (endpoint_after options turns) more
+pub rest_refused : (never_resets : ℕ → Bool) (options : Options) (turns more : List Transition) → SideKnown never_resets options (turns ++ more) → AlongTurns IsUnrefused (endpoint_after options turns) more
 rest_refused never_resets options turns more h = along_rest IsUnrefused (fresh_endpoint options) turns more h.refused
 
-pub rest_resets : (never_resets : Bool) (options : Options) (turns more : List Transition) → SideKnown never_resets options (turns ++ more) → AlongTurns (ResetsIn never_resets) (endpoint_after options turns) more
+pub rest_resets : (never_resets : ℕ → Bool) (options : Options) (turns more : List Transition) → SideKnown never_resets options (turns ++ more) → AlongTurns (ResetsIn never_resets) (endpoint_after options turns) more
 rest_resets never_resets options turns more h = along_rest (ResetsIn never_resets) (fresh_endpoint options) turns more h.resets
 
 -- A side ran to where the act begins.
-pub ran_front : (never_resets : Bool) (options : Options) (turns more : List Transition) → SideKnown never_resets options (turns ++ more) → RanTo options (endpoint_after options turns) (noted_past turns)
+pub ran_front : (never_resets : ℕ → Bool) (options : Options) (turns more : List Transition) → SideKnown never_resets options (turns ++ more) → RanTo options (endpoint_after options turns) (noted_past turns)
 ran_front never_resets options turns more h = run_through options turns (fresh_endpoint options) [] (run_starts options) (along_front IsMove (fresh_endpoint options) turns more h.moves)
 
 -- It follows the RFC at the end if it did when it was made.
-pub same_rules_after : (never_resets : Bool) (options : Options) (turns : List Transition) → SideKnown never_resets options turns → (endpoint_after options turns).options.follow_rfc ≡ options.follow_rfc
+pub same_rules_after : (never_resets : ℕ → Bool) (options : Options) (turns : List Transition) → SideKnown never_resets options turns → (endpoint_after options turns).options.follow_rfc ≡ options.follow_rfc
 same_rules_after never_resets options turns h = ap (λ (p : Options). p.follow_rfc) (run_through options turns (fresh_endpoint options) [] (run_starts options) h.moves).same
 
 -- ---- both sides
 
-pub record BothKnown (never_resets : Both Bool) (options : Both Options) (turns : Both (List Transition)) : Type 0 where
+pub record BothKnown (never_resets : Both (ℕ → Bool)) (options : Both Options) (turns : Both (List Transition)) : Type 0 where
   pub a : SideKnown never_resets.a options.a turns.a
   pub b : SideKnown never_resets.b options.b turns.b
   pub matched : MatchByTags (noted_past turns.a) (noted_past turns.b)
 
-pub both_front : (never_resets : Both Bool) (options : Both Options) (turns : Both (List Transition)) (side : Side) (more : List Transition) → BothKnown never_resets options (side_turns_added side more turns)
+pub both_front : (never_resets : Both (ℕ → Bool)) (options : Both Options) (turns : Both (List Transition)) (side : Side) (more : List Transition) → BothKnown never_resets options (side_turns_added side more turns)
     → BothKnown never_resets options turns
 both_front never_resets options turns sides.A more h =
     record {

@@ -53,7 +53,7 @@ acks_none (shutdown t ∷ contents) = acks_none contents
 acks_none (shutdown_complete r ∷ contents) = acks_none contents
 acks_none (plain c ∷ contents) = acks_none contents
 
-module _ (never_resets : Bool) (options : Options) (e : Endpoint) (queued : List Message) (past : List Effect) (packets : List Emission) (few : length queued < 2 ^ 64) (little : AsksLittle packets) (emission : Emission) (has : places.HasEntry emission packets) where
+module _ (never_resets : ℕ → Bool) (options : Options) (e : Endpoint) (queued : List Message) (past : List Effect) (packets : List Emission) (few : length queued < 2 ^ 64) (little : AsksLittle packets) (emission : Emission) (has : places.HasEntry emission packets) where
   abbrev Have : Endpoint → List Effect → Reading → Type 0
   Have d their_past reading = AreEnds never_resets options e queued past packets d their_past reading
 
@@ -73,7 +73,7 @@ module _ (never_resets : Bool) (options : Options) (e : Endpoint) (queued : List
       → Have t.outcome.after (after_effects t.outcome.effects their_past) (reading_after d t.input t.outcome.after reading)
   one_turn d their_past reading input t h turn new sent may =
       subst (λ (i : Input). Have t.outcome.after (after_effects t.outcome.effects their_past) (reading_after d i t.outcome.after reading)) (sym turn.is)
-      (subst (λ (n : Bool). AreEnds n options e queued past packets t.outcome.after (after_effects t.outcome.effects their_past) (reading_after d input t.outcome.after reading)) h.is
+      (subst (λ (n : ℕ → Bool). AreEnds n options e queued past packets t.outcome.after (after_effects t.outcome.effects their_past) (reading_after d input t.outcome.after reading)) h.is
       (receiver_turns options h.ends e queued past packets d their_past reading h.between few new.0 input t.outcome (λ begun opening linked. new.1 begun (subst (λ (i : Input). IsOpening (came_by i)) (sym turn.is) opening) linked)
       h.answered little new.3 may turn.comes new.2 sent))
 

@@ -44,7 +44,7 @@ abbrev pub reading_of : Options → List Transition → Reading
 reading_of options turns = reading_through (fresh_endpoint options) turns nothing_read
 
 -- the direction from the one to the other
-abbrev pub Stand : Bool → Options → Options → List Transition → List Transition → Type 0
+abbrev pub Stand : (ℕ → Bool) → Options → Options → List Transition → List Transition → Type 0
 Stand never_resets mine theirs turns others =
     AreEnds never_resets theirs (endpoint_after mine turns) (queued_of mine turns) (noted_past turns) (packets_of turns) (endpoint_after theirs others) (noted_past others) (reading_of theirs others)
 
@@ -69,7 +69,7 @@ few_queued options turns little = (let same = queued_same options turns in let f
 
 -- ---- the sender acts
 
-module _ (never_resets : Bool) (theirs : Options) (d : Endpoint) (their_past : List Effect) (reading : Reading) where
+module _ (never_resets : ℕ → Bool) (theirs : Options) (d : Endpoint) (their_past : List Effect) (reading : Reading) where
   same_sender : (e e' : Endpoint) (queued queued' : List Message) (past past' : List Effect) (packets packets' : List Emission) → e ≡ e' → queued ≡ queued' → past ≡ past' → packets ≡ packets'
       → AreEnds never_resets theirs e queued past packets d their_past reading → AreEnds never_resets theirs e' queued' past' packets' d their_past reading
   same_sender e e' queued queued' past past' packets packets' same_e same_queued same_past same_packets h =
@@ -78,7 +78,7 @@ module _ (never_resets : Bool) (theirs : Options) (d : Endpoint) (their_past : L
       (subst (λ (x : List Effect). AreEnds never_resets theirs e queued x packets' d their_past reading) same_past
       (subst (λ (x : List Emission). AreEnds never_resets theirs e queued past x d their_past reading) same_packets h)))
 
-pub sender_more : (never_resets : Bool) (mine theirs : Options) (turns others more : List Transition) → Stand never_resets mine theirs turns others → SideKnown never_resets mine (turns ++ more) → MatchByTags (noted_past (turns ++ more)) (noted_past others)
+pub sender_more : (never_resets : ℕ → Bool) (mine theirs : Options) (turns others more : List Transition) → Stand never_resets mine theirs turns others → SideKnown never_resets mine (turns ++ more) → MatchByTags (noted_past (turns ++ more)) (noted_past others)
     → AllPerformed (noted_past (turns ++ more)) (noted_past others) → AreCalls more → AllOpenFitting more → Stand never_resets mine theirs (turns ++ more) others
 sender_more never_resets mine theirs turns others more h known matched performed calls opens =
     let e : Endpoint = endpoint_after mine turns in
@@ -97,7 +97,7 @@ sender_more never_resets mine theirs turns others more h known matched performed
 
 -- ---- the receiver acts
 
-module _ (never_resets : Bool) (theirs : Options) (e : Endpoint) (queued : List Message) (past : List Effect) (packets : List Emission) where
+module _ (never_resets : ℕ → Bool) (theirs : Options) (e : Endpoint) (queued : List Message) (past : List Effect) (packets : List Emission) where
   same_receiver : (d d' : Endpoint) (their_past their_past' : List Effect) (reading reading' : Reading) → d ≡ d' → their_past ≡ their_past' → reading ≡ reading'
       → AreEnds never_resets theirs e queued past packets d their_past reading → AreEnds never_resets theirs e queued past packets d' their_past' reading'
   same_receiver d d' their_past their_past' reading reading' same_d same_past same_reading h =
@@ -105,7 +105,7 @@ module _ (never_resets : Bool) (theirs : Options) (e : Endpoint) (queued : List 
       (subst (λ (x : List Effect). AreEnds never_resets theirs e queued past packets d x reading') same_past
       (subst (λ (x : Reading). AreEnds never_resets theirs e queued past packets d their_past x) same_reading h))
 
-module _ (never_resets their_never : Bool) (mine theirs : Options) (turns others more : List Transition) (h : Stand never_resets mine theirs turns others) (known : SideKnown their_never theirs (others ++ more)) (matched : MatchByTags (noted_past turns) (noted_past (others ++ more)))
+module _ (never_resets their_never : ℕ → Bool) (mine theirs : Options) (turns others more : List Transition) (h : Stand never_resets mine theirs turns others) (known : SideKnown their_never theirs (others ++ more)) (matched : MatchByTags (noted_past turns) (noted_past (others ++ more)))
     (little : SendsLittle mine turns) where
   their_tags : AllOpenFitting more → AreNewTags theirs (noted_past others) (noted_past turns) (endpoint_after theirs others) more
   their_tags opens =

@@ -1,5 +1,5 @@
 -- What was queued and what was read, as the messages of a user.
-use Rattle.std.proofs.Common.{◌≡◌, ℕ, zero, suc, ◌<◌, false, List, [], ◌∷◌, ◌++◌, length, refl, sym, ◌∙◌, ap, arith, subst, inl, inr, append_assoc}
+use Rattle.std.proofs.Common.{◌≡◌, ℕ, Bool, true, zero, suc, ◌<◌, false, List, [], ◌∷◌, ◌++◌, length, refl, sym, ◌∙◌, ap, arith, subst, inl, inr, append_assoc}
 use Rattle.std.specs.Prelude.{Option, None, Some, map, slice_get}
 use Rattle.std.proofs.lemmas.List.{append-nil, length-append}
 use Rattle.dcsctp_spec_lemmas.specs.spec.endpoint.CallTurns.{Transition}
@@ -19,12 +19,13 @@ use Rattle.dcsctp_delivery_associations.specs.Reads.{Read, Reading, messages_of,
 use Rattle.dcsctp_delivery_sockets.specs.Acts.{queued_through}
 use Rattle.dcsctp_delivery_sockets.specs.Packets.{reading_through}
 use Rattle.dcsctp_delivery_order.specs.Delivered.{DeliveredInOrder, DeliveredWithoutGaps}
-use Rattle.dcsctp_delivery_sending.specs.Losing.{AreUnlimited}
+use Rattle.dcsctp_delivery_sending.specs.Losing.{AreUnlimited, AreUnlimitedOn}
 use Rattle.dcsctp_delivery_sending.specs.Queueing.{has_limits}
-use Rattle.dcsctp_delivery_associations.proofs.InOrder.{MarkAt, below_at, unlimited_of}
+use Rattle.dcsctp_delivery_associations.proofs.InOrder.{MarkAt, below_at, unlimited_of, unlimited_on_of}
 use Rattle.std.specs.List.{AllByRecursion}
 use Rattle.dcsctp_delivery_order.specs.Queue.{IsOrderedOn, ComeInOrder}
-use Rattle.dcsctp_delivery_sockets.specs.Ordered.{IsOrderedAt, RiseOn, IsDeliveredInOrder, IsDeliveredWithoutGaps}
+use Rattle.dcsctp_delivery_order.specs.Streams.{DeliveredByStream}
+use Rattle.dcsctp_delivery_sockets.specs.Ordered.{IsOrderedAt, RiseOn, IsDeliveredInOrder, IsDeliveredWithoutGaps, IsDeliveredByStream}
 use Rattle.dcsctp_delivery_sockets.specs.UserMessages.{accepted_where, accepted_as, sent_as, all_sent_as, message_sent, first_readable, read_in, read_of, WereSent, IsDelivered}
 
 -- ---- lists
@@ -226,6 +227,18 @@ is_without_gaps queued sent read same d =
       no_gap = λ stream earlier later has on on' before. d.no_gap stream earlier later has (ordered_on queued sent same stream later on) (ordered_on queued sent same stream earlier on') before;
     }
 
+-- On each of these streams.
+pub is_by_stream : (never_resets : ℕ → Bool) (reliable : ℕ → Type 0) (queued : List Message) (sent : List Sending) (read : List MessageContent) → SaysSame (λ sending. sending) queued sent
+    → ((stream : ℕ) → reliable stream → (never_resets stream ≡ true) × AreUnlimitedOn stream queued) → DeliveredByStream never_resets queued read → IsDeliveredByStream reliable sent read
+is_by_stream never_resets reliable queued sent read same which d =
+    record {
+      delivered = is_in_order queued sent read same d.ordered;
+      no_gap = λ stream is earlier later has on on' before. (
+          let w = which stream is in
+          d.no_gap stream w.0 w.1 earlier later has (ordered_on queued sent same stream later on) (ordered_on queued sent same stream earlier on') before
+          );
+    }
+
 -- ---- without limits
 
 sent_unlimited : (sent : List Sending) (k : ℕ) (sending : Sending) → AllByRecursion (λ sending. has_limits sending.options ≡ false) sent → slice_get sent k ≡ Some sending → has_limits sending.options ≡ false
@@ -237,3 +250,20 @@ sent_unlimited (s ∷ sent) (suc k) sending are at = sent_unlimited sent k sendi
 pub are_unlimited : (queued : List Message) (sent : List Sending) → SaysSame (λ sending. sending) queued sent → AllByRecursion (λ sending. has_limits sending.options ≡ false) sent → AreUnlimited queued
 are_unlimited queued sent h are =
     unlimited_of queued (λ place message at. (let one = h.at place message at in sym (ap (λ (m : Message). m.is_limited) one.is) ∙ sent_unlimited sent place one.sending are one.at))
+
+-- So it is on one stream.
+sent_unlimited_on : (stream : ℕ) (sent : List Sending) (k : ℕ) (sending : Sending) → AllByRecursion (λ sending. sending.message.stream ≡ stream → has_limits sending.options ≡ false) sent
+    → slice_get sent k ≡ Some sending → sending.message.stream ≡ stream → has_limits sending.options ≡ false
+sent_unlimited_on stream [] k sending are at on = absurd (cc)
+sent_unlimited_on stream (s ∷ sent) zero sending are at on =
+    (let same : s ≡ sending = cc in subst (λ (x : Sending). x.message.stream ≡ stream → has_limits x.options ≡ false) same are.0 on)
+sent_unlimited_on stream (s ∷ sent) (suc k) sending are at on = sent_unlimited_on stream sent k sending are.1 at on
+
+pub are_unlimited_on : (stream : ℕ) (queued : List Message) (sent : List Sending) → SaysSame (λ sending. sending) queued sent
+    → AllByRecursion (λ sending. sending.message.stream ≡ stream → has_limits sending.options ≡ false) sent → AreUnlimitedOn stream queued
+are_unlimited_on stream queued sent h are =
+    unlimited_on_of stream queued
+    (λ place message at on. (
+    let one = h.at place message at in
+    sym (ap (λ (m : Message). m.is_limited) one.is) ∙ sent_unlimited_on stream sent place one.sending are one.at (ap (λ (m : Message). m.stream) one.is ∙ on)
+    ))

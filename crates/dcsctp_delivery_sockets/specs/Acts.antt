@@ -50,7 +50,7 @@ AreNewPeers past their_past e (turn ∷ turns) =
     × AreNewPeers (after_effects turn.outcome.effects past) their_past turn.outcome.after turns
 
 -- The user resets no stream by this turn, if it never does.
-abbrev pub ResetsIn : Bool → Endpoint → Transition → Type 0
+abbrev pub ResetsIn : (ℕ → Bool) → Endpoint → Transition → Type 0
 ResetsIn never_resets e turn = ResetsAs never_resets turn.input
 
 -- Turns of the sender leave what is known of all associations.

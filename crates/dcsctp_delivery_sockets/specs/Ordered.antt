@@ -14,7 +14,7 @@ use Rattle.dcsctp_delivery_associations.specs.InOrder.{Interleaves}
 use Rattle.dcsctp_delivery_associations.specs.Ends.{IsOnlyTag}
 use Rattle.dcsctp_delivery_sending.specs.Queueing.{has_limits}
 use Rattle.dcsctp_delivery_directions.specs.Requests.{requests_to}
-use Rattle.dcsctp_delivery_turns.specs.Actions.{resets_streams}
+use Rattle.dcsctp_delivery_turns.specs.Actions.{resets_streams, resets_stream}
 use Rattle.std.specs.List.{AllByRecursion}
 use Rattle.dcsctp_spec_lemmas.specs.spec.endpoint.Event.{packets_in}
 use Rattle.dcsctp_delivery_sockets.specs.Packets.{reading_through}
@@ -47,6 +47,12 @@ pub record IsDeliveredInOrder (sent : List Sending) (read : List MessageContent)
 pub record IsDeliveredWithoutGaps (sent : List Sending) (read : List MessageContent) : Type 0 where
   pub delivered : IsDeliveredInOrder sent read
   pub no_gap : (stream earlier later : ℕ) → HasEntry later delivered.places → IsOrderedAt sent stream later → IsOrderedAt sent stream earlier → earlier < later → HasEntry earlier delivered.places
+
+-- It is so of each of these streams.
+pub record IsDeliveredByStream (reliable : ℕ → Type 0) (sent : List Sending) (read : List MessageContent) : Type 0 where
+  pub delivered : IsDeliveredInOrder sent read
+  pub no_gap : (stream : ℕ) → reliable stream → (earlier later : ℕ) → HasEntry later delivered.places → IsOrderedAt sent stream later → IsOrderedAt sent stream earlier → earlier < later
+      → HasEntry earlier delivered.places
 
 -- the messages that the user of this socket read in these turns in the association with this own tag, or after it had ended
 abbrev pub read_under : ℕ → Options → List Transition → List MessageContent
@@ -87,3 +93,14 @@ pub record AllowsNoGaps (options : Options) (turns : List Transition) (tag : ℕ
   pub only_association : IsOnlyTag (noted_past turns) tag
   pub unlimited : SetsNoLimits options turns
   pub never_resets : AllByRecursion (λ turn. resets_streams turn.input ≡ false) turns
+
+-- No message that the user of this socket sent on the stream may be abandoned.
+abbrev pub SetsNoLimitsOn : ℕ → Options → List Transition → Type 0
+SetsNoLimitsOn stream options turns =
+    AllByRecursion (λ sending. sending.message.stream ≡ stream → has_limits sending.options ≡ false) (sendings_in (fresh_endpoint options) turns)
+
+-- The stream is reliable: none of its messages may be abandoned, and the user has never called `reset_streams` for it. A call that
+-- is refused counts. Messages of other streams may be abandoned, and those may be reset.
+pub record IsReliable (options : Options) (turns : List Transition) (stream : ℕ) : Type 0 where
+  pub unlimited : SetsNoLimitsOn stream options turns
+  pub never_resets : AllByRecursion (λ turn. resets_stream stream turn.input ≡ false) turns

@@ -50,7 +50,8 @@ pub fn acts_keep_ends()
 /// messages of a stream that are read in one association come in the order in which they were sent, where the sender
 /// follows the RFC or has no other association, and messages interleave, across resets of the stream, or no request to
 /// reset streams was sent, and no message may be abandoned or few are ordered. Where the sender has one association, no
-/// message may be abandoned and its user never resets streams, they are a prefix of what was sent.
+/// message may be abandoned and its user never resets streams, they are a prefix of what was sent. Where messages
+/// interleave, it takes this of the stream alone.
 pub fn sockets_deliver()
     ensures { SocketsDeliver }
 {

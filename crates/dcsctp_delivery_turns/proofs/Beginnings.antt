@@ -79,7 +79,7 @@ worked_fits came o old between worked own peer fits =
 -- ---- directions that begin
 
 pub anew_runs : (options : Options) (first size : ℕ) (queued : List Message) (below : EndpointQueues) (beginning : Beginning) → AllByRecursion Fits queued → QueueWaits queued below.queue → directions.NoneInFlight first below.queue.is_interleaved below.transfer
-    → BeginsAs beginning below.queue → DirectionRun options first size (new_direction options first size queued below 0 [] beginning)
+    → BeginsAs beginning queued below.queue → DirectionRun options first size (new_direction options first size queued below 0 [] beginning)
 anew_runs options first size queued below beginning fit queues none begun =
     directions.begins (new_direction options first size queued below 0 [] beginning)
     (record { fit = fit; queues = queues; flight = none; acknowledged = refl; sent = refl; tracker = refl; reassembly = refl; read = refl; asking = refl; begun = begun })

@@ -32,5 +32,6 @@ pub mod PeerRequests
 pub mod AskedResets
 pub mod PeersTurns
 pub mod ResetInputs
-pub mod Unbegun
+pub mod IdleFlush
 pub mod UnbegunOn
+pub mod Unbegun

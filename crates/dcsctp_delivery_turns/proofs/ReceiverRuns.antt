@@ -28,7 +28,7 @@ use Rattle.dcsctp_delivery_turns.proofs.PeerRequests.{none_requested}
 use Rattle.dcsctp_delivery_turns.proofs.Beginnings.{nothing_fits, unlinked_fits, worked_fits}
 
 abbrev empty_direction : Options → Direction
-empty_direction options = new_direction options 0 0 [] (record { queue = empty_queue options; transfer = None }) 0 [] (record { from_zero = false; keeps_all = false })
+empty_direction options = new_direction options 0 0 [] (record { queue = empty_queue options; transfer = None }) 0 [] (record { from_zero = false; keeps = λ id. false })
 
 module _ (e : Endpoint) (input : Input) (o : Outcome) (small : OpensSmall e input o) where
   -- An association that begins, with nothing begun to be reset.

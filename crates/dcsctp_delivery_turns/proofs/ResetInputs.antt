@@ -1,19 +1,23 @@
--- A call that resets these streams resets some.
-use Rattle.std.proofs.Common.{◌≡◌, ℕ, true, Some, List, refl}
+-- A call that resets these streams resets each of them, and no other.
+use Rattle.std.proofs.Common.{◌≡◌, ℕ, Some, List, ap}
 use Rattle.dcsctp_spec_lemmas.specs.spec.endpoint.Turn.{Input, arrival, refusal, packet_begins, chunk_input, packet_ends, act_input, user_sets, user_sends, user_resets, user_takes, timer_expires, time_passes, restores}
-use Rattle.dcsctp_delivery_turns.specs.Actions.{resets_streams, streams_reset_by}
+use Rattle.dcsctp_spec_lemmas.specs.spec.queues.Incoming.{is_named}
+use Rattle.dcsctp_delivery_turns.specs.Actions.{streams_reset_by, resets_stream}
 
-pub resets_some : (input : Input) (ids : List ℕ) → streams_reset_by input ≡ Some ids → resets_streams input ≡ true
-resets_some arrival ids is = absurd (cc)
-resets_some (refusal x0) ids is = absurd (cc)
-resets_some (packet_begins x0) ids is = absurd (cc)
-resets_some (chunk_input x0 x1) ids is = absurd (cc)
-resets_some packet_ends ids is = absurd (cc)
-resets_some (act_input x0) ids is = absurd (cc)
-resets_some (user_sets x0) ids is = absurd (cc)
-resets_some (user_sends x0) ids is = absurd (cc)
-resets_some (user_resets x0) ids is = refl
-resets_some user_takes ids is = absurd (cc)
-resets_some (timer_expires x0) ids is = absurd (cc)
-resets_some (time_passes x0) ids is = absurd (cc)
-resets_some (restores x0) ids is = absurd (cc)
+same_list : {one two : List ℕ} → Some one ≡ Some two → one ≡ two
+same_list is = cc
+
+pub named_by : (input : Input) (ids : List ℕ) (id : ℕ) → streams_reset_by input ≡ Some ids → resets_stream id input ≡ is_named ids id
+named_by arrival ids id is = absurd (cc)
+named_by (refusal x0) ids id is = absurd (cc)
+named_by (packet_begins x0) ids id is = absurd (cc)
+named_by (chunk_input x0 x1) ids id is = absurd (cc)
+named_by packet_ends ids id is = absurd (cc)
+named_by (act_input x0) ids id is = absurd (cc)
+named_by (user_sets x0) ids id is = absurd (cc)
+named_by (user_sends x0) ids id is = absurd (cc)
+named_by (user_resets x0) ids id is = ap (λ (l : List ℕ). is_named l id) (same_list is)
+named_by user_takes ids id is = absurd (cc)
+named_by (timer_expires x0) ids id is = absurd (cc)
+named_by (time_passes x0) ids id is = absurd (cc)
+named_by (restores x0) ids id is = absurd (cc)

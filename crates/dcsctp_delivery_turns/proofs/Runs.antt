@@ -1,6 +1,6 @@
 -- The laws of turns, as what they do to runs of two directions.
 use Rattle.dcsctp_delivery_directions.specs.Directions as directions
-use Rattle.std.proofs.Common.{true, false, None, [], sym, arith, subst}
+use Rattle.std.proofs.Common.{true, false, None, [], sym, subst}
 use Rattle.dcsctp_spec_lemmas.specs.spec.queues.SendQueue.{empty_queue}
 use Rattle.dcsctp_delivery_turns.specs.Runs.{SendersGoOn, SendersBegin, SendersBeginAnew, ReceiversGoOn, ReceiversBegin}
 use Rattle.dcsctp_delivery_turns.proofs.Turns.{turns_are_actions}
@@ -9,13 +9,13 @@ use Rattle.dcsctp_delivery_turns.proofs.SenderRuns.{sender_becomes}
 use Rattle.dcsctp_delivery_turns.proofs.ReceiverRuns.{idle_becomes, receiver_becomes}
 
 pub senders_begin : SendersBegin
-senders_begin mine options first size keeps_all =
-    anew_runs options first size [] (record { queue = empty_queue mine; transfer = None }) (record { from_zero = true; keeps_all = keeps_all }) tt (fresh_waits mine) tt
-    (record { zero = λ is. fresh_at_zero mine; all = λ is. record { waits = λ place below. absurd (omega (arith, below)); unpaused = tt } })
+senders_begin mine options first size keeps =
+    anew_runs options first size [] (record { queue = empty_queue mine; transfer = None }) (record { from_zero = true; keeps = keeps }) tt (fresh_waits mine) tt
+    (record { zero = λ is. fresh_at_zero mine; all = λ id is. record { waits = λ place message at. absurd (cc); unpaused = tt } })
 
 pub begins_anew : SendersBeginAnew
 begins_anew options first size queued below fit queues none =
-    anew_runs options first size queued below (record { from_zero = false; keeps_all = false }) fit queues (subst (directions.NoneInFlight first below.queue.is_interleaved) (sym none) tt) (record { zero = λ is. absurd (cc); all = λ is. absurd (cc) })
+    anew_runs options first size queued below (record { from_zero = false; keeps = λ id. false }) fit queues (subst (directions.NoneInFlight first below.queue.is_interleaved) (sym none) tt) (record { zero = λ is. absurd (cc); all = λ id is. absurd (cc) })
 
 pub senders_go_on : SendersGoOn
 senders_go_on options first size direction e input o run small same fits performed refuses drops opens new few may turn =

@@ -10,7 +10,6 @@ use Rattle.dcsctp_spec_lemmas.specs.spec.Packet.{Emission}
 use Rattle.dcsctp_spec_lemmas.specs.spec.endpoint.Turn.{Input}
 use Rattle.dcsctp_spec_lemmas.specs.spec.queues.Transfer.{EndpointQueues}
 use Rattle.dcsctp_delivery_sending.specs.Log.{Fits, Message}
-use Rattle.dcsctp_delivery_turns.proofs.ResetInputs.{resets_some}
 use Rattle.dcsctp_delivery_turns.specs.Actions.{ledger_of, Inside, inside, Made, MakesAlso, came_by, queued_after, read_after, peer_tag, opening_queues, Becomes, streams_reset_by, goes_on, pauses, prepared_inside, works_resets, renews, ends, begins, collides, NoEnd}
 use Rattle.dcsctp_delivery_sending.specs.Queueing.{QueueWaits}
 use Rattle.dcsctp_delivery_turns.specs.Addressed.{AreAddressed}
@@ -70,7 +69,7 @@ module _ (options : Options) (first size : ℕ) (direction : Direction) (e : End
   sender_becomes (pauses ids resets calm linked small' makes) =
       goes_further linked (prepared_inside ids (inside e)) direction.asking as_it_was (preparing_kind ids e.queues.queue) fits
       (steps_go_on options first size (sending_by direction (inside e) direction.asking) (sending_by direction (prepared_inside ids (inside e)) direction.asking) starts
-      (one_step (sending_by direction (inside e) direction.asking) _ (directions.prepares ids small' (drops (resets_some input ids resets))))) makes
+      (one_step (sending_by direction (inside e) direction.asking) _ (directions.prepares ids small' (drops ids resets)))) makes
   sender_becomes (works_resets linked between worked own peer makes) =
       let front = front_sends (came_by input) first direction o.effects (inside e) between worked own peer fits performed refuses in
       goes_further linked worked front.asking front.between front.kind front.fits
@@ -109,7 +108,7 @@ module _ (options : Options) (first size : ℕ) (direction : Direction) (e : End
       started reset = record { queues = opening_queues e o begun; own = Some (record { number = None; next = begun.my.first_tsn; again = reset }) }
 
       later : (other : Options) (room : ℕ) (awaiting : Direction) (queued : List Message) (beginning : Beginning) → QueueWaits queued e.queues.queue → AllByRecursion Fits queued → DirectionRun other begun.my.first_tsn room awaiting → IsAwaited awaiting
-          → BeginsAs beginning begun.queue → (acknowledged : ℕ) × (asking : Asking) × AskingGrows nothing_asked asking × AsksFit begun.my.first_tsn (own_of o.after) asking
+          → BeginsAs beginning queued begun.queue → (acknowledged : ℕ) × (asking : Asking) × AskingGrows nothing_asked asking × AsksFit begun.my.first_tsn (own_of o.after) asking
           × DirectionRun other begun.my.first_tsn room (record (sender_at awaiting queued o.after.queues acknowledged (packets_in o.events) asking) { beginning = beginning })
       later other room awaiting queued beginning shown fit waits awaited zeros =
           let there : Direction = record awaiting { beginning = beginning } in

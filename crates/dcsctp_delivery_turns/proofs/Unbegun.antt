@@ -8,28 +8,29 @@ use Rattle.dcsctp_spec_lemmas.specs.spec.Packet.{Content, Emission}
 use Rattle.dcsctp_spec_lemmas.specs.spec.association.Effect.{identity_in}
 use Rattle.dcsctp_spec_lemmas.specs.spec.endpoint.Endpoint.{Endpoint, Core, closed, cookie_wait, cookie_echoed, open_in, OutstandingRequest}
 use Rattle.dcsctp_spec_lemmas.specs.spec.endpoint.Event.{packets_in}
-use Rattle.dcsctp_spec_lemmas.specs.spec.endpoint.FlushOutcomes.{Answer, answer_contents, filled, asked, next_draft, Ask, first_ask, later_ask, IsFlushAnswer, IsAnswerOfQueues, AreFlushAnswers, at_limit, at_empty, after_packet, flush_of, packets_allowed}
+use Rattle.dcsctp_spec_lemmas.specs.spec.endpoint.FlushOutcomes.{first_ask, packets_allowed}
 use Rattle.dcsctp_spec_lemmas.specs.spec.endpoint.MessageOutcomes.{Sending, sending_queued}
 use Rattle.dcsctp_spec_lemmas.specs.spec.endpoint.Outcome.{Outcome}
 use Rattle.dcsctp_spec_lemmas.specs.spec.endpoint.SettingOutcomes.{set_in_queue}
 use Rattle.dcsctp_spec_lemmas.specs.spec.endpoint.Turn.{Input}
+use Rattle.dcsctp_spec_lemmas.specs.spec.queues.Incoming.{is_named}
 use Rattle.dcsctp_spec_lemmas.specs.spec.queues.OwnResets.{is_open_pause, count_under_way, dropped_size, prepared_stream, with_used, prepared_open, prepared, prepared_all}
 use Rattle.dcsctp_spec_lemmas.specs.spec.queues.SendQueue.{SendQueueState, stream_changed, used, queue_stream, queued as waiting_as, with_priority, with_threshold, put_back, queue_restarted, is_other, numbered_where, numbered_for}
 use Rattle.dcsctp_spec_lemmas.specs.spec.queues.Transfer.{Transfer, EndpointQueues}
 use Rattle.dcsctp_delivery_sending.specs.Numbers.{stream_named}
-use Rattle.dcsctp_delivery_sending.proofs.Packets.{out_below}
 use Rattle.dcsctp_delivery_sending.proofs.StreamsNamed.{found_mapped, found_used}
-use Rattle.dcsctp_delivery_directions.specs.Directions.{BeginsAtZero, AllWait}
-use Rattle.dcsctp_delivery_sending.specs.Losing.{StillWaits}
-use Rattle.dcsctp_delivery_sending.proofs.OpenStreams.{open_mapped, queueing_open, setting_open}
-use Rattle.dcsctp_delivery_sending.proofs.StillWaiting.{waits_mapped, queued_waits, queueing_waits, setting_waits}
+use Rattle.dcsctp_delivery_directions.specs.Directions.{BeginsAtZero}
+use Rattle.dcsctp_delivery_sending.specs.Log.{Message}
+use Rattle.dcsctp_delivery_sending.specs.Losing.{IsOpenOn, AllWaitOn}
+use Rattle.dcsctp_delivery_sending.proofs.StillWaiting.{waits_mapped}
 use Rattle.dcsctp_delivery_turns.specs.Asking.{Own, own_in, own_of, AsksFit}
-use Rattle.dcsctp_delivery_turns.specs.Actions.{Ledger, Action, queues, sets, flushes, resends, resends_nothing, speaks, asks_again, acknowledges, loses, receives, receives_interleaved, forwards, forwards_interleaved, tracks, times, takes, Actions, nothing, further, came_by, peer_tag, queued_after, read_after, Inside, inside, MakesAlso, OwnEnds, unended, committed, rolled_back, PeerResets, unreset, absent, deferred, reset_now, Begun, Becomes, resets_streams, streams_reset_by, goes_on, pauses, prepared_inside, works_resets, renews, ends, begins, collides}
-use Rattle.dcsctp_delivery_turns.specs.Unbegun.{IsAtZero, UnbegunTurns, stays_unbegun, begins_first, StaysAtZero, UnbegunBeginsAtZero, UnbegunBeginsWaiting, FreshIsAtZero}
-use Rattle.dcsctp_spec_lemmas.proofs.MarkedItemLemmas.{le_or_lt}
+use Rattle.dcsctp_delivery_turns.specs.Actions.{Ledger, Action, queues, sets, flushes, resends, resends_nothing, speaks, asks_again, acknowledges, loses, receives, receives_interleaved, forwards, forwards_interleaved, tracks, times, takes, Actions, nothing, further, came_by, peer_tag, queued_after, read_after, Inside, inside, MakesAlso, OwnEnds, unended, committed, rolled_back, PeerResets, unreset, absent, deferred, reset_now, Begun, Becomes, streams_reset_by, goes_on, pauses, prepared_inside, works_resets, renews, ends, begins, collides}
+use Rattle.dcsctp_delivery_turns.specs.Unbegun.{IsAtZero, UnbegunTurns, stays_unbegun, begins_first, StaysWaiting, StaysAtZero, UnbegunBeginsAtZero, UnbegunBeginsWaiting, FreshIsAtZero}
 use Rattle.dcsctp_delivery_turns.proofs.Beginnings.{unlinked_fits}
-use Rattle.dcsctp_delivery_turns.proofs.ResetInputs.{resets_some}
+use Rattle.dcsctp_delivery_turns.proofs.ResetInputs.{named_by}
+use Rattle.dcsctp_delivery_turns.proofs.IdleFlush.{flush_still}
 use Rattle.dcsctp_delivery_turns.proofs.Turns.{turns_are_actions}
+use Rattle.dcsctp_delivery_turns.proofs.UnbegunOn.{WaitsOnStream, all_on_stream, all_on_prepared, actions_wait_on}
 
 -- ---- streams whose next numbers stay
 
@@ -107,65 +108,21 @@ zero_prepared : (ids : List ℕ) (queue : SendQueueState) → IsAtZero queue →
 zero_prepared [] queue zero = zero
 zero_prepared (id ∷ ids) queue zero = zero_prepared ids (prepared id queue) (zero_prepared_one id queue zero)
 
--- ---- a flush without an association
-
--- It does nothing below.
-answered_still : (ask : Ask) (e : Endpoint) (draft : Emission) (found : Option Transfer) (answer : Answer) → found ≡ None → IsAnswerOfQueues ask e draft answer found → answer.after.queues ≡ e.queues
-answered_still ask e draft None answer none does = ap (λ (a : Answer). a.after.queues) does
-answered_still ask e draft (Some transfer) answer none does = absurd (cc)
-
-asked_still : (ask : Ask) (e : Endpoint) (draft : Emission) (answer : Answer) → e.queues.transfer ≡ None → IsFlushAnswer ask e draft answer → (asked e draft answer).after.queues ≡ e.queues
-asked_still ask e draft answer none does =
-    out_below answer.after _ draft.with_checksum draft.packet.tag (filled draft (answer_contents answer)).packet.contents ∙ answered_still ask e draft e.queues.transfer answer none does.by_transfer
-
-pub flush_still : (ask : Ask) (n : ℕ) (e : Endpoint) (draft : Emission) (answers : List Answer) → e.queues.transfer ≡ None → AreFlushAnswers ask n e draft answers → (flush_of e draft answers).after.queues ≡ e.queues
-flush_still _ _ _ _ _ none (at_limit ask e draft) = refl
-flush_still _ _ _ _ _ none (at_empty ask more e draft answer does empty) = asked_still ask e draft answer none does
-flush_still _ _ _ _ _ none (after_packet ask more e draft answer answers does some rest) =
-    let first = asked_still ask e draft answer none does in
-    flush_still later_ask more (asked e draft answer).after (next_draft e.core draft) answers (ap (λ (b : EndpointQueues). b.transfer) first ∙ none) rest ∙ first
-
 -- ---- actions without an association
 
--- There is no transfer layer, the queue is at 0, and on this premise all that was queued waits.
-record IsUnbegun (kept : Type 0) (below : EndpointQueues) : Type 0 where
+-- There is no transfer layer, and the queue is at 0.
+record IsUnbegun (below : EndpointQueues) : Type 0 where
   none : below.transfer ≡ None
   zero : IsAtZero below.queue
-  all : kept → AllWait below.queue
 
--- What is queued waits besides.
-all_queued : (now : ℕ) (sending : Sending) (queue : SendQueueState) → AllWait queue → AllWait (sending_queued now sending queue)
-all_queued now sending queue all =
-    record {
-      waits = λ place below. elim (le_or_lt queue.next_message_id place) [
-        | inl after ↦
-            let last : place ≡ queue.next_message_id = omega (arith, below, after) in
-            subst (StillWaits (sending_queued now sending queue).streams) (sym last) (queued_waits now sending queue)
-        | inr before ↦ queueing_waits now sending queue place (all.waits place before)
-      ];
-      unpaused = queueing_open now sending queue all.unpaused;
-    }
-
-all_set : (setting : Setting) (queue : SendQueueState) → AllWait queue → AllWait (set_in_queue setting queue)
-all_set setting queue all =
-    record {
-      waits = λ place below. setting_waits setting queue place (all.waits place (same_next_id setting below));
-      unpaused = setting_open setting queue all.unpaused;
-    }
-  where
-    same_next_id : (setting : Setting) {place : ℕ} → place < (set_in_queue setting queue).next_message_id → place < queue.next_message_id
-    same_next_id (stream_priority id priority) below = below
-    same_next_id (stream_low_threshold id bytes) below = below
-    same_next_id (longest_message bytes) below = below
-
-clash : {A kept : Type 0} (below : EndpointQueues) (transfer : Transfer) → below.transfer ≡ Some transfer → IsUnbegun kept below → A
+clash : {A : Type 0} (below : EndpointQueues) (transfer : Transfer) → below.transfer ≡ Some transfer → IsUnbegun below → A
 clash below transfer known unbegun = absurd (let both : Some transfer ≡ None = sym known ∙ unbegun.none in cc)
 
-action_unbegun : {kept : Type 0} (came : Option Content) (to : ℕ) (old new : Ledger) → Action came to old new → IsUnbegun kept old.queues → IsUnbegun kept new.queues
-action_unbegun came to old _ (queues now sending fit some) u = record { none = u.none; zero = zero_queued now sending old.queues.queue u.zero; all = λ k. all_queued now sending old.queues.queue (u.all k) }
-action_unbegun came to old _ (sets setting small) u = record { none = u.none; zero = zero_set setting old.queues.queue u.zero; all = λ k. all_set setting old.queues.queue (u.all k) }
+action_unbegun : (came : Option Content) (to : ℕ) (old new : Ledger) → Action came to old new → IsUnbegun old.queues → IsUnbegun new.queues
+action_unbegun came to old _ (queues now sending fit some) u = record { none = u.none; zero = zero_queued now sending old.queues.queue u.zero }
+action_unbegun came to old _ (sets setting small) u = record { none = u.none; zero = zero_set setting old.queues.queue u.zero }
 action_unbegun came to old _ (flushes e draft answers same at tag no_data no_end stale allowed) u =
-    subst (IsUnbegun _) (sym (flush_still first_ask (packets_allowed e.options.max_burst e.core) e draft answers (ap (λ (b : EndpointQueues). b.transfer) same ∙ u.none) allowed ∙ same)) u
+    subst IsUnbegun (sym (flush_still first_ask (packets_allowed e.options.max_burst e.core) e draft answers (ap (λ (b : EndpointQueues). b.transfer) same ∙ u.none) allowed ∙ same)) u
 action_unbegun came to old _ (resends now room transfer left tsns chunks emission tag known does are contents) u = clash old.queues transfer known u
 action_unbegun came to old _ (resends_nothing now room transfer left tsns known does) u = clash old.queues transfer known u
 action_unbegun came to old _ (speaks emission no_data stale) u = u
@@ -180,7 +137,7 @@ action_unbegun came to old _ (tracks transfer tracked known cumulative ranges) u
 action_unbegun came to old _ (times round_trip transfer known) u = clash old.queues transfer known u
 action_unbegun came to old _ (takes transfer message messages known ready) u = clash old.queues transfer known u
 
-actions_unbegun : {kept : Type 0} (came : Option Content) (to : ℕ) (old new : Ledger) → Actions came to old new → IsUnbegun kept old.queues → IsUnbegun kept new.queues
+actions_unbegun : (came : Option Content) (to : ℕ) (old new : Ledger) → Actions came to old new → IsUnbegun old.queues → IsUnbegun new.queues
 actions_unbegun came to old _ nothing u = u
 actions_unbegun came to old _ (further between new first last) u = action_unbegun came to between new last (actions_unbegun came to old between first u)
 
@@ -194,24 +151,36 @@ own_none (cookie_echoed my held cookie) request none = absurd (cc)
 own_none (open_in phase my held) request none = absurd (cc)
 
 module _ (e : Endpoint) (input : Input) (o : Outcome) (unlinked : identity_in e.core ≡ None) (none : e.queues.transfer ≡ None) (zero : IsAtZero e.queues.queue) where
-  abbrev Kept : Type 0
-  Kept = (resets_streams input ≡ false) × AllWait e.queues.queue
-
-  start : IsUnbegun Kept e.queues
-  start = record { none = none; zero = zero; all = λ kept. kept.1 }
+  start : IsUnbegun e.queues
+  start = record { none = none; zero = zero }
 
   own_is : own_of e ≡ None
   own_is = own_none e.core e.outstanding unlinked
 
+  abbrev Makes : Inside → Inside → Type 0
+  Makes old last = MakesAlso (came_by input) (peer_tag e.core) (queued_after e input) (read_after e input) old (packets_in o.events) last
+
   -- what is made of such a queue is one
-  makes_from : (old last : Inside) → IsUnbegun Kept old.queues → old.own ≡ own_of e → MakesAlso (came_by input) (peer_tag e.core) (queued_after e input) (read_after e input) old (packets_in o.events) last → IsUnbegun Kept last.queues
+  makes_from : (old last : Inside) → IsUnbegun old.queues → old.own ≡ own_of e → Makes old last → IsUnbegun last.queues
   makes_from old last u is makes =
       let first = unlinked_fits e.core e.outstanding unlinked in
       let made = makes [] [] [] first.first first.asking (subst (λ (own : Option Own). AsksFit first.first own first.asking) (sym is) first.fits) in
       actions_unbegun (came_by input) (peer_tag e.core) _ _ made.actions u
 
-  makes_unbegun : (old last : Inside) → old ≡ inside e → MakesAlso (came_by input) (peer_tag e.core) (queued_after e input) (read_after e input) old (packets_in o.events) last → IsUnbegun Kept last.queues
-  makes_unbegun old last is makes = makes_from old last (subst (λ (i : Inside). IsUnbegun Kept i.queues) (sym is) start) (ap (λ (i : Inside). i.own) is) makes
+  makes_unbegun : (old last : Inside) → old ≡ inside e → Makes old last → IsUnbegun last.queues
+  makes_unbegun old last is makes = makes_from old last (subst (λ (i : Inside). IsUnbegun i.queues) (sym is) start) (ap (λ (i : Inside). i.own) is) makes
+
+  -- and all that was queued on a stream still waits
+  waits_from : (old last : Inside) → old.own ≡ own_of e → Makes old last → (id : ℕ) (queued : List Message) → WaitsOnStream id queued old.queues → WaitsOnStream id (queued_after e input queued) last.queues
+  waits_from old last is makes id queued w =
+      let first = unlinked_fits e.core e.outstanding unlinked in
+      let made = makes queued [] [] first.first first.asking (subst (λ (own : Option Own). AsksFit first.first own first.asking) (sym is) first.fits) in
+      actions_wait_on id (came_by input) (peer_tag e.core) _ _ made.actions w
+
+  stays_waiting : (old last : Inside) → old ≡ inside e → Makes old last → last.queues.queue ≡ o.after.queues.queue → StaysWaiting e input o
+  stays_waiting old last is makes same id queued waits few spared all =
+      let w = waits_from old last (ap (λ (i : Inside). i.own) is) makes id queued (subst (λ (i : Inside). WaitsOnStream id queued i.queues) (sym is) (all_on_stream id queued e.queues none waits all)) in
+      subst (λ (q : SendQueueState). AllWaitOn id (queued_after e input queued) q.streams) same (w.all few)
 
   -- no request of our own has ended
   own_stays : (old between : Inside) → old.own ≡ None → OwnEnds o.effects old between → between ≡ old
@@ -220,7 +189,7 @@ module _ (e : Endpoint) (input : Input) (o : Outcome) (unlinked : identity_in e.
   own_stays old _ none (rolled_back refused own is) = absurd (let both : Some own ≡ None = sym is ∙ none in cc)
 
   -- and none of the peer is performed
-  peer_stays : (between worked : Inside) → IsUnbegun Kept between.queues → PeerResets (came_by input) o.effects between worked → worked ≡ between
+  peer_stays : (between worked : Inside) → IsUnbegun between.queues → PeerResets (came_by input) o.effects between worked → worked ≡ between
   peer_stays between _ u (unreset has_not) = refl
   peer_stays between _ u (absent none) = refl
   peer_stays between _ u (deferred has_not parameters reset came_is wants transfer last_tsn streams known) = clash between.queues transfer known u
@@ -229,19 +198,24 @@ module _ (e : Endpoint) (input : Input) (o : Outcome) (unlinked : identity_in e.
   unbegun_becomes : Becomes (streams_reset_by input) (came_by input) (peer_tag e.core) (queued_after e input) (read_after e input) e o → UnbegunTurns e input o
   unbegun_becomes (goes_on calm same makes) =
       let left = makes_unbegun (inside e) (inside o.after) refl makes in
-      stays_unbegun (same ∙ unlinked) left.none left.zero left.all
+      stays_unbegun (same ∙ unlinked) left.none left.zero (stays_waiting (inside e) (inside o.after) refl makes refl)
   unbegun_becomes (pauses ids resets calm same small makes) =
-      let left = makes_from (prepared_inside ids (inside e)) (inside o.after) (record { none = none; zero = zero_prepared ids e.queues.queue zero; all = λ kept. absurd (let clash : true ≡ false = sym (resets_some input ids resets) ∙ kept.0 in cc) }) refl makes in
-      stays_unbegun (same ∙ unlinked) left.none left.zero left.all
+      let left = makes_from (prepared_inside ids (inside e)) (inside o.after) (record { none = none; zero = zero_prepared ids e.queues.queue zero }) refl makes in
+      stays_unbegun (same ∙ unlinked) left.none left.zero
+      (λ id queued waits few spared all. (
+      let unnamed : is_named ids id ≡ false = sym (named_by input ids id resets) ∙ spared in
+      (waits_from (prepared_inside ids (inside e)) (inside o.after) refl makes id queued (all_on_prepared id queued ids e.queues none small unnamed waits all)).all few
+      ))
   unbegun_becomes (works_resets same between worked own peer makes) =
       let first : between ≡ inside e = own_stays (inside e) between own_is own in
-      let second : worked ≡ between = peer_stays between worked (subst (λ (i : Inside). IsUnbegun Kept i.queues) (sym first) start) peer in
+      let second : worked ≡ between = peer_stays between worked (subst (λ (i : Inside). IsUnbegun i.queues) (sym first) start) peer in
       let left = makes_unbegun worked (inside o.after) (second ∙ first) makes in
-      stays_unbegun (same ∙ unlinked) left.none left.zero left.all
+      stays_unbegun (same ∙ unlinked) left.none left.zero (stays_waiting worked (inside o.after) (second ∙ first) makes refl)
   unbegun_becomes (renews calm same alike unread own number emission is of left packets tag contents) = absurd (let both : Some own ≡ None = sym is ∙ own_is in cc)
   unbegun_becomes (ends none' unread last kept makes is) =
       let left = makes_unbegun (inside e) last refl makes in
-      stays_unbegun none' (ap (λ (b : EndpointQueues). b.transfer) is) (subst (λ (b : EndpointQueues). IsAtZero b.queue) (sym is) left.zero) (λ kept. subst (λ (b : EndpointQueues). AllWait b.queue) (sym is) (left.all kept))
+      stays_unbegun none' (ap (λ (b : EndpointQueues). b.transfer) is) (subst (λ (b : EndpointQueues). IsAtZero b.queue) (sym is) left.zero)
+      (stays_waiting (inside e) last refl makes (ap (λ (b : EndpointQueues). b.queue) (sym is)))
   unbegun_becomes (begins begun opening linked alike unread again makes) = begins_first begun opening linked
   unbegun_becomes (collides collision alike unread again makes) = absurd (let both : Some collision.old ≡ None = sym collision.was ∙ unlinked in cc)
 
@@ -298,25 +272,33 @@ unbegun_begins_at_zero e o begun zero = zero_begins begun.queue (begun_is_at_zer
 
 -- ---- what waits is kept
 
-all_numbered : (enabled : Bool) (queue : SendQueueState) → IsAtZero queue → AllWait queue → AllWait (numbered_for enabled queue)
-all_numbered enabled queue zero all = subst AllWait (sym (numbered_idle enabled queue zero.idle)) (record { waits = all.waits; unpaused = all.unpaused })
+module _ (id : ℕ) (queued : List Message) where
+  all_numbered : (enabled : Bool) (queue : SendQueueState) → IsAtZero queue → AllWaitOn id queued queue.streams → AllWaitOn id queued (numbered_for enabled queue).streams
+  all_numbered enabled queue zero all =
+      subst (λ (q : SendQueueState). AllWaitOn id queued q.streams) (sym (numbered_idle enabled queue zero.idle)) all
 
-all_restarted : (queue : SendQueueState) → IsAtZero queue → AllWait queue → AllWait (queue_restarted queue)
-all_restarted queue zero all = go queue.under_way zero.idle
-  where
-    go : (under_way : Option UnderWay) → under_way ≡ None → AllWait (record (put_back under_way queue) { streams = map begun_anew (put_back under_way queue).streams })
-    go None is =
-        record {
-          waits = λ place below. waits_mapped begun_anew (λ s w has. has) queue.streams place (all.waits place below);
-          unpaused = open_mapped begun_anew (λ s before. refl) queue.streams all.unpaused;
-        }
-    go (Some under_way) is = absurd (cc)
+  restarted_open : (streams : List Stream) → IsOpenOn id (map begun_anew streams)
+  restarted_open [] = tt
+  restarted_open (stream ∷ streams) = (λ on. refl, restarted_open streams)
+
+  all_restarted : (queue : SendQueueState) → IsAtZero queue → AllWaitOn id queued queue.streams → AllWaitOn id queued (queue_restarted queue).streams
+  all_restarted queue zero all = go queue.under_way zero.idle
+    where
+      go : (under_way : Option UnderWay) → under_way ≡ None → AllWaitOn id queued (map begun_anew (put_back under_way queue).streams)
+      go None is =
+          record {
+            waits = λ place message at on. waits_mapped begun_anew (λ s w has. has) queue.streams place (all.waits place message at on);
+            unpaused = restarted_open queue.streams;
+          }
+      go (Some under_way) is = absurd (cc)
 
 pub unbegun_begins_waiting : UnbegunBeginsWaiting
-unbegun_begins_waiting e o begun zero all =
+unbegun_begins_waiting e o begun id queued zero all =
     elim begun.keeps [
-      | inl is ↦ subst AllWait (sym is.0) (all_numbered begun.held.capabilities.message_interleaving e.queues.queue zero all)
+      | inl is ↦
+          subst (λ (q : SendQueueState). AllWaitOn id queued q.streams) (sym is.0)
+          (all_numbered id queued begun.held.capabilities.message_interleaving e.queues.queue zero all)
       | inr is ↦
-          subst AllWait (sym is)
-          (all_numbered begun.held.capabilities.message_interleaving (queue_restarted e.queues.queue) (zero_restarted e.queues.queue zero) (all_restarted e.queues.queue zero all))
+          subst (λ (q : SendQueueState). AllWaitOn id queued q.streams) (sym is)
+          (all_numbered id queued begun.held.capabilities.message_interleaving (queue_restarted e.queues.queue) (zero_restarted e.queues.queue zero) (all_restarted id queued e.queues.queue zero all))
     ]

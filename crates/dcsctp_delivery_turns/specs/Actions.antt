@@ -20,6 +20,7 @@ use Rattle.dcsctp_spec_lemmas.specs.spec.queues.Arrivals.{data_arrival, i_data_a
 use Rattle.dcsctp_spec_lemmas.specs.spec.queues.AtOnce.{SendsAtOnce}
 use Rattle.dcsctp_spec_lemmas.specs.spec.queues.Chunks.{AreChunksOfTsns}
 use Rattle.dcsctp_spec_lemmas.specs.types.queues.Messages.{MessageContent}
+use Rattle.dcsctp_spec_lemmas.specs.spec.queues.Incoming.{is_named}
 use Rattle.dcsctp_spec_lemmas.specs.spec.queues.OwnResets.{prepared_all, queue_committed, queue_rolled_back}
 use Rattle.dcsctp_spec_lemmas.specs.spec.queues.Reassembly.{ReassemblyState, with_ready, deferring, EndsDeferral}
 use Rattle.dcsctp_spec_lemmas.specs.spec.queues.Retransmission.{RetransmissionState}
@@ -256,6 +257,11 @@ resets_streams input = false
 abbrev pub streams_reset_by : Input → Option (List ℕ)
 streams_reset_by (user_resets ids) = Some ids
 streams_reset_by input = None
+
+-- this one?
+abbrev pub resets_stream : ℕ → Input → Bool
+resets_stream id (user_resets ids) = is_named ids id
+resets_stream id input = false
 
 -- once these streams are prepared to be reset
 abbrev pub prepared_inside : List ℕ → Inside → Inside

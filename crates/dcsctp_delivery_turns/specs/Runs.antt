@@ -14,7 +14,7 @@ use Rattle.dcsctp_spec_lemmas.specs.spec.queues.Tracker.{new_tracker}
 use Rattle.dcsctp_spec_lemmas.specs.spec.queues.Transfer.{Transfer, EndpointQueues, part_overhead}
 use Rattle.std.specs.List.{AllByRecursion}
 use Rattle.dcsctp_delivery_sending.specs.Log.{Fits, Message}
-use Rattle.dcsctp_delivery_turns.specs.Actions.{peer_tag, came_by, queued_after, read_after, Begun, Collides, begun_transfer, IsOpening, resets_streams, IsCall, IsCalm, has_refused}
+use Rattle.dcsctp_delivery_turns.specs.Actions.{peer_tag, came_by, queued_after, read_after, Begun, Collides, begun_transfer, IsOpening, streams_reset_by, IsCall, IsCalm, has_refused}
 use Rattle.dcsctp_spec_lemmas.specs.spec.Packet.{Content, re_config}
 use Rattle.dcsctp_spec_lemmas.specs.spec.Reconfiguration.{RequestedReset, ResetParameter}
 use Rattle.dcsctp_spec_lemmas.specs.spec.association.Effect.{Effect}
@@ -70,7 +70,7 @@ pub data SenderTurns (options : Options) (first size : ℕ) (direction : Directi
       → queued_after e input direction.queued ≡ direction.queued
       → QueueWaits direction.queued e.queues.queue → AllByRecursion Fits direction.queued
       → ((other : Options) (room : ℕ) (awaiting : Direction) (queued : List Message) (beginning : Beginning) → QueueWaits queued e.queues.queue → AllByRecursion Fits queued → DirectionRun other begun.my.first_tsn room awaiting → IsAwaited awaiting
-      → BeginsAs beginning begun.queue → (acknowledged : ℕ) × (asking : Asking) × AskingGrows nothing_asked asking × AsksFit begun.my.first_tsn (own_of o.after) asking
+      → BeginsAs beginning queued begun.queue → (acknowledged : ℕ) × (asking : Asking) × AskingGrows nothing_asked asking × AsksFit begun.my.first_tsn (own_of o.after) asking
       × DirectionRun other begun.my.first_tsn room (record (sender_at awaiting queued o.after.queues acknowledged (packets_in o.events) asking) { beginning = beginning }))
       → SenderTurns options first size direction e input o
 
@@ -82,9 +82,9 @@ EndsPerformed e o asking = has_completed o.effects ≡ true → e.queues.queue.i
 abbrev pub RefusesNone : Endpoint → Outcome → Type 0
 RefusesNone e o = e.queues.queue.is_interleaved ≡ true → has_refused o.effects ≡ false
 
--- If the user resets streams by it, messages may be dropped.
+-- The sender doesn't keep the streams that the user resets by it.
 abbrev pub MayDrop : Input → Beginning → Type 0
-MayDrop input beginning = resets_streams input ≡ true → beginning.keeps_all ≡ false
+MayDrop input beginning = (ids : List ℕ) → streams_reset_by input ≡ Some ids → AllByRecursion (λ id. beginning.keeps id ≡ false) ids
 
 -- No association begins in this turn under the own tag of the one before.
 abbrev pub HasNewTag : Endpoint → Input → Outcome → Type 0
@@ -105,14 +105,14 @@ SendersGoOn =
 -- A run begins where the socket was just made, with number 0 on each stream and nothing queued,
 abbrev pub SendersBegin : Type 0
 SendersBegin =
-    (mine options : Options) (first size : ℕ) (keeps_all : Bool)
-    → DirectionRun options first size (new_direction options first size [] (record { queue = empty_queue mine; transfer = None }) 0 [] (record { from_zero = true; keeps_all = keeps_all }))
+    (mine options : Options) (first size : ℕ) (keeps : ℕ → Bool)
+    → DirectionRun options first size (new_direction options first size [] (record { queue = empty_queue mine; transfer = None }) 0 [] (record { from_zero = true; keeps = keeps }))
 
 -- and where its association has ended.
 abbrev pub SendersBeginAnew : Type 0
 SendersBeginAnew =
     (options : Options) (first size : ℕ) (queued : List Message) (sender_queues : EndpointQueues) → AllByRecursion Fits queued → QueueWaits queued sender_queues.queue → sender_queues.transfer ≡ None
-    → DirectionRun options first size (new_direction options first size queued sender_queues 0 [] (record { from_zero = false; keeps_all = false }))
+    → DirectionRun options first size (new_direction options first size queued sender_queues 0 [] (record { from_zero = false; keeps = λ id. false }))
 
 -- An association begins, and what its receiver does in the same turn are steps of a run. It waits for no reset.
 pub record OpensAssociation (e : Endpoint) (input : Input) (o : Outcome) : Type 0 where

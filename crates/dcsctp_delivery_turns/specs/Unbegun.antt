@@ -1,6 +1,6 @@
 -- A socket that has had no association has begun no message, so its queue is at number 0 when the
 -- first one begins, with `follow_rfc` or without (RFC 9260, section 6.5).
-use Rattle.std.specs.Prelude.{◌≡◌, ℕ, true, false, None, Some}
+use Rattle.std.specs.Prelude.{◌≡◌, ◌<◌, ◌^◌, ℕ, true, false, None, Some, List, length}
 use Rattle.dcsctp_spec_lemmas.specs.types.declared.options.Options.{Options}
 use Rattle.dcsctp_spec_lemmas.specs.types.queues.SendStreams.{next_numbers}
 use Rattle.dcsctp_spec_lemmas.specs.spec.association.Effect.{identity_of, identity_in}
@@ -9,8 +9,11 @@ use Rattle.dcsctp_spec_lemmas.specs.spec.endpoint.Outcome.{Outcome}
 use Rattle.dcsctp_spec_lemmas.specs.spec.endpoint.Turn.{Input, Turn}
 use Rattle.dcsctp_spec_lemmas.specs.spec.queues.SendQueue.{SendQueueState, empty_queue}
 use Rattle.dcsctp_delivery_sending.specs.Numbers.{stream_named}
-use Rattle.dcsctp_delivery_directions.specs.Directions.{BeginsAtZero, AllWait}
-use Rattle.dcsctp_delivery_turns.specs.Actions.{came_by, Begun, IsOpening, resets_streams, IsCall}
+use Rattle.dcsctp_delivery_sending.specs.Log.{Message}
+use Rattle.dcsctp_delivery_sending.specs.Losing.{AllWaitOn}
+use Rattle.dcsctp_delivery_sending.specs.Queueing.{QueueWaits}
+use Rattle.dcsctp_delivery_directions.specs.Directions.{BeginsAtZero}
+use Rattle.dcsctp_delivery_turns.specs.Actions.{came_by, queued_after, Begun, IsOpening, resets_stream, IsCall}
 
 -- No message is under way, and the next one of each stream, ordered or not, has SSN 0 and MID 0.
 pub record IsAtZero (queue : SendQueueState) : Type 0 where
@@ -18,10 +21,12 @@ pub record IsAtZero (queue : SendQueueState) : Type 0 where
   pub ordered : (id : ℕ) → next_numbers false (stream_named id queue.streams) ≡ (0, 0)
   pub unordered : (id : ℕ) → next_numbers true (stream_named id queue.streams) ≡ (0, 0)
 
--- All that was ever queued waits after the turn, and no stream is to be reset, if it was so before, unless the user resets streams
--- by it.
+-- All that was queued on a stream waits after the turn, and the stream isn't to be reset, if it was so before, unless the user
+-- resets it by the turn.
 abbrev pub StaysWaiting : Endpoint → Input → Outcome → Type 0
-StaysWaiting e input o = (resets_streams input ≡ false) × AllWait e.queues.queue → AllWait o.after.queues.queue
+StaysWaiting e input o =
+    (id : ℕ) (queued : List Message) → QueueWaits queued e.queues.queue → length (queued_after e input queued) < 2 ^ 64 → resets_stream id input ≡ false
+    → AllWaitOn id queued e.queues.queue.streams → AllWaitOn id (queued_after e input queued) o.after.queues.queue.streams
 
 -- There is still no association, and the queue is still at 0; or an association begins in this turn.
 pub data UnbegunTurns (e : Endpoint) (input : Input) (o : Outcome) : Type 0 where
@@ -38,10 +43,11 @@ abbrev pub UnbegunBeginsAtZero : Type 0
 UnbegunBeginsAtZero =
     (e : Endpoint) (o : Outcome) (begun : Begun e o) → IsAtZero e.queues.queue → BeginsAtZero begun.queue
 
--- And all that waits is kept, with no stream to be reset.
+-- And all that waits on a stream that isn't to be reset is kept.
 abbrev pub UnbegunBeginsWaiting : Type 0
 UnbegunBeginsWaiting =
-    (e : Endpoint) (o : Outcome) (begun : Begun e o) → IsAtZero e.queues.queue → AllWait e.queues.queue → AllWait begun.queue
+    (e : Endpoint) (o : Outcome) (begun : Begun e o) (id : ℕ) (queued : List Message) → IsAtZero e.queues.queue
+    → AllWaitOn id queued e.queues.queue.streams → AllWaitOn id queued begun.queue.streams
 
 -- A socket that was just made has such a queue.
 abbrev pub FreshIsAtZero : Type 0
