@@ -495,10 +495,10 @@ int32_t dcsctp_connect(dcsctp_socket *socket) DCSCTP_CHECKED_CALL;
 
 /* Wait for DCSCTP_EVENT_CONNECTED before this call. Until the peer has answered the first INIT, it
  * sends nothing: DCSCTP_EVENT_CLOSED comes at once, and what is queued goes out in the next
- * association. Later in the handshake it shuts down as below, without DCSCTP_EVENT_CONNECTED; but
- * the COOKIE ECHO isn't sent again, and if it was lost, DCSCTP_EVENT_ABORTED comes after minutes.
- * If the peer connects, too, the shutdown may be forgotten, and what was sent lost without an
- * event: DCSCTP_EVENT_CONNECTED comes then. On a closed socket it does nothing.
+ * association. Later in the handshake it waits for DCSCTP_EVENT_CONNECTED, and then shuts down as
+ * below. Without `follow_rfc` it doesn't wait, and that event doesn't come: the COOKIE ECHO isn't
+ * sent again, and if it was lost, DCSCTP_EVENT_ABORTED comes after minutes; or, if the peer
+ * connects, too, the shutdown is forgotten. On a closed socket it does nothing.
  *
  * It ends the association in an orderly way. All data that was sent is acknowledged first. With
  * `follow_rfc` queued messages are sent before that, and the peer acknowledges what was abandoned,
@@ -776,8 +776,9 @@ int32_t dcsctp_send_many(dcsctp_socket *socket, const dcsctp_outgoing_message *m
  * count: a live association can be aborted within three minutes. With `follow_rfc` the user of a
  * peer without it may get the event of one reset twice.
  *
- * Wait for DCSCTP_EVENT_CONNECTED before this call. If both ends connect, an earlier request may be
- * forgotten: neither event comes, and messages sent until then may be lost.
+ * A request waits for DCSCTP_EVENT_CONNECTED. Without `follow_rfc` wait for it before this call: if
+ * both ends connect, an earlier request may be forgotten. Then neither event comes, and messages
+ * sent until then may be lost.
  *
  * Errors: NO_SOCKET, NOT_CONNECTED, NOT_SUPPORTED, FAILED, OUT_OF_MEMORY. OUT_OF_MEMORY: if the
  * numbers can't be copied, nothing has changed, and the call may be tried again. */

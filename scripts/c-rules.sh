@@ -64,6 +64,7 @@ table() {
     row cookies '10 s' 10
     row forged '50 ms' 50
     row beats '50 ms' 50
+    row farewells '5 %' 50
 }
 
 keep_table c-rules "$(table)" "$@"

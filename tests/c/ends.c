@@ -343,7 +343,7 @@ static void first_to_close_has_stopped(void) {
 
 /* A shutdown before the association is made. Until the INIT ACK comes it ends all at once, and the
  * message that was queued is lost. After that it waits for the handshake, and with `follow_rfc` for
- * the message. */
+ * the message: A is connected, and then shuts down. Messages are refused from the call on. */
 static void shutdown_before_connected(uint32_t follow_rfc) {
     dcsctp_options options = default_options();
     options.follow_rfc = follow_rfc;
@@ -356,14 +356,66 @@ static void shutdown_before_connected(uint32_t follow_rfc) {
             EQUAL("a packet", i == 1 ? carry(&pair.b, &pair.a) : carry(&pair.a, &pair.b), 1);
         EQUAL("shutdown", dcsctp_shutdown(&pair.a.socket), DCSCTP_OK);
         EQUAL("A", dcsctp_state(&pair.a.socket),
-              is_answered ? DCSCTP_STATE_SHUTTING_DOWN : DCSCTP_STATE_CLOSED);
+              !is_answered ? DCSCTP_STATE_CLOSED
+              : follow_rfc ? DCSCTP_STATE_CONNECTING
+                           : DCSCTP_STATE_SHUTTING_DOWN);
+        if (is_answered)
+            EQUAL("send", send_bytes(&pair.a, 1, 10), DCSCTP_ERROR_SHUTTING_DOWN);
         settle(&pair);
-        EQUAL("A was never connected", pair.a.seen[DCSCTP_EVENT_CONNECTED], 0);
+        EQUAL("A was connected", pair.a.seen[DCSCTP_EVENT_CONNECTED], is_answered && follow_rfc);
         EQUAL("A is closed", pair.a.seen[DCSCTP_EVENT_CLOSED], 1);
         EQUAL("B", pair.b.seen[DCSCTP_EVENT_CONNECTED], is_answered);
         EQUAL("the message", take_messages(&pair.b, 10), is_answered && follow_rfc);
         destroy_pair(&pair);
     }
+}
+
+/* The COOKIE ECHO, the message with it, and a repetition of both are lost. With `follow_rfc` they are
+ * sent again after 1 and 2 s (RFC 9260, section 5.1.6), and the shutdown waits for their answer. */
+static void shutdown_waits_for_a_lost_cookie_echo(void) {
+    const dcsctp_options options = default_options();
+    create_pair(&pair, &options, &options);
+    EQUAL("send", send_bytes(&pair.a, 1, 10), DCSCTP_OK);
+    EQUAL("connect", dcsctp_connect(&pair.a.socket), DCSCTP_OK);
+    EQUAL("INIT", carry(&pair.a, &pair.b), 1);
+    EQUAL("INIT ACK", carry(&pair.b, &pair.a), 1);
+    EQUAL("shutdown", dcsctp_shutdown(&pair.a.socket), DCSCTP_OK);
+    EQUAL("shutdown again", dcsctp_shutdown(&pair.a.socket), DCSCTP_OK);
+    EQUAL("COOKIE ECHO is lost", carry(&pair.a, NULL), 1);
+    pass(&pair, 1 * SECONDS);
+    EQUAL("again", carry(&pair.a, NULL), 1);
+    pass(&pair, 2 * SECONDS);
+    settle(&pair);
+    EQUAL("A was connected", pair.a.seen[DCSCTP_EVENT_CONNECTED], 1);
+    while (pair.now < BEGIN + 4 * SECONDS && !pair.a.seen[DCSCTP_EVENT_CLOSED]) {
+        pass(&pair, 100 * MILLISECONDS);
+        settle(&pair);
+    }
+    EQUAL("A is closed", pair.a.seen[DCSCTP_EVENT_CLOSED], 1);
+    EQUAL("B is closed", pair.b.seen[DCSCTP_EVENT_CLOSED], 1);
+    EQUAL("none was aborted", pair.a.seen[DCSCTP_EVENT_ABORTED] + pair.b.seen[DCSCTP_EVENT_ABORTED], 0);
+    EQUAL("the message", take_messages(&pair.b, 10), 1);
+    destroy_pair(&pair);
+}
+
+/* Without an answer to the COOKIE ECHO the shutdown ends with the handshake, and doesn't outlast it. */
+static void waiting_shutdown_ends_with_its_association(void) {
+    dcsctp_options options = default_options();
+    options.max_init_retransmits = 0;
+    create_pair(&pair, &options, &options);
+    EQUAL("connect", dcsctp_connect(&pair.a.socket), DCSCTP_OK);
+    EQUAL("INIT", carry(&pair.a, &pair.b), 1);
+    EQUAL("INIT ACK", carry(&pair.b, &pair.a), 1);
+    EQUAL("shutdown", dcsctp_shutdown(&pair.a.socket), DCSCTP_OK);
+    EQUAL("COOKIE ECHO is lost", carry(&pair.a, NULL), 1);
+    pass(&pair, 1 * SECONDS);
+    carry(&pair.a, NULL);
+    EQUAL("A is given up", pair.a.seen[DCSCTP_EVENT_ABORTED], 1);
+    EQUAL("connect anew", dcsctp_connect(&pair.a.socket), DCSCTP_OK);
+    settle(&pair);
+    EQUAL("A", dcsctp_state(&pair.a.socket), DCSCTP_STATE_CONNECTED);
+    EQUAL("send", send_bytes(&pair.a, 1, 10), DCSCTP_OK);
+    destroy_pair(&pair);
 }
 
 /* ---- A reader that pauses ------------------------------------------------------------------- */
@@ -588,6 +640,8 @@ int main(void) {
         untaken_messages(follow_rfc);
         message_before_an_abort(follow_rfc);
     }
+    shutdown_waits_for_a_lost_cookie_echo();
+    waiting_shutdown_ends_with_its_association();
     puts("ends: as dcsctp.h says");
     return 0;
 }

@@ -470,13 +470,34 @@ static void beats(const uint64_t *given) {
     printf("count %u\n", most);
 }
 
+/* A queues a message, connects, and shuts down as soon as it has sent a COOKIE ECHO, while given[0] of
+ * 1,000 packets are lost. How often does the message not come within ten minutes, of 1,000? */
+static void farewells(const uint64_t *given) {
+    unsigned lost = 0;
+    for (int i = 0; i < 1000; i++) {
+        begin(50 * MILLISECONDS);
+        link.permille = given[0];
+        EQUAL("a message", send_numbered(A, 0, 1000, &reliable), 1);
+        EQUAL("connect", dcsctp_connect(&ends[A].socket), 0);
+        serve(A);
+        while (link.echo_length == 0)
+            run(10 * MILLISECONDS);
+        EQUAL("shutdown", dcsctp_shutdown(&ends[A].socket), 0);
+        serve(A);
+        run(600 * SECONDS);
+        lost += link.taken == 0;
+        finish();
+    }
+    printf("count %u\n", lost);
+}
+
 static const struct {
     const char *name;
     void (*try)(const uint64_t *given);
 } tried[] = {{"reports", reports}, {"trips", trips},         {"bottleneck", bottleneck},
              {"next", next},       {"abandoned", abandoned}, {"aborts", aborts},
              {"missing", missing}, {"cookies", cookies},     {"stale", stale},
-             {"forged", forged},   {"beats", beats}};
+             {"forged", forged},   {"beats", beats},         {"farewells", farewells}};
 
 int main(int count, char **words) {
     uint64_t given[2] = {0, 0};

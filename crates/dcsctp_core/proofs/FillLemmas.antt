@@ -19,10 +19,10 @@ use Rattle.dcsctp_transfer.specs.spec.queues.SendQueue.{SendQueueState, has_queu
 use Rattle.dcsctp_transfer.specs.spec.queues.Transfer.{Transfer, advertised_window, is_none_ready, is_idle, may_give}
 use Rattle.dcsctp_transfer.specs.spec.queues.Retransmission.{can_send, outstanding_count, RetransmissionState}
 use Rattle.dcsctp_transfer.specs.types.declared.association.Held.{Held}
-use Rattle.dcsctp_transfer.specs.spec.endpoint.Endpoint.{Endpoint, Timers, held_in}
+use Rattle.dcsctp_transfer.specs.spec.endpoint.Endpoint.{Endpoint, Timers}
 use Rattle.dcsctp_transfer.specs.spec.association.Choices.{plain_contents}
 use Rattle.dcsctp_transfer.specs.spec.endpoint.BegunResets.{BegunReset, stream_field, streams_within, last_assigned_tsn, begun_where, begun_in, request_contents, queue_requesting, after_begun, retransmission_begun}
-use Rattle.dcsctp_transfer.specs.spec.endpoint.FlushOutcomes.{FillingEvent, amount_is_low, total_amount_is_low, message_is_sent, message_may_have_expired, message_has_expired, message_ends, filling_event, Answer, answer_contents, filled, Ask, first_ask, later_ask, own_sack, room_in, where_fits, begun_at, wants_sack, FitsPlain, Gives, GivesWhere, IsAnswerOfQueues, timers_with, nothing_waits, filling_event_content, FillsWhere, GivesUpWhere, forward_where, may_abandon, may_forward, stage_of}
+use Rattle.dcsctp_transfer.specs.spec.endpoint.FlushOutcomes.{may_be_asked, FillingEvent, amount_is_low, total_amount_is_low, message_is_sent, message_may_have_expired, message_has_expired, message_ends, filling_event, Answer, answer_contents, filled, Ask, first_ask, later_ask, own_sack, room_in, where_fits, begun_at, wants_sack, FitsPlain, Gives, GivesWhere, IsAnswerOfQueues, timers_with, nothing_waits, filling_event_content, FillsWhere, GivesUpWhere, forward_where, may_abandon, may_forward, stage_of}
 use Rattle.dcsctp_transfer.specs.api.Calls.{user_event}
 use Rattle.dcsctp_transfer.specs.Filling.{has_chunks, FillsDataPacket, with_chunk}
 use Rattle.dcsctp_core.specs.View.{View}
@@ -233,7 +233,7 @@ idle_until ask e draft transfer u idle =
     let up = no_forwards (may_forward ask e transfer.retransmission) e.moment transfer _ _ u.gave_up u.next u.forwards (may_not ask e transfer.retransmission parts.0.1) u.gives_up in
     let waits : u.gave_up.waiting ≡ e.queues.queue = ap (λ (s : Stage). s.waiting) up.0 in
     let ready : is_none_ready (ready_streams u.gave_up.waiting) ≡ true = ap (λ (q : SendQueueState). is_none_ready (ready_streams q)) waits ∙ idle_ready e.queues.queue transfer idle in
-    let begun : u.begun ≡ None = u.begins ∙ none_begun ask (held_in e.core) _ (last_assigned_tsn u.gave_up.queue) u.gave_up.waiting ready in
+    let begun : u.begun ≡ None = u.begins ∙ none_begun ask (may_be_asked e.core e.options.follow_rfc) _ (last_assigned_tsn u.gave_up.queue) u.gave_up.waiting ready in
     let left : (start_of u).waiting ≡ e.queues.queue = ap (λ (b : Option BegunReset). queue_requesting (streams_within (room_in e (filled draft (plain_contents (u.sacks ++ u.forwards))))) b u.gave_up.waiting) begun ∙ waits in
     let state : (start_of u).queue ≡ transfer.retransmission = ap (λ (b : Option BegunReset). retransmission_begun b u.gave_up.queue) begun ∙ ap (λ (s : Stage). s.queue) up.0 in
     record {

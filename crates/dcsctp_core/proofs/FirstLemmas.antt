@@ -9,11 +9,11 @@ use Rattle.dcsctp_transfer.specs.spec.queues.Tracker.{TrackerState, sacked}
 use Rattle.dcsctp_transfer.specs.spec.queues.SendQueue.{SendQueueState, has_queued_data}
 use Rattle.dcsctp_transfer.specs.spec.queues.Transfer.{Transfer, may_give}
 use Rattle.dcsctp_transfer.specs.spec.queues.Retransmission.{RetransmissionState}
-use Rattle.dcsctp_transfer.specs.spec.endpoint.Endpoint.{Endpoint, Core, OutstandingRequest, held_in}
+use Rattle.dcsctp_transfer.specs.spec.endpoint.Endpoint.{Endpoint, Core, OutstandingRequest}
 use Rattle.dcsctp_transfer.specs.spec.endpoint.Timers.{RunningTimer, TimerSettings, started}
 use Rattle.dcsctp_transfer.specs.spec.association.Choices.{plain_contents}
 use Rattle.dcsctp_transfer.specs.spec.endpoint.BegunResets.{BegunReset, streams_within, last_assigned_tsn, begun_in, request_contents, reconfiguration_settings, transfer_reset_begun, core_asking, after_begun, queue_requesting, retransmission_begun}
-use Rattle.dcsctp_transfer.specs.spec.endpoint.FlushOutcomes.{own_sack, filled, first_ask, room_in, where_fits, wants_sack, FitsPlain, FillsWhere, ForwardsWhere, GivesUpWhere, forward_where, FillingEvent, begun_at, may_abandon, may_forward, stage_of, filling_event_content}
+use Rattle.dcsctp_transfer.specs.spec.endpoint.FlushOutcomes.{may_be_asked, own_sack, filled, first_ask, room_in, where_fits, wants_sack, FitsPlain, FillsWhere, ForwardsWhere, GivesUpWhere, forward_where, FillingEvent, begun_at, may_abandon, may_forward, stage_of, filling_event_content}
 use Rattle.dcsctp_transfer.specs.wire.Content.{ChunkContent}
 use Rattle.dcsctp_transfer.specs.wire.Spelling.{chunk_bytes}
 use Rattle.dcsctp_transfer.specs.Filling.{is_sack_wanted, FillsRequestedSack, has_chunks}
@@ -295,7 +295,7 @@ pub record BeforeData {R : Type 0} (old : View R) (draft : Emission) (transfer :
   pub given_packet : Building
   pub up : Forwarded old draft transfer given given_packet
   pub begun : Option BegunReset
-  pub begins : begun ≡ begun_at first_ask (held_in old.endpoint.core) (room_in old.endpoint (behind_forwards up)) (last_assigned_tsn up.gave_up.queue) up.gave_up.waiting
+  pub begins : begun ≡ begun_at first_ask (may_be_asked old.endpoint.core old.endpoint.options.follow_rfc) (room_in old.endpoint (behind_forwards up)) (last_assigned_tsn up.gave_up.queue) up.gave_up.waiting
   pub is : packet ≡ packet_for old.endpoint.options (filled draft (plain_contents (up.sacks ++ up.forwards) ++ request_contents begun))
   pub view : here
       ≡ begun_in_view old up.next up.gave_up (record transfer { tracker = up.tracker }) begun
@@ -314,7 +314,7 @@ before_data {R = R} old draft transfer given here given_packet packet up begin =
       given_packet = given_packet;
       up = up;
       begun = begins.0;
-      begins = begins.2 ∙ ap (λ (n : ℕ). begun_in (held_in e.core) n (last_assigned_tsn up.gave_up.queue) up.gave_up.waiting) room;
+      begins = begins.2 ∙ ap (λ (n : ℕ). begun_in (may_be_asked e.core e.options.follow_rfc) n (last_assigned_tsn up.gave_up.queue) up.gave_up.waiting) room;
       is = contents_behind e (behind_forwards up) (request_contents begins.0) given_packet packet up.is begins.4
           ∙ ap (packet_for e.options) (filled_behind draft (plain_contents (up.sacks ++ up.forwards)) (request_contents begins.0));
       view = begins.5

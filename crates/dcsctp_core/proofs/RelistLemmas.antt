@@ -1,11 +1,11 @@
 -- Lemmas about the list that is made of what the timers say.
-use Rattle.std.proofs.Common.{◌≡◌, ℕ, suc, ◌+◌, ◌<◌, ◌≤◌, Bool, true, false, Option, None, Some, List, [], ◌∷◌, refl, sym, ap, ◌∙◌, arith}
+use Rattle.std.proofs.Common.{◌≡◌, ℕ, ◌+◌, ◌<◌, ◌≤◌, Bool, true, false, Option, None, Some, List, [], ◌∷◌, refl, sym, ap, ◌∙◌, arith}
 use Rattle.std.specs.Prelude.{if◌then◌else◌}
 use Rattle.std.proofs.lemmas.Bool.Decides.{nat_tests}
 use Rattle.dcsctp_core.specs.declared.deadlines.DeadlineKind.{DeadlineKind}
 use Rattle.dcsctp_core.specs.declared.deadlines.DeadlineKind.TheVariants.{AcknowledgementDelay, Retransmission, HeartbeatInterval, HeartbeatTimeout, Reconfiguration, T1, T2}
 use Rattle.dcsctp_core.specs.declared.deadlines.Entry.{Entry}
-use Rattle.dcsctp_core.specs.Listing.{is_before, is_same_kind, listed, placed, rank, relisted, deadline_by_kind, with_entry, AllBelow, IsAbsent, IsListing, RelistTells, RunningDeadlines}
+use Rattle.dcsctp_core.specs.Listing.{is_before, is_same_kind, listed, placed, rank, deadline_by_kind, with_entry, AllBelow, IsAbsent, IsListing, RelistTells, RunningDeadlines}
 use Rattle.dcsctp_core.proofs.ListingLemmas.{listing-placed, set_tells}
 use Rattle.dcsctp_core.proofs.PlaceLemmas.{absent-without}
 

@@ -1,5 +1,5 @@
 -- An own reset of streams is begun.
-use Rattle.std.proofs.Common.{◌≡◌, ◌≤◌, ◌<◌, ◌+◌, ◌*◌, ◌/◌, ◌%◌, ◌^◌, ◌==◌, ℕ, zero, suc, Bool, true, false, Option, None, Some, List, [], ◌∷◌, ◌++◌, length, map, take, get_or, flat_map, refl, sym, ap, subst, ◌∙◌, arith, Result, Ok, Err, OnOk, not}
+use Rattle.std.proofs.Common.{◌≡◌, ◌≤◌, ◌<◌, ◌+◌, ◌*◌, ◌/◌, ◌%◌, ◌^◌, ◌==◌, ℕ, zero, suc, Bool, true, false, Option, None, Some, List, [], ◌∷◌, ◌++◌, length, map, take, get_or, flat_map, refl, sym, ap, subst, ◌∙◌, arith, Result, Ok, Err, OnOk, not, ◌&&◌}
 use Rattle.std.specs.Int.{w16, to_be_bytes}
 use Rattle.std.proofs.lemmas.List.{append-nil, map-append, take_more}
 use Rattle.std.proofs.lemmas.List.Concat.{flat_map-append}
@@ -29,7 +29,8 @@ use Rattle.dcsctp_core.proofs.LoopLemmas.{held_by_tcb}
 use Rattle.dcsctp_core.specs.View.{request_number, tcb_of, held_of, core_of, phase_in, tie_of, t1_of, t2_of, outstanding_of, reconfiguration_of, transfer_of, endpoint_of, view_of, View}
 use Rattle.dcsctp_transfer.specs.types.declared.association.Pair.{Pair}
 use Rattle.dcsctp_transfer.specs.types.declared.association.Held.{Held}
-use Rattle.dcsctp_transfer.specs.spec.endpoint.Endpoint.{Endpoint, Core, cookie_echoed, open_in, OpenPhase, OutstandingRequest}
+use Rattle.dcsctp_transfer.specs.spec.endpoint.Endpoint.{Endpoint, Core, closed, cookie_wait, cookie_echoed, open_in, OpenPhase, OutstandingRequest, held_in, is_cookie_echoed}
+use Rattle.dcsctp_transfer.specs.spec.endpoint.FlushOutcomes.{may_be_asked}
 use Rattle.dcsctp_transfer.specs.spec.endpoint.Timers.{RunningTimer}
 use Rattle.dcsctp_core.specs.declared.state.State.{State}
 use Rattle.dcsctp_core.specs.declared.state.State.TheVariants.{Closed, CookieWait, CookieEchoed, Open}
@@ -247,22 +248,64 @@ endpoint_begun context begun state queue h =
     (timer_begun begun context.moment (transfer_of s) (reconfiguration_of s)) below queue) h.transfer
     ∙ begun_whole begun context queue
 
+-- By the RFC nobody is asked while the COOKIE ACK is awaited; else the peer may be.
+asked_where : (core : Core) (follows_rfc : Bool) → (follows_rfc && is_cookie_echoed core) ≡ false → held_in core ≡ may_be_asked core follows_rfc
+asked_where closed follows_rfc none = refl
+asked_where (cookie_wait my) follows_rfc none = refl
+asked_where (cookie_echoed my held cookie) true none = absurd (cc)
+asked_where (cookie_echoed my held cookie) false none = refl
+asked_where (open_in phase my held) follows_rfc none = refl
+
+none_asked : (core : Core) (follows_rfc : Bool) → (follows_rfc && is_cookie_echoed core) ≡ true → may_be_asked core follows_rfc ≡ None
+none_asked closed true is = absurd (cc)
+none_asked closed false is = absurd (cc)
+none_asked (cookie_wait my) true is = absurd (cc)
+none_asked (cookie_wait my) false is = absurd (cc)
+none_asked (cookie_echoed my held cookie) true is = refl
+none_asked (cookie_echoed my held cookie) false is = absurd (cc)
+none_asked (open_in phase my held) true is = absurd (cc)
+none_asked (open_in phase my held) false is = absurd (cc)
+
+none_begins : {R : Type 0} (old : Context R) (found : Option Transfer) (packet : Building) → transfer_of old.state ≡ found
+    → may_be_asked (core_of old.state) old.options.follow_rfc ≡ None → FillsResetRequest found (view_of old) packet (view_of old) packet
+none_begins old None packet holds nobody = (refl, refl)
+none_begins old (Some transfer) packet holds nobody = (
+  None,
+  old.send_queue,
+  sym (ap (λ (held : Option Held). begun_in held (bytes_remaining packet) (last_assigned_tsn transfer.retransmission) old.send_queue) nobody),
+  refl,
+  ap (λ (body : List ℕ). record packet { body = body }) (sym (append-nil packet.body)),
+  ap (λ (f : Option Transfer). record (view_of old) { endpoint = record (endpoint_of old) { queues = record { queue = old.send_queue; transfer = f } } }) holds,
+)
+
+pub none_while_awaited : {R : Type 0} (old : Context R) (packet : Building) → (old.options.follow_rfc && is_cookie_echoed (core_of old.state)) ≡ true
+    → FillsResetRequest (transfer_of old.state) (view_of old) packet (view_of old) packet
+none_while_awaited old packet is = none_begins old (transfer_of old.state) packet refl (none_asked (core_of old.state) old.options.follow_rfc is)
+
 begun_below : {R : Type 0} (old : Context R) (found : Option Transfer) (state : State) (queue : SendQueueState) (packet filled : Building) → transfer_of old.state ≡ found
+    → (old.options.follow_rfc && is_cookie_echoed (core_of old.state)) ≡ false
     → BeginsResetInQueues old.moment found old.send_queue old.state packet queue state filled → FillsResetRequest found (view_of old) packet (view_of (record old { state = state; send_queue = queue })) filled
-begun_below old None state queue packet filled holds h =
+begun_below old None state queue packet filled holds may h =
     (ap (λ (s : State). view_of (record old { state = s; send_queue = queue })) h.0 ∙ ap (λ (q : SendQueueState). view_of (record old { send_queue = q })) h.1, h.2)
-begun_below old (Some transfer) state queue packet filled holds h =
+begun_below old (Some transfer) state queue packet filled holds may h =
     let below : Option Transfer → Endpoint = λ found. record (after_begun h.begun (endpoint_of old)) { queues = record { queue = queue; transfer = transfer_where h.begun found } } in
     let is : endpoint_of (record old { state = state; send_queue = queue }) ≡ below (Some transfer) =
-    endpoint_begun old h.begun state queue (stood old.moment h.begun old.state state transfer holds h.begins) ∙ ap below holds in
-    (h.begun, queue, h.is, h.hands_out, h.packet_is, ap (λ (e : Endpoint). record (view_of old) { endpoint = e }) is)
+    endpoint_begun old h.begun state queue (stood old.moment h.begun old.state state transfer holds h.begins) ∙ ap below holds in (
+      h.begun,
+      queue,
+      h.is ∙ ap (λ (held : Option Held). begun_in held (bytes_remaining packet) (last_assigned_tsn transfer.retransmission) old.send_queue) (asked_where (core_of old.state) old.options.follow_rfc may),
+      h.hands_out,
+      h.packet_is,
+      ap (λ (e : Endpoint). record (view_of old) { endpoint = e }) is,
+    )
 
 pub tries_reset : {R : Type 0} (old new : Context R) (state : State) (queue : SendQueueState) (packet filled : Building) (result : Result (Unit {0}) AllocError)
     → view_of new ≡ view_of (record old { state = state; send_queue = queue })
+    → (old.options.follow_rfc && is_cookie_echoed (core_of old.state)) ≡ false
     → OnOk result (BeginsResetInQueues old.moment (transfer_of old.state) old.send_queue old.state packet queue state filled) → TriesReset packet old result new filled
-tries_reset {R = R} old new state queue packet filled (Ok done) same h =
-    subst (λ (v : View R). FillsResetRequest (transfer_of old.state) (view_of old) packet v filled) (sym same) (begun_below old (transfer_of old.state) state queue packet filled refl h)
-tries_reset {R = R} old new state queue packet filled (Err error) same h = ap (λ (v : View R). v.events) same
+tries_reset {R = R} old new state queue packet filled (Ok done) same may h =
+    subst (λ (v : View R). FillsResetRequest (transfer_of old.state) (view_of old) packet v filled) (sym same) (begun_below old (transfer_of old.state) state queue packet filled refl may h)
+tries_reset {R = R} old new state queue packet filled (Err error) same may h = ap (λ (v : View R). v.events) same
 
 -- ---- where the association was lent
 

@@ -14,7 +14,7 @@ use Rattle.dcsctp_transfer.specs.spec.queues.Items.{marked_items, is_first_aband
 use Rattle.dcsctp_transfer.specs.spec.endpoint.Endpoint.{Endpoint, held_in}
 use Rattle.dcsctp_transfer.specs.spec.endpoint.BegunResets.{last_assigned_tsn}
 use Rattle.dcsctp_transfer.specs.spec.endpoint.DataOutcomes.{flush_by, AnswersTo}
-use Rattle.dcsctp_transfer.specs.spec.endpoint.FlushOutcomes.{draft_to, flush_of, packets_allowed, Ask, first_ask, later_ask, room_in, begun_at, Acknowledges, Gives, GivesWhere, IsAnswerOfQueues, nothing_waits, FillsWhere, ForwardsWhere, GivesUpWhere, filled, may_forward, stage_of}
+use Rattle.dcsctp_transfer.specs.spec.endpoint.FlushOutcomes.{may_be_asked, draft_to, flush_of, packets_allowed, Ask, first_ask, later_ask, room_in, begun_at, Acknowledges, Gives, GivesWhere, IsAnswerOfQueues, nothing_waits, FillsWhere, ForwardsWhere, GivesUpWhere, filled, may_forward, stage_of}
 use Rattle.dcsctp_core.specs.declared.context.Context.{Context}
 use Rattle.dcsctp_core.specs.declared.transmission_control_block.TransmissionControlBlock.{TransmissionControlBlock}
 use Rattle.dcsctp_core.specs.View.{View, core_of, tcb_of, transfer_of, held_of, endpoint_of, view_of}
@@ -77,7 +77,7 @@ gives_none ask e draft transfer holds needs =
       gives_up = no_forward (may_forward ask e transfer.retransmission) e.moment e.queues.queue transfer _
           (in_first ask e transfer.retransmission (is_first_abandoned transfer.retransmission.outstanding.items) needs.2) needs.3;
       later = refl;
-      begins = rest_begun ask (held_in e.core) _ (last_assigned_tsn transfer.retransmission) e.queues.queue needs.1;
+      begins = rest_begun ask (may_be_asked e.core e.options.follow_rfc) _ (last_assigned_tsn transfer.retransmission) e.queues.queue needs.1;
       sent = start;
       fills = subst (λ (b : Bool). FillsWhere b e.moment start start) (sym needs.3) (inl refl);
       chunks = tt;

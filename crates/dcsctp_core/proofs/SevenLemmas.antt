@@ -1,10 +1,9 @@
 -- At most seven deadlines are listed, one of each kind.
 use Rattle.std.proofs.Common.{◌≡◌, ℕ, ◌+◌, ◌≤◌, Bool, true, false, List, [], ◌∷◌, length, refl, ap, arith}
-use Rattle.std.proofs.lemmas.Bool.Decides.{nat_tests}
 use Rattle.dcsctp_core.specs.declared.deadlines.DeadlineKind.{DeadlineKind}
 use Rattle.dcsctp_core.specs.declared.deadlines.DeadlineKind.TheVariants.{AcknowledgementDelay, Retransmission, HeartbeatInterval, HeartbeatTimeout, Reconfiguration, T1, T2}
 use Rattle.dcsctp_core.specs.declared.deadlines.Entry.{Entry}
-use Rattle.dcsctp_core.specs.Listing.{is_same_kind, without, IsAbsent, IsEarliestEntry, IsListing}
+use Rattle.dcsctp_core.specs.Listing.{is_same_kind, without, IsAbsent, IsListing}
 use Rattle.dcsctp_core.proofs.ListingLemmas.{listing-without, without-absent, first-absent, same-absent}
 
 abbrev one_if : Bool → ℕ

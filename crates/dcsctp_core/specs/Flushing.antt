@@ -19,7 +19,7 @@ use Rattle.dcsctp_transfer.specs.spec.endpoint.Endpoint.{Endpoint, Timers, heart
 use Rattle.dcsctp_transfer.specs.types.declared.association.Held.{Held}
 use Rattle.dcsctp_transfer.specs.spec.endpoint.Outcome.{packet_counted}
 use Rattle.dcsctp_transfer.specs.spec.endpoint.BegunResets.{BegunReset, last_assigned_tsn, begun_in, request_contents, after_begun, streams_within, queue_requesting, transfer_reset_begun}
-use Rattle.dcsctp_transfer.specs.spec.endpoint.FlushOutcomes.{filling_event, Answer, answer_contents, filled, asked, flush_of, packets_allowed, Ask, first_ask, wants_sack, IsAnswerOfQueues, timers_with, IsFlushAnswer, AreFlushAnswers, is_none, later_ask, draft_to, forward_where}
+use Rattle.dcsctp_transfer.specs.spec.endpoint.FlushOutcomes.{may_be_asked, filling_event, Answer, answer_contents, filled, asked, flush_of, packets_allowed, Ask, first_ask, wants_sack, IsAnswerOfQueues, timers_with, IsFlushAnswer, AreFlushAnswers, is_none, later_ask, draft_to, forward_where}
 use Rattle.dcsctp_transfer.specs.api.Calls.{user_event}
 use Rattle.dcsctp_transfer.specs.Filling.{FillsDataPacket, TellsFilling, FillsRequestedSack, is_sack_wanted}
 use Rattle.dcsctp_transfer.specs.Forwarding.{MakesForwardTsn, TellsAbandoning}
@@ -131,7 +131,7 @@ abbrev pub FillsResetRequest : {R : Type 0} → Option Transfer → View R → B
 FillsResetRequest None old packet new filled = (new ≡ old) × (filled ≡ packet)
 FillsResetRequest (Some transfer) old packet new filled =
     (begun : Option BegunReset) × (left : SendQueueState)
-    × (begun ≡ begun_in (held_in old.endpoint.core) (bytes_remaining packet) (last_assigned_tsn transfer.retransmission) old.endpoint.queues.queue)
+    × (begun ≡ begun_in (may_be_asked old.endpoint.core old.endpoint.options.follow_rfc) (bytes_remaining packet) (last_assigned_tsn transfer.retransmission) old.endpoint.queues.queue)
     × (left ≡ queue_requesting (streams_within (bytes_remaining packet)) begun old.endpoint.queues.queue)
     × (filled ≡ record packet { body = packet.body ++ flat_map chunk_bytes (map chunk_out (request_contents begun)) })
     × (new ≡ record old {

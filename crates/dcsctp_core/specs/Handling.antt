@@ -150,6 +150,10 @@ abbrev pub EmitsToPeer : {R E : Type 0} → ChunkContent → Context R → Resul
 EmitsToPeer chunk old result new =
     ByResult (λ done. view_of new ≡ emitted_to (held_in (core_of old.state)) chunk (view_of old)) (view_of new ≡ view_of old) result
 
+-- A shutdown waits for the association to open.
+abbrev pub asked_turn : {R : Type 0} → View R → Outcome
+asked_turn view = still (record view.endpoint { shutdown_asked = true })
+
 -- ---- a chunk that is answered
 
 abbrev pub answered_to_peer : Endpoint → Option Held → Content → Outcome

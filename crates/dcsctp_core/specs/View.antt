@@ -1,5 +1,5 @@
 -- What a socket's parts are in the machine, and how a turn moves them.
-use Rattle.std.specs.Prelude.{◌≡◌, ℕ, Option, None, Some, List, [], ◌∷◌, ◌++◌, map, take}
+use Rattle.std.specs.Prelude.{◌≡◌, ℕ, Option, None, Some, List, [], ◌++◌, map, take}
 use Rattle.rand_core.specs.Stream.{Stream}
 use Rattle.dcsctp_transfer.specs.types.declared.options.Options.{Options}
 use Rattle.dcsctp_transfer.specs.types.declared.association.Pair.{Pair}
@@ -174,6 +174,7 @@ endpoint_of context =
       heartbeat_counter = context.heartbeat_counter;
       heartbeat_sent = context.heartbeat_sent;
       has_answered = context.has_answered;
+      shutdown_asked = context.shutdown_asked;
       timers = record stopped_timers {
         t1 = t1_of context.state;
         t2 = t2_of context.state;

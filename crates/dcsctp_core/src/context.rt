@@ -79,6 +79,9 @@ pub struct Context<R> {
     // Was a HEARTBEAT, an INIT or a RE-CONFIG of the present packet answered?
     has_answered: bool,
 
+    // Was a shutdown asked for while the COOKIE ACK of this association was awaited? Only with `Options::follow_rfc`.
+    shutdown_asked: bool,
+
     // Our verification tag in the last association that had a peer and has ended.
     last_tag: Option<u32>,
 
@@ -151,6 +154,7 @@ impl<R: Rng> Context<R> {
     ghost use Rattle.dcsctp_transfer.specs.spec.endpoint.Endpoint.{may_answer, secret_with};
     ghost use Rattle.dcsctp_transfer.specs.spec.endpoint.Outcome.{packet_counted};
     ghost use Rattle.dcsctp_transfer.specs.spec.endpoint.EndOutcomes.{left_by};
+    ghost use Rattle.dcsctp_transfer.specs.spec.endpoint.MessageOutcomes.{awaits_opening};
     ghost use Rattle.dcsctp_transfer.specs.types.queues.Messages.{message_content};
     ghost use Rattle.dcsctp_transfer.specs.wire.Content.{chunk_content};
     ghost use Rattle.dcsctp_transfer.specs.wire.Spelling.{chunk_bytes};
@@ -163,9 +167,9 @@ impl<R: Rng> Context<R> {
     ghost use Rattle.dcsctp_transfer.specs.spec.endpoint.Timers.{running_deadline};
     ghost use Rattle.dcsctp_core.specs.Timing.{where_expired, is_timer_due, ExpiresAlways};
     ghost use Rattle.dcsctp_core.specs.Reconfiguring.{request_over};
-    ghost use Rattle.dcsctp_core.specs.View.{Moves, view_of, endpoint_of, outstanding_of, transfer_of, association_dropped, begun_heartbeats, resumed_heartbeats, message_counted, fresh_view, call_start};
+    ghost use Rattle.dcsctp_core.specs.View.{Moves, core_of, view_of, endpoint_of, outstanding_of, transfer_of, association_dropped, begun_heartbeats, resumed_heartbeats, message_counted, fresh_view, call_start};
     ghost use Rattle.dcsctp_core.specs.Drawing.{Draws, KeepsPair};
-    ghost use Rattle.dcsctp_core.specs.Handling.{Tries, Emits, EmitsToPeer, AnswersPeer, answer_counted, arrival_turn, report_turn, close_turn, end_event};
+    ghost use Rattle.dcsctp_core.specs.Handling.{Tries, Emits, EmitsToPeer, AnswersPeer, answer_counted, arrival_turn, asked_turn, report_turn, close_turn, end_event};
 
     /// A closed socket with these options, at moment zero.
     pub fn new(alloc: Global, options: Options, generator: R) -> Context<R>
@@ -200,6 +204,7 @@ impl<R: Rng> Context<R> {
             heartbeat_sent: None,
             renewable: None,
             has_answered: false,
+            shutdown_asked: false,
             last_tag: None,
             secret: 0,
             tx_error_counter: TxErrorCounter::new(options.max_retransmissions),
@@ -609,6 +614,7 @@ impl<R: Rng> Context<R> {
     {
         self.heartbeat_sent = None;
         self.renewable = None;
+        self.shutdown_asked = false;
         self.last_tag = self.state.ended_tag(self.last_tag);
         let ended = std::mem::replace(&mut self.state, State::Closed);
         if !self.options.follow_rfc {
@@ -653,6 +659,24 @@ impl<R: Rng> Context<R> {
     {
         self.rx_packets_count = self.rx_packets_count.saturating_add(1);
         self.has_answered = false;
+    }
+
+    /// Remembers that a shutdown was asked for. It begins once the association is open.
+    pub fn ask_shutdown(&mut self)
+        ensures { Moves R.stream (view_of self.old) (asked_turn (view_of self.old))
+            (view_of self.new) }
+    {
+        self.shutdown_asked = true;
+    }
+
+    /// Does a shutdown wait for the association to open? Allocates nothing.
+    pub fn awaits_opening(&self) -> bool
+        ensures { result ≡ awaits_opening (endpoint_of self.now) (core_of self.now.state) }
+    {
+        match self.state {
+            State::CookieEchoed(_) => self.options.follow_rfc && self.shutdown_asked,
+            State::Closed | State::CookieWait(_) | State::Open(_) => false,
+        }
     }
 
     /// Reports an error. `Err`: an allocation failed, and nothing has changed.

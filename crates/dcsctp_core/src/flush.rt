@@ -1,6 +1,7 @@
 //! A flush: what waits is sent, in as many packets as are allowed (RFC 9260, section 6.1).
 
-ghost use Rattle.std.specs.Prelude.{◌≡◌, ◌||◌, false, Some, IsOk};
+ghost use Rattle.std.specs.Prelude.{◌≡◌, ◌&&◌, ◌||◌, false, Some, IsOk};
+ghost use Rattle.dcsctp_transfer.specs.spec.endpoint.Endpoint.{is_cookie_echoed};
 ghost use Rattle.dcsctp_transfer.specs.spec.queues.SendQueue.{has_queued_data};
 ghost use Rattle.dcsctp_transfer.specs.spec.endpoint.FlushOutcomes.{packets_allowed, first_ask, later_ask, forward_where};
 ghost use Rattle.dcsctp_core.specs.View.{core_of, transfer_of, endpoint_of, view_of};
@@ -150,11 +151,23 @@ impl<R: Rng> Context<R> {
         self.fill_with_data(packet)
     }
 
-    // Begins a reset of streams, if one is ready for it and its request fits into the packet.
+    // May no reset begin now? With `Options::follow_rfc` none does while the COOKIE ACK is awaited (RFC 9260,
+    // section 5.1).
+    fn asks_nobody(&self) -> bool
+        ensures { result
+            ≡ (self.now.options.follow_rfc && is_cookie_echoed (core_of self.now.state)) }
+    {
+        self.options.follow_rfc && self.state.awaits_cookie_ack()
+    }
+
+    // Begins a reset of streams, if one is ready for it, may begin, and its request fits into the packet.
     fn begin_reset(&mut self, packet: &mut SctpPacketBuilder) -> Result<(), AllocError>
         ensures turn { TriesReset packet.old self.old result self.new packet.new }
         ensures idle { HasNoReset self.old.send_queue (transfer_of self.old.state) → IsOk result }
     {
+        if self.asks_nobody() {
+            return Ok(());
+        }
         let Some(tcb) = self.state.tcb_mut() else {
             return Ok(());
         };

@@ -159,7 +159,7 @@ impl State {
     ghost use Rattle.std.specs.Prelude.{◌≡◌, map};
     ghost use Rattle.dcsctp_transfer.specs.types.queues.Messages.{message_content};
     ghost use Rattle.dcsctp_transfer.specs.spec.endpoint.EndOutcomes.{ended_tag};
-    ghost use Rattle.dcsctp_transfer.specs.spec.endpoint.Endpoint.{own_tag, association_of};
+    ghost use Rattle.dcsctp_transfer.specs.spec.endpoint.Endpoint.{own_tag, association_of, is_cookie_echoed};
     ghost use Rattle.dcsctp_transfer.specs.api.Calls.{socket_state_of, is_closed};
     ghost use Rattle.std.specs.Option.{option_map};
     ghost use Rattle.dcsctp_transfer.specs.spec.endpoint.Timers.{running_deadline};
@@ -257,6 +257,16 @@ impl State {
         match self {
             State::Closed => true,
             State::CookieWait(_) | State::CookieEchoed(_) | State::Open(_) => false,
+        }
+    }
+
+    /// Is a COOKIE ACK awaited? Allocates nothing.
+    pub fn awaits_cookie_ack(&self) -> bool
+        ensures { result ≡ is_cookie_echoed (core_of self.now) }
+    {
+        match self {
+            State::CookieEchoed(_) => true,
+            State::Closed | State::CookieWait(_) | State::Open(_) => false,
         }
     }
 

@@ -1,4 +1,5 @@
 pub mod AbortLemmas
+pub mod EchoedLemmas
 pub mod EndLemmas
 pub mod FitLemmas
 pub mod SendingLemmas

@@ -1,5 +1,6 @@
 mod AckSteps
 mod AssociationSteps
+mod ConnectSteps
 mod EchoSteps
 mod FlushSteps
 mod InitAckSteps

@@ -30,7 +30,7 @@ pub(crate) fn refusal<R: Rng>(
     if limit < len {
         return Some(SendError::MessageTooLarge { len, limit });
     }
-    if context.state.is_shutting_down() {
+    if context.state.is_shutting_down() || context.awaits_opening() {
         return Some(SendError::ShuttingDown);
     }
     if has_no_room(context, stream_id) {

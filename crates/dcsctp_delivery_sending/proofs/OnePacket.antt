@@ -2,14 +2,14 @@
 use Rattle.std.proofs.Common.{◌≡◌, ℕ, Bool, true, false, ◌≤◌, ◌+◌, List, [], ◌∷◌, ◌++◌, length, map, take, arith, refl, sym, ◌∙◌, ap, subst, inl, inr}
 use Rattle.std.specs.Prelude.{◌⊎◌, Option, None, Some}
 use Rattle.dcsctp_spec.specs.Packet.{Plain, plain, Content, Emission}
-use Rattle.dcsctp_spec.specs.endpoint.Endpoint.{Endpoint, held_in}
+use Rattle.dcsctp_spec.specs.endpoint.Endpoint.{Endpoint}
 use Rattle.dcsctp_spec.specs.association.Choices.{plain_contents}
 use Rattle.dcsctp_spec.specs.queues.Filling.{Stage}
 use Rattle.dcsctp_spec.specs.queues.OwnResets.{ready_streams}
 use Rattle.dcsctp_spec.specs.queues.SendQueue.{SendQueueState}
 use Rattle.dcsctp_spec.specs.queues.Transfer.{Transfer, EndpointQueues, may_give, is_idle}
 use Rattle.dcsctp_spec.specs.endpoint.BegunResets.{streams_within, request_contents, queue_requesting, retransmission_begun}
-use Rattle.dcsctp_spec.specs.endpoint.FlushOutcomes.{filling_event, Answer, answer_contents, filled, asked, Ask, room_in, GivesUpWhere, may_forward, FillsWhere, Gives, GivesWhere, IsAnswerOfQueues, IsFlushAnswer, stage_of, nothing_waits}
+use Rattle.dcsctp_spec.specs.endpoint.FlushOutcomes.{may_be_asked, filling_event, Answer, answer_contents, filled, asked, Ask, room_in, GivesUpWhere, may_forward, FillsWhere, Gives, GivesWhere, IsAnswerOfQueues, IsFlushAnswer, stage_of, nothing_waits}
 use Rattle.dcsctp_delivery_sending.specs.Log.{Message, Slot, History, log_extended, with_mark, Cut}
 use Rattle.dcsctp_delivery_sending.specs.Stages.{Bears, Stands, Stays}
 use Rattle.dcsctp_delivery_sending.specs.Flushes.{NamedBy, AreHandedFor, SayAll, InFlight, PendsWhere, QueuesFollowLog, SendsLogged}
@@ -97,7 +97,7 @@ module _ (queued : List Message) (history : History) (first acknowledged : ℕ) 
       (requesting_hold queued (gave.more ++ history.log) (streams_within room) answer.begun gives.gave_up.waiting gave.stands.queue_holds) gave.stands.cut
       (bears_marked (log_extended gave.more history) first acknowledged answer.begun ids gives.gave_up.queue gave.stands.bears)
       (pends_marked (log_extended gave.more history) answer.begun ids gives.gave_up.queue gave.stands.pends)
-      (marks_marked ask (held_in e.core) room (log_extended gave.more history) first acknowledged answer.begun gives.gave_up.waiting gives.gave_up.queue
+      (marks_marked ask (may_be_asked e.core e.options.follow_rfc) room (log_extended gave.more history) first acknowledged answer.begun gives.gave_up.waiting gives.gave_up.queue
       gave.stands.bears gives.begins gave.stands.marks)
       (requesting_numbered (log_extended gave.more history) (streams_within room) answer.begun gives.gave_up.waiting gave.stands.numbers)
       (begun_kind answer.begun gives.gave_up.queue ∙ gave.stands.kind ∙ sym (requesting_kind (streams_within room) answer.begun gives.gave_up.waiting))

@@ -13,8 +13,8 @@ use Rattle.dcsctp_spec.specs.queues.OwnResets.{is_ready, queue_committed, queue_
 use Rattle.dcsctp_spec.specs.queues.SendQueue.{SendQueueState, stream_changed, with_stream, is_used, used, with_threshold, with_priority, queued as waiting_as}
 use Rattle.dcsctp_spec.specs.queues.Transfer.{Transfer, EndpointQueues, is_idle}
 use Rattle.dcsctp_spec.specs.endpoint.BegunResets.{BegunReset, begun_where, begun_in, stream_field, streams_within, last_assigned_tsn}
-use Rattle.dcsctp_spec.specs.endpoint.Endpoint.{Endpoint, held_in}
-use Rattle.dcsctp_spec.specs.endpoint.FlushOutcomes.{Ask, first_ask, later_ask, begun_at, room_in, filling_event, Answer, answer_contents, filled, asked, next_draft, flush_of, GivesWhere, IsAnswerOfQueues, IsFlushAnswer, AreFlushAnswers, at_limit, at_empty, after_packet}
+use Rattle.dcsctp_spec.specs.endpoint.Endpoint.{Endpoint}
+use Rattle.dcsctp_spec.specs.endpoint.FlushOutcomes.{may_be_asked, Ask, first_ask, later_ask, begun_at, room_in, filling_event, Answer, answer_contents, filled, asked, next_draft, flush_of, GivesWhere, IsAnswerOfQueues, IsFlushAnswer, AreFlushAnswers, at_limit, at_empty, after_packet}
 use Rattle.dcsctp_spec.specs.endpoint.MessageOutcomes.{Sending, sending_queued}
 use Rattle.dcsctp_spec.specs.endpoint.SettingOutcomes.{set_in_queue}
 use Rattle.dcsctp_delivery_sending.specs.Flushes.{reset_begun_by}
@@ -123,7 +123,7 @@ given_open true ask e draft transfer answer gives are =
 given_open false ask e draft transfer answer gives are =
     let room : ℕ = room_in e (filled draft (plain_contents answer.acknowledgements)) in
     let before : AreOpen gives.gave_up.waiting.streams = before_request OpenStay open_follow ask e draft transfer answer gives are in
-    let none : answer.begun ≡ None = gives.begins ∙ asks_none ask (held_in e.core) room (last_assigned_tsn gives.gave_up.queue) gives.gave_up.waiting before in
+    let none : answer.begun ≡ None = gives.begins ∙ asks_none ask (may_be_asked e.core e.options.follow_rfc) room (last_assigned_tsn gives.gave_up.queue) gives.gave_up.waiting before in
     record {
       unpaused = subst (λ (b : EndpointQueues). AreOpen b.queue.streams) (sym gives.below)
           (after_request OpenStay open_follow ask e draft transfer answer gives

@@ -1,5 +1,5 @@
 -- At most one association begins in an act of an honest run, and it is there when the act is over.
-use Rattle.std.proofs.Common.{◌≡◌, ℕ, List, [], ◌∷◌, ◌++◌, refl, sym, ap, ◌∙◌, subst, inl}
+use Rattle.std.proofs.Common.{false, true, Bool, ◌≡◌, ℕ, List, [], ◌∷◌, ◌++◌, refl, sym, ap, ◌∙◌, subst, inl}
 use Rattle.std.specs.Prelude.{Option, None, Some}
 use Rattle.std.specs.List.{AllByRecursion}
 use Rattle.dcsctp_spec_lemmas.specs.wire.Content.{PacketContent}
@@ -7,7 +7,8 @@ use Rattle.dcsctp_spec_lemmas.specs.wire.Format.{IsPacket}
 use Rattle.dcsctp_spec_lemmas.specs.types.declared.capabilities.Capabilities.{Capabilities}
 use Rattle.dcsctp_spec_lemmas.specs.types.declared.options.Options.{Options}
 use Rattle.dcsctp_spec_lemmas.specs.spec.Admission.{Admission, all_chunks, shutdown_acks_alone, refused, admits, shutdown_acks_in}
-use Rattle.dcsctp_spec_lemmas.specs.spec.endpoint.CallTurns.{Transition, Turns, AlongTurns, AfterChunk, ChunkTurns, AdmittedTurns, HandleInput, unreadable, readable, after_all, effects_of, events_of}
+use Rattle.dcsctp_spec_lemmas.specs.spec.endpoint.MessageOutcomes.{awaits_opening}
+use Rattle.dcsctp_spec_lemmas.specs.spec.endpoint.CallTurns.{asked_again, Transition, Turns, AlongTurns, AfterChunk, ChunkTurns, AdmittedTurns, HandleInput, unreadable, readable, after_all, effects_of, events_of}
 use Rattle.dcsctp_spec_lemmas.specs.spec.endpoint.Endpoint.{Endpoint}
 use Rattle.dcsctp_spec_lemmas.specs.spec.endpoint.Following.{Following, next_chunk, packet_end, dropped_rest}
 use Rattle.dcsctp_spec_laws.specs.TurnLaws.{ChunksAreControlled}
@@ -19,7 +20,7 @@ use Rattle.dcsctp_spec_lemmas.specs.types.Schedule.{CallContent, set_call, reset
 use Rattle.dcsctp_spec_lemmas.specs.types.Settings.{SameOptions, wire_options}
 use Rattle.dcsctp_spec_lemmas.specs.spec.endpoint.UserTurns.{UserTurns}
 use Rattle.dcsctp_spec_lemmas.specs.spec.endpoint.Turn.{Input, arrival, refusal, chunk_input, packet_ends, has_data_chunk, unreadable_text}
-use Rattle.dcsctp_spec_lemmas.specs.spec.association.Effect.{AssociationIdentity, Effect, holds, identity_of, identity_in}
+use Rattle.dcsctp_spec_lemmas.specs.spec.association.Effect.{AssociationIdentity, Effect, holds, identity_in}
 use Rattle.dcsctp_spec_laws.proofs.TurnLemmas.{same_after}
 use Rattle.dcsctp_theorem_sockets.proofs.NewAssociations.{FirstAlone}
 use Rattle.dcsctp_theorem_sockets.proofs.NoHolding.{HoldsNone, none-append}
@@ -95,6 +96,10 @@ acks_calm tag [] = tt
 acks_calm tag (shutdown_ack ∷ contents) = (tt, acks_calm tag contents)
 acks_calm tag (content ∷ contents) = acks_calm tag contents
 
+tail_is_calm : (asks : Bool) → AllByRecursion IsCalm (packet_ends ∷ asked_again asks)
+tail_is_calm true = (tt, (tt, tt))
+tail_is_calm false = (tt, tt)
+
 -- ---- a packet
 
 -- The chunks of a packet that the other socket sent to one with this offer.
@@ -126,29 +131,29 @@ module _ (law : ChunksAreControlled) (kinds : Capabilities) where
   front_notes came e t rest good (link_ends is) none stays =
       notes_none (none-append t.outcome.effects (effects_of rest) (none_among t.outcome.effects (λ link has. (let both : None ≡ Some link = sym is ∙ good.held link has in absurd (cc)))) none)
 
-  -- The first chunk, the others, and the end of the packet.
-  front_act : (e : Endpoint) (tag : ℕ) (content : Content) (contents : List Content) (t : Transition) (rest : List Transition) → FrontKinds kinds (offer_of e.options) content → AllMayFollow contents → AllAllowed kinds contents
-      → EndpointIs kinds e → OpensFitting t → Known e t → AlongTurns Known t.outcome.after rest → ChunkTurns e tag (content ∷ contents) (packet_ends ∷ []) (t ∷ rest) → ActIs kinds e (t ∷ rest)
-  front_act e tag content contents t rest front may allowed h fits here known taken =
+  -- The first chunk, the others, and what comes after them.
+  front_act : (asks : Bool) (e : Endpoint) (tag : ℕ) (content : Content) (contents : List Content) (t : Transition) (rest : List Transition) → FrontKinds kinds (offer_of e.options) content → AllMayFollow contents → AllAllowed kinds contents
+      → EndpointIs kinds e → OpensFitting t → Known e t → AlongTurns Known t.outcome.after rest → ChunkTurns e tag (content ∷ contents) (packet_ends ∷ asked_again asks) (t ∷ rest) → ActIs kinds e (t ∷ rest)
+  front_act asks e tag content contents t rest front may allowed h fits here known taken =
       let so : TurnIs kinds e (Some content) t.outcome = turn_is kinds e (chunk_input tag content) t.outcome h tt (begins_so kinds law e tag content t.outcome front (λ opening. fits (subst (λ (i : Input). IsOpening (came_by i)) (sym taken.0.is) opening)) taken.0.comes) taken.0.comes in
       let calm : AreCalm rest =
-      tail_calm t.outcome.following t.outcome.after (packet_ends ∷ []) rest (ChunkTurns t.outcome.after tag contents (packet_ends ∷ []) rest) (tt, tt)
-      (λ others. chunks_calm t.outcome.after tag contents (packet_ends ∷ []) rest (all_calm tag contents may) (tt, tt) others) taken.1 in
+      tail_calm t.outcome.following t.outcome.after (packet_ends ∷ asked_again asks) rest (ChunkTurns t.outcome.after tag contents (packet_ends ∷ asked_again asks) rest) (tail_is_calm asks)
+      (λ others. chunks_calm t.outcome.after tag contents (packet_ends ∷ asked_again asks) rest (all_calm tag contents may) (tail_is_calm asks) others) taken.1 in
       let left : Calm kinds t.outcome.after rest = calm_turns kinds rest t.outcome.after calm known so.after in
       let stays : identity_in (after_all t.outcome.after rest).core ≡ identity_in t.outcome.after.core =
-      after_link kinds law t.outcome.following t.outcome.after rest (ChunkTurns t.outcome.after tag contents (packet_ends ∷ []) rest) so.after
-      (λ others. rest_link kinds law t.outcome.after tag contents rest may allowed so.after others) taken.1 in
+      after_link kinds law asks t.outcome.following t.outcome.after rest (ChunkTurns t.outcome.after tag contents (packet_ends ∷ asked_again asks) rest) so.after
+      (λ others. rest_link kinds law asks t.outcome.after tag contents rest may allowed so.after others) taken.1 in
       record {
         notes = front_notes (Some content) e t rest here.1 so.moves left.none stays;
         is = left.is;
         says = events_both kinds t.outcome.events (events_of rest) so.says left.says;
       }
 
-  whole_act : (e : Endpoint) (tag : ℕ) (contents : List Content) (turns : List Transition) → ContentsAre kinds (offer_of e.options) contents → ContentsAllowed kinds contents → EndpointIs kinds e → AllOpenFitting turns → AlongTurns Known e turns
-      → ChunkTurns e tag contents (packet_ends ∷ []) turns → ActIs kinds e turns
-  whole_act e tag [] turns are allowed h fit known taken = calm_act e turns (of_turns IsCalm e (packet_ends ∷ []) turns (tt, tt) taken) known h
-  whole_act e tag (content ∷ contents) [] are allowed h fit known taken = absurd taken
-  whole_act e tag (content ∷ contents) (t ∷ turns) are allowed h fit known taken = front_act e tag content contents t turns are.0 are.1 allowed h fit.0 known.0 known.1 taken
+  whole_act : (asks : Bool) (e : Endpoint) (tag : ℕ) (contents : List Content) (turns : List Transition) → ContentsAre kinds (offer_of e.options) contents → ContentsAllowed kinds contents → EndpointIs kinds e → AllOpenFitting turns → AlongTurns Known e turns
+      → ChunkTurns e tag contents (packet_ends ∷ asked_again asks) turns → ActIs kinds e turns
+  whole_act asks e tag [] turns are allowed h fit known taken = calm_act e turns (of_turns IsCalm e (packet_ends ∷ asked_again asks) turns (tail_is_calm asks) taken) known h
+  whole_act asks e tag (content ∷ contents) [] are allowed h fit known taken = absurd taken
+  whole_act asks e tag (content ∷ contents) (t ∷ turns) are allowed h fit known taken = front_act asks e tag content contents t turns are.0 are.1 allowed h fit.0 known.0 known.1 taken
 
   same_offer : (mine own : Options) → SameOptions mine own → offer_of own ≡ offer_of mine
   same_offer mine own same = ap offer_of same
@@ -161,7 +166,7 @@ module _ (law : ChunksAreControlled) (kinds : Capabilities) where
   admitted_act mine e packet all_chunks [] own are allowed h fit known taken = absurd taken
   admitted_act mine e packet all_chunks (t ∷ turns) own are allowed h fit known taken =
       one_then kinds e t turns (subst IsCalm (sym taken.0.is) tt, tt) known.0 h (ap identity_in (begin_core e e.core (has_data_chunk e.options.follow_rfc packet.contents) t.outcome taken.0.comes))
-      (λ is. whole_act t.outcome.after packet.tag packet.contents turns
+      (λ is. whole_act (awaits_opening t.outcome.after t.outcome.after.core) t.outcome.after packet.tag packet.contents turns
       (contents_of mine t.outcome.after.options packet.contents (same_after mine e.options t.outcome.after.options own known.0.1.options) are) allowed is fit.1 known.1 taken.1)
   admitted_act mine e packet shutdown_acks_alone turns own are allowed h fit known taken =
       calm_act e turns (chunks_calm e packet.tag (shutdown_acks_in packet.contents) [] turns (acks_calm packet.tag packet.contents) tt taken) known h

@@ -7,15 +7,18 @@ use Rattle.dcsctp_spec_lemmas.specs.types.declared.capabilities.Capabilities.{Ca
 use Rattle.dcsctp_spec_lemmas.specs.types.declared.ends.Violation.{Violation}
 use Rattle.dcsctp_spec_lemmas.specs.spec.endpoint.Cause.{Cause, has_stale_cookie}
 use Rattle.dcsctp_spec_lemmas.specs.spec.association.Controlled.{IsControlled, ControlledChunk}
-use Rattle.dcsctp_spec_lemmas.specs.spec.endpoint.CallTurns.{Transition, IsTurn, Turns, AfterChunk, ChunkTurns, after_all}
-use Rattle.dcsctp_spec_lemmas.specs.spec.endpoint.Endpoint.{Endpoint, Core, closed, cookie_wait, cookie_echoed, open_in, shutdown_pending, shutdown_received}
+use Rattle.dcsctp_spec_lemmas.specs.spec.endpoint.ShutdownOutcomes.{phase_at, may_go_on, step_by, t1_stopped, shut_down_echoed, shut_down_outcome}
+use Rattle.dcsctp_spec_lemmas.specs.types.declared.association.Pair.{Pair}
+use Rattle.dcsctp_spec_lemmas.specs.types.declared.association.Held.{Held}
+use Rattle.dcsctp_spec_lemmas.specs.spec.endpoint.CallTurns.{asked_again, Transition, IsTurn, Turns, AfterChunk, ChunkTurns, after_all}
+use Rattle.dcsctp_spec_lemmas.specs.spec.endpoint.Endpoint.{shutdown_ack_sent, shutdown_sent, established, OpenPhase, Endpoint, Core, closed, cookie_wait, cookie_echoed, open_in, shutdown_pending, shutdown_received}
 use Rattle.dcsctp_spec_lemmas.specs.spec.endpoint.Following.{Following, next_chunk, packet_end, dropped_rest}
 use Rattle.dcsctp_spec_laws.specs.TurnLaws.{ChunksAreControlled}
 use Rattle.dcsctp_spec_lemmas.specs.spec.endpoint.Outcome.{Outcome, still, answers_with, to_peer}
 use Rattle.dcsctp_spec_lemmas.specs.spec.Packet.{Plain, unknown, heartbeat, heartbeat_ack, unworked, Content, init, init_ack, cookie_echo, cookie_ack, re_config, abort, shutdown, shutdown_ack, shutdown_complete, plain, Emission}
 use Rattle.dcsctp_spec_lemmas.specs.spec.Reconfiguration.{ResetParameter}
-use Rattle.dcsctp_spec_lemmas.specs.spec.endpoint.Turn.{chunk_input, packet_ends, ContentTurn}
-use Rattle.dcsctp_spec_lemmas.specs.spec.association.Acts.{flush_change, plain_change}
+use Rattle.dcsctp_spec_lemmas.specs.spec.endpoint.Turn.{act_input, chunk_input, packet_ends, ContentTurn}
+use Rattle.dcsctp_spec_lemmas.specs.spec.association.Acts.{shut_down, flush_change, plain_change}
 use Rattle.dcsctp_spec_lemmas.specs.spec.association.Choices.{Choices}
 use Rattle.dcsctp_spec_lemmas.specs.spec.association.Effect.{identity_in}
 use Rattle.dcsctp_spec_lemmas.specs.spec.association.ResetChanges.{re_config_change}
@@ -84,6 +87,30 @@ by_plain e o choices h held = subst IsHeldIn (sym h.core) (stepped_held e.core c
 
 stepped_at : (e : Endpoint) (o : Outcome) → SteppedAt e e.core o → IsHeldIn e.core → IsHeldIn o.after.core
 stepped_at e o h held = by_plain e o _ h.4 held
+
+-- ---- a shutdown that the user asks for
+
+from_held : (b : Bool) (e : Endpoint) (phase : OpenPhase) (my : Pair) (of_peer : Held) → IsHeldIn (step_by b (phase_at e phase my of_peer) phase my of_peer).after.core
+from_held false e phase my of_peer = tt
+from_held true e established my of_peer = tt
+from_held true e shutdown_pending my of_peer = tt
+from_held true e shutdown_sent my of_peer = tt
+from_held true e shutdown_received my of_peer = tt
+from_held true e shutdown_ack_sent my of_peer = tt
+
+echoed_held : (follows : Bool) (e : Endpoint) (my : Pair) (of_peer : Held) → IsHeldIn e.core → IsHeldIn (shut_down_echoed follows e my of_peer).after.core
+echoed_held true e my of_peer held = held
+echoed_held false e my of_peer held = from_held (may_go_on (t1_stopped e)) (t1_stopped e) shutdown_pending my of_peer
+
+shut_down_held : (e : Endpoint) (core : Core) → e.core ≡ core → IsHeldIn e.core → IsHeldIn (shut_down_outcome e core).after.core
+shut_down_held e closed at held = held
+shut_down_held e (cookie_wait my) at held = absurd (subst IsHeldIn at held)
+shut_down_held e (cookie_echoed my of_peer cookie) at held = echoed_held e.options.follow_rfc e my of_peer held
+shut_down_held e (open_in established my of_peer) at held = from_held (may_go_on e) e shutdown_pending my of_peer
+shut_down_held e (open_in shutdown_pending my of_peer) at held = held
+shut_down_held e (open_in shutdown_sent my of_peer) at held = held
+shut_down_held e (open_in shutdown_received my of_peer) at held = held
+shut_down_held e (open_in shutdown_ack_sent my of_peer) at held = held
 
 -- ---- chunks that leave it alone
 
@@ -195,23 +222,35 @@ module _ (kinds : Capabilities) where
         let so : TurnIs kinds e None t.outcome = turn_is kinds e packet_ends t.outcome h tt (λ opened. absurd opened.opening) turn.comes in
         record { linked = link_kept None e t.outcome (λ opening. opening) (flushed_at e t.outcome (end_at e e.queues.transfer t.outcome turn.comes)) so.moves; is = so.after }
 
-    end_link : (e : Endpoint) (turns : List Transition) → EndpointIs kinds e → Turns e (packet_ends ∷ []) turns → identity_in (after_all e turns).core ≡ identity_in e.core
-    end_link e [] h taken = absurd taken
-    end_link e (t ∷ []) h taken = (end_left e t h taken.0).linked
-    end_link e (t ∷ u ∷ turns) h taken = absurd taken.1
+    asked_left : (e : Endpoint) (t : Transition) → EndpointIs kinds e → IsTurn e (act_input shut_down) t → identity_in t.outcome.after.core ≡ identity_in e.core
+    asked_left e t h turn =
+        let so : TurnIs kinds e None t.outcome = turn_is kinds e (act_input shut_down) t.outcome h tt (λ opened. absurd opened.opening) turn.comes in
+        link_kept None e t.outcome (λ opening. opening)
+        (λ held. subst (λ (x : Outcome). IsHeldIn x.after.core) (sym turn.comes) (shut_down_held e e.core refl held)) so.moves
 
-    pub after_link : (following : Following) (e : Endpoint) (turns : List Transition) (Others : Type 0) → EndpointIs kinds e → (Others → identity_in (after_all e turns).core ≡ identity_in e.core)
-        → AfterChunk following Others (Turns e (packet_ends ∷ []) turns) (turns ≡ []) → identity_in (after_all e turns).core ≡ identity_in e.core
-    after_link next_chunk e turns Others h others rest = others rest
-    after_link packet_end e turns Others h others rest = end_link e turns h rest
-    after_link dropped_rest e turns Others h others rest = ap (λ (ts : List Transition). identity_in (after_all e ts).core) rest
+    -- what comes after the chunks of a packet
+    end_link : (asks : Bool) (e : Endpoint) (turns : List Transition) → EndpointIs kinds e → Turns e (packet_ends ∷ asked_again asks) turns → identity_in (after_all e turns).core ≡ identity_in e.core
+    end_link asks e [] h taken = absurd taken
+    end_link false e (t ∷ []) h taken = (end_left e t h taken.0).linked
+    end_link false e (t ∷ u ∷ turns) h taken = absurd taken.1
+    end_link true e (t ∷ []) h taken = absurd taken.1
+    end_link true e (t ∷ u ∷ []) h taken =
+        let left : Left e t = end_left e t h taken.0 in
+        asked_left t.outcome.after u left.is taken.1.0 ∙ left.linked
+    end_link true e (t ∷ u ∷ v ∷ turns) h taken = absurd taken.1.1
 
-    -- The chunks after the first, and the end of the packet.
-    pub rest_link : (e : Endpoint) (tag : ℕ) (contents : List Content) (turns : List Transition) → AllMayFollow contents → AllAllowed kinds contents → EndpointIs kinds e → ChunkTurns e tag contents (packet_ends ∷ []) turns
-        → identity_in (after_all e turns).core ≡ identity_in e.core
-    rest_link e tag [] turns may allowed h taken = end_link e turns h taken
-    rest_link e tag (content ∷ contents) [] may allowed h taken = absurd taken
-    rest_link e tag (content ∷ contents) (t ∷ turns) may allowed h taken =
+    pub after_link : (asks : Bool) (following : Following) (e : Endpoint) (turns : List Transition) (Others : Type 0) → EndpointIs kinds e → (Others → identity_in (after_all e turns).core ≡ identity_in e.core)
+        → AfterChunk following Others (Turns e (packet_ends ∷ asked_again asks) turns) (turns ≡ []) → identity_in (after_all e turns).core ≡ identity_in e.core
+    after_link asks next_chunk e turns Others h others rest = others rest
+    after_link asks packet_end e turns Others h others rest = end_link asks e turns h rest
+    after_link asks dropped_rest e turns Others h others rest = ap (λ (ts : List Transition). identity_in (after_all e ts).core) rest
+
+    -- The chunks after the first, and what comes after them.
+    pub rest_link : (asks : Bool) (e : Endpoint) (tag : ℕ) (contents : List Content) (turns : List Transition) → AllMayFollow contents → AllAllowed kinds contents → EndpointIs kinds e
+        → ChunkTurns e tag contents (packet_ends ∷ asked_again asks) turns → identity_in (after_all e turns).core ≡ identity_in e.core
+    rest_link asks e tag [] turns may allowed h taken = end_link asks e turns h taken
+    rest_link asks e tag (content ∷ contents) [] may allowed h taken = absurd taken
+    rest_link asks e tag (content ∷ contents) (t ∷ turns) may allowed h taken =
         let left : Left e t = follows_left e tag content t may.0 allowed.0 h taken.0 in
-        after_link t.outcome.following t.outcome.after turns (ChunkTurns t.outcome.after tag contents (packet_ends ∷ []) turns) left.is
-        (λ others. rest_link t.outcome.after tag contents turns may.1 allowed.1 left.is others) taken.1 ∙ left.linked
+        after_link asks t.outcome.following t.outcome.after turns (ChunkTurns t.outcome.after tag contents (packet_ends ∷ asked_again asks) turns) left.is
+        (λ others. rest_link asks t.outcome.after tag contents turns may.1 allowed.1 left.is others) taken.1 ∙ left.linked

@@ -14,11 +14,11 @@ use Rattle.dcsctp_spec_lemmas.specs.spec.association.Acts.{connect, t1_expires, 
 use Rattle.dcsctp_spec_lemmas.specs.spec.association.Acts as acts
 use Rattle.dcsctp_spec_lemmas.specs.types.queues.Messages.{MessageContent}
 use Rattle.dcsctp_spec_lemmas.specs.spec.endpoint.HeartbeatOutcomes.{is_exhausted}
-use Rattle.dcsctp_spec_lemmas.specs.spec.endpoint.MessageOutcomes.{sending_of}
+use Rattle.dcsctp_spec_lemmas.specs.spec.endpoint.MessageOutcomes.{awaits_opening, sending_of}
 use Rattle.dcsctp_spec_lemmas.specs.spec.endpoint.OwnTimers.{OwnTimer}
 use Rattle.dcsctp_spec_lemmas.specs.spec.endpoint.Turn.{Input, arrival, refusal, packet_begins, chunk_input, packet_ends, act_input, user_sets, user_sends, user_resets, user_takes, timer_expires, time_passes, unreadable_text}
 use Rattle.dcsctp_spec_lemmas.specs.spec.endpoint.TimeTurns.{Timer, t1_timer, own_timer, t2_timer, timers_in, deadline, has_come, has_restart, t2_input, expiry_input, inputs_behind, after_expiries, ExpiryThen, ExpiryTurns, MomentTurns, TimeTurns}
-use Rattle.dcsctp_spec_lemmas.specs.spec.endpoint.CallTurns.{Transition, IsTurn, Turns, AfterChunk, ChunkTurns, AdmittedTurns, HandleInput, unreadable, readable}
+use Rattle.dcsctp_spec_lemmas.specs.spec.endpoint.CallTurns.{packet_tail, asked_again, Transition, IsTurn, Turns, AfterChunk, ChunkTurns, AdmittedTurns, HandleInput, unreadable, readable}
 use Rattle.dcsctp_spec_lemmas.specs.spec.Handover.{readiness_of}
 use Rattle.dcsctp_spec_lemmas.specs.spec.HandoverInputs.{inputs_of_handover}
 use Rattle.dcsctp_spec_lemmas.specs.spec.endpoint.UserTurns.{UserTurns}
@@ -231,10 +231,14 @@ chunks_are e tag (content ∷ contents) tail (t ∷ turns) are taken = (
   rest_is t.outcome.following t.outcome.after tail turns (ChunkTurns t.outcome.after tag contents tail turns) are (λ more. chunks_are t.outcome.after tag contents tail turns are more) taken.1,
 )
 
+tail_is : (asks : Bool) → AllByRecursion IsCall (packet_ends ∷ asked_again asks)
+tail_is true = (tt, (tt, tt))
+tail_is false = (tt, tt)
+
 admitted_are : (e : Endpoint) (packet : Packet) (admission : Admission) (turns : List Transition) → AdmittedTurns e packet admission turns → AreCalls turns
 admitted_are e packet all_chunks [] taken = absurd taken
 admitted_are e packet all_chunks (t ∷ turns) taken =
-    (of_input IsCall e (packet_begins packet.contents) t taken.0 tt, chunks_are t.outcome.after packet.tag packet.contents (packet_ends ∷ []) turns (tt, tt) taken.1)
+    (of_input IsCall e (packet_begins packet.contents) t taken.0 tt, chunks_are t.outcome.after packet.tag packet.contents (packet_tail t.outcome.after) turns (tail_is (awaits_opening t.outcome.after t.outcome.after.core)) taken.1)
 admitted_are e packet shutdown_acks_alone turns taken = chunks_are e packet.tag (shutdown_acks_in packet.contents) [] turns tt taken
 admitted_are e packet (refused text) turns taken = of_turns IsCall e (refusal text ∷ []) turns (tt, tt) taken
 

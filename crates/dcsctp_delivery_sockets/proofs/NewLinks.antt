@@ -8,7 +8,8 @@ use Rattle.dcsctp_spec_lemmas.specs.types.declared.association.Pair.{Pair}
 use Rattle.dcsctp_spec_lemmas.specs.types.declared.options.Options.{Options}
 use Rattle.dcsctp_spec_lemmas.specs.types.Settings.{wire_options}
 use Rattle.dcsctp_spec_lemmas.specs.spec.Admission.{Admission, all_chunks, shutdown_acks_alone, refused, admits, shutdown_acks_in}
-use Rattle.dcsctp_spec_lemmas.specs.spec.endpoint.CallTurns.{Transition, IsTurn, Turns, AlongTurns, AdmittedTurns, HandleInput, unreadable, readable, effects_of}
+use Rattle.dcsctp_spec_lemmas.specs.spec.endpoint.MessageOutcomes.{awaits_opening}
+use Rattle.dcsctp_spec_lemmas.specs.spec.endpoint.CallTurns.{packet_tail, Transition, IsTurn, Turns, AlongTurns, AdmittedTurns, HandleInput, unreadable, readable, effects_of}
 use Rattle.dcsctp_spec_lemmas.specs.spec.endpoint.Endpoint.{Endpoint, Core, closed, cookie_wait, cookie_echoed, open_in, established, shutdown_pending, shutdown_sent, shutdown_received, shutdown_ack_sent}
 use Rattle.dcsctp_spec_runs.specs.Fitting.{FitsCore, FitsEndpoint, SendablePacket, IsSendable}
 use Rattle.dcsctp_spec_lemmas.specs.spec.CookieFits.{FitsPair}
@@ -19,9 +20,9 @@ use Rattle.dcsctp_spec_lemmas.specs.spec.Packet.{Packet, packet_in, Emission}
 use Rattle.dcsctp_spec_runs.specs.Past.{WasPerformed, HasEffect, Each}
 use Rattle.dcsctp_spec_lemmas.specs.spec.endpoint.Turn.{Input, arrival, refusal, packet_begins, chunk_input, packet_ends, act_input, user_sets, user_sends, user_resets, user_takes, timer_expires, time_passes, restores, has_data_chunk, BeginTurn, unreadable_text}
 use Rattle.dcsctp_spec_runs.specs.World.{after_effects}
-use Rattle.dcsctp_spec_lemmas.specs.spec.association.Effect.{AssociationIdentity, Effect, holds, completes, performs, identity_of, identity_in}
+use Rattle.dcsctp_spec_lemmas.specs.spec.association.Effect.{AssociationIdentity, Effect, holds, completes, identity_of, identity_in}
 use Rattle.dcsctp_theorem_association.proofs.Growth.{after_effects-append, after_within}
-use Rattle.dcsctp_theorem_sockets.proofs.Deliver.{Fits, chunk_turns_fit, packet_end_fits, nothing_ends, acks_sendable}
+use Rattle.dcsctp_theorem_sockets.proofs.Deliver.{tail_fits, Fits, chunk_turns_fit, nothing_ends, acks_sendable}
 use Rattle.dcsctp_theorem_sockets.proofs.Signs.{among_after}
 use Rattle.dcsctp_delivery_turns.specs.Actions.{came_by, IsOpening, Begun}
 use Rattle.dcsctp_delivery_associations.specs.Answered.{request_number_at}
@@ -90,8 +91,8 @@ admitted_open : OfferReadsBack → (e : Endpoint) (packet : Packet) (admission :
 admitted_open law e packet all_chunks [] h good taken = absurd taken
 admitted_open law e packet all_chunks (t ∷ turns) h good taken = (
   input_opens e (packet_begins packet.contents) t tt taken.0,
-  fit_open turns (chunk_turns_fit law t.outcome.after packet.tag packet.contents (packet_ends ∷ []) turns taken.1
-      (begun_fits e e.core (has_data_chunk e.options.follow_rfc packet.contents) t.outcome h taken.0.comes) good.tag good.contents packet_end_fits).turns_fit,
+  fit_open turns (chunk_turns_fit law t.outcome.after packet.tag packet.contents (packet_tail t.outcome.after) turns taken.1
+      (begun_fits e e.core (has_data_chunk e.options.follow_rfc packet.contents) t.outcome h taken.0.comes) good.tag good.contents (tail_fits (awaits_opening t.outcome.after t.outcome.after.core))).turns_fit,
 )
 admitted_open law e packet shutdown_acks_alone turns h good taken =
     fit_open turns (chunk_turns_fit law e packet.tag (shutdown_acks_in packet.contents) [] turns taken h good.tag (acks_sendable packet.contents good.contents) nothing_ends).turns_fit

@@ -3,12 +3,14 @@ use Rattle.std.proofs.Common.{◌≡◌, ℕ, Bool, true, false, ◌<◌, ◌^�
 use Rattle.std.specs.Prelude.{◌⊎◌}
 use Rattle.dcsctp_spec_lemmas.specs.types.declared.options.Options.{Options}
 use Rattle.dcsctp_spec_lemmas.specs.spec.Admission.{Admission, all_chunks, shutdown_acks_alone, refused, admits, is_echo_in_front, shutdown_acks_in}
-use Rattle.dcsctp_spec_lemmas.specs.spec.endpoint.CallTurns.{Transition, IsTurn, Turns, AfterChunk, ChunkTurns, WholeTurns, AdmittedTurns, after_all, effects_of}
+use Rattle.dcsctp_spec_lemmas.specs.spec.endpoint.MessageOutcomes.{awaits_opening}
+use Rattle.dcsctp_spec_lemmas.specs.spec.association.Acts.{shut_down}
+use Rattle.dcsctp_spec_lemmas.specs.spec.endpoint.CallTurns.{packet_tail, asked_again, Transition, IsTurn, Turns, AfterChunk, ChunkTurns, WholeTurns, AdmittedTurns, after_all, effects_of}
 use Rattle.dcsctp_spec_lemmas.specs.spec.endpoint.Endpoint.{Endpoint, Core, closed, cookie_wait, cookie_echoed, open_in, established, shutdown_pending, shutdown_sent, shutdown_received, shutdown_ack_sent, own_tag}
 use Rattle.dcsctp_spec_lemmas.specs.spec.endpoint.Following.{Following, next_chunk, packet_end, dropped_rest}
 use Rattle.dcsctp_spec_lemmas.specs.spec.endpoint.Outcome.{Outcome}
 use Rattle.dcsctp_spec_lemmas.specs.spec.Packet.{Content, init, init_ack, cookie_echo, cookie_ack, re_config, abort, shutdown, shutdown_ack, shutdown_complete, plain, Emission}
-use Rattle.dcsctp_spec_lemmas.specs.spec.endpoint.Turn.{Input, refusal, packet_begins, chunk_input, packet_ends, has_data_chunk, BeginTurn}
+use Rattle.dcsctp_spec_lemmas.specs.spec.endpoint.Turn.{act_input, Input, refusal, packet_begins, chunk_input, packet_ends, has_data_chunk, BeginTurn}
 use Rattle.dcsctp_spec_runs.specs.World.{after_effects}
 use Rattle.dcsctp_spec_lemmas.specs.spec.association.Effect.{AssociationIdentity, Effect, identity_in}
 use Rattle.dcsctp_spec_lemmas.specs.spec.queues.Transfer.{Transfer}
@@ -89,15 +91,27 @@ module _ (never_resets : ℕ → Bool) (options : Options) (e : Endpoint) (queue
       own_link : (one two : AssociationIdentity) → identity_in d.core ≡ Some one → identity_in d.core ≡ Some two → one.my.tag ≡ two.my.tag
       own_link one two first second = (let same' : one ≡ two = cc in ap (λ (l : AssociationIdentity). l.my.tag) same')
 
-  -- the end of a packet, or nothing
+  -- what comes after the chunks of a packet, or nothing
   IsTail : List Input → Type 0
-  IsTail tail = (tail ≡ []) ⊎ (tail ≡ packet_ends ∷ [])
+  IsTail tail = (tail ≡ []) ⊎ ((asks : Bool) × (tail ≡ packet_ends ∷ asked_again asks))
 
-  ends_go : (d : Endpoint) (their_past : List Effect) (reading : Reading) (turns : List Transition) → Have d their_past reading → AreNewTags options their_past past d turns → Turns d (packet_ends ∷ []) turns → Leave d their_past reading turns
-  ends_go d their_past reading [] h new taken = absurd taken
-  ends_go d their_past reading (t ∷ []) h new taken =
-      then_others d their_past reading t [] (one_turn d their_past reading packet_ends t h taken.0 (new.0, new.1, new.2, new.3, tt) (λ transfer link there linked. tt) tt)
-  ends_go d their_past reading (t ∷ other ∷ turns) h new taken = absurd taken.1
+  end_goes : (d : Endpoint) (their_past : List Effect) (reading : Reading) (t : Transition) (turns : List Transition) → Have d their_past reading → AreNewTags options their_past past d (t ∷ turns) → IsTurn d packet_ends t
+      → Have t.outcome.after (after_effects t.outcome.effects their_past) (reading_after d t.input t.outcome.after reading)
+  end_goes d their_past reading t turns h new turn =
+      one_turn d their_past reading packet_ends t h turn (new.0, new.1, new.2, new.3, tt) (λ transfer link there linked. tt) tt
+
+  ends_go : (asks : Bool) (d : Endpoint) (their_past : List Effect) (reading : Reading) (turns : List Transition) → Have d their_past reading → AreNewTags options their_past past d turns
+      → Turns d (packet_ends ∷ asked_again asks) turns → Leave d their_past reading turns
+  ends_go asks d their_past reading [] h new taken = absurd taken
+  ends_go false d their_past reading (t ∷ []) h new taken = then_others d their_past reading t [] (end_goes d their_past reading t [] h new taken.0)
+  ends_go false d their_past reading (t ∷ other ∷ turns) h new taken = absurd taken.1
+  ends_go true d their_past reading (t ∷ []) h new taken = absurd taken.1
+  ends_go true d their_past reading (t ∷ u ∷ []) h new taken =
+      then_others d their_past reading t (u ∷ [])
+      (then_others t.outcome.after (after_effects t.outcome.effects their_past) (reading_after d t.input t.outcome.after reading) u []
+      (one_turn t.outcome.after (after_effects t.outcome.effects their_past) (reading_after d t.input t.outcome.after reading) (act_input shut_down) u
+      (end_goes d their_past reading t (u ∷ []) h new taken.0) taken.1.0 (new.4.0, new.4.1, new.4.2, new.4.3, tt) (λ transfer link there linked. tt) tt))
+  ends_go true d their_past reading (t ∷ u ∷ other ∷ turns) h new taken = absurd taken.1.1
 
   tail_goes : (d : Endpoint) (their_past : List Effect) (reading : Reading) (tail : List Input) (turns : List Transition) → Have d their_past reading → AreNewTags options their_past past d turns → IsTail tail → Turns d tail turns
       → Leave d their_past reading turns
@@ -107,7 +121,7 @@ module _ (never_resets : ℕ → Bool) (options : Options) (e : Endpoint) (queue
       nothing : (turns : List Transition) → AreNewTags options their_past past d turns → Turns d [] turns → Leave d their_past reading turns
       nothing [] new taken = h
       nothing (t ∷ turns) new taken = absurd taken
-  tail_goes d their_past reading tail turns h new (inr is) taken = ends_go d their_past reading turns h new (subst (λ (l : List Input). Turns d l turns) is taken)
+  tail_goes d their_past reading tail turns h new (inr (asks, is)) taken = ends_go asks d their_past reading turns h new (subst (λ (l : List Input). Turns d l turns) is taken)
 
   -- What is left of the packet has no data; or it begins no association, and the one that is there has the packet's tag.
   abbrev MayGo : Endpoint → List Content → Type 0
@@ -168,23 +182,23 @@ module _ (never_resets : ℕ → Bool) (options : Options) (e : Endpoint) (queue
   front_may d (plain chunk) contents is own = inr (subst (λ (l : List Content). places.HasEntry (plain chunk) l) (sym is) (inl refl), own_is d.core emission.packet.tag (own refl))
 
   -- with the tag that the packet has
-  tagged_go : (contents : List Content) → emission.packet.contents ≡ contents → (d : Endpoint) (their_past : List Effect) (reading : Reading) (turns : List Transition) → Have d their_past reading → AreNewTags options their_past past d turns
+  tagged_go : (asks : Bool) (contents : List Content) → emission.packet.contents ≡ contents → (d : Endpoint) (their_past : List Effect) (reading : Reading) (turns : List Transition) → Have d their_past reading → AreNewTags options their_past past d turns
       → ContentsGo emission.packet.tag contents → (is_echo_in_front contents ≡ false → own_tag d.core ≡ emission.packet.tag)
-      → ChunkTurns d emission.packet.tag contents (packet_ends ∷ []) turns → Leave d their_past reading turns
+      → ChunkTurns d emission.packet.tag contents (packet_ends ∷ asked_again asks) turns → Leave d their_past reading turns
   unfolding IsTail
-  tagged_go [] is d their_past reading turns h new go own taken = ends_go d their_past reading turns h new taken
-  tagged_go (content ∷ contents) is d their_past reading [] h new go own taken = absurd taken
-  tagged_go (content ∷ contents) is d their_past reading (t ∷ turns) h new go own taken =
+  tagged_go asks [] is d their_past reading turns h new go own taken = ends_go asks d their_past reading turns h new taken
+  tagged_go asks (content ∷ contents) is d their_past reading [] h new go own taken = absurd taken
+  tagged_go asks (content ∷ contents) is d their_past reading (t ∷ turns) h new go own taken =
       let first = chunk_turn d their_past reading emission.packet.tag content t h taken.0 (new.0, new.1, new.2, new.3, tt) (front_may d content contents is own) in
       then_others d their_past reading t turns (more t.outcome.following refl first taken.1)
     where
       more : (following : Following) → t.outcome.following ≡ following → Have t.outcome.after (after_effects t.outcome.effects their_past) (reading_after d t.input t.outcome.after reading)
-          → AfterChunk following (ChunkTurns t.outcome.after emission.packet.tag contents (packet_ends ∷ []) turns) (Turns t.outcome.after (packet_ends ∷ []) turns) (turns ≡ [])
+          → AfterChunk following (ChunkTurns t.outcome.after emission.packet.tag contents (packet_ends ∷ asked_again asks) turns) (Turns t.outcome.after (packet_ends ∷ asked_again asks) turns) (turns ≡ [])
           → Leave t.outcome.after (after_effects t.outcome.effects their_past) (reading_after d t.input t.outcome.after reading) turns
       more next_chunk next first rest =
-          chunks_go contents t.outcome.after (after_effects t.outcome.effects their_past) (reading_after d t.input t.outcome.after reading) emission.packet.tag (packet_ends ∷ []) turns first new.4 (inr refl)
+          chunks_go contents t.outcome.after (after_effects t.outcome.effects their_past) (reading_after d t.input t.outcome.after reading) emission.packet.tag (packet_ends ∷ asked_again asks) turns first new.4 (inr (asks, refl))
           (inr (go.1, (λ c has'. subst (λ (l : List Content). places.HasEntry c l) (sym is) (inr has')), front_tag d content contents t taken.0 go own next)) rest
-      more packet_end next first rest = ends_go t.outcome.after (after_effects t.outcome.effects their_past) (reading_after d t.input t.outcome.after reading) turns first new.4 rest
+      more packet_end next first rest = ends_go asks t.outcome.after (after_effects t.outcome.effects their_past) (reading_after d t.input t.outcome.after reading) turns first new.4 rest
       more dropped_rest next first none =
           subst (λ (ts : List Transition). Leave t.outcome.after (after_effects t.outcome.effects their_past) (reading_after d t.input t.outcome.after reading) ts) (sym none) first
 
@@ -201,9 +215,9 @@ module _ (never_resets : ℕ → Bool) (options : Options) (e : Endpoint) (queue
       by_data : Have begun.outcome.after (after_effects begun.outcome.effects their_past) (reading_after d begun.input begun.outcome.after reading) → (table : Ends) → IsOfEnds table emission
           → Leave begun.outcome.after (after_effects begun.outcome.effects their_past) (reading_after d begun.input begun.outcome.after reading) turns
       by_data first table (inl none) =
-          chunks_go emission.packet.contents begun.outcome.after (after_effects begun.outcome.effects their_past) (reading_after d begun.input begun.outcome.after reading) emission.packet.tag (packet_ends ∷ []) turns first new.4 (inr refl) (inl none) taken.1
+          chunks_go emission.packet.contents begun.outcome.after (after_effects begun.outcome.effects their_past) (reading_after d begun.input begun.outcome.after reading) emission.packet.tag (packet_tail begun.outcome.after) turns first new.4 (inr (awaits_opening begun.outcome.after begun.outcome.after.core, refl)) (inl none) taken.1
       by_data first table (inr (free, was)) =
-          tagged_go emission.packet.contents refl begun.outcome.after (after_effects begun.outcome.effects their_past) (reading_after d begun.input begun.outcome.after reading) turns first new.4 go
+          tagged_go (awaits_opening begun.outcome.after begun.outcome.after.core) emission.packet.contents refl begun.outcome.after (after_effects begun.outcome.effects their_past) (reading_after d begun.input begun.outcome.after reading) turns first new.4 go
           (λ front. ap own_tag (begin_core d d.core (has_data_chunk d.options.follow_rfc emission.packet.contents) begun.outcome taken.0.comes) ∙ sym (addressed_tags_are_own d.core emission.packet free front admitted)) taken.1
 
   refused_go : (d : Endpoint) (their_past : List Effect) (reading : Reading) (text : List ℕ) (turns : List Transition) → Have d their_past reading → AreNewTags options their_past past d turns → Turns d (refusal text ∷ []) turns

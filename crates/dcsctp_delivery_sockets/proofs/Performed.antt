@@ -1,6 +1,6 @@
 -- Each own request of a socket that ended as performed was performed by the other socket, or it is
 -- the 2^32nd of its association.
-use Rattle.std.proofs.Common.{◌≢◌, ℕ, List, [], ◌∷◌, ◌++◌, sym, subst, inl, inr, arith}
+use Rattle.std.proofs.Common.{◌≢◌, List, [], ◌∷◌, ◌++◌, sym, subst, inl, inr}
 use Rattle.std.specs.List.{AllByRecursion}
 use Rattle.dcsctp_spec_lemmas.specs.types.declared.association.Pair.{Pair}
 use Rattle.dcsctp_spec_lemmas.specs.types.declared.options.Options.{Options}
@@ -13,7 +13,7 @@ use Rattle.dcsctp_spec_runs.specs.Laws.{AnswerKeepsAgreement}
 use Rattle.dcsctp_spec_runs.specs.Past.{HasEffect, WasPerformed}
 use Rattle.dcsctp_spec_runs.specs.Sockets.{PerformedAct, Both, side_turns_added, turns_after, SocketRun, acts_of}
 use Rattle.dcsctp_spec_runs.specs.World.{SideState, World, world_after}
-use Rattle.dcsctp_spec_lemmas.specs.spec.association.Effect.{Effect, completes, noted}
+use Rattle.dcsctp_spec_lemmas.specs.spec.association.Effect.{completes}
 use Rattle.dcsctp_spec_lemmas.proofs.TurnLists.{pairs_of-append}
 use Rattle.dcsctp_theorem_association.proofs.Agreement.{TrueWorld}
 use Rattle.dcsctp_theorem_association.proofs.Facts.{TruePast}

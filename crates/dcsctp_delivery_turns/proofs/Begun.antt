@@ -12,7 +12,7 @@ use Rattle.dcsctp_spec_lemmas.specs.spec.queues.SendQueue.{SendQueueState}
 use Rattle.dcsctp_spec_lemmas.specs.spec.queues.Transfer.{Transfer, is_idle}
 use Rattle.dcsctp_spec_lemmas.specs.spec.association.FlushChanges.{held_asking}
 use Rattle.dcsctp_spec_lemmas.specs.spec.endpoint.BegunResets.{BegunReset, streams_within, last_assigned_tsn, stream_field, begun_where, begun_in, core_asking, after_begun}
-use Rattle.dcsctp_spec_lemmas.specs.spec.endpoint.FlushOutcomes.{filling_event, Answer, answer_contents, filled, goes_out, asked, next_draft, flush_of, Ask, first_ask, later_ask, begun_at, GivesWhere, IsAnswerOfQueues, IsFlushAnswer, AreFlushAnswers, at_limit, at_empty, after_packet, FlushAnswers, packets_allowed}
+use Rattle.dcsctp_spec_lemmas.specs.spec.endpoint.FlushOutcomes.{may_be_asked, filling_event, Answer, answer_contents, filled, goes_out, asked, next_draft, flush_of, Ask, first_ask, later_ask, begun_at, GivesWhere, IsAnswerOfQueues, IsFlushAnswer, AreFlushAnswers, at_limit, at_empty, after_packet, FlushAnswers, packets_allowed}
 use Rattle.dcsctp_spec_lemmas.specs.spec.endpoint.ReconfigurationOutcomes.{reset_again}
 use Rattle.dcsctp_spec_lemmas.proofs.FlushKeeps.{later_begins}
 use Rattle.dcsctp_delivery_sending.specs.Flushes.{reset_begun_by}
@@ -102,9 +102,20 @@ at_may : (ask : Ask) (peer : Option Held) (room : ℕ) (state : RetransmissionSt
 at_may first_ask peer room state queue = in_may peer room state queue
 at_may later_ask peer room state queue = tt
 
+-- Who may be asked is the peer.
+asked_may : (core : Core) (follows : Bool) (begun : Option BegunReset) → MayBegin (may_be_asked core follows) begun → MayBegin (held_in core) begun
+asked_may closed follows begun may = may
+asked_may (cookie_wait my) follows begun may = may
+asked_may (cookie_echoed my held cookie) true None may = tt
+asked_may (cookie_echoed my held cookie) true (Some begun) may = absurd may
+asked_may (cookie_echoed my held cookie) false begun may = may
+asked_may (open_in phase my held) follows begun may = may
+
 where_gives : (b : Bool) (ask : Ask) (e : Endpoint) (draft : Emission) (transfer : Transfer) (answer : Answer) → GivesWhere b ask e draft transfer answer → MayBegin (held_in e.core) answer.begun
 where_gives true ask e draft transfer answer gives = subst (λ (a : Answer). MayBegin (held_in e.core) a.begun) (sym gives) tt
-where_gives false ask e draft transfer answer gives = subst (MayBegin (held_in e.core)) (sym gives.begins) (at_may ask (held_in e.core) _ gives.gave_up.queue gives.gave_up.waiting)
+where_gives false ask e draft transfer answer gives =
+    subst (MayBegin (held_in e.core)) (sym gives.begins)
+    (asked_may e.core e.options.follow_rfc _ (at_may ask (may_be_asked e.core e.options.follow_rfc) _ gives.gave_up.queue gives.gave_up.waiting))
 
 below_gives : (ask : Ask) (e : Endpoint) (draft : Emission) (transfer : Option Transfer) (answer : Answer) → IsAnswerOfQueues ask e draft answer transfer → MayBegin (held_in e.core) answer.begun
 below_gives ask e draft None answer gives = subst (λ (a : Answer). MayBegin (held_in e.core) a.begun) (sym gives) tt

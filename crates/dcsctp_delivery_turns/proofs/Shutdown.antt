@@ -8,7 +8,7 @@ use Rattle.dcsctp_spec_lemmas.specs.spec.endpoint.Endpoint.{Endpoint, Core, clos
 use Rattle.dcsctp_spec_lemmas.specs.spec.endpoint.Outcome.{Outcome, sends, to_peer}
 use Rattle.dcsctp_spec_lemmas.specs.spec.endpoint.Turn.{BeginTurn}
 use Rattle.dcsctp_spec_lemmas.specs.spec.endpoint.EndOutcomes.{reflected_outcome}
-use Rattle.dcsctp_spec_lemmas.specs.spec.endpoint.ShutdownOutcomes.{phase_at, received_tsn, may_go_on, step_by, step_outcome, t1_stopped, shut_down_outcome, shutdown_outcome, shutdown_ack_outcome, completed_outcome, shutdown_complete_outcome, t2_goes_on, shutdown_sent_again, t2_again_outcome}
+use Rattle.dcsctp_spec_lemmas.specs.spec.endpoint.ShutdownOutcomes.{shut_down_echoed, phase_at, received_tsn, may_go_on, step_by, step_outcome, t1_stopped, shut_down_outcome, shutdown_outcome, shutdown_ack_outcome, completed_outcome, shutdown_complete_outcome, t2_goes_on, shutdown_sent_again, t2_again_outcome}
 use Rattle.dcsctp_spec_lemmas.specs.spec.association.Effect.{identity_of, identity_in}
 use Rattle.dcsctp_delivery_turns.specs.Tags.{IsPeerTag}
 use Rattle.dcsctp_delivery_turns.specs.Actions.{IsCalm, Inside, inside, MakesPackets, goes_on, ends}
@@ -105,10 +105,14 @@ module _ (came : Option Content) (calm : IsCalm came) (to : ℕ) where
       → identity_in (step_by (may_go_on base) (phase_at base phase my held) phase my held).after.core ≡ Some (identity_of my held)
   from_link base phase my held = step_by_link (may_go_on base) (phase_at base phase my held) phase my held refl
 
+  echoed_goes : (follows : Bool) (e : Endpoint) (my : Pair) (held : Held) (cookie : List ℕ) → e.core ≡ cookie_echoed my held cookie → Goes came to e (shut_down_echoed follows e my held)
+  echoed_goes true e my held cookie at = goes_on calm refl (rests came to (inside e))
+  echoed_goes false e my held cookie at = goes_on calm (from_link (t1_stopped e) shutdown_pending my held ∙ sym (ap identity_in at)) (step_from_makes e (t1_stopped e) shutdown_pending my held refl (ap (λ (c : Core). own_in c e.outstanding) at))
+
   pub shut_down_goes : (e : Endpoint) (core : Core) → e.core ≡ core → Goes came to e (shut_down_outcome e core)
   shut_down_goes e closed at = goes_on calm refl (rests came to (inside e))
   shut_down_goes e (cookie_wait my) at = ends refl (λ read. refl) (inside e) refl (rests came to (inside e)) refl
-  shut_down_goes e (cookie_echoed my held cookie) at = goes_on calm (from_link (t1_stopped e) shutdown_pending my held ∙ sym (ap identity_in at)) (step_from_makes e (t1_stopped e) shutdown_pending my held refl (ap (λ (c : Core). own_in c e.outstanding) at))
+  shut_down_goes e (cookie_echoed my held cookie) at = echoed_goes e.options.follow_rfc e my held cookie at
   shut_down_goes e (open_in established my held) at = goes_on calm (from_link e shutdown_pending my held ∙ sym (ap identity_in at)) (step_from_makes e e shutdown_pending my held refl (ap (λ (c : Core). own_in c e.outstanding) at))
   shut_down_goes e (open_in shutdown_pending my held) at = goes_on calm refl (rests came to (inside e))
   shut_down_goes e (open_in shutdown_sent my held) at = goes_on calm refl (rests came to (inside e))

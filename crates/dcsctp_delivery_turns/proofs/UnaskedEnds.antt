@@ -13,7 +13,7 @@ use Rattle.dcsctp_spec_lemmas.specs.spec.endpoint.Turn.{BeginTurn}
 use Rattle.dcsctp_spec_lemmas.specs.spec.endpoint.EndOutcomes.{abort_outcome, abort_to, aborting_outcome, end_of}
 use Rattle.dcsctp_spec_lemmas.specs.spec.endpoint.HandoverOutcomes.{hand_over_outcome}
 use Rattle.dcsctp_spec_lemmas.specs.spec.endpoint.HeardShutdown.{said_by_shutdown, heeds_shutdown, ShutdownWhere, ShutdownBy, ShutdownTurn}
-use Rattle.dcsctp_spec_lemmas.specs.spec.endpoint.ShutdownOutcomes.{phase_at, may_go_on, step_by, step_outcome, step_from, t1_stopped, shut_down_outcome, shutdown_outcome, shutdown_ack_outcome, shutdown_complete_outcome, shutdown_sent_again}
+use Rattle.dcsctp_spec_lemmas.specs.spec.endpoint.ShutdownOutcomes.{shut_down_echoed, phase_at, may_go_on, step_by, step_outcome, step_from, t1_stopped, shut_down_outcome, shutdown_outcome, shutdown_ack_outcome, shutdown_complete_outcome, shutdown_sent_again}
 use Rattle.dcsctp_spec_lemmas.specs.spec.endpoint.TimerOutcomes.{t1_gives_up_outcome}
 use Rattle.dcsctp_spec_lemmas.specs.spec.queues.Transfer.{Transfer}
 use Rattle.dcsctp_spec_lemmas.proofs.AbortLemmas.{by_abort_outcome}
@@ -39,10 +39,14 @@ step_asks e (open_in phase my held) = step_by_asks (may_go_on e) e phase my held
 from_asks : (e : Endpoint) (phase : OpenPhase) (my : Pair) (held : Held) → AsksNothing e.queues.transfer (step_from e phase my held)
 from_asks e phase my held = step_by_asks (may_go_on e) (phase_at e phase my held) phase my held
 
+echoed_asks : (follows : Bool) (e : Endpoint) (my : Pair) (held : Held) → AsksNothing e.queues.transfer (shut_down_echoed follows e my held)
+echoed_asks true e my held = rests (record e { shutdown_asked = true })
+echoed_asks false e my held = from_asks (t1_stopped e) shutdown_pending my held
+
 pub shut_down_asks : (e : Endpoint) (core : Core) → AsksNothing e.queues.transfer (shut_down_outcome e core)
 shut_down_asks e closed = rests e
 shut_down_asks e (cookie_wait my) = ended e.queues.transfer (quiet e [] []) events.closed tt
-shut_down_asks e (cookie_echoed my held cookie) = from_asks (t1_stopped e) shutdown_pending my held
+shut_down_asks e (cookie_echoed my held cookie) = echoed_asks e.options.follow_rfc e my held
 shut_down_asks e (open_in established my held) = from_asks e shutdown_pending my held
 shut_down_asks e (open_in shutdown_pending my held) = rests e
 shut_down_asks e (open_in shutdown_sent my held) = rests e

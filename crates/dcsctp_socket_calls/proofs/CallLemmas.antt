@@ -219,38 +219,3 @@ pub packet_cut : {R : Type 0} (stream : R → Stream) (old a b : View R) (bytes 
 packet_cut {R = R} stream old a b bytes packet options events begins counted is found same cut =
     let here : IsPacket (wire_options a.endpoint.options) packet bytes = subst (λ (o : WireOptions). IsPacket o packet bytes) (options_of stream a b options counted is) found in
     input_cut bytes old events (subst (λ (v : View R). Cut bytes v events) begins (counted_cut stream a b bytes packet events here counted same cut))
-
--- ---- the end of a packet
-
--- the turn of a packet's end
-abbrev end_turned : Outcome → Transition
-end_turned o = transition packet_ends o
-
-end_is : (e now : Endpoint) (o : Outcome) → now ≡ e → EndTurn now o → IsTurn e packet_ends (end_turned o)
-end_is e now o here turn = record { is = refl; comes = subst (λ (x : Endpoint). EndTurn x o) here turn }
-
--- The chunks had their turns, and then the packet ended.
-pub ended : {R : Type 0} (stream : R → Stream) (a b c : View R) (packet : PacketContent) → MoveToEnd stream packet a true b → TakesPossibleTurn stream (λ v o. EndTurn v.endpoint o) b c → ChunksMove stream packet a c
-ended stream a b c packet first end =
-    let last : Transition = end_turned end.outcome in
-    record {
-      turns = first.turns ++ last ∷ [];
-      are = first.are last (end_is (after_all a.endpoint first.turns) b.endpoint end.outcome first.moves.endpoint end.turn);
-      moves = moves_then stream a b c first.turns (last ∷ []) first.ports first.moves (moves_one stream b c last end.moves);
-    }
-
--- The end was cut.
-pub ended_cut : {R : Type 0} (stream : R → Stream) (a b : View R) (packet : PacketContent) (events : List (Event (List ℕ))) → MoveToEnd stream packet a true b → CutIn (λ v o. EndTurn v.endpoint o) b events
-    → ChunksCut packet a events
-ended_cut stream a b packet events first end =
-    let last : Transition = end_turned end.outcome in
-    record {
-      turns = first.turns ++ last ∷ [];
-      are = inr (first.are last (end_is (after_all a.endpoint first.turns) b.endpoint end.outcome first.moves.endpoint end.turn));
-      adds = adds_cut stream a b first.turns last events (ap (λ (x : Endpoint). ports_of x.options) first.moves.endpoint ∙ first.ports) first.moves end.cut;
-    }
-
--- The end was dropped.
-pub dropped : {R : Type 0} (stream : R → Stream) (a b : View R) (packet : PacketContent) (ends : Bool) → ends ≡ false → MoveToEnd stream packet a ends b → ChunksMove stream packet a b
-dropped stream a b packet true is worked = absurd (cc)
-dropped stream a b packet false is worked = record { turns = worked.turns; are = worked.are; moves = worked.moves }

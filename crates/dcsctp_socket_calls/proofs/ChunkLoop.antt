@@ -8,9 +8,9 @@ use Rattle.dcsctp_core.specs.spec.endpoint.Endpoint.{Endpoint}
 use Rattle.dcsctp_core.specs.spec.endpoint.Outcome.{Outcome}
 use Rattle.dcsctp_core.specs.types.Settings.{ports_of}
 use Rattle.dcsctp_core.specs.spec.endpoint.Following.{packet_end, dropped_rest}
-use Rattle.dcsctp_core.specs.spec.endpoint.Turn.{chunk_input, packet_ends, ContentTurn}
-use Rattle.dcsctp_core.specs.spec.endpoint.CallTurns.{Transition, transition, IsTurn, ChunkTurns, FirstTurns, after_all}
-use Rattle.dcsctp_spec_laws.proofs.TurnLemmas.{GoOn, chunk_turns-push, chunk_turns-end, chunk_turns-cut, chunk_turns-whole, content_keeps_options, same_ports}
+use Rattle.dcsctp_core.specs.spec.endpoint.Turn.{Input, chunk_input, ContentTurn}
+use Rattle.dcsctp_core.specs.spec.endpoint.CallTurns.{Transition, transition, IsTurn, Turns, ChunkTurns, FirstTurns, after_all}
+use Rattle.dcsctp_spec_laws.proofs.TurnLemmas.{GoOn, chunk_turns-push, chunk_turns-end, chunk_turns-cut, content_keeps_options, same_ports}
 use Rattle.dcsctp_core.proofs.spec_lemmas.TurnLists.{after_all-append}
 
 -- what the chunks of a packet say
@@ -59,17 +59,17 @@ turns_more e now tag chunks i chunk turns outcome below is goes_on are here turn
 
 -- ---- where the rest of the packet is dropped
 
-pub turns_end : (e now : Endpoint) (tag : ℕ) (chunks : List Chunk) (i : ℕ) (chunk : Chunk) (turns : List Transition) (outcome : Outcome)
+pub turns_end : (e now : Endpoint) (tag : ℕ) (chunks : List Chunk) (i : ℕ) (chunk : Chunk) (turns : List Transition) (outcome : Outcome) (ends : List Input)
     → i < length chunks → chunk ≡ get_or chunks i chunk
     → GoOn turns → ChunkTurns e tag (contents_of (take i chunks)) [] turns
     → now ≡ after_all e turns
     → ContentTurn now tag (content_in (chunk_content chunk)) outcome
     → outcome.following ≡ dropped_rest
-    → ChunkTurns e tag (contents_of chunks) (packet_ends ∷ []) (turns ++ worked_as tag (content_in (chunk_content chunk)) outcome ∷ [])
-turns_end e now tag chunks i chunk turns outcome below is goes_on are here turn drops =
+    → ChunkTurns e tag (contents_of chunks) ends (turns ++ worked_as tag (content_in (chunk_content chunk)) outcome ∷ [])
+turns_end e now tag chunks i chunk turns outcome ends below is goes_on are here turn drops =
     let content = content_in (chunk_content chunk) in
-    subst (λ (contents : List Content). ChunkTurns e tag contents (packet_ends ∷ []) (turns ++ worked_as tag content outcome ∷ [])) (sym (contents_split chunks i chunk below is))
-    (chunk_turns-end e tag (contents_of (take i chunks)) (packet_ends ∷ []) turns content (worked_as tag content outcome) (contents_of (drop (i + 1) chunks)) goes_on are
+    subst (λ (contents : List Content). ChunkTurns e tag contents ends (turns ++ worked_as tag content outcome ∷ [])) (sym (contents_split chunks i chunk below is))
+    (chunk_turns-end e tag (contents_of (take i chunks)) ends turns content (worked_as tag content outcome) (contents_of (drop (i + 1) chunks)) goes_on are
     (is_worked (after_all e turns) now tag content outcome here turn) drops)
 
 -- ---- a whole packet
@@ -77,29 +77,24 @@ turns_end e now tag chunks i chunk turns outcome below is goes_on are here turn 
 pub worked_keeps_ports : (e : Endpoint) (tag : ℕ) (content : Content) (o : Outcome) → ContentTurn e tag content o → ports_of o.after.options ≡ ports_of e.options
 worked_keeps_ports e tag content o turn = same_ports e.options o.after.options (content_keeps_options e tag content o turn)
 
--- All chunks had their turns, and then the packet ends.
-pub turns_whole : (e : Endpoint) (tag : ℕ) (contents : List Content) (turns : List Transition) → GoOn turns → ChunkTurns e tag contents [] turns → (last : Transition) → IsTurn (after_all e turns) packet_ends last
-    → ChunkTurns e tag contents (packet_ends ∷ []) (turns ++ last ∷ [])
-turns_whole e tag contents turns goes_on are last is = chunk_turns-whole e tag contents (packet_ends ∷ []) turns (last ∷ []) goes_on are (is, tt)
-
--- One chunk cut the others, and then the packet ends.
-pub turns_cut : (e now : Endpoint) (tag : ℕ) (chunks : List Chunk) (i : ℕ) (chunk : Chunk) (turns : List Transition) (outcome : Outcome) (last : Transition)
+-- One chunk cut the others, and then comes what follows them.
+pub turns_cut : (e now : Endpoint) (tag : ℕ) (chunks : List Chunk) (i : ℕ) (chunk : Chunk) (turns : List Transition) (outcome : Outcome) (ends : List Input) (last : List Transition)
     → i < length chunks → chunk ≡ get_or chunks i chunk
     → GoOn turns → ChunkTurns e tag (contents_of (take i chunks)) [] turns
     → now ≡ after_all e turns
     → ContentTurn now tag (content_in (chunk_content chunk)) outcome
     → outcome.following ≡ packet_end
-    → IsTurn (after_all e (turns ++ worked_as tag (content_in (chunk_content chunk)) outcome ∷ [])) packet_ends last
-    → ChunkTurns e tag (contents_of chunks) (packet_ends ∷ []) ((turns ++ worked_as tag (content_in (chunk_content chunk)) outcome ∷ []) ++ last ∷ [])
-turns_cut e now tag chunks i chunk turns outcome last below is goes_on are here turn cuts ends =
+    → Turns (after_all e (turns ++ worked_as tag (content_in (chunk_content chunk)) outcome ∷ [])) ends last
+    → ChunkTurns e tag (contents_of chunks) ends ((turns ++ worked_as tag (content_in (chunk_content chunk)) outcome ∷ []) ++ last)
+turns_cut e now tag chunks i chunk turns outcome ends last below is goes_on are here turn cuts come =
     let content = content_in (chunk_content chunk) in
     let worked : Transition = worked_as tag content outcome in
-    let last_is : IsTurn outcome.after packet_ends last = subst (λ (x : Endpoint). IsTurn x packet_ends last) (after_all-append e turns (worked ∷ [])) ends in
-    let all : ChunkTurns e tag (contents_of chunks) (packet_ends ∷ []) (turns ++ worked ∷ last ∷ []) =
-    subst (λ (contents : List Content). ChunkTurns e tag contents (packet_ends ∷ []) (turns ++ worked ∷ last ∷ [])) (sym (contents_split chunks i chunk below is))
-    (chunk_turns-cut e tag (contents_of (take i chunks)) (packet_ends ∷ []) turns content worked (contents_of (drop (i + 1) chunks)) (last ∷ []) goes_on are
-    (is_worked (after_all e turns) now tag content outcome here turn) cuts (last_is, tt)) in
-    subst (λ (ts : List Transition). ChunkTurns e tag (contents_of chunks) (packet_ends ∷ []) ts) (sym (append_assoc turns (worked ∷ []) (last ∷ []))) all
+    let here_come : Turns outcome.after ends last = subst (λ (x : Endpoint). Turns x ends last) (after_all-append e turns (worked ∷ [])) come in
+    let all : ChunkTurns e tag (contents_of chunks) ends (turns ++ worked ∷ last) =
+    subst (λ (contents : List Content). ChunkTurns e tag contents ends (turns ++ worked ∷ last)) (sym (contents_split chunks i chunk below is))
+    (chunk_turns-cut e tag (contents_of (take i chunks)) ends turns content worked (contents_of (drop (i + 1) chunks)) last goes_on are
+    (is_worked (after_all e turns) now tag content outcome here turn) cuts here_come) in
+    subst (λ (ts : List Transition). ChunkTurns e tag (contents_of chunks) ends ts) (sym (append_assoc turns (worked ∷ []) last)) all
 
 -- The ports stay over one turn more.
 pub ports_more : (e now : Endpoint) (tag : ℕ) (content : Content) (turns : List Transition) (outcome : Outcome) → now ≡ after_all e turns → ContentTurn now tag content outcome

@@ -10,6 +10,7 @@ mod ExpiryLemmas
 mod HandoverLemmas
 mod MessageLemmas
 mod ResettingLemmas
+mod TailLemmas
 mod TimeLemmas
 mod TimerLoop
 mod UnknownLemmas

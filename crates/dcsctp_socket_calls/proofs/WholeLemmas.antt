@@ -1,5 +1,5 @@
 -- A packet that is handled whole: the turn before its chunks, they, and its end.
-use Rattle.std.proofs.Common.{◌≡◌, ℕ, Bool, true, false, List, [], ◌∷◌, refl, ap, subst, ◌∙◌, inl, inr, Result, Ok, Err}
+use Rattle.std.proofs.Common.{◌≡◌, ℕ, Bool, true, false, List, [], ◌∷◌, take, refl, ap, subst, ◌∙◌, inl, inr, Result, Ok, Err}
 use Rattle.rand_core.specs.Stream.{Stream}
 use Rattle.dcsctp_core.specs.wire.Content.{PacketContent}
 use Rattle.dcsctp_core.specs.types.declared.association.Pair.{Pair}
@@ -10,7 +10,7 @@ use Rattle.dcsctp_core.specs.spec.Packet.{packet_in}
 use Rattle.dcsctp_core.specs.spec.endpoint.Endpoint.{Endpoint, Core, closed, cookie_wait, cookie_echoed, open_in, OpenPhase, established, shutdown_pending, shutdown_sent, shutdown_received, shutdown_ack_sent}
 use Rattle.dcsctp_core.specs.spec.endpoint.Outcome.{still}
 use Rattle.dcsctp_core.specs.spec.endpoint.Turn.{packet_begins, has_data_chunk, BeginTurn}
-use Rattle.dcsctp_core.specs.spec.endpoint.CallTurns.{Transition, transition, IsTurn, FirstTurns}
+use Rattle.dcsctp_core.specs.spec.endpoint.CallTurns.{Transition, transition, IsTurn, ChunkTurns, FirstTurns, packet_tail}
 use Rattle.dcsctp_core.specs.declared.context.Context.{Context}
 use Rattle.dcsctp_core.specs.View.{View, Moves, view_of}
 use Rattle.dcsctp_core.proofs.Moving.{moves_one, moves_then}
@@ -91,14 +91,17 @@ whole_cut_rest stream a b packet events first cut =
         begun_is packet a,
         elim cut.are [
           | inl some ↦ inl (subst (λ (e : Endpoint). FirstTurns e packet.verification_tag (packet_in packet).contents cut.turns) first.endpoint some)
-          | inr all ↦ inr (subst (λ (e : Endpoint). ChunksToEnd e (packet_in packet) cut.turns) first.endpoint all)
+          | inr all ↦ inr (
+            all.0,
+            subst (λ (e : Endpoint). ChunkTurns e packet.verification_tag (packet_in packet).contents (take all.0 (packet_tail e)) cut.turns) first.endpoint all.1,
+          )
         ],
       );
       adds = adds_behind stream a b (begun packet a ∷ []) cut.turns events (ap (λ (e : Endpoint). ports_of e.options) first.endpoint ∙ begun_ports packet a) (moves_one stream a b (begun packet a) first)
           cut.adds;
     }
 
--- by what its chunks and its end answer
+-- by what its chunks and what comes after them answer
 pub whole_by : {R E : Type 0} (stream : R → Stream) (old mid : Context R) (packet : PacketContent) (result : Result (Unit {0}) E) (new : Context R)
     → Moves stream (view_of old) (begin_turn packet (view_of old)) (view_of mid) → WorksChunks stream packet mid result new → HandlesWholePacket stream packet old result new
 whole_by stream old mid packet (Ok done) new first rest = worked_whole stream (view_of old) (view_of mid) (view_of new) packet first rest

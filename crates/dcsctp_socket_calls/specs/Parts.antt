@@ -1,5 +1,5 @@
 -- What the calls of a socket do, by its parts.
-use Rattle.std.specs.Prelude.{◌≡◌, ◌⊎◌, ℕ, Bool, true, false, Option, Result, Ok, Err, List, [], ◌∷◌, ◌++◌}
+use Rattle.std.specs.Prelude.{◌≡◌, ◌⊎◌, ℕ, Bool, true, false, Option, Result, Ok, Err, List, [], ◌∷◌, ◌++◌, take}
 use Rattle.std.specs.List.{AllByRecursion}
 use Rattle.rand_core.specs.Stream.{Stream}
 use Rattle.dcsctp_core.specs.wire.Content.{PacketContent}
@@ -10,13 +10,13 @@ use Rattle.dcsctp_core.specs.spec.endpoint.Following.{next_chunk, packet_end}
 use Rattle.dcsctp_core.specs.spec.endpoint.Outcome.{Outcome, still}
 use Rattle.dcsctp_core.specs.types.Settings.{ports_of}
 use Rattle.dcsctp_core.specs.spec.endpoint.Event.{Event}
-use Rattle.dcsctp_core.specs.spec.endpoint.Turn.{ContentTurn, chunk_input, packet_ends, has_data_chunk}
+use Rattle.dcsctp_core.specs.spec.endpoint.Turn.{Input, ContentTurn, chunk_input, packet_ends, has_data_chunk}
 use Rattle.dcsctp_core.specs.types.ByResult.{ByResult}
 use Rattle.dcsctp_core.specs.types.declared.message.Message.{Message}
 use Rattle.dcsctp_core.specs.types.Schedule.{CallContent}
 use Rattle.dcsctp_core.specs.types.Setting.{Setting}
 use Rattle.dcsctp_core.specs.spec.endpoint.SettingOutcomes.{endpoint_with}
-use Rattle.dcsctp_core.specs.spec.endpoint.CallTurns.{Transition, IsTurn, after_all, ChunkTurns, WholeTurns, AdmittedTurns, HandleInput, FirstTurns, FirstOfWhole, FirstAdmitted, CutInput}
+use Rattle.dcsctp_core.specs.spec.endpoint.CallTurns.{Transition, IsTurn, Turns, asked_again, packet_tail, after_all, ChunkTurns, WholeTurns, AdmittedTurns, HandleInput, FirstTurns, FirstOfWhole, FirstAdmitted, CutInput}
 use Rattle.dcsctp_core.specs.spec.endpoint.UserTurns.{UserTurns}
 use Rattle.dcsctp_core.specs.types.Snapshot.{Snapshot}
 use Rattle.dcsctp_core.specs.api.Calls.{AddsFirstEvents}
@@ -57,15 +57,16 @@ packet_begun false view = still view.endpoint
 abbrev pub begin_turn : {R : Type 0} → PacketContent → View R → Outcome
 begin_turn packet view = packet_begun (has_data_chunk view.endpoint.options.follow_rfc (packet_in packet).contents) view
 
--- the turns of a packet's chunks, and of its end
+-- the turns of a packet's chunks, and of what comes after them
 abbrev pub ChunksToEnd : Endpoint → Packet → List Transition → Type 0
-ChunksToEnd e packet turns = ChunkTurns e packet.tag packet.contents (packet_ends ∷ []) turns
+ChunksToEnd e packet turns = ChunkTurns e packet.tag packet.contents (packet_tail e) turns
 
--- The turns of a packet's chunks up to its end. They are whole with the end, whatever it does; or the end is dropped, and they
--- are whole without it.
+-- The turns of a packet's chunks. They are whole with what comes after them, whatever that does; or that is dropped, and they are
+-- whole without it.
 abbrev pub TurnsToEnd : Bool → Endpoint → Packet → List Transition → Type 0
-TurnsToEnd true e packet turns = (last : Transition) → IsTurn (after_all e turns) packet_ends last → ChunksToEnd e packet (turns ++ last ∷ [])
-TurnsToEnd false e packet turns = ChunksToEnd e packet turns
+TurnsToEnd true e packet turns =
+    (ends : List Input) (last : List Transition) → Turns (after_all e turns) ends last → ChunkTurns e packet.tag packet.contents ends (turns ++ last)
+TurnsToEnd false e packet turns = (ends : List Input) → ChunkTurns e packet.tag packet.contents ends turns
 
 -- The chunks of a packet had their turns.
 pub record MoveToEnd {R : Type 0} (stream : R → Stream) (packet : PacketContent) (old : View R) (ends : Bool) (new : View R) : Type 0 where
@@ -116,9 +117,14 @@ pub record ChunkCut {R : Type 0} (tag : ℕ) (content : Content) (old : View R) 
   pub turn : ContentTurn old.endpoint tag content outcome
   pub cut : CutTurn old outcome events
 
--- Some chunks of a packet had their turns; or all, and its end was cut.
+-- Some chunks of a packet had their turns; or all, and what comes after them was cut.
 abbrev pub FirstToEnd : Endpoint → Packet → List Transition → Type 0
-FirstToEnd e packet turns = FirstTurns e packet.tag packet.contents turns ⊎ ChunksToEnd e packet turns
+FirstToEnd e packet turns =
+    FirstTurns e packet.tag packet.contents turns ⊎ (count : ℕ) × ChunkTurns e packet.tag packet.contents (take count (packet_tail e)) turns
+
+-- the first turns of what comes after the chunks of a packet
+abbrev pub FirstOfTail : Bool → Endpoint → List Transition → Type 0
+FirstOfTail asks_again e turns = (count : ℕ) × Turns e (take count (packet_ends ∷ asked_again asks_again)) turns
 
 abbrev pub ChunksCut : {R : Type 0} → PacketContent → View R → List (Event (List ℕ)) → Type 0
 ChunksCut packet old events = TurnsCut (λ e turns. FirstToEnd e (packet_in packet) turns) old events
@@ -161,6 +167,11 @@ WorksAck stream tag content old (Err error) new = view_of new ≡ view_of old
 abbrev pub WorksTurns : {R E : Type 0} → (R → Stream) → (Endpoint → List Transition → Type 0) → Context R → Result (Unit {0}) E → Context R → Type 0
 WorksTurns stream AreTurns old result new =
     ByResult (λ done. TurnsMove stream AreTurns (view_of old) (view_of new)) (TurnsCut AreTurns (view_of old) (view_of new).events) result
+
+abbrev pub WorksTail : {R E : Type 0} → (R → Stream) → Bool → Context R → Result (Unit {0}) E → Context R → Type 0
+WorksTail stream asks_again old result new =
+    ByResult (λ done. TurnsMove stream (λ e turns. Turns e (packet_ends ∷ asked_again asks_again) turns) (view_of old) (view_of new))
+    (TurnsCut (FirstOfTail asks_again) (view_of old) (view_of new).events) result
 
 abbrev pub WorksChunks : {R E : Type 0} → (R → Stream) → PacketContent → Context R → Result (Unit {0}) E → Context R → Type 0
 WorksChunks stream packet old result new = ByResult (λ done. ChunksMove stream packet (view_of old) (view_of new)) (ChunksCut packet (view_of old) (view_of new).events) result

@@ -11,7 +11,7 @@ ghost use Rattle.dcsctp_core.specs.api.Calls.{NoAnswer, is_closed, takes_shutdow
 ghost use Rattle.dcsctp_core.specs.View.{core_of, endpoint_of};
 ghost use Rattle.dcsctp_core.specs.Handling.{Tries};
 ghost use Rattle.dcsctp_core_ends.specs.Shutdown.{is_open_core};
-ghost use Rattle.dcsctp_socket_calls.specs.Parts.{begin_turn, WorksToEnd, WorksChunks, HandlesWholePacket, WorksAck, WorksAcks, WorksPacket, InputTurns, CutTurns, TurnsOf, CutCall, DrewAlone, WorksCall, WorksUserCall};
+ghost use Rattle.dcsctp_socket_calls.specs.Parts.{begin_turn, WorksToEnd, WorksTail, WorksChunks, HandlesWholePacket, WorksAck, WorksAcks, WorksPacket, InputTurns, CutTurns, TurnsOf, CutCall, DrewAlone, WorksCall, WorksUserCall};
 
 use crate::admission::{Admission, admit};
 use crate::dispatch::handle_chunk;
@@ -46,15 +46,29 @@ fn handle_each_chunk<R: Rng>(
     Ok(true)
 }
 
-// Handles the chunks of an admitted packet, and then its end, unless a chunk said that the rest is dropped.
+// What comes after the chunks of a packet: its end, and the shutdown that waited for the association to open. That
+// waits again if the association still isn't open.
+fn finish_packet<R: Rng>(context: &mut Context<R>, asks_again: bool) -> Result<(), AllocError>
+    ensures { WorksTail R.stream asks_again context.old result context.new }
+{
+    end_packet(context)?;
+    if asks_again {
+        do_shutdown(context)?;
+    }
+    Ok(())
+}
+
+// Handles the chunks of an admitted packet, and then what comes after them, unless a chunk said that the rest is
+// dropped.
 fn handle_chunks<R: Rng>(
     context: &mut Context<R>,
     packet: &SctpPacket<'_>,
 ) -> Result<(), AllocError>
     ensures { WorksChunks R.stream (packet_content packet.now) context.old result context.new }
 {
+    let asks_again = context.awaits_opening();
     if handle_each_chunk(context, packet)? {
-        end_packet(context)?;
+        finish_packet(context, asks_again)?;
     }
     Ok(())
 }

@@ -4,19 +4,18 @@
 use Rattle.std.proofs.Common.{◌≡◌, ◌^◌, ◌-◌, ℕ, zero, suc, Bool, true, false, None, Some, List, [], ◌∷◌, refl}
 use Rattle.dcsctp_types.specs.declared.association.Pair.{Pair}
 use Rattle.dcsctp_types.specs.declared.options.Options.{Options}
-use Rattle.dcsctp_types.specs.declared.tracking.TsnRange.{TsnRange}
 use Rattle.dcsctp_types.specs.declared.tracking.AckState.TheVariants.{Idle, Immediate, BecomingDelayed, Delayed}
 use Rattle.dcsctp_types.specs.declared.sending.Turn as sending
 use Rattle.dcsctp_types.specs.queues.Messages.{MessageContent}
 use Rattle.dcsctp_types.specs.queues.SendStreams.{comes_after}
 use Rattle.dcsctp_spec.specs.endpoint.Timers.{running_deadline}
-use Rattle.dcsctp_spec.specs.queues.Reassembly.{ReassemblyState, bytes_to_watermark, remaining_bytes}
+use Rattle.dcsctp_spec.specs.queues.Reassembly.{ReassemblyState, bytes_to_watermark}
 use Rattle.dcsctp_spec.specs.queues.SendQueue.{SendQueueState, empty_queue}
 use Rattle.dcsctp_spec.specs.queues.Sending.{next_turn}
-use Rattle.dcsctp_spec.specs.queues.Tracker.{TrackerState, observed, hastened, is_below_highest, most_blocks, duplicates_left}
+use Rattle.dcsctp_spec.specs.queues.Tracker.{TrackerState, observed, most_blocks, duplicates_left}
 use Rattle.dcsctp_spec.specs.queues.Transfer.{Transfer, advertised_window}
 use Rattle.dcsctp_spec.specs.association.ShutdownChanges.{is_ended_by_abort}
-use Rattle.dcsctp_spec.specs.endpoint.DataOutcomes.{heeds_window, opens_window, taken_to}
+use Rattle.dcsctp_spec.specs.endpoint.DataOutcomes.{heeds_window, taken_to}
 use Rattle.dcsctp_spec.specs.endpoint.Endpoint.{Endpoint, closed, cookie_wait, errors_begun}
 use Rattle.dcsctp_spec.specs.endpoint.EndOutcomes.{closed_after}
 use Rattle.dcsctp_spec.specs.endpoint.Outcome.{Outcome, still}

@@ -280,7 +280,7 @@ init_ack_without_cookie : (e : Endpoint) → init_ack_outcome (socket e 1191 (po
     ≡ record {
       words = [];
       effects = ends ∷ [];
-      after = record (socket e 1191 (pos 0) closed 5) { tie = 0; outstanding = None; renewable = None; heartbeat_sent = None; timers = stopped_timers };
+      after = record (socket e 1191 (pos 0) closed 5) { tie = 0; outstanding = None; renewable = None; heartbeat_sent = None; shutdown_asked = false; timers = stopped_timers };
       events = packet_of true 9 (abort false (missing_mandatory_parameter (7 ∷ []) ∷ []) ∷ []) ∷ aborted ProtocolViolation (codes "InitAck chunk doesn't contain a cookie") ∷ [];
       following = dropped_rest;
     }

@@ -215,6 +215,12 @@ nothing_where_closed e = refl
 stops_t1 : (e : Endpoint) (transfer : Transfer) (cookie : List ℕ) → (shut_down_outcome (at e (cookie_echoed mine held cookie) transfer 1) (cookie_echoed mine held cookie)).after.timers.t1 ≡ None
 stops_t1 e transfer cookie = refl
 
+-- By the RFC it is awaited, and the shutdown waits.
+waits_for_cookie_ack : (e : Endpoint) (transfer : Transfer) (cookie : List ℕ)
+    → shut_down_outcome (by_rfc (at e (cookie_echoed mine held cookie) transfer 1) 4) (cookie_echoed mine held cookie)
+    ≡ still (record (by_rfc (at e (cookie_echoed mine held cookie) transfer 1) 4) { shutdown_asked = true })
+waits_for_cookie_ack e transfer cookie = refl
+
 once_is_enough : (e : Endpoint) → shut_down_outcome e (in_phase shutdown_sent) ≡ still e
 once_is_enough e = refl
 

@@ -16,10 +16,10 @@ use Rattle.dcsctp_spec_lemmas.specs.spec.association.Acts as acts
 use Rattle.dcsctp_spec_lemmas.specs.spec.endpoint.Turn.{Input, arrival, refusal, packet_begins, chunk_input, packet_ends, act_input, user_sets, user_sends, user_resets, user_takes, timer_expires, time_passes, unreadable_text}
 use Rattle.dcsctp_spec_lemmas.specs.spec.endpoint.TimeTurns.{Timer, t1_timer, own_timer, t2_timer, timers_in, deadline, has_come, has_restart, t2_input, expiry_input, inputs_behind, after_expiries, ExpiryThen, ExpiryTurns, MomentTurns, TimeTurns}
 use Rattle.dcsctp_spec_lemmas.specs.spec.endpoint.HeartbeatOutcomes.{is_exhausted}
-use Rattle.dcsctp_spec_lemmas.specs.spec.endpoint.MessageOutcomes.{Sending, sending_of}
+use Rattle.dcsctp_spec_lemmas.specs.spec.endpoint.MessageOutcomes.{awaits_opening, Sending, sending_of}
 use Rattle.dcsctp_spec_lemmas.specs.spec.endpoint.OwnTimers.{OwnTimer}
 use Rattle.dcsctp_spec_lemmas.specs.types.Setting.{Setting}
-use Rattle.dcsctp_spec_lemmas.specs.spec.endpoint.CallTurns.{Transition, IsTurn, Turns, AlongTurns, AfterChunk, ChunkTurns, WholeTurns, AdmittedTurns, HandleInput, unreadable, readable, after_all}
+use Rattle.dcsctp_spec_lemmas.specs.spec.endpoint.CallTurns.{asked_again, packet_tail, Transition, IsTurn, Turns, AlongTurns, AfterChunk, ChunkTurns, WholeTurns, AdmittedTurns, HandleInput, unreadable, readable, after_all}
 use Rattle.dcsctp_spec_lemmas.specs.spec.Handover.{readiness_of}
 use Rattle.dcsctp_spec_lemmas.specs.spec.HandoverInputs.{inputs_of_handover}
 use Rattle.dcsctp_spec_lemmas.specs.spec.endpoint.UserTurns.{UserTurns}
@@ -124,6 +124,14 @@ after_may : (May : Input → Type 0) → MayCome May → (e : Endpoint) (has_exp
 after_may May come e false = tt
 after_may May come e true = behind_may May come e e.core
 
+again_may : (May : Input → Type 0) → MayCome May → (asks : Bool) → AllByRecursion May (asked_again asks)
+again_may May come false = tt
+again_may May come true = (come.shuts_down, tt)
+
+-- what comes after the chunks of a packet
+tail_may : (May : Input → Type 0) → MayCome May → (e : Endpoint) → AllByRecursion May (packet_tail e)
+tail_may May come e = (come.ends, again_may May come (awaits_opening e e.core))
+
 handover_may : (May : Input → Type 0) → MayCome May → (readiness : ℕ) → AllByRecursion May (inputs_of_handover readiness)
 handover_may May come zero = (come.hands_over, tt)
 handover_may May come (suc reasons) = tt
@@ -162,7 +170,7 @@ module _ (Good : Endpoint → Transition → Type 0) (May : Input → Type 0) (c
   whole_along e packet [] chunks turns = absurd turns
   whole_along e packet (t ∷ ts) chunks turns = (
     each e (packet_begins packet.contents) t (come.begins packet.contents) turns.0,
-    chunks_along t.outcome.after packet.tag packet.contents (packet_ends ∷ []) ts chunks (come.ends, tt) turns.1,
+    chunks_along t.outcome.after packet.tag packet.contents (packet_tail t.outcome.after) ts chunks (tail_may May come t.outcome.after) turns.1,
   )
 
   admitted_along : (e : Endpoint) (packet : Packet) (admission : Admission) (ts : List Transition) → EachMay May packet.contents → AdmittedTurns e packet admission ts → AlongTurns Good e ts

@@ -2,6 +2,7 @@
 use Rattle.std.proofs.Common.{ℕ, Bool, true, false, Option, None, Some, List, [], ◌∷◌, inl, inr, refl, sym, subst}
 use Rattle.std.specs.Prelude.{if◌then◌else◌}
 use Rattle.dcsctp_spec_lemmas.specs.types.declared.association.Held.{Held}
+use Rattle.dcsctp_spec_lemmas.specs.types.declared.association.Pair.{Pair}
 use Rattle.dcsctp_spec_lemmas.specs.types.declared.ends.AbortReason.{AbortReason}
 use Rattle.dcsctp_spec_lemmas.specs.spec.Packet.{Content}
 use Rattle.dcsctp_spec_lemmas.specs.spec.Reconfiguration.{RequestedReset}
@@ -16,7 +17,7 @@ use Rattle.dcsctp_spec_lemmas.specs.spec.endpoint.HeartbeatOutcomes.{is_exhauste
 use Rattle.dcsctp_spec_lemmas.specs.spec.endpoint.OwnTimers.{OwnTimer, TimerTurn, acknowledgement_delay, retransmission, heartbeat_interval, heartbeat_timeout, reconfiguration}
 use Rattle.dcsctp_spec_lemmas.specs.spec.endpoint.ReconfigurationOutcomes.{reset_again, request_emitted, renewed_request_where, request_renewed as renewed_outcome, is_renewed, request_unless, request_expired, reconfiguration_outcome}
 use Rattle.dcsctp_spec_lemmas.specs.spec.association.FlushChanges.{reset_request}
-use Rattle.dcsctp_spec_lemmas.specs.spec.endpoint.ShutdownOutcomes.{t1_stopped, may_go_on, shut_down_outcome, t2_goes_on, shutdown_sent_again}
+use Rattle.dcsctp_spec_lemmas.specs.spec.endpoint.ShutdownOutcomes.{shut_down_echoed, t1_stopped, may_go_on, shut_down_outcome, t2_goes_on, shutdown_sent_again}
 use Rattle.dcsctp_spec_lemmas.specs.spec.endpoint.TimerOutcomes.{t1_goes_on, AgainAnswers, t1_again_by, t1_gives_up_outcome}
 use Rattle.dcsctp_spec_lemmas.specs.spec.endpoint.Turn.{act_input, ActTurn}
 use Rattle.dcsctp_spec_lemmas.specs.types.declared.word.Word.TheVariants.{U32}
@@ -62,11 +63,15 @@ gives_up_leaves e (cookie_wait mine) = inr (inr (record { left = refl; none = re
 gives_up_leaves e (cookie_echoed mine held cookie) = inr (inr (record { left = refl; none = refl; last = refl }))
 gives_up_leaves e (open_in phase mine held) = inl (unmoved e)
 
+echoed_leaves : (follows : Bool) (e : Endpoint) (my : Pair) (held : Held) → LeavesIn e (shut_down_echoed follows e my held)
+echoed_leaves true e my held = inl (record { left = refl; there = refl; last = refl })
+echoed_leaves false e my held =
+    inl (stays_then e (t1_stopped e) _ (record { left = refl; there = refl; last = refl }) (step_from_stays (may_go_on (t1_stopped e)) (t1_stopped e) shutdown_pending my held))
+
 shut_down_leaves : (e : Endpoint) (core : Core) → LeavesIn e (shut_down_outcome e core)
 shut_down_leaves e closed = inl (unmoved e)
 shut_down_leaves e (cookie_wait my) = inr (inr (record { left = refl; none = refl; last = refl }))
-shut_down_leaves e (cookie_echoed my held cookie) =
-    inl (stays_then e (t1_stopped e) _ (record { left = refl; there = refl; last = refl }) (step_from_stays (may_go_on (t1_stopped e)) (t1_stopped e) shutdown_pending my held))
+shut_down_leaves e (cookie_echoed my held cookie) = echoed_leaves e.options.follow_rfc e my held
 shut_down_leaves e (open_in established my held) = inl (step_from_stays (may_go_on e) e shutdown_pending my held)
 shut_down_leaves e (open_in shutdown_pending my held) = inl (unmoved e)
 shut_down_leaves e (open_in shutdown_sent my held) = inl (unmoved e)

@@ -1,11 +1,11 @@
 -- How much of the receive window is in use is the bytes of what is held, and the overhead of each part.
-use Rattle.std.proofs.Common.{◌≡◌, ℕ, suc, ◌+◌, ◌*◌, Option, None, Some, List, [], ◌∷◌, length, arith, refl, ap}
+use Rattle.std.proofs.Common.{◌≡◌, ℕ, ◌+◌, ◌*◌, Option, None, Some, List, [], ◌∷◌, length, arith, ap}
 use Rattle.std.specs.List.{sum_by}
 use Rattle.std.proofs.Math.Nat.{add-mul, suc-mul}
 use Rattle.std.proofs.lemmas.List.Sums.{sum_by-cons}
-use Rattle.dcsctp_spec_lemmas.specs.spec.queues.Runs.{RunModel, WholeModel, part_used, payloads_used, run_used, runs_used, wholes_used}
+use Rattle.dcsctp_spec_lemmas.specs.spec.queues.Runs.{RunModel, WholeModel, part_used, run_used, runs_used, wholes_used}
 use Rattle.dcsctp_spec_lemmas.specs.spec.queues.IncomingStreams.{StreamModel, kept_stream_used, streams_used}
-use Rattle.dcsctp_spec_lemmas.specs.spec.queues.Reassembly.{DeferralModel, ReassemblyState, WaitingModel, deferred_used, waiting_of, waiting_used}
+use Rattle.dcsctp_spec_lemmas.specs.spec.queues.Reassembly.{DeferralModel, deferred_used, waiting_of, waiting_used}
 use Rattle.dcsctp_spec_laws.specs.PartLaws.{WindowCountsParts, parts_in_runs, parts_on_stream, parts_in}
 
 module _ (overhead : ℕ) where

@@ -1,5 +1,5 @@
 -- The turns of shutdown at an endpoint are turns of its association (RFC 9260, section 9.2).
-use Rattle.std.proofs.Common.{◌≡◌, ℕ, Bool, true, false, refl, sym, subst}
+use Rattle.std.proofs.Common.{List, ◌≡◌, ℕ, Bool, true, false, refl, sym, subst}
 use Rattle.dcsctp_spec_lemmas.specs.types.declared.association.Pair.{Pair}
 use Rattle.dcsctp_spec_lemmas.specs.types.declared.association.Held.{Held}
 use Rattle.dcsctp_spec_lemmas.specs.types.Settings.{SameOptions}
@@ -7,9 +7,9 @@ use Rattle.dcsctp_spec_lemmas.specs.spec.Packet.{shutdown_ack, shutdown_complete
 use Rattle.dcsctp_spec_lemmas.specs.spec.endpoint.Endpoint.{Endpoint, Core, closed, cookie_wait, cookie_echoed, open_in, OpenPhase, established, shutdown_pending, shutdown_sent, shutdown_received, shutdown_ack_sent}
 use Rattle.dcsctp_spec_lemmas.specs.spec.endpoint.Outcome.{Outcome}
 use Rattle.dcsctp_spec_lemmas.specs.spec.endpoint.EndOutcomes.{after_reflected, reflected_outcome}
-use Rattle.dcsctp_spec_lemmas.specs.spec.endpoint.ShutdownOutcomes.{received_tsn, phase_at, may_go_on, step_by, step_outcome, t1_stopped, shut_down_outcome, shutdown_ack_outcome, shutdown_complete_outcome, t2_goes_on, shutdown_sent_again, t2_again_outcome, shutdown_repeated}
+use Rattle.dcsctp_spec_lemmas.specs.spec.endpoint.ShutdownOutcomes.{shut_down_echoed, received_tsn, phase_at, may_go_on, step_by, step_outcome, t1_stopped, shut_down_outcome, shutdown_ack_outcome, shutdown_complete_outcome, t2_goes_on, shutdown_sent_again, t2_again_outcome, shutdown_repeated}
 use Rattle.dcsctp_spec_lemmas.specs.spec.association.Choices.{Choices}
-use Rattle.dcsctp_spec_lemmas.specs.spec.association.ShutdownChanges.{shutdown_step_change_in, shutdown_step_change, shutdown_call_change, shutdown_again_change, reflected_change, shutdown_ack_change, shutdown_complete_change}
+use Rattle.dcsctp_spec_lemmas.specs.spec.association.ShutdownChanges.{shutdown_call_change_echoed, shutdown_step_change_in, shutdown_step_change, shutdown_call_change, shutdown_again_change, reflected_change, shutdown_ack_change, shutdown_complete_change}
 use Rattle.dcsctp_spec_lemmas.specs.spec.association.Acts.{shut_down, step_of_shutdown, shutdown_repeats}
 use Rattle.dcsctp_spec_lemmas.specs.spec.association.Controlled.{IsControlled, ControlledChunk, ControlledAct}
 use Rattle.dcsctp_spec_lemmas.proofs.ControlHandshake.{no_choices, still_controlled}
@@ -56,11 +56,16 @@ step_from_at e base phase my held same = step_by_at (may_go_on base) e (phase_at
 
 -- ---- the user's call
 
+echoed_at : (follows : Bool) (e : Endpoint) (my : Pair) (held : Held) (cookie : List ℕ) → e.core ≡ cookie_echoed my held cookie
+    → IsControlled e (shut_down_echoed follows e my held) (shutdown_call_change_echoed follows my held cookie (received_tsn e.queues.transfer) (may_go_on e))
+echoed_at true e my held cookie is = record { core = is; options = refl; observations = refl; effects = refl; following = refl }
+echoed_at false e my held cookie is = step_from_at e (t1_stopped e) shutdown_pending my held refl
+
 call_at : (e : Endpoint) (core : Core) → e.core ≡ core
-    → IsControlled e (shut_down_outcome e core) (shutdown_call_change core (received_tsn e.queues.transfer) (may_go_on e))
+    → IsControlled e (shut_down_outcome e core) (shutdown_call_change e.options core (received_tsn e.queues.transfer) (may_go_on e))
 call_at e closed is = still_controlled e closed is
 call_at e (cookie_wait my) is = record { core = refl; options = refl; observations = refl; effects = refl; following = refl }
-call_at e (cookie_echoed my held cookie) is = step_from_at e (t1_stopped e) shutdown_pending my held refl
+call_at e (cookie_echoed my held cookie) is = echoed_at e.options.follow_rfc e my held cookie is
 call_at e (open_in established my held) is = step_from_at e e shutdown_pending my held refl
 call_at e (open_in shutdown_pending my held) is = still_controlled e (open_in shutdown_pending my held) is
 call_at e (open_in shutdown_sent my held) is = still_controlled e (open_in shutdown_sent my held) is

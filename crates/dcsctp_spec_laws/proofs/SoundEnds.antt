@@ -8,7 +8,7 @@ use Rattle.dcsctp_spec_lemmas.specs.spec.endpoint.Endpoint.{Core, closed, cookie
 use Rattle.dcsctp_spec_lemmas.specs.spec.endpoint.Following.{Following}
 use Rattle.dcsctp_spec_lemmas.specs.spec.Soundness.{IsSoundCore}
 use Rattle.dcsctp_spec_lemmas.specs.spec.association.Acts.{hand_over_change}
-use Rattle.dcsctp_spec_lemmas.specs.spec.association.ShutdownChanges.{shutdown_step_change, shutdown_step_change_in, shutdown_call_change, abort_call_change, shutdown_again_change, abort_change, shutdown_change, shutdown_ack_change, shutdown_complete_change}
+use Rattle.dcsctp_spec_lemmas.specs.spec.association.ShutdownChanges.{shutdown_call_change_echoed, shutdown_step_change, shutdown_step_change_in, shutdown_call_change, abort_call_change, shutdown_again_change, abort_change, shutdown_change, shutdown_ack_change, shutdown_complete_change}
 use Rattle.dcsctp_spec_lemmas.proofs.AbortLemmas.{by_abort}
 
 module _ (p : Options) where
@@ -28,10 +28,15 @@ module _ (p : Options) where
   step_sound (cookie_echoed my held cookie) tsn is_acknowledged h = h
   step_sound (open_in phase my held) tsn is_acknowledged h = step_in_sound phase my held tsn is_acknowledged h
 
-  pub shutdown_call_sound : (core : Core) (tsn : ℕ) (is_acknowledged : Bool) → IsSoundCore p core → IsSoundCore p (shutdown_call_change core tsn is_acknowledged).core
+  call_echoed_sound : (follows : Bool) (my : Pair) (held : Held) (cookie : List ℕ) (tsn : ℕ) (is_acknowledged : Bool) → IsSoundCore p (cookie_echoed my held cookie)
+      → IsSoundCore p (shutdown_call_change_echoed follows my held cookie tsn is_acknowledged).core
+  call_echoed_sound true my held cookie tsn is_acknowledged h = h
+  call_echoed_sound false my held cookie tsn is_acknowledged h = step_in_sound shutdown_pending my held tsn is_acknowledged h
+
+  pub shutdown_call_sound : (core : Core) (tsn : ℕ) (is_acknowledged : Bool) → IsSoundCore p core → IsSoundCore p (shutdown_call_change p core tsn is_acknowledged).core
   shutdown_call_sound closed tsn is_acknowledged h = h
   shutdown_call_sound (cookie_wait my) tsn is_acknowledged h = tt
-  shutdown_call_sound (cookie_echoed my held cookie) tsn is_acknowledged h = step_in_sound shutdown_pending my held tsn is_acknowledged h
+  shutdown_call_sound (cookie_echoed my held cookie) tsn is_acknowledged h = call_echoed_sound p.follow_rfc my held cookie tsn is_acknowledged h
   shutdown_call_sound (open_in established my held) tsn is_acknowledged h = step_in_sound shutdown_pending my held tsn is_acknowledged h
   shutdown_call_sound (open_in shutdown_pending my held) tsn is_acknowledged h = h
   shutdown_call_sound (open_in shutdown_sent my held) tsn is_acknowledged h = h

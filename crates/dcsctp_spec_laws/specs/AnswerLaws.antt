@@ -1,5 +1,5 @@
 -- One answer a packet, by the RFCs' rules.
-use Rattle.std.specs.Prelude.{◌≡◌, Bool, false, List}
+use Rattle.std.specs.Prelude.{◌≡◌, false, List}
 use Rattle.dcsctp_spec_lemmas.specs.wire.Content.{ParameterContent}
 use Rattle.dcsctp_spec_lemmas.specs.types.declared.association.Held.{Held}
 use Rattle.dcsctp_spec_lemmas.specs.spec.Packet.{Introduction}

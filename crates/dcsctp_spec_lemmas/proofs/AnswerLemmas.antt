@@ -1,7 +1,7 @@
 -- An ask may be answered whichever packet its flush has reached, and whatever it reported already.
 use Rattle.std.proofs.Common.{◌≡◌, ◌∙◌, ℕ, zero, suc, Bool, true, false, Option, None, Some, List, [], ◌∷◌, ◌++◌, refl, sym, ap, subst}
 use Rattle.std.proofs.lemmas.List.{append-nil}
-use Rattle.dcsctp_spec.specs.endpoint.Endpoint.{Endpoint, held_in}
+use Rattle.dcsctp_spec.specs.endpoint.Endpoint.{Endpoint}
 use Rattle.dcsctp_spec.specs.Packet.{Plain, Content, Emission}
 use Rattle.dcsctp_spec.specs.association.Choices.{plain_contents}
 use Rattle.dcsctp_spec.specs.queues.Abandoning.{GivesUpAll}
@@ -11,7 +11,7 @@ use Rattle.dcsctp_spec.specs.queues.Retransmission.{RetransmissionState}
 use Rattle.dcsctp_spec.specs.queues.SendQueue.{SendQueueState}
 use Rattle.dcsctp_spec.specs.queues.Transfer.{Transfer, may_give, is_idle}
 use Rattle.dcsctp_spec.specs.endpoint.BegunResets.{BegunReset, streams_within, last_assigned_tsn, request_contents, queue_requesting, retransmission_begun}
-use Rattle.dcsctp_spec.specs.endpoint.FlushOutcomes.{Answer, answer_contents, filled, asked, next_draft, IsWithinMtu, nothing_waits, Ask, later_ask, room_in, wants_sack, stage_of, may_forward, GivesUpWhere, begun_at, GivesWhere, IsAnswerOfQueues, IsFlushAnswer, AreFlushAnswers, at_limit, at_empty, after_packet}
+use Rattle.dcsctp_spec.specs.endpoint.FlushOutcomes.{may_be_asked, Answer, answer_contents, filled, asked, next_draft, IsWithinMtu, nothing_waits, Ask, later_ask, room_in, wants_sack, stage_of, may_forward, GivesUpWhere, begun_at, GivesWhere, IsAnswerOfQueues, IsFlushAnswer, AreFlushAnswers, at_limit, at_empty, after_packet}
 use Rattle.dcsctp_spec_lemmas.proofs.AnswerParts.{sacks_where, tracker_where, acknowledges_where, some_forwarded, fills_where}
 use Rattle.dcsctp_spec_lemmas.proofs.FilledAnswers.{Completes, completes_sooner, GivesUntilFull, answer_filling}
 use Rattle.dcsctp_spec_lemmas.proofs.FilledOutcomes.{Filled, some_filled}
@@ -28,7 +28,7 @@ answer_given_up ask e draft transfer gave_up next forwards gives_up holds busy =
     let wants : Bool = wants_sack ask e.queues.queue transfer in
     let sacks : List Plain = sacks_where wants (room_in e draft) transfer in
     let room : ℕ = room_in e (filled draft (plain_contents (sacks ++ forwards))) in
-    let begun : Option BegunReset = begun_at ask (held_in e.core) room (last_assigned_tsn gave_up.queue) gave_up.waiting in
+    let begun : Option BegunReset = begun_at ask (may_be_asked e.core e.options.follow_rfc) room (last_assigned_tsn gave_up.queue) gave_up.waiting in
     let left : SendQueueState = queue_requesting (streams_within room) begun gave_up.waiting in
     let queue : RetransmissionState = retransmission_begun begun gave_up.queue in
     let start : Stage = stage_of left queue gave_up.told (room_in e (filled draft (plain_contents (sacks ++ forwards) ++ request_contents begun))) in

@@ -1,7 +1,7 @@
 -- An answer whose packet is filled with data: where memory is refused in the middle of a flush, this is what completes its turn.
 use Rattle.std.proofs.Common.{◌≡◌, ◌∙◌, ◌≤◌, ℕ, Bool, false, Option, Some, List, [], ◌++◌, map, append_assoc, refl, sym, ap, subst, arith}
 use Rattle.std.proofs.lemmas.List.{append-nil}
-use Rattle.dcsctp_spec.specs.endpoint.Endpoint.{Endpoint, held_in}
+use Rattle.dcsctp_spec.specs.endpoint.Endpoint.{Endpoint}
 use Rattle.dcsctp_spec.specs.endpoint.Event.{Event}
 use Rattle.dcsctp_spec.specs.endpoint.Outcome.{contents_len}
 use Rattle.dcsctp_spec.specs.Packet.{Plain, Content, Emission}
@@ -12,7 +12,7 @@ use Rattle.dcsctp_spec.specs.queues.SendQueue.{SendQueueState}
 use Rattle.dcsctp_spec.specs.queues.Tracker.{TrackerState}
 use Rattle.dcsctp_spec.specs.queues.Transfer.{Transfer, may_give, is_idle}
 use Rattle.dcsctp_spec.specs.endpoint.BegunResets.{BegunReset, streams_within, last_assigned_tsn, request_contents, queue_requesting, retransmission_begun, after_begun}
-use Rattle.dcsctp_spec.specs.endpoint.FlushOutcomes.{FillingEvent, filling_event_content, Answer, filled, IsWithinMtu, Ask, room_in, wants_sack, Acknowledges, stage_of, may_forward, GivesUpWhere, forward_where, FillsWhere, begun_at, Gives, GivesWhere, IsAnswerOfQueues, timers_with, IsFlushAnswer}
+use Rattle.dcsctp_spec.specs.endpoint.FlushOutcomes.{may_be_asked, FillingEvent, filling_event_content, Answer, filled, IsWithinMtu, Ask, room_in, wants_sack, Acknowledges, stage_of, may_forward, GivesUpWhere, forward_where, FillsWhere, begun_at, Gives, GivesWhere, IsAnswerOfQueues, timers_with, IsFlushAnswer}
 use Rattle.dcsctp_spec_lemmas.proofs.AnswerParts.{forwards_fit_where, acknowledgements_len, tells_given_up_where, packed_where}
 use Rattle.dcsctp_spec_lemmas.proofs.ChunkOutcomes.{SomeChunks, some_chunks}
 use Rattle.dcsctp_spec_lemmas.proofs.PackingLemmas.{packed_none}
@@ -51,7 +51,7 @@ pub record GivesUntilFull (ask : Ask) (e : Endpoint) (draft : Emission) (transfe
       (stage_of e.queues.queue transfer.retransmission [] 0) gave_up next forwards
   pub begun : Option BegunReset
   pub begins : begun
-      ≡ begun_at ask (held_in e.core) (room_in e (filled draft (plain_contents (sacks ++ forwards)))) (last_assigned_tsn gave_up.queue) gave_up.waiting
+      ≡ begun_at ask (may_be_asked e.core e.options.follow_rfc) (room_in e (filled draft (plain_contents (sacks ++ forwards)))) (last_assigned_tsn gave_up.queue) gave_up.waiting
   -- once the packet is full
   pub sent : Stage
   pub fills : let left : SendQueueState =
@@ -143,7 +143,7 @@ within_until ask e draft transfer u within =
     (acknowledgements_len (wants_sack ask e.queues.queue transfer) (may_forward ask e transfer.retransmission) e draft transfer u.tracker u.sacks u.forwards
     (stage_of e.queues.queue transfer.retransmission [] 0) u.gave_up u.next u.acknowledges u.gives_up)
     (subst (λ (begun : Option BegunReset). contents_len (request_contents begun) ≤ room_in e (filled draft acknowledged)) (sym u.begins)
-    (begun_at_len ask (held_in e.core) (room_in e (filled draft acknowledged)) (last_assigned_tsn u.gave_up.queue) u.gave_up.waiting))
+    (begun_at_len ask (may_be_asked e.core e.options.follow_rfc) (room_in e (filled draft acknowledged)) (last_assigned_tsn u.gave_up.queue) u.gave_up.waiting))
     (omega (arith, len))
 
 -- where something waits

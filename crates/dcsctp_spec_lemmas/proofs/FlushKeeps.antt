@@ -1,5 +1,5 @@
 -- What a flush leaves as it was, whatever its answers, and that its packets are those of a flush of the association.
-use Rattle.std.proofs.Common.{◌≡◌, ◌==◌, ℕ, Bool, true, false, Option, None, Some, List, [], ◌∷◌, ◌++◌, map, refl, sym, subst, ap, ◌∙◌, append_assoc}
+use Rattle.std.proofs.Common.{◌≡◌, ◌==◌, ℕ, Bool, true, false, Option, None, Some, List, [], ◌∷◌, ◌++◌, map, refl, sym, subst, ap, ◌∙◌, append_assoc, ◌⊎◌, inl, inr}
 use Rattle.std.specs.Prelude.{if◌then◌else◌, take}
 use Rattle.std.specs.Duration.{as_nanos}
 use Rattle.std.proofs.lemmas.List.{append-nil, map-append}
@@ -13,8 +13,8 @@ use Rattle.dcsctp_spec.specs.Packet.{Plain, plain, Content, Packet, Emission}
 use Rattle.dcsctp_spec.specs.Reconfiguration.{RequestedReset}
 use Rattle.dcsctp_spec.specs.queues.SendQueue.{SendQueueState}
 use Rattle.dcsctp_spec.specs.queues.Transfer.{Transfer, is_idle}
-use Rattle.dcsctp_spec.specs.endpoint.Endpoint.{Endpoint, Core, cookie_wait, cookie_echoed, open_in, OpenPhase, held_in, Timers, heartbeat_settings, closed as closed_core}
-use Rattle.dcsctp_spec.specs.endpoint.Timers.{RunningTimer, started}
+use Rattle.dcsctp_spec.specs.endpoint.Endpoint.{Endpoint, Core, cookie_wait, cookie_echoed, open_in, OpenPhase, held_in, Timers, closed as closed_core}
+use Rattle.dcsctp_spec.specs.endpoint.Timers.{RunningTimer}
 use Rattle.dcsctp_spec.specs.endpoint.Following.{next_chunk}
 use Rattle.dcsctp_spec.specs.endpoint.Outcome.{Outcome, still, behind, then_outcome, noting}
 use Rattle.dcsctp_spec.specs.association.Effect.{Effect, begins, emitted, noted}
@@ -22,7 +22,7 @@ use Rattle.dcsctp_spec.specs.association.Choices.{Filling, plain_contents}
 use Rattle.dcsctp_spec.specs.association.FlushChanges.{further_packets, held_asking, reset_request, reset_to_begin, Flushed, flushed_with, flush}
 use Rattle.dcsctp_spec.specs.association.Controlled.{Observation, packet_sent, has_connected, has_ended, own_reset_performed, own_reset_failed, peer_reset_performed, observations_of_events, observations_of_effects, IsControlled}
 use Rattle.dcsctp_spec.specs.endpoint.BegunResets.{BegunReset, streams_within, last_assigned_tsn, begun_where, begun_in, request_contents, begun_effects, held_begun, core_asking, after_begun, stream_field}
-use Rattle.dcsctp_spec.specs.endpoint.FlushOutcomes.{FillingEvent, amount_is_low, total_amount_is_low, message_is_sent, message_may_have_expired, message_has_expired, message_ends, filling_event, Answer, answer_contents, filled, goes_out, asked, next_draft, flush_of, Ask, first_ask, later_ask, room_in, GivesWhere, IsAnswerOfQueues, IsFlushAnswer, timers_with, AreFlushAnswers, at_limit, at_empty, after_packet, FlushAnswers, packets_allowed}
+use Rattle.dcsctp_spec.specs.endpoint.FlushOutcomes.{may_be_asked, FillingEvent, amount_is_low, total_amount_is_low, message_is_sent, message_may_have_expired, message_has_expired, message_ends, filling_event, Answer, answer_contents, filled, goes_out, asked, next_draft, flush_of, Ask, first_ask, later_ask, room_in, GivesWhere, IsAnswerOfQueues, IsFlushAnswer, timers_with, AreFlushAnswers, at_limit, at_empty, after_packet, FlushAnswers, packets_allowed}
 
 -- ---- what stays
 
@@ -284,9 +284,21 @@ begun_is held None last_tsn (stream ∷ streams) is = (refl, is)
 begun_is held (Some number) last_tsn [] is = tt
 begun_is held (Some number) last_tsn (stream ∷ streams) is = tt
 
-first_in : (held : Held) (peer : Option Held) (room last_tsn : ℕ) (queue : SendQueueState) → peer ≡ Some held → IsBegun (begun_in peer room last_tsn queue) held
+-- This peer may be asked, or none.
+abbrev AsksAtMost : Held → Option Held → Type 0
+AsksAtMost held peer = (peer ≡ None) ⊎ (peer ≡ Some held)
+
+asks_at_most : (core : Core) (follows : Bool) (held : Held) → held_in core ≡ Some held → AsksAtMost held (may_be_asked core follows)
+asks_at_most closed_core follows held holds = inr holds
+asks_at_most (cookie_wait my) follows held holds = inr holds
+asks_at_most (cookie_echoed my own cookie) true held holds = inl refl
+asks_at_most (cookie_echoed my own cookie) false held holds = inr holds
+asks_at_most (open_in phase my own) follows held holds = inr holds
+
+first_in : (held : Held) (peer : Option Held) (room last_tsn : ℕ) (queue : SendQueueState) → AsksAtMost held peer → IsBegun (begun_in peer room last_tsn queue) held
 first_in held None room last_tsn queue is = tt
-first_in held (Some own) room last_tsn queue is =
+first_in held (Some own) room last_tsn queue (inl is) = absurd (cc)
+first_in held (Some own) room last_tsn queue (inr is) =
     let here : own ≡ held = cc in
     subst (λ (h : Held). IsBegun (begun_in (Some own) room last_tsn queue) h) here
     (begun_is own own.own_outstanding last_tsn (map stream_field (take (streams_within room) (ready_streams queue))) refl)
@@ -295,7 +307,8 @@ first_where : (b : Bool) (e : Endpoint) (held : Held) (draft : Emission) (transf
 first_where true e held draft transfer answer holds h = subst (λ (a : Answer). IsBegun a.begun held) (sym h) tt
 first_where false e held draft transfer answer holds h =
     subst (λ (b : Option BegunReset). IsBegun b held) (sym h.begins)
-    (first_in held (held_in e.core) (room_in e (filled draft (plain_contents answer.acknowledgements))) (last_assigned_tsn h.gave_up.queue) h.gave_up.waiting holds)
+    (first_in held (may_be_asked e.core e.options.follow_rfc) (room_in e (filled draft (plain_contents answer.acknowledgements))) (last_assigned_tsn h.gave_up.queue) h.gave_up.waiting
+    (asks_at_most e.core e.options.follow_rfc held holds))
 
 first_below : (e : Endpoint) (held : Held) (draft : Emission) (transfer : Option Transfer) (answer : Answer) → held_in e.core ≡ Some held → IsAnswerOfQueues first_ask e draft answer transfer → IsBegun answer.begun held
 first_below e held draft None answer holds h = subst (λ (a : Answer). IsBegun a.begun held) (sym h) tt

@@ -14,8 +14,8 @@ use Rattle.dcsctp_spec_lemmas.specs.spec.association.Controlled.{IsControlled, C
 use Rattle.dcsctp_spec_runs.specs.Laws.{FitsTurns, FitsBehind, AllControlled, IsRest, dropped, ended, AreChunkTurns, AdmittedPacketsMayBeHandled, PacketsAreControlled, DeliversPacket, whole, acks, reported, DeliveriesAreControlled}
 use Rattle.dcsctp_spec_laws.specs.TurnLaws.{StandsBefore, ChunksAreControlled}
 use Rattle.dcsctp_spec_lemmas.specs.spec.Admission.{Admission, all_chunks, shutdown_acks_alone, refused, admits, shutdown_acks_in}
-use Rattle.dcsctp_spec_lemmas.specs.spec.endpoint.Turn.{Input, packet_ends, has_data_chunk}
-use Rattle.dcsctp_spec_lemmas.specs.spec.endpoint.CallTurns.{Transition, Turns, AfterChunk, ChunkTurns, WholeTurns, AdmittedTurns, after_all}
+use Rattle.dcsctp_spec_lemmas.specs.spec.endpoint.Turn.{Input, has_data_chunk}
+use Rattle.dcsctp_spec_lemmas.specs.spec.endpoint.CallTurns.{packet_tail, Transition, Turns, AfterChunk, ChunkTurns, WholeTurns, AdmittedTurns, after_all}
 use Rattle.dcsctp_spec_runs.specs.World.{MayBeHandled, ChunkChanges}
 use Rattle.dcsctp_spec_lemmas.specs.types.declared.options.Options.{Options}
 use Rattle.dcsctp_spec_laws.proofs.ControlLemmas.{stands_before}
@@ -191,7 +191,7 @@ whole_delivered law may e packet (begun ∷ ts) is turns fitting =
     let before : StandsBefore e begun.outcome = stands_before e (has_data_chunk e.options.follow_rfc packet.contents) begun.outcome turns.0.comes in
     whole begun ts (record {
       before = before;
-      worked = law begun.outcome.after packet.tag packet.contents (packet_ends ∷ []) ts turns.1 fitting;
+      worked = law begun.outcome.after packet.tag packet.contents (packet_tail begun.outcome.after) ts turns.1 fitting;
       may = subst (λ (c : Core). MayBeHandled c packet) (sym (before.controlled.core ∙ before.keeps)) (may.whole e.core packet is);
     })
 

@@ -1,5 +1,5 @@
 -- A packet of one INIT leaves the association as it is, whatever becomes of it.
-use Rattle.std.proofs.Common.{◌≡◌, ℕ, Bool, true, false, Option, None, Some, List, [], ◌∷◌, refl, sym, subst, ap, ◌∙◌}
+use Rattle.std.proofs.Common.{◌≡◌, ◌&&◌, ℕ, Bool, true, false, Option, None, Some, List, [], ◌∷◌, refl, sym, subst, ap, ◌∙◌}
 use Rattle.dcsctp_spec_lemmas.specs.types.declared.association.Held.{Held}
 use Rattle.dcsctp_spec_lemmas.specs.types.declared.tracking.AckState.{AckState}
 use Rattle.dcsctp_spec_lemmas.specs.types.declared.tracking.AckState.TheVariants.{Idle, BecomingDelayed, Delayed, Immediate}
@@ -7,12 +7,16 @@ use Rattle.dcsctp_spec_lemmas.specs.spec.Packet.{Introduction, Content, init, pa
 use Rattle.dcsctp_spec_lemmas.specs.spec.Admission.{Admission, all_chunks, shutdown_acks_alone, refused, admits, is_single_init}
 use Rattle.dcsctp_spec_lemmas.specs.spec.queues.Tracker.{TrackerState, is_sack_due, delayed_from, after_packet_end, is_acknowledgement_due, sacked}
 use Rattle.dcsctp_spec_lemmas.specs.spec.queues.Transfer.{Transfer}
-use Rattle.dcsctp_spec_lemmas.specs.spec.endpoint.Endpoint.{Endpoint, Core, open_in, shutdown_sent, held_in}
+use Rattle.dcsctp_spec_lemmas.specs.spec.endpoint.Endpoint.{Endpoint, Core, closed, cookie_wait, cookie_echoed, open_in, is_cookie_echoed, shutdown_sent, held_in}
 use Rattle.dcsctp_spec_lemmas.specs.spec.endpoint.Following.{next_chunk}
 use Rattle.dcsctp_spec_lemmas.specs.spec.endpoint.Outcome.{Outcome, still}
+use Rattle.dcsctp_spec_lemmas.specs.types.declared.options.Options.{Options}
+use Rattle.dcsctp_spec_lemmas.specs.spec.endpoint.MessageOutcomes.{awaits_opening}
+use Rattle.dcsctp_spec_lemmas.specs.spec.endpoint.ShutdownOutcomes.{shut_down_echoed, shut_down_outcome}
+use Rattle.dcsctp_spec_laws.proofs.DataLemmas.{flushed_act, end_at}
 use Rattle.dcsctp_spec_lemmas.specs.spec.endpoint.Turn.{arrival, refusal, packet_ends, BeginTurn, unreadable_text}
-use Rattle.dcsctp_spec_lemmas.specs.spec.endpoint.CallTurns.{Transition, IsTurn, Turns, ChunkTurns, WholeTurns, AdmittedTurns, unreadable, readable, after_all}
-use Rattle.dcsctp_spec_lemmas.specs.spec.endpoint.BegunResets.{BegunReset, after_begun}
+use Rattle.dcsctp_spec_lemmas.specs.spec.endpoint.CallTurns.{asked_again, Transition, IsTurn, Turns, ChunkTurns, WholeTurns, AdmittedTurns, unreadable, readable, after_all}
+use Rattle.dcsctp_spec_lemmas.specs.spec.endpoint.BegunResets.{BegunReset, core_asking, after_begun}
 use Rattle.dcsctp_spec_lemmas.specs.spec.endpoint.FlushOutcomes.{own_sack, first_ask, packets_allowed, room_in, draft_to}
 use Rattle.dcsctp_spec_lemmas.specs.spec.endpoint.DataOutcomes.{endpoint_with_tracker, acknowledging, EndWhere, EndsBy}
 use Rattle.dcsctp_spec_runs.specs.Laws.{CountsSentOnly, is_earlier_acknowledgement_due, StaysAs, unchanged_core, asking_core, InitPacketLeavesAssociation}
@@ -73,33 +77,80 @@ refused_stays e text [] turns = absurd turns
 refused_stays e text (t ∷ []) turns = unchanged_core (ap (λ (x : Outcome). x.after.core) turns.0.comes)
 refused_stays e text (t ∷ u ∷ ts) turns = absurd turns.1
 
-ended_stays : (e : Endpoint) (ts : List Transition) → Turns e (packet_ends ∷ []) ts → Stays e ts
-ended_stays e [] turns = absurd turns
-ended_stays e (t ∷ []) turns = end_stays e e.queues.transfer t.outcome turns.0.comes
-ended_stays e (t ∷ u ∷ ts) turns = absurd turns.1
+-- ---- a shutdown that waits for the association to open
+
+-- The COOKIE ACK is awaited, and the RFC's rules are followed.
+abbrev AwaitsAck : Endpoint → Core → Type 0
+AwaitsAck e core = (is_cookie_echoed core ≡ true) × (e.options.follow_rfc ≡ true)
+
+first_of : (a b : Bool) → (a && b) ≡ true → a ≡ true
+first_of true b is = refl
+first_of false b is = absurd (cc)
+
+awaits_ack : (e : Endpoint) (core : Core) → awaits_opening e core ≡ true → AwaitsAck e core
+awaits_ack e closed is = absurd (cc)
+awaits_ack e (cookie_wait my) is = absurd (cc)
+awaits_ack e (cookie_echoed my held cookie) is = (refl, first_of e.options.follow_rfc e.shutdown_asked is)
+awaits_ack e (open_in phase my held) is = absurd (cc)
+
+asking_awaits : (core : Core) → is_cookie_echoed core ≡ true → is_cookie_echoed (core_asking core) ≡ true
+asking_awaits closed is = is
+asking_awaits (cookie_wait my) is = is
+asking_awaits (cookie_echoed my held cookie) is = refl
+asking_awaits (open_in phase my held) is = is
+
+stays_awaiting : (is_due : Bool) (old new : Core) → StaysAs is_due old new → is_cookie_echoed old ≡ true → is_cookie_echoed new ≡ true
+stays_awaiting is_due old new (unchanged_core same) is = ap is_cookie_echoed same ∙ is
+stays_awaiting is_due old new (asking_core due same) is = ap is_cookie_echoed same ∙ asking_awaits old is
+
+-- Asked for again, it still waits.
+again_rests : (e : Endpoint) (core : Core) → AwaitsAck e core → (shut_down_outcome e core).after.core ≡ e.core
+again_rests e closed is = absurd (cc)
+again_rests e (cookie_wait my) is = absurd (cc)
+again_rests e (cookie_echoed my held cookie) is = ap (λ (follows : Bool). (shut_down_echoed follows e my held).after.core) is.1
+again_rests e (open_in phase my held) is = absurd (cc)
+
+tail_stays : (asks : Bool) (e : Endpoint) (ts : List Transition) → (asks ≡ true → AwaitsAck e e.core) → Turns e (packet_ends ∷ asked_again asks) ts → Stays e ts
+tail_stays asks e [] awaits turns = absurd turns
+tail_stays false e (t ∷ []) awaits turns = end_stays e e.queues.transfer t.outcome turns.0.comes
+tail_stays false e (t ∷ u ∷ ts) awaits turns = absurd turns.1
+tail_stays true e (t ∷ []) awaits turns = absurd turns.1
+tail_stays true e (t ∷ u ∷ v ∷ ts) awaits turns = absurd turns.1.1
+tail_stays true e (t ∷ u ∷ []) awaits turns =
+    let ended = end_stays e e.queues.transfer t.outcome turns.0.comes in
+    let kept = (flushed_act e t.outcome (end_at e e.queues.transfer t.outcome turns.0.comes)).1.options in
+    let awaited : AwaitsAck t.outcome.after t.outcome.after.core = (
+      stays_awaiting (is_earlier_acknowledgement_due e.queues.transfer) e.core t.outcome.after.core ended (awaits refl).0,
+      ap (λ (x : Options). x.follow_rfc) kept ∙ (awaits refl).1,
+    ) in
+    let same : u.outcome.after.core ≡ t.outcome.after.core =
+    ap (λ (x : Outcome). x.after.core) turns.1.0.comes ∙ again_rests t.outcome.after t.outcome.after.core awaited in
+    subst (StaysAs (is_earlier_acknowledgement_due e.queues.transfer) e.core) (sym same) ended
 
 -- Before an INIT nothing is sent.
 begin_rests : (e : Endpoint) (core : Core) (o : Outcome) → BeginTurn e core false o → o ≡ still e
 begin_rests e (open_in shutdown_sent my held) o turn = turn
 begin_rests e core o turn = turn
 
-chunk_stays : (e : Endpoint) (tag : ℕ) (theirs : Introduction) (ts : List Transition) → ChunkTurns e tag (init theirs ∷ []) (packet_ends ∷ []) ts → Stays e ts
-chunk_stays e tag theirs [] turns = absurd turns
-chunk_stays e tag theirs (t ∷ ts) turns =
+chunk_stays : (asks : Bool) (e : Endpoint) (tag : ℕ) (theirs : Introduction) (ts : List Transition) → (asks ≡ true → AwaitsAck e e.core)
+    → ChunkTurns e tag (init theirs ∷ []) (packet_ends ∷ asked_again asks) ts → Stays e ts
+chunk_stays asks e tag theirs [] awaits turns = absurd turns
+chunk_stays asks e tag theirs (t ∷ ts) awaits turns =
     let turn = turns.0.comes in
     let goes_on : t.outcome.following ≡ next_chunk =
     ap (λ (x : Outcome). x.following) turn.2
     ∙ init_by (λ (x : Outcome). x.following ≡ next_chunk) e theirs turn.0 turn.1 refl (init_goes_on e theirs e.core turn.0 turn.1) in
     let counts : CountsSentOnly e t.outcome.after = (init_brings_one_packet e theirs t.outcome turn).0 in
     same_stays e t.outcome.after ts (ap (λ (x : Endpoint). x.core) counts.2) (ap (λ (x : Endpoint). is_earlier_acknowledgement_due x.queues.transfer) counts.2)
-    (ended_stays t.outcome.after ts (further e tag (init theirs) [] (packet_ends ∷ []) t ts goes_on turns))
+    (tail_stays asks t.outcome.after ts (λ is. subst (λ (x : Endpoint). AwaitsAck x x.core) (sym counts.2) (awaits is))
+    (further e tag (init theirs) [] (packet_ends ∷ asked_again asks) t ts goes_on turns))
 
 whole_stays : (e : Endpoint) (tag : ℕ) (theirs : Introduction) (ts : List Transition) → WholeTurns e (record { tag = tag; contents = init theirs ∷ [] }) ts → Stays e ts
 whole_stays e tag theirs [] turns = absurd turns
 whole_stays e tag theirs (t ∷ ts) turns =
     let rests : t.outcome ≡ still e = begin_rests e e.core t.outcome turns.0.comes in
     same_stays e t.outcome.after ts (ap (λ (x : Outcome). x.after.core) rests) (ap (λ (x : Outcome). is_earlier_acknowledgement_due x.after.queues.transfer) rests)
-    (chunk_stays t.outcome.after tag theirs ts turns.1)
+    (chunk_stays (awaits_opening t.outcome.after t.outcome.after.core) t.outcome.after tag theirs ts (awaits_ack t.outcome.after t.outcome.after.core) turns.1)
 
 admitted_stays : (e : Endpoint) (tag : ℕ) (theirs : Introduction) (admission : Admission) (ts : List Transition)
     → AdmittedTurns e (record { tag = tag; contents = init theirs ∷ [] }) admission ts → Stays e ts

@@ -8,9 +8,9 @@ use Rattle.dcsctp_spec_lemmas.specs.spec.Admission.{all_chunks, shutdown_acks_al
 use Rattle.dcsctp_spec_lemmas.specs.types.declared.schedule.Side.{Side}
 use Rattle.dcsctp_spec_lemmas.specs.types.Schedule.{ActContent}
 use Rattle.dcsctp_spec_runs.specs.Sockets.{Both, of_side, TurnsOfAct, PerformedAct, SocketRun, turns_after, endpoint_after}
-use Rattle.dcsctp_spec_lemmas.specs.spec.endpoint.CallTurns.{Transition, Turns, ChunkTurns, AdmittedTurns, HandleInput, after_all, words_of, effects_of, events_of}
+use Rattle.dcsctp_spec_lemmas.specs.spec.endpoint.CallTurns.{packet_tail, Transition, Turns, ChunkTurns, AdmittedTurns, HandleInput, after_all, words_of, effects_of, events_of}
 use Rattle.dcsctp_spec_lemmas.specs.spec.endpoint.Event.{Event, sent, error}
-use Rattle.dcsctp_spec_lemmas.specs.spec.endpoint.Turn.{Input, packet_ends, unreadable_text, refusal_outcome}
+use Rattle.dcsctp_spec_lemmas.specs.spec.endpoint.Turn.{Input, unreadable_text, refusal_outcome}
 use Rattle.dcsctp_spec_lemmas.specs.spec.association.Controlled.{IsControlled}
 use Rattle.dcsctp_spec_lemmas.specs.spec.association.Effect.{Change}
 use Rattle.dcsctp_spec_lemmas.specs.wire.Content.{PacketContent}
@@ -145,7 +145,8 @@ pub data IsRest (e : Endpoint) (ends : List Input) (turns : List Transition) : T
   dropped : turns ≡ [] → IsRest e ends turns
   ended : Turns e ends turns → IsRest e ends turns
 
--- The turns of a packet's chunks are chunks that the association handles. After them comes the end of the packet, or nothing.
+-- The turns of a packet's chunks are chunks that the association handles. After them comes what follows a packet's chunks, or
+-- nothing.
 pub record AreChunkTurns (e : Endpoint) (tag : ℕ) (contents : List Content) (ends : List Input) (turns : List Transition) : Type 0 where
   pub chunks : List Transition
   pub rest : List Transition
@@ -160,10 +161,10 @@ PacketsAreControlled =
     (e : Endpoint) (tag : ℕ) (contents : List Content) (ends : List Input) (turns : List Transition) → ChunkTurns e tag contents ends turns
     → FitsTurns e contents turns → AreChunkTurns e tag contents ends turns
 
--- A packet's turns: what precedes its chunks; these, as they may be handled; and its end.
+-- A packet's turns: what precedes its chunks; these, as they may be handled; and what comes after them.
 pub record IsDelivery (e : Endpoint) (packet : Packet) (begun : Transition) (turns : List Transition) : Type 0 where
   pub before : StandsBefore e begun.outcome
-  pub worked : AreChunkTurns begun.outcome.after packet.tag packet.contents (packet_ends ∷ []) turns
+  pub worked : AreChunkTurns begun.outcome.after packet.tag packet.contents (packet_tail begun.outcome.after) turns
   pub may : MayBeHandled begun.outcome.after.core packet
 
 -- The outcome of a packet that was counted: a delivery to the association, of all its chunks or its SHUTDOWN ACK chunks; or one

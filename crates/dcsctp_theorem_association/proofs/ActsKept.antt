@@ -140,7 +140,7 @@ pub act_kept : (options : Options) (their_offer : Offer) (mine theirs : List Eff
 act_kept options their_offer mine theirs core connect choices past h fresh = connect_kept options their_offer mine theirs core choices past h fresh
 act_kept options their_offer mine theirs core (t1_expires true) choices past h fresh = t1_again_kept options their_offer mine theirs core choices h
 act_kept options their_offer mine theirs core (t1_expires false) choices past h fresh = t1_gives_up_kept (offer_of options) their_offer mine theirs core h
-act_kept options their_offer mine theirs core shut_down choices past h fresh = call_kept (offer_of options) their_offer mine theirs core choices.tsn choices.is_acknowledged h
+act_kept options their_offer mine theirs core shut_down choices past h fresh = call_kept options (offer_of options) their_offer mine theirs core choices.tsn choices.is_acknowledged h
 act_kept options their_offer mine theirs core step_of_shutdown choices past h fresh = step_kept (offer_of options) their_offer mine theirs core choices.tsn choices.is_acknowledged h
 act_kept options their_offer mine theirs core shutdown_repeats choices past h fresh = again_kept (offer_of options) their_offer mine theirs core choices.tsn h
 act_kept options their_offer mine theirs core (abort_with reason) choices past h fresh = aborts_kept (offer_of options) their_offer mine theirs core (causes_of reason) choices.fits h

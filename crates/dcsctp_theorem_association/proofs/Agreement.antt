@@ -6,7 +6,7 @@ use Rattle.dcsctp_spec_lemmas.specs.types.Offer.{Offer, offer_of}
 use Rattle.dcsctp_spec_runs.specs.Laws.{AnswerKeepsAgreement}
 use Rattle.dcsctp_spec_lemmas.specs.spec.association.Effect.{Effect, draws, sends, holds, connects, ends, begins, gives_up, completes, fails, accepts, performs, renews, resumes, Change}
 use Rattle.dcsctp_spec_lemmas.specs.spec.association.FlushChanges.{next_number}
-use Rattle.dcsctp_spec_runs.specs.Past.{HasEffect, WasPerformed, Each, HasFreshTags, InPlace, current, my_of, outstanding, number_to_begin, requests_begun}
+use Rattle.dcsctp_spec_runs.specs.Past.{WasPerformed, Each, HasFreshTags, InPlace, current, my_of, outstanding, number_to_begin, requests_begun}
 use Rattle.dcsctp_spec_runs.specs.World.{SideState, after_changes, after_change, Which, at_a, at_b, Move, MoveChanges, WorldStep, World, step_after, world_after, StepChanges, WorldRun, steps_of}
 use Rattle.dcsctp_theorem_association.specs.Agreement.{ConnectsCrossed, FindsPerformed, AgreesWithPeer, SidesAgree, RunsAlone, SidesRunAlone}
 use Rattle.dcsctp_theorem_association.specs.OneSide.{EffectsInPlace}

@@ -16,7 +16,7 @@ use Rattle.dcsctp_spec_lemmas.specs.spec.association.FlushChanges.{further_packe
 use Rattle.dcsctp_spec_lemmas.specs.spec.association.HandshakeChanges.{introduction_of, connect_change, init_change, echo_change, held_by_init_ack, init_ack_change, cookie_ack_change, t1_again_change, t1_gives_up_change}
 use Rattle.dcsctp_spec_lemmas.specs.spec.association.CookieEchoChanges.{stale_error, Resolution, establish_new, restart, simultaneous_init, discard, maintain_existing, invalid_tag, stale, aged, resolve, held_by_cookie, new_association_change, restart_change, maintain_change, resolved_change, read_echo_change}
 use Rattle.dcsctp_spec_lemmas.specs.spec.association.ResetChanges.{re_config_change}
-use Rattle.dcsctp_spec_lemmas.specs.spec.association.ShutdownChanges.{shutdown_step_change_in, shutdown_step_change, shutdown_call_change, abort_call_change, shutdown_again_change, abort_change, shutdown_change, shutdown_ack_change, shutdown_complete_change}
+use Rattle.dcsctp_spec_lemmas.specs.spec.association.ShutdownChanges.{shutdown_call_change_echoed, shutdown_step_change_in, shutdown_step_change, shutdown_call_change, abort_call_change, shutdown_again_change, abort_change, shutdown_change, shutdown_ack_change, shutdown_complete_change}
 use Rattle.dcsctp_spec_lemmas.specs.spec.association.Acts.{Act, connect, t1_expires, shut_down, step_of_shutdown, shutdown_repeats, abort_with, hands_over, flushes, request_again, request_renewed, sent_then_flushed, flush_change, hand_over_change, request_sent, request_again_change, renewed_by, request_renewed_change, act_change, violation_change, plain_change, chunk_change}
 use Rattle.dcsctp_theorem_association.specs.OneSide.{parameters_in, AnswersEndRequests}
 use Rattle.dcsctp_spec_lemmas.proofs.AbortLemmas.{by_abort}
@@ -139,11 +139,15 @@ step_ends : (core : Core) (tsn : ℕ) (is_acknowledged : Bool) → EndsNone (shu
 step_ends (open_in phase my held) tsn is_acknowledged = step_ends_in phase my held tsn is_acknowledged
 step_ends core tsn is_acknowledged = tt
 
-call_ends : (core : Core) (tsn : ℕ) (is_acknowledged : Bool) → EndsNone (shutdown_call_change core tsn is_acknowledged).effects
-call_ends (cookie_wait my) tsn is_acknowledged = (tt, tt)
-call_ends (cookie_echoed my held cookie) tsn is_acknowledged = step_ends_in shutdown_pending my held tsn is_acknowledged
-call_ends (open_in established my held) tsn is_acknowledged = step_ends_in shutdown_pending my held tsn is_acknowledged
-call_ends core tsn is_acknowledged = tt
+echoed_ends : (follows : Bool) (my : Pair) (held : Held) (cookie : List ℕ) (tsn : ℕ) (is_acknowledged : Bool) → EndsNone (shutdown_call_change_echoed follows my held cookie tsn is_acknowledged).effects
+echoed_ends true my held cookie tsn is_acknowledged = tt
+echoed_ends false my held cookie tsn is_acknowledged = step_ends_in shutdown_pending my held tsn is_acknowledged
+
+call_ends : (options : Options) (core : Core) (tsn : ℕ) (is_acknowledged : Bool) → EndsNone (shutdown_call_change options core tsn is_acknowledged).effects
+call_ends options (cookie_wait my) tsn is_acknowledged = (tt, tt)
+call_ends options (cookie_echoed my held cookie) tsn is_acknowledged = echoed_ends options.follow_rfc my held cookie tsn is_acknowledged
+call_ends options (open_in established my held) tsn is_acknowledged = step_ends_in shutdown_pending my held tsn is_acknowledged
+call_ends options core tsn is_acknowledged = tt
 
 aborts_end : (core : Core) (causes : List Cause) (fits : Bool) → EndsNone (abort_call_change core causes fits).effects
 aborts_end (cookie_wait my) causes fits = (tt, tt)
@@ -186,7 +190,7 @@ act_ends : (options : Options) (core : Core) (act : Act) (choices : Choices) →
 act_ends options core connect choices = connect_ends options core choices
 act_ends options core (t1_expires true) choices = t1_again_ends options core choices
 act_ends options core (t1_expires false) choices = t1_gives_up_ends core
-act_ends options core shut_down choices = call_ends core choices.tsn choices.is_acknowledged
+act_ends options core shut_down choices = call_ends options core choices.tsn choices.is_acknowledged
 act_ends options core step_of_shutdown choices = step_ends core choices.tsn choices.is_acknowledged
 act_ends options core shutdown_repeats choices = again_ends core choices.tsn
 act_ends options core (abort_with reason) choices = aborts_end core (causes_of reason) choices.fits

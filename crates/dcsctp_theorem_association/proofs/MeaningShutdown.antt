@@ -8,7 +8,7 @@ use Rattle.dcsctp_spec_lemmas.specs.spec.endpoint.Endpoint.{Core, cookie_wait, c
 use Rattle.dcsctp_spec_lemmas.specs.spec.endpoint.Following.{Following}
 use Rattle.dcsctp_spec_lemmas.specs.types.declared.options.Options.{Options}
 use Rattle.dcsctp_spec_lemmas.specs.spec.association.Effect.{Change, identity_of, identity_in}
-use Rattle.dcsctp_spec_lemmas.specs.spec.association.ShutdownChanges.{shutdown_step_change_in, shutdown_step_change, shutdown_call_change, abort_call_change, shutdown_again_change, abort_change, shutdown_change, shutdown_ack_change, shutdown_complete_change}
+use Rattle.dcsctp_spec_lemmas.specs.spec.association.ShutdownChanges.{shutdown_call_change_echoed, shutdown_step_change_in, shutdown_step_change, shutdown_call_change, abort_call_change, shutdown_again_change, abort_change, shutdown_change, shutdown_ack_change, shutdown_complete_change}
 use Rattle.dcsctp_spec_lemmas.specs.spec.association.Acts.{hand_over_change}
 use Rattle.dcsctp_spec_lemmas.proofs.AbortLemmas.{by_abort}
 use Rattle.dcsctp_theorem_association.proofs.Meaning.{AllSay, Meant, same_meant, ended_meant, end_says-alone}
@@ -47,11 +47,16 @@ step_says after core tsn is_acknowledged = tt
 pub step_meant : (core : Core) (tsn : ℕ) (is_acknowledged : Bool) → Meant core (shutdown_step_change core tsn is_acknowledged)
 step_meant core tsn is_acknowledged = same_meant (step_link core tsn is_acknowledged) (step_says (shutdown_step_change core tsn is_acknowledged).core core tsn is_acknowledged)
 
-pub call_meant : (core : Core) (tsn : ℕ) (is_acknowledged : Bool) → Meant core (shutdown_call_change core tsn is_acknowledged)
-call_meant (cookie_wait my) tsn is_acknowledged = ended_meant (refl, tt)
-call_meant (cookie_echoed my held cookie) tsn is_acknowledged = step_meant_in (cookie_echoed my held cookie) shutdown_pending my held tsn is_acknowledged refl
-call_meant (open_in established my held) tsn is_acknowledged = step_meant_in (open_in established my held) shutdown_pending my held tsn is_acknowledged refl
-call_meant core tsn is_acknowledged = same_meant refl tt
+echoed_meant : (follows : Bool) (my : Pair) (held : Held) (cookie : List ℕ) (tsn : ℕ) (is_acknowledged : Bool)
+    → Meant (cookie_echoed my held cookie) (shutdown_call_change_echoed follows my held cookie tsn is_acknowledged)
+echoed_meant true my held cookie tsn is_acknowledged = same_meant refl tt
+echoed_meant false my held cookie tsn is_acknowledged = step_meant_in (cookie_echoed my held cookie) shutdown_pending my held tsn is_acknowledged refl
+
+pub call_meant : (options : Options) (core : Core) (tsn : ℕ) (is_acknowledged : Bool) → Meant core (shutdown_call_change options core tsn is_acknowledged)
+call_meant options (cookie_wait my) tsn is_acknowledged = ended_meant (refl, tt)
+call_meant options (cookie_echoed my held cookie) tsn is_acknowledged = echoed_meant options.follow_rfc my held cookie tsn is_acknowledged
+call_meant options (open_in established my held) tsn is_acknowledged = step_meant_in (open_in established my held) shutdown_pending my held tsn is_acknowledged refl
+call_meant options core tsn is_acknowledged = same_meant refl tt
 
 pub aborts_meant : (core : Core) (causes : List Cause) (fits : Bool) → Meant core (abort_call_change core causes fits)
 aborts_meant (cookie_wait my) causes fits = ended_meant (refl, tt)

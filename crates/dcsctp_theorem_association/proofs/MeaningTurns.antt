@@ -175,7 +175,7 @@ act_meant : (options : Options) (core : Core) (act : Act) (choices : Choices) â†
 act_meant options core connect choices = connect_meant options core choices
 act_meant options core (t1_expires true) choices = t1_again_meant options core choices
 act_meant options core (t1_expires false) choices = t1_gives_up_meant core
-act_meant options core shut_down choices = call_meant core choices.tsn choices.is_acknowledged
+act_meant options core shut_down choices = call_meant options core choices.tsn choices.is_acknowledged
 act_meant options core step_of_shutdown choices = step_meant core choices.tsn choices.is_acknowledged
 act_meant options core shutdown_repeats choices = again_meant core choices.tsn
 act_meant options core (abort_with reason) choices = aborts_meant core (causes_of reason) choices.fits

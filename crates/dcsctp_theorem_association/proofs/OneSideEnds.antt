@@ -15,7 +15,7 @@ use Rattle.dcsctp_spec_lemmas.specs.spec.association.FlushChanges.{reset_request
 use Rattle.dcsctp_spec_lemmas.specs.spec.association.HandshakeChanges.{connect_change, init_change, echo_change, held_by_init_ack, init_ack_change, cookie_ack_change, t1_again_change, t1_gives_up_change}
 use Rattle.dcsctp_spec_lemmas.specs.spec.association.CookieEchoChanges.{stale_error, Resolution, establish_new, restart, simultaneous_init, discard, maintain_existing, invalid_tag, stale, aged, resolve, held_by_cookie, new_association_change, restart_change, maintain_change, resolved_change, read_echo_change}
 use Rattle.dcsctp_spec_lemmas.specs.spec.association.ResetChanges.{re_config_change}
-use Rattle.dcsctp_spec_lemmas.specs.spec.association.ShutdownChanges.{shutdown_step_change_in, shutdown_step_change, shutdown_call_change, abort_call_change, shutdown_again_change, abort_change, shutdown_ack_change, shutdown_complete_change}
+use Rattle.dcsctp_spec_lemmas.specs.spec.association.ShutdownChanges.{shutdown_call_change_echoed, shutdown_step_change_in, shutdown_step_change, shutdown_call_change, abort_call_change, shutdown_again_change, abort_change, shutdown_ack_change, shutdown_complete_change}
 use Rattle.dcsctp_spec_lemmas.specs.spec.association.Acts.{Act, connect, t1_expires, shut_down, step_of_shutdown, shutdown_repeats, abort_with, hands_over, flushes, request_again, request_renewed, flush_change, hand_over_change, request_sent, request_again_change, renewed_by, request_renewed_change, act_change, then_changes, violation_change, plain_change, chunk_change, shutdown_chunk_change}
 use Rattle.dcsctp_spec_runs.specs.World.{acted, worked, resumed}
 use Rattle.dcsctp_theorem_association.specs.OneSide.{ends_in, OneEnd, it_ends, it_stays, EndsOnce}
@@ -159,11 +159,16 @@ step_ends_once : (core : Core) (tsn : ℕ) (is_acknowledged : Bool) → OneEnd c
 step_ends_once (open_in phase my held) tsn is_acknowledged = step_ends_once_in (open_in phase my held) phase my held tsn is_acknowledged
 step_ends_once core tsn is_acknowledged = stays refl
 
-call_ends_once : (core : Core) (tsn : ℕ) (is_acknowledged : Bool) → OneEnd core (shutdown_call_change core tsn is_acknowledged)
-call_ends_once (cookie_wait my) tsn is_acknowledged = ends_wait refl
-call_ends_once (cookie_echoed my held cookie) tsn is_acknowledged = step_ends_once_in (cookie_echoed my held cookie) shutdown_pending my held tsn is_acknowledged
-call_ends_once (open_in established my held) tsn is_acknowledged = step_ends_once_in (open_in established my held) shutdown_pending my held tsn is_acknowledged
-call_ends_once core tsn is_acknowledged = stays refl
+echoed_ends_once : (follows : Bool) (my : Pair) (held : Held) (cookie : List ℕ) (tsn : ℕ) (is_acknowledged : Bool)
+    → OneEnd (cookie_echoed my held cookie) (shutdown_call_change_echoed follows my held cookie tsn is_acknowledged)
+echoed_ends_once true my held cookie tsn is_acknowledged = stays refl
+echoed_ends_once false my held cookie tsn is_acknowledged = step_ends_once_in (cookie_echoed my held cookie) shutdown_pending my held tsn is_acknowledged
+
+call_ends_once : (options : Options) (core : Core) (tsn : ℕ) (is_acknowledged : Bool) → OneEnd core (shutdown_call_change options core tsn is_acknowledged)
+call_ends_once options (cookie_wait my) tsn is_acknowledged = ends_wait refl
+call_ends_once options (cookie_echoed my held cookie) tsn is_acknowledged = echoed_ends_once options.follow_rfc my held cookie tsn is_acknowledged
+call_ends_once options (open_in established my held) tsn is_acknowledged = step_ends_once_in (open_in established my held) shutdown_pending my held tsn is_acknowledged
+call_ends_once options core tsn is_acknowledged = stays refl
 
 aborts_ends_once : (core : Core) (causes : List Cause) (fits : Bool) → OneEnd core (abort_call_change core causes fits)
 aborts_ends_once (cookie_wait my) causes fits = ends_wait refl
@@ -200,7 +205,7 @@ act_ends_once : (options : Options) (core : Core) (act : Act) (choices : Choices
 act_ends_once options core connect choices = connect_ends_once options core choices
 act_ends_once options core (t1_expires true) choices = t1_again_ends_once options core choices
 act_ends_once options core (t1_expires false) choices = t1_gives_up_ends_once core
-act_ends_once options core shut_down choices = call_ends_once core choices.tsn choices.is_acknowledged
+act_ends_once options core shut_down choices = call_ends_once options core choices.tsn choices.is_acknowledged
 act_ends_once options core step_of_shutdown choices = step_ends_once core choices.tsn choices.is_acknowledged
 act_ends_once options core shutdown_repeats choices = again_ends_once core choices.tsn
 act_ends_once options core (abort_with reason) choices = aborts_ends_once core (causes_of reason) choices.fits

@@ -15,7 +15,7 @@ use Rattle.dcsctp_spec_lemmas.specs.spec.association.Effect.{Effect, Change, ide
 use Rattle.dcsctp_spec_lemmas.specs.spec.association.Choices.{Choices}
 use Rattle.dcsctp_spec_lemmas.specs.spec.association.FlushChanges.{reset_request}
 use Rattle.dcsctp_spec_lemmas.specs.spec.association.ResetChanges.{re_config_change}
-use Rattle.dcsctp_spec_lemmas.specs.spec.association.ShutdownChanges.{shutdown_step_change_in, shutdown_step_change, shutdown_call_change, abort_call_change, shutdown_again_change, abort_change, shutdown_change, shutdown_ack_change, shutdown_complete_change}
+use Rattle.dcsctp_spec_lemmas.specs.spec.association.ShutdownChanges.{shutdown_call_change_echoed, shutdown_step_change_in, shutdown_step_change, shutdown_call_change, abort_call_change, shutdown_again_change, abort_change, shutdown_change, shutdown_ack_change, shutdown_complete_change}
 use Rattle.dcsctp_spec_lemmas.specs.spec.association.Acts.{Act, connect, t1_expires, shut_down, step_of_shutdown, shutdown_repeats, abort_with, hands_over, flushes, request_again, request_renewed, flush_change, hand_over_change, request_sent, request_again_change, request_renewed_change, act_change, then_changes, violation_change, plain_change, chunk_change}
 use Rattle.dcsctp_spec_lemmas.specs.spec.association.ResumeChanges.{resumed_held, resume_change}
 use Rattle.dcsctp_spec_runs.specs.World.{SideState, after_effects, after_change, after_changes, ControlTurn, acted, worked, resumed, ControlTurns, SideRun, side_after}
@@ -67,11 +67,16 @@ step_keeps : (core : Core) (tsn : ℕ) (is_acknowledged : Bool) → Keeps core (
 step_keeps (open_in phase my held) tsn is_acknowledged past good = step_keeps_open phase my held tsn is_acknowledged past good
 step_keeps core tsn is_acknowledged past good = good
 
-call_keeps : (core : Core) (tsn : ℕ) (is_acknowledged : Bool) → Keeps core (shutdown_call_change core tsn is_acknowledged)
-call_keeps (cookie_wait my) tsn is_acknowledged past good = good-ends (cookie_wait my) past good
-call_keeps (cookie_echoed my held cookie) tsn is_acknowledged past good = step_keeps_open shutdown_pending my held tsn is_acknowledged past (Some (identity_of my held), good)
-call_keeps (open_in established my held) tsn is_acknowledged past good = step_keeps_open shutdown_pending my held tsn is_acknowledged past good
-call_keeps core tsn is_acknowledged past good = good
+echoed_keeps : (follows : Bool) (my : Pair) (held : Held) (cookie : List ℕ) (tsn : ℕ) (is_acknowledged : Bool)
+    → Keeps (cookie_echoed my held cookie) (shutdown_call_change_echoed follows my held cookie tsn is_acknowledged)
+echoed_keeps true my held cookie tsn is_acknowledged past good = good
+echoed_keeps false my held cookie tsn is_acknowledged past good = step_keeps_open shutdown_pending my held tsn is_acknowledged past (Some (identity_of my held), good)
+
+call_keeps : (options : Options) (core : Core) (tsn : ℕ) (is_acknowledged : Bool) → Keeps core (shutdown_call_change options core tsn is_acknowledged)
+call_keeps options (cookie_wait my) tsn is_acknowledged past good = good-ends (cookie_wait my) past good
+call_keeps options (cookie_echoed my held cookie) tsn is_acknowledged past good = echoed_keeps options.follow_rfc my held cookie tsn is_acknowledged past good
+call_keeps options (open_in established my held) tsn is_acknowledged past good = step_keeps_open shutdown_pending my held tsn is_acknowledged past good
+call_keeps options core tsn is_acknowledged past good = good
 
 aborts_keeps : (core : Core) (causes : List Cause) (fits : Bool) → Keeps core (abort_call_change core causes fits)
 aborts_keeps closed causes fits past good = good
@@ -114,7 +119,7 @@ act_keeps : (options : Options) (core : Core) (act : Act) (choices : Choices) �
 act_keeps options core connect choices past good = connect_keeps options core choices past good
 act_keeps options core (t1_expires true) choices past good = t1_again_keeps options core choices past good
 act_keeps options core (t1_expires false) choices past good = t1_gives_up_keeps core past good
-act_keeps options core shut_down choices past good = call_keeps core choices.tsn choices.is_acknowledged past good
+act_keeps options core shut_down choices past good = call_keeps options core choices.tsn choices.is_acknowledged past good
 act_keeps options core step_of_shutdown choices past good = step_keeps core choices.tsn choices.is_acknowledged past good
 act_keeps options core shutdown_repeats choices past good = again_keeps core choices.tsn past good
 act_keeps options core (abort_with reason) choices past good = aborts_keeps core (causes_of reason) choices.fits past good

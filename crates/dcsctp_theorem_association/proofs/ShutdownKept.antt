@@ -9,7 +9,7 @@ use Rattle.dcsctp_spec_lemmas.specs.spec.endpoint.Endpoint.{Core, closed, cookie
 use Rattle.dcsctp_spec_lemmas.specs.spec.endpoint.Following.{Following, next_chunk}
 use Rattle.dcsctp_spec_lemmas.specs.types.declared.options.Options.{Options}
 use Rattle.dcsctp_spec_lemmas.specs.spec.association.Effect.{Effect, emitted}
-use Rattle.dcsctp_spec_lemmas.specs.spec.association.ShutdownChanges.{sending_change, shutdown_step_change_in, shutdown_step_change, shutdown_call_change_in, shutdown_call_change, abort_call_change, shutdown_again_change_in, shutdown_again_change, abort_change, shutdown_change_in, shutdown_change, reflected_change, shutdown_ack_change_in, shutdown_ack_change, shutdown_complete_change_in, shutdown_complete_change}
+use Rattle.dcsctp_spec_lemmas.specs.spec.association.ShutdownChanges.{shutdown_call_change_echoed, sending_change, shutdown_step_change_in, shutdown_step_change, shutdown_call_change_in, shutdown_call_change, abort_call_change, shutdown_again_change_in, shutdown_again_change, abort_change, shutdown_change_in, shutdown_change, reflected_change, shutdown_ack_change_in, shutdown_ack_change, shutdown_complete_change_in, shutdown_complete_change}
 use Rattle.dcsctp_spec_lemmas.proofs.AbortLemmas.{by_abort}
 use Rattle.dcsctp_theorem_association.proofs.Facts.{TrueContents, PeerFacts, TrueCore}
 use Rattle.dcsctp_theorem_association.proofs.Flushes.{alone_true, emitted_true}
@@ -86,12 +86,18 @@ step_kept my_offer their_offer mine theirs (cookie_wait my) tsn is_acknowledged 
 step_kept my_offer their_offer mine theirs (cookie_echoed my held bytes) tsn is_acknowledged h = unchanged_kept my_offer their_offer mine theirs (cookie_echoed my held bytes) h
 step_kept my_offer their_offer mine theirs (open_in phase my held) tsn is_acknowledged h = step_in_kept my_offer their_offer mine theirs phase my held tsn is_acknowledged h
 
-pub call_kept : (my_offer their_offer : Offer) (mine theirs : List Effect) (core : Core) (tsn : ℕ) (is_acknowledged : Bool)
-    → TrueCore my_offer their_offer mine theirs core → Kept my_offer their_offer mine theirs (shutdown_call_change core tsn is_acknowledged)
-call_kept my_offer their_offer mine theirs closed tsn is_acknowledged h = unchanged_kept my_offer their_offer mine theirs closed h
-call_kept my_offer their_offer mine theirs (cookie_wait my) tsn is_acknowledged h = ended_kept my_offer their_offer mine theirs [] tt
-call_kept my_offer their_offer mine theirs (cookie_echoed my held bytes) tsn is_acknowledged h = step_in_kept my_offer their_offer mine theirs shutdown_pending my held tsn is_acknowledged h.0
-call_kept my_offer their_offer mine theirs (open_in phase my held) tsn is_acknowledged h = call_in_kept my_offer their_offer mine theirs phase my held tsn is_acknowledged h
+echoed_kept : (follows : Bool) (my_offer their_offer : Offer) (mine theirs : List Effect) (my : Pair) (held : Held) (bytes : List ℕ) (tsn : ℕ) (is_acknowledged : Bool)
+    → TrueCore my_offer their_offer mine theirs (cookie_echoed my held bytes)
+    → Kept my_offer their_offer mine theirs (shutdown_call_change_echoed follows my held bytes tsn is_acknowledged)
+echoed_kept true my_offer their_offer mine theirs my held bytes tsn is_acknowledged h = unchanged_kept my_offer their_offer mine theirs (cookie_echoed my held bytes) h
+echoed_kept false my_offer their_offer mine theirs my held bytes tsn is_acknowledged h = step_in_kept my_offer their_offer mine theirs shutdown_pending my held tsn is_acknowledged h.0
+
+pub call_kept : (options : Options) (my_offer their_offer : Offer) (mine theirs : List Effect) (core : Core) (tsn : ℕ) (is_acknowledged : Bool)
+    → TrueCore my_offer their_offer mine theirs core → Kept my_offer their_offer mine theirs (shutdown_call_change options core tsn is_acknowledged)
+call_kept options my_offer their_offer mine theirs closed tsn is_acknowledged h = unchanged_kept my_offer their_offer mine theirs closed h
+call_kept options my_offer their_offer mine theirs (cookie_wait my) tsn is_acknowledged h = ended_kept my_offer their_offer mine theirs [] tt
+call_kept options my_offer their_offer mine theirs (cookie_echoed my held bytes) tsn is_acknowledged h = echoed_kept options.follow_rfc my_offer their_offer mine theirs my held bytes tsn is_acknowledged h
+call_kept options my_offer their_offer mine theirs (open_in phase my held) tsn is_acknowledged h = call_in_kept my_offer their_offer mine theirs phase my held tsn is_acknowledged h
 
 pub aborts_kept : (my_offer their_offer : Offer) (mine theirs : List Effect) (core : Core) (causes : List Cause) (fits : Bool)
     → TrueCore my_offer their_offer mine theirs core → Kept my_offer their_offer mine theirs (abort_call_change core causes fits)

@@ -13,7 +13,7 @@ use Rattle.dcsctp_spec_lemmas.specs.spec.association.Effect.{Effect, ends, Chang
 use Rattle.dcsctp_spec_lemmas.specs.spec.association.Choices.{Filling, Choices}
 use Rattle.dcsctp_spec_lemmas.specs.spec.association.HandshakeChanges.{introduction_of, answering_introduction, connect_change, sends_init_ack, init_change, echo_change, held_by_init_ack, init_ack_change, cookie_ack_change, t1_again_change, t1_gives_up_change}
 use Rattle.dcsctp_spec_lemmas.specs.spec.association.CookieEchoChanges.{stale_error, Resolution, establish_new, restart, simultaneous_init, discard, maintain_existing, invalid_tag, stale, aged, resolve, held_by_cookie, new_association_change, restart_change, maintain_change, resolved_change, read_echo_change}
-use Rattle.dcsctp_spec_lemmas.specs.spec.association.ShutdownChanges.{shutdown_step_change_in, shutdown_step_change, shutdown_call_change, abort_call_change, shutdown_again_change, abort_change, shutdown_change, shutdown_ack_change, shutdown_complete_change}
+use Rattle.dcsctp_spec_lemmas.specs.spec.association.ShutdownChanges.{shutdown_call_change_echoed, shutdown_step_change_in, shutdown_step_change, shutdown_call_change, abort_call_change, shutdown_again_change, abort_change, shutdown_change, shutdown_ack_change, shutdown_complete_change}
 use Rattle.dcsctp_spec_lemmas.specs.spec.association.Acts.{Act, connect, t1_expires, shut_down, step_of_shutdown, shutdown_repeats, abort_with, hands_over, flushes, request_again, request_renewed, flush_change, hand_over_change, act_change, violation_change, plain_change, shutdown_chunk_change, chunk_change}
 use Rattle.dcsctp_spec_lemmas.proofs.AbortLemmas.{by_abort}
 use Rattle.dcsctp_spec_lemmas.proofs.OneAnswerLemmas.{change_by}
@@ -109,11 +109,16 @@ module _ (rules : Rules) where
   step_keeps (open_in phase my held) tsn is_acknowledged h = step_keeps_in phase my held tsn is_acknowledged
   step_keeps core tsn is_acknowledged h = unchanged_keeps rules core h
 
-  call_keeps : (core : Core) (tsn : ℕ) (is_acknowledged : Bool) → CoreKeeps rules core → ChangeKeeps rules (shutdown_call_change core tsn is_acknowledged)
-  call_keeps (cookie_wait my) tsn is_acknowledged h = ended_keeps [] tt
-  call_keeps (cookie_echoed my held bytes) tsn is_acknowledged h = step_keeps_in shutdown_pending my held tsn is_acknowledged
-  call_keeps (open_in established my held) tsn is_acknowledged h = step_keeps_in shutdown_pending my held tsn is_acknowledged
-  call_keeps core tsn is_acknowledged h = unchanged_keeps rules core h
+  echoed_keeps : (follows : Bool) (my : Pair) (held : Held) (bytes : List ℕ) (tsn : ℕ) (is_acknowledged : Bool) → CoreKeeps rules (cookie_echoed my held bytes)
+      → ChangeKeeps rules (shutdown_call_change_echoed follows my held bytes tsn is_acknowledged)
+  echoed_keeps true my held bytes tsn is_acknowledged h = unchanged_keeps rules (cookie_echoed my held bytes) h
+  echoed_keeps false my held bytes tsn is_acknowledged h = step_keeps_in shutdown_pending my held tsn is_acknowledged
+
+  call_keeps : (options : Options) (core : Core) (tsn : ℕ) (is_acknowledged : Bool) → CoreKeeps rules core → ChangeKeeps rules (shutdown_call_change options core tsn is_acknowledged)
+  call_keeps options (cookie_wait my) tsn is_acknowledged h = ended_keeps [] tt
+  call_keeps options (cookie_echoed my held bytes) tsn is_acknowledged h = echoed_keeps options.follow_rfc my held bytes tsn is_acknowledged h
+  call_keeps options (open_in established my held) tsn is_acknowledged h = step_keeps_in shutdown_pending my held tsn is_acknowledged
+  call_keeps options core tsn is_acknowledged h = unchanged_keeps rules core h
 
   aborting_keeps : (core : Core) (causes : List Cause) (fits : Bool) → CoreKeeps rules core → ChangeKeeps rules (abort_call_change core causes fits)
   aborting_keeps closed causes fits h = unchanged_keeps rules closed h
@@ -183,7 +188,7 @@ module _ (rules : Rules) where
   act_keeps options core connect choices h = connect_keeps options core choices h
   act_keeps options core (t1_expires true) choices h = t1_again_keeps options core choices h
   act_keeps options core (t1_expires false) choices h = t1_gives_up_keeps core h
-  act_keeps options core shut_down choices h = call_keeps core choices.tsn choices.is_acknowledged h
+  act_keeps options core shut_down choices h = call_keeps options core choices.tsn choices.is_acknowledged h
   act_keeps options core step_of_shutdown choices h = step_keeps core choices.tsn choices.is_acknowledged h
   act_keeps options core shutdown_repeats choices h = again_keeps core choices.tsn h
   act_keeps options core (abort_with reason) choices h = aborting_keeps core (causes_of reason) choices.fits h

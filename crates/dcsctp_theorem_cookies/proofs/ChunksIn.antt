@@ -10,10 +10,10 @@ use Rattle.dcsctp_spec_lemmas.specs.spec.endpoint.Endpoint.{Endpoint, Core, clos
 use Rattle.dcsctp_spec_lemmas.specs.spec.endpoint.Following.{Following, next_chunk, packet_end, dropped_rest}
 use Rattle.dcsctp_spec_lemmas.specs.spec.association.Acts.{connect, shut_down, abort_with, flushes}
 use Rattle.dcsctp_spec_lemmas.specs.spec.endpoint.HeartbeatOutcomes.{is_exhausted}
-use Rattle.dcsctp_spec_lemmas.specs.spec.endpoint.MessageOutcomes.{sending_of}
+use Rattle.dcsctp_spec_lemmas.specs.spec.endpoint.MessageOutcomes.{awaits_opening, sending_of}
 use Rattle.dcsctp_spec_lemmas.specs.spec.endpoint.Turn.{Input, refusal, packet_begins, chunk_input, packet_ends, act_input, user_sets, user_sends, user_resets, user_takes, time_passes}
 use Rattle.dcsctp_spec_lemmas.specs.spec.endpoint.TimeTurns.{Timer, t1_timer, own_timer, t2_timer, timers_in, deadline, has_come, has_restart, t2_input, expiry_input, inputs_behind, after_expiries, ExpiryThen, ExpiryTurns, MomentTurns, TimeTurns}
-use Rattle.dcsctp_spec_lemmas.specs.spec.endpoint.CallTurns.{Transition, IsTurn, Turns, AfterChunk, ChunkTurns, WholeTurns, AdmittedTurns}
+use Rattle.dcsctp_spec_lemmas.specs.spec.endpoint.CallTurns.{packet_tail, asked_again, Transition, IsTurn, Turns, AfterChunk, ChunkTurns, WholeTurns, AdmittedTurns}
 use Rattle.dcsctp_spec_lemmas.specs.spec.Handover.{readiness_of}
 use Rattle.dcsctp_spec_lemmas.specs.spec.HandoverInputs.{inputs_of_handover}
 use Rattle.dcsctp_spec_lemmas.specs.spec.endpoint.UserTurns.{UserTurns}
@@ -127,10 +127,16 @@ module _ (Good : Content → Type 0) where
         (λ (rest : ChunkTurns t.outcome.after tag contents ends turns). of_contents t.outcome.after tag contents ends turns each.1 h rest) taken.1,
   )
 
+  of_tail : (asks : Bool) → Inputs Good (packet_ends ∷ asked_again asks)
+  of_tail true = (tt, (tt, tt))
+  of_tail false = (tt, tt)
+
   of_whole : (e : Endpoint) (packet : Packet) (turns : List Transition) → AllByRecursion Good packet.contents → WholeTurns e packet turns → OfChunks Good turns
   of_whole e packet [] each taken = absurd taken
-  of_whole e packet (t ∷ turns) each taken =
-      (of_input e (packet_begins packet.contents) t taken.0 tt, of_contents t.outcome.after packet.tag packet.contents (packet_ends ∷ []) turns each (tt, tt) taken.1)
+  of_whole e packet (t ∷ turns) each taken = (
+    of_input e (packet_begins packet.contents) t taken.0 tt,
+    of_contents t.outcome.after packet.tag packet.contents (packet_tail t.outcome.after) turns each (of_tail (awaits_opening t.outcome.after t.outcome.after.core)) taken.1,
+  )
 
   pub of_admitted : (e : Endpoint) (packet : Packet) (admission : Admission) (turns : List Transition) → AllByRecursion Good packet.contents → AdmittedTurns e packet admission turns
       → OfChunks Good turns

@@ -1,5 +1,5 @@
 -- The request of a reset that a flush begins is read as itself, and what is kept of it fits.
-use Rattle.std.proofs.Common.{◌≡◌, ℕ, ◌+◌, ◌%◌, ◌^◌, ◌<◌, Option, None, Some, List, [], ◌∷◌, ◌++◌, map, length, take, flat_map, refl, ap, ◌∙◌, arith}
+use Rattle.std.proofs.Common.{Bool, true, false, ◌≡◌, ℕ, ◌+◌, ◌%◌, ◌^◌, ◌<◌, Option, None, Some, List, [], ◌∷◌, ◌++◌, map, length, take, flat_map, refl, ap, ◌∙◌, arith}
 use Rattle.std.specs.List.{AllByRecursion}
 use Rattle.std.specs.Int.{w16, to_be_bytes, from_be_bytes}
 use Rattle.std.proofs.lemmas.Nat.{from_be_bytes-to_be_bytes_2}
@@ -18,7 +18,7 @@ use Rattle.dcsctp_spec_lemmas.specs.spec.endpoint.Timers.{RunningTimer}
 use Rattle.dcsctp_spec_lemmas.specs.spec.endpoint.Outcome.{contents_len}
 use Rattle.dcsctp_spec_lemmas.specs.spec.association.FlushChanges.{reset_request}
 use Rattle.dcsctp_spec_lemmas.specs.spec.endpoint.BegunResets.{BegunReset, stream_field, streams_within, begun_where, begun_in, request_contents, core_asking, after_begun}
-use Rattle.dcsctp_spec_lemmas.specs.spec.endpoint.FlushOutcomes.{Ask, first_ask, later_ask, begun_at}
+use Rattle.dcsctp_spec_lemmas.specs.spec.endpoint.FlushOutcomes.{may_be_asked, Ask, first_ask, later_ask, begun_at}
 use Rattle.dcsctp_spec_runs.specs.Fitting.{FitsHeld, FitsCore, Sendable}
 use Rattle.dcsctp_spec_lemmas.proofs.PacketLengths.{streams_len, begun_at_len}
 use Rattle.dcsctp_theorem_sockets.proofs.Bytes.{both, in_two}
@@ -78,6 +78,13 @@ peer_fits closed own = tt
 peer_fits (cookie_wait my) own = tt
 peer_fits (cookie_echoed my held cookie) own = own.1
 peer_fits (open_in phase my held) own = own.1
+
+pub asked_fits : (core : Core) (follows : Bool) → FitsCore core → FitsPeer (may_be_asked core follows)
+asked_fits closed follows own = tt
+asked_fits (cookie_wait my) follows own = tt
+asked_fits (cookie_echoed my held cookie) true own = tt
+asked_fits (cookie_echoed my held cookie) false own = own.1
+asked_fits (open_in phase my held) follows own = own.1
 
 in_sends : (held : Option Held) (room last_tsn : ℕ) (queue : SendQueueState) → FitsPeer held → last_tsn < 2 ^ 32
     → contents_len (request_contents (begun_in held room last_tsn queue)) < 2 ^ 16 → AllByRecursion Sendable (request_contents (begun_in held room last_tsn queue))

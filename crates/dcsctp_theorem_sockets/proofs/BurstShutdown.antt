@@ -5,7 +5,7 @@ use Rattle.dcsctp_spec_lemmas.specs.types.declared.association.Held.{Held}
 use Rattle.dcsctp_spec_lemmas.specs.spec.endpoint.Endpoint.{Endpoint, Core, closed, cookie_wait, cookie_echoed, open_in, OpenPhase, established, shutdown_pending, shutdown_sent, shutdown_received, shutdown_ack_sent}
 use Rattle.dcsctp_spec_lemmas.specs.spec.endpoint.Outcome.{Outcome}
 use Rattle.dcsctp_spec_lemmas.specs.spec.endpoint.Turn.{BeginTurn}
-use Rattle.dcsctp_spec_lemmas.specs.spec.endpoint.ShutdownOutcomes.{phase_at, is_all_acknowledged, waits_for_abandoned, waits_for_queue, may_go_on, step_by, step_outcome, t1_stopped, shut_down_outcome, shutdown_outcome, shutdown_ack_outcome, shutdown_complete_outcome, t2_goes_on, shutdown_sent_again, t2_again_outcome}
+use Rattle.dcsctp_spec_lemmas.specs.spec.endpoint.ShutdownOutcomes.{shut_down_echoed, phase_at, is_all_acknowledged, waits_for_abandoned, waits_for_queue, may_go_on, step_by, step_outcome, t1_stopped, shut_down_outcome, shutdown_outcome, shutdown_ack_outcome, shutdown_complete_outcome, t2_goes_on, shutdown_sent_again, t2_again_outcome}
 use Rattle.dcsctp_theorem_sockets.proofs.Bursts.{Few, none, one, HasPeer}
 
 -- ---- a step of it
@@ -56,10 +56,14 @@ step_from_few e phase my held = step_by_few (may_go_on e) (phase_at e phase my h
 
 -- ---- the user's call
 
+echoed_few : (follows : Bool) (e : Endpoint) (my : Pair) (held : Held) → Few 1 (shut_down_echoed follows e my held)
+echoed_few true e my held = none 1
+echoed_few false e my held = step_from_few (t1_stopped e) shutdown_pending my held
+
 pub shut_down_few : (e : Endpoint) (core : Core) → Few 1 (shut_down_outcome e core)
 shut_down_few e closed = none 1
 shut_down_few e (cookie_wait my) = none 1
-shut_down_few e (cookie_echoed my held cookie) = step_from_few (t1_stopped e) shutdown_pending my held
+shut_down_few e (cookie_echoed my held cookie) = echoed_few e.options.follow_rfc e my held
 shut_down_few e (open_in established my held) = step_from_few e shutdown_pending my held
 shut_down_few e (open_in shutdown_pending my held) = none 1
 shut_down_few e (open_in shutdown_sent my held) = none 1

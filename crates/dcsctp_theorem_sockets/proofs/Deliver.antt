@@ -1,5 +1,5 @@
 -- What comes of a packet of the other side is a delivery in the machine that agreement is proved on.
-use Rattle.std.proofs.Common.{◌≡◌, ◌<◌, ◌^◌, ℕ, zero, suc, Option, Some, List, [], ◌∷◌, map, refl, sym, subst, ap, ◌∙◌}
+use Rattle.std.proofs.Common.{false, true, Bool, ◌≡◌, ◌<◌, ◌^◌, ℕ, zero, suc, Option, Some, List, [], ◌∷◌, map, refl, sym, subst, ap, ◌∙◌}
 use Rattle.std.specs.List.{AllByRecursion, slice_get}
 use Rattle.dcsctp_spec_lemmas.specs.wire.Content.{PacketContent}
 use Rattle.dcsctp_spec_lemmas.specs.wire.Format.{IsPacket}
@@ -11,12 +11,13 @@ use Rattle.dcsctp_spec_lemmas.specs.spec.Packet.{Content, init, init_ack, cookie
 use Rattle.dcsctp_spec_lemmas.specs.spec.endpoint.Endpoint.{Endpoint, Core, closed, cookie_wait, cookie_echoed, open_in}
 use Rattle.dcsctp_spec_lemmas.specs.spec.endpoint.Following.{Following, next_chunk, packet_end, dropped_rest}
 use Rattle.dcsctp_spec_lemmas.specs.spec.endpoint.Turn.{Input, packet_ends}
-use Rattle.dcsctp_spec_lemmas.specs.spec.endpoint.CallTurns.{Transition, Turns, AfterChunk, ChunkTurns}
+use Rattle.dcsctp_spec_lemmas.specs.spec.endpoint.CallTurns.{asked_again, Transition, Turns, AfterChunk, ChunkTurns}
 use Rattle.dcsctp_spec_lemmas.specs.spec.Admission.{shutdown_acks_in}
 use Rattle.dcsctp_spec_runs.specs.Laws.{OfferReadsBack, FitsTurns}
 use Rattle.dcsctp_spec_laws.specs.TurnLaws.{FitsOwn, FitsContent}
 use Rattle.dcsctp_spec_runs.specs.Fitting.{AllSent, FitsCore, FitsEndpoint, Sendable, SendablePacket, TurnFits}
 use Rattle.dcsctp_theorem_sockets.proofs.DataFits.{end_fits}
+use Rattle.dcsctp_theorem_sockets.proofs.ShutdownFits.{shut_down_fits}
 use Rattle.dcsctp_theorem_sockets.proofs.TurnsFit.{turn_fits}
 
 -- ---- a packet in bytes
@@ -154,6 +155,16 @@ pub packet_end_fits : EndFits (packet_ends ∷ [])
 packet_end_fits e [] taken h = absurd taken
 packet_end_fits e (t ∷ []) taken h = (end_fits e e.queues.transfer t.outcome taken.0.comes h, tt)
 packet_end_fits e (t ∷ u ∷ ts) taken h = absurd taken.1
+
+-- what comes after the chunks of a packet
+pub tail_fits : (asks : Bool) → EndFits (packet_ends ∷ asked_again asks)
+tail_fits false e turns taken h = packet_end_fits e turns taken h
+tail_fits true e [] taken h = absurd taken
+tail_fits true e (t ∷ []) taken h = absurd taken.1
+tail_fits true e (t ∷ u ∷ []) taken h =
+    let ended : TurnFits t.outcome = end_fits e e.queues.transfer t.outcome taken.0.comes h in
+    (ended, (subst TurnFits (sym taken.1.0.comes) (shut_down_fits t.outcome.after t.outcome.after.core ended.after ended.after.core), tt))
+tail_fits true e (t ∷ u ∷ v ∷ ts) taken h = absurd taken.1.1
 
 -- the SHUTDOWN ACK chunks of a packet are among its chunks
 pub acks_sendable : (contents : List Content) → AllByRecursion Sendable contents → AllByRecursion Sendable (shutdown_acks_in contents)

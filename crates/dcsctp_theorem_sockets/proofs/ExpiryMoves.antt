@@ -28,7 +28,7 @@ use Rattle.dcsctp_theorem_sockets.proofs.Aborting.{aborting_fits}
 use Rattle.dcsctp_theorem_sockets.proofs.BegunSends.{peer_fits}
 use Rattle.dcsctp_theorem_sockets.proofs.Bytes.{in_four}
 use Rattle.dcsctp_theorem_sockets.proofs.DataFits.{flush_turn_fits, delay_fits, loss_fits}
-use Rattle.dcsctp_theorem_sockets.proofs.ActMoves.{TakesNoOptions}
+use Rattle.dcsctp_theorem_sockets.proofs.ActMoves.{IgnoresMessageSize}
 use Rattle.dcsctp_theorem_sockets.proofs.RequestAgain.{reconfiguration_fits}
 use Rattle.dcsctp_theorem_sockets.proofs.ShutdownFits.{t2_again_fits}
 use Rattle.dcsctp_theorem_sockets.proofs.TurnsFit.{emits_fit}
@@ -63,16 +63,16 @@ timer_fits e reconfiguration o turn h = subst TurnFits (sym turn) (reconfigurati
 
 -- ---- one expiry, and what follows it
 
-repeats_by_none : (is_new : Bool) (reset : RequestedReset) → TakesNoOptions (repeating_act is_new reset)
-repeats_by_none false reset p q core choices = refl
-repeats_by_none true reset p q core choices = refl
+repeats_ignore : (is_new : Bool) (reset : RequestedReset) → IgnoresMessageSize (repeating_act is_new reset)
+repeats_ignore false reset p q core choices same = refl
+repeats_ignore true reset p q core choices same = refl
 
-no_options : (e : Endpoint) (timer : OwnTimer) → TakesNoOptions (timer_act e timer)
-no_options e acknowledgement_delay p q core choices = refl
-no_options e retransmission p q core choices = refl
-no_options e heartbeat_interval p q core choices = refl
-no_options e heartbeat_timeout p q core choices = refl
-no_options e reconfiguration p q core choices = repeats_by_none (is_renewed e e.outstanding) (reset_again e.outstanding) p q core choices
+timers_ignore : (e : Endpoint) (timer : OwnTimer) → IgnoresMessageSize (timer_act e timer)
+timers_ignore e acknowledgement_delay p q core choices same = refl
+timers_ignore e retransmission p q core choices same = refl
+timers_ignore e heartbeat_interval p q core choices same = refl
+timers_ignore e heartbeat_timeout p q core choices same = refl
+timers_ignore e reconfiguration p q core choices same = repeats_ignore (is_renewed e e.outstanding) (reset_again e.outstanding) p q core choices same
 
 -- `more` may follow `turns`, whatever state of the side these leave
 abbrev MovesBehind : Options → List Transition → List Effect → List Transition → Type 0
@@ -82,7 +82,7 @@ own_moves : Below → (options : Options) (turns : List Transition) (side : Side
     → IsTurn (endpoint_after options turns) (timer_expires timer) t → MovesBehind options (turns ++ t ∷ []) theirs more → SideMoves options turns side theirs (t ∷ more)
 own_moves law options turns side theirs timer t more h turn rest =
     let e : Endpoint = endpoint_after options turns in
-    act_then law options turns side theirs (timer_act e timer) t more (no_options e timer) h (timer_controlled e timer t.outcome turn.comes) (timer_fits e timer t.outcome turn.comes h.fits)
+    act_then law options turns side theirs (timer_act e timer) t more (timers_ignore e timer) h (timer_controlled e timer t.outcome turn.comes) (timer_fits e timer t.outcome turn.comes h.fits)
     (λ choices follows. rest _ follows)
 
 t1_moves : Below → (options : Options) (turns : List Transition) (side : SideState) (theirs : List Effect) (again : Bool) (t : Transition) (more : List Transition) → Followed options turns side
@@ -100,11 +100,11 @@ t2_moves : Below → (options : Options) (turns : List Transition) (side : SideS
     → IsTurn (endpoint_after options turns) (t2_input again) t → MovesBehind options (turns ++ t ∷ []) theirs more → SideMoves options turns side theirs (t ∷ more)
 t2_moves law options turns side theirs true t more h turn rest =
     let e : Endpoint = endpoint_after options turns in
-    act_then law options turns side theirs shutdown_repeats t more (λ p q core choices. refl) h (law.acts e shutdown_repeats t.outcome turn.comes) (subst TurnFits (sym turn.comes) (t2_again_fits e h.fits))
+    act_then law options turns side theirs shutdown_repeats t more (λ p q core choices same. refl) h (law.acts e shutdown_repeats t.outcome turn.comes) (subst TurnFits (sym turn.comes) (t2_again_fits e h.fits))
     (λ choices follows. rest _ follows)
 t2_moves law options turns side theirs false t more h turn rest =
     let e : Endpoint = endpoint_after options turns in
-    act_then law options turns side theirs (abort_with TooManyErrors) t more (λ p q core choices. refl) h (law.acts e (abort_with TooManyErrors) t.outcome turn.comes) (aborts_fit e t.outcome h.fits turn.comes)
+    act_then law options turns side theirs (abort_with TooManyErrors) t more (λ p q core choices same. refl) h (law.acts e (abort_with TooManyErrors) t.outcome turn.comes) (aborts_fit e t.outcome h.fits turn.comes)
     (λ choices follows. rest _ follows)
 
 expiry_moves : Below → (options : Options) (turns : List Transition) (side : SideState) (theirs : List Effect) (timer : Timer) (t : Transition) (more : List Transition) → Followed options turns side
@@ -120,7 +120,7 @@ many_moves : Below → (options : Options) (turns : List Transition) (side : Sid
     → Followed options turns side → (Turns (endpoint_after options turns) inputs more → SideMoves options turns side theirs more)
     → Turns (endpoint_after options turns) (if many then act_input (abort_with TooManyErrors) ∷ [] else inputs) more → SideMoves options turns side theirs more
 many_moves law options turns side theirs true inputs more h others taken =
-    act_moves law options turns side theirs (abort_with TooManyErrors) more (λ p q core choices. refl) h (λ o turn. aborts_fit (endpoint_after options turns) o h.fits turn) taken
+    act_moves law options turns side theirs (abort_with TooManyErrors) more (λ p q core choices same. refl) h (λ o turn. aborts_fit (endpoint_after options turns) o h.fits turn) taken
 many_moves law options turns side theirs false inputs more h others taken = others taken
 
 behind_moves : Below → (options : Options) (turns : List Transition) (side : SideState) (theirs : List Effect) (core : Core) (more : List Transition) → Followed options turns side
@@ -133,7 +133,7 @@ behind_moves law options turns side theirs (cookie_echoed my held cookie) more h
 behind_moves law options turns side theirs (open_in phase my held) more h taken =
     let e : Endpoint = endpoint_after options turns in
     many_moves law options turns side theirs (is_exhausted e.options.max_retransmissions e.error_count) (act_input flushes ∷ []) more h
-    (act_moves law options turns side theirs flushes more (λ p q core choices. refl) h (λ o turn. flush_turn_fits e o turn h.fits)) taken
+    (act_moves law options turns side theirs flushes more (λ p q core choices same. refl) h (λ o turn. flush_turn_fits e o turn h.fits)) taken
 
 after_moves_of : Below → (options : Options) (turns : List Transition) (side : SideState) (theirs : List Effect) (has_expired : Bool) (more : List Transition) → Followed options turns side
     → Turns (endpoint_after options turns) (after_expiries (endpoint_after options turns) has_expired) more → SideMoves options turns side theirs more

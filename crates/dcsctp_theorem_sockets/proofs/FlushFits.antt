@@ -12,17 +12,17 @@ use Rattle.dcsctp_spec_lemmas.specs.spec.Packet.{Plain, unworked, plain, plain_o
 use Rattle.dcsctp_spec_lemmas.specs.spec.queues.Transfer.{Transfer, advertised_window, is_idle}
 use Rattle.dcsctp_spec_lemmas.specs.spec.queues.Tracker.{TrackerState}
 use Rattle.dcsctp_spec_runs.proofs.TrackerLemmas.{sack_fits}
-use Rattle.dcsctp_spec_lemmas.specs.spec.endpoint.Endpoint.{Endpoint, Core, closed, cookie_wait, cookie_echoed, open_in, held_in}
+use Rattle.dcsctp_spec_lemmas.specs.spec.endpoint.Endpoint.{Endpoint, Core, closed, cookie_wait, cookie_echoed, open_in}
 use Rattle.dcsctp_spec_lemmas.specs.spec.endpoint.Outcome.{Outcome, still, answering, behind}
 use Rattle.dcsctp_spec_runs.specs.Deadlines.{T1Runs}
 use Rattle.dcsctp_spec_lemmas.specs.spec.association.Choices.{plain_contents}
-use Rattle.dcsctp_spec_lemmas.specs.spec.endpoint.FlushOutcomes.{may_forward, own_sack, FillingEvent, amount_is_low, total_amount_is_low, message_is_sent, message_may_have_expired, message_has_expired, message_ends, filling_event, Answer, answer_contents, filled, goes_out, asked, draft_to, next_draft, flush_of, Ask, first_ask, later_ask, where_fits, wants_sack, room_in, Acknowledges, FitsPlain, nothing_waits, Gives, GivesWhere, IsAnswerOfQueues, IsFlushAnswer, AreFlushAnswers, at_limit, at_empty, after_packet, packets_allowed, FlushAnswers, flush_answered}
+use Rattle.dcsctp_spec_lemmas.specs.spec.endpoint.FlushOutcomes.{may_be_asked, may_forward, own_sack, FillingEvent, amount_is_low, total_amount_is_low, message_is_sent, message_may_have_expired, message_has_expired, message_ends, filling_event, Answer, answer_contents, filled, goes_out, asked, draft_to, next_draft, flush_of, Ask, first_ask, later_ask, where_fits, wants_sack, room_in, Acknowledges, FitsPlain, nothing_waits, Gives, GivesWhere, IsAnswerOfQueues, IsFlushAnswer, AreFlushAnswers, at_limit, at_empty, after_packet, packets_allowed, FlushAnswers, flush_answered}
 use Rattle.dcsctp_spec_runs.specs.Fitting.{AllSent, FitsHeld, FitsCore, FitsEndpoint, IsSendable, Sendable, SendablePacket, TurnFits}
 use Rattle.dcsctp_spec_runs.proofs.KindLemmas.{IsData, IsForward, chunks_are_data, forwards_are_forwards}
 use Rattle.dcsctp_spec_lemmas.proofs.FlushKeeps.{Keeps, asked_keeps, begun_by, flush_keeps}
 use Rattle.dcsctp_theorem_sockets.proofs.Sent.{all_sent_append}
 use Rattle.dcsctp_spec_lemmas.specs.spec.endpoint.BegunResets.{BegunReset, last_assigned_tsn, request_contents}
-use Rattle.dcsctp_theorem_sockets.proofs.BegunSends.{begun_fits, begun_runs, peer_fits, begun_sends}
+use Rattle.dcsctp_theorem_sockets.proofs.BegunSends.{asked_fits, begun_fits, begun_runs, begun_sends}
 
 -- ---- what stays
 
@@ -111,7 +111,8 @@ given_sends ask e draft transfer answer own h =
     let small : room < 2 ^ 16 = omega (arith, own.valid.greatest_size) in
     let request : AllByRecursion Sendable (request_contents answer.begun) =
     subst (λ (b : Option BegunReset). AllByRecursion Sendable (request_contents b)) (sym h.begins)
-    (begun_sends ask (held_in e.core) room (last_assigned_tsn h.gave_up.queue) h.gave_up.waiting (peer_fits e.core own.core) (omega arith) small) in
+    (begun_sends ask (may_be_asked e.core e.options.follow_rfc) room (last_assigned_tsn h.gave_up.queue) h.gave_up.waiting
+    (asked_fits e.core e.options.follow_rfc own.core) (omega arith) small) in
     both_sendable (plain_contents answer.acknowledgements) (request_contents answer.begun ++ plain_contents answer.data_chunks)
     (subst (λ (cs : List Plain). AllByRecursion Sendable (plain_contents cs)) (sym h.parts) (plain_sendable h.sacks h.forwards sacks forwards))
     (both_sendable (request_contents answer.begun) (plain_contents answer.data_chunks) request

@@ -30,7 +30,7 @@ use Rattle.dcsctp_spec_runs.proofs.FlushLemmas.{establish_now, cookie_ack_turn_n
 use Rattle.dcsctp_theorem_sockets.specs.Handshake.{IsConnected}
 use Rattle.dcsctp_theorem_sockets.proofs.Bytes.{length_of_cookie, in_cookie}
 use Rattle.dcsctp_theorem_sockets.proofs.HandshakeReads.{counted_at, delivered, IsTaken, Taken, taken}
-use Rattle.dcsctp_theorem_sockets.proofs.HandshakeTurns.{HandshakeLaws, Good, same_tag, not_zero, method_checked, Begins, begins, connecting, taken_as, asked, Answers, answers, answering, waiting, made_cookie, case_at_start, answer_to, awaiting, Echoes, echoes, echoing, sealed, seal}
+use Rattle.dcsctp_theorem_sockets.proofs.HandshakeTurns.{HandshakeLaws, Good, same_tag, not_zero, method_checked, Begins, begins, connecting, taken_as, Answers, answers, answering, waiting, made_cookie, case_at_start, answer_to, awaiting, Echoes, echoes, echoing, sealed}
 use Rattle.dcsctp_theorem_sockets.proofs.Sendable.{echo_sendable, ack_sendable}
 use Rattle.dcsctp_theorem_sockets.proofs.TurnsFit.{drawn_fits}
 
@@ -137,7 +137,7 @@ pub establishes : HandshakeLaws → (a b : Options) (p q : Pair) (turns : List T
     → HandleInput (answered b q) (emission_bytes (ports_of a) (echo_emission q.tag (cookie_bytes (made_cookie a b p q)))) turns → Establishes a b p q turns
 establishes law a b p q turns good_a good_b mine own port input =
     establishes_by law a b p q turns good_a good_b mine own
-    (taken law.wire (answered b q) a true q.tag (cookie_echo (cookie_bytes (made_cookie a b p q))) turns (echo_is_taken a b p q good_a own port) refl (λ e o rests. rests) input)
+    (taken law.wire (answered b q) a true q.tag (cookie_echo (cookie_bytes (made_cookie a b p q))) turns (echo_is_taken a b p q good_a own port) refl refl (λ e o rests. rests) input)
 
 -- ---- COOKIE ACK
 
@@ -151,6 +151,11 @@ held_here a b p q = held_by_init_ack a p (answer_to a b p q)
 abbrev pub connecting_last : Options → Options → Pair → Pair → ℕ → Outcome
 connecting_last a b p q tie =
     noting (connects (identity_of p (held_here a b p q)) ∷ []) (quiet (connected_after (counted_at (awaited a b p q tie)) p (held_here a b p q)) [] (connected ∷ []))
+
+-- No shutdown waits, whatever the options say.
+pub none_is_asked : (follows : Bool) → (follows && false) ≡ false
+none_is_asked true = refl
+none_is_asked false = refl
 
 pub ack_admitted : (core : Core) (tag : ℕ) → own_tag core ≡ tag → 1 ≤ tag → admits core (record { tag = tag; contents = cookie_ack ∷ [] }) ≡ all_chunks
 ack_admitted core tag own some =
@@ -174,7 +179,7 @@ pub connects_last : HandshakeLaws → (a b : Options) (p q : Pair) (tie : ℕ) (
 connects_last law a b p q tie turns good mine port input =
     let h : Taken (awaited a b p q tie) p.tag cookie_ack turns =
     taken law.wire (awaited a b p q tie) b (acknowledgement a b p q).with_checksum p.tag cookie_ack turns (ack_is_taken a b p q good mine port)
-    (ack_admitted (cookie_echoed p (held_here a b p q) (cookie_bytes (made_cookie a b p q))) p.tag refl mine.tag_is_not_zero) (λ e o rests. rests) input in
+    (ack_admitted (cookie_echoed p (held_here a b p q) (cookie_bytes (made_cookie a b p q))) p.tag refl mine.tag_is_not_zero) (none_is_asked a.follow_rfc) (λ e o rests. rests) input in
     taken_as (awaited a b p q tie) p.tag cookie_ack turns h _
     (cookie_ack_turn_now (counted_at (awaited a b p q tie)) p (held_here a b p q) (cookie_bytes (made_cookie a b p q)) h.outcome refl refl h.comes) refl (refl, refl)
 

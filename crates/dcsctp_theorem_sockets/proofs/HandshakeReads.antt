@@ -1,5 +1,5 @@
 -- A packet of one chunk that a fitting reader is handed is counted, and its chunk has its turn.
-use Rattle.std.proofs.Common.{◌≡◌, ◌≢◌, ℕ, Bool, true, List, [], ◌∷◌, ◌⊎◌, refl, subst, ap, ◌∙◌}
+use Rattle.std.proofs.Common.{sym, false, ◌≡◌, ◌≢◌, ℕ, Bool, true, List, [], ◌∷◌, ◌⊎◌, refl, subst, ap, ◌∙◌}
 use Rattle.dcsctp_spec_lemmas.specs.wire.Format.{IsPacket}
 use Rattle.dcsctp_spec_lemmas.specs.wire.ReadsBack.{HasMinima, BuiltPacketReadsBack, BuiltPacketReadsAsItself}
 use Rattle.dcsctp_spec_lemmas.specs.types.declared.options.Options.{Options}
@@ -9,7 +9,8 @@ use Rattle.dcsctp_spec_lemmas.specs.spec.endpoint.Endpoint.{Endpoint, Core}
 use Rattle.dcsctp_spec_lemmas.specs.spec.endpoint.Outcome.{Outcome, still}
 use Rattle.dcsctp_spec_lemmas.specs.spec.endpoint.Following.{Following, next_chunk}
 use Rattle.dcsctp_spec_lemmas.specs.spec.endpoint.Turn.{Input, arrival, packet_begins, chunk_input, packet_ends, has_data_chunk, BeginTurn, ContentTurn, arrival_outcome}
-use Rattle.dcsctp_spec_lemmas.specs.spec.endpoint.CallTurns.{Transition, transition, Turns, AfterChunk, ChunkTurns, WholeTurns, AdmittedTurns, HandleInput, unreadable, readable}
+use Rattle.dcsctp_spec_lemmas.specs.spec.endpoint.MessageOutcomes.{awaits_opening}
+use Rattle.dcsctp_spec_lemmas.specs.spec.endpoint.CallTurns.{asked_again, Transition, transition, Turns, AfterChunk, ChunkTurns, WholeTurns, AdmittedTurns, HandleInput, unreadable, readable}
 use Rattle.dcsctp_spec_lemmas.specs.spec.Admission.{Admission, all_chunks, admits}
 use Rattle.dcsctp_spec_runs.specs.Fitting.{SendablePacket}
 use Rattle.dcsctp_theorem_sockets.proofs.Deliver.{built, fields_fit, reads_as_sent}
@@ -96,13 +97,20 @@ behind_begin : (e : Endpoint) (tag : ℕ) (content : Content) (begun : Transitio
     → OneChunk begun.outcome.after tag content turns → OneChunk e tag content turns
 behind_begin e tag content begun turns is h = subst (λ (t : Transition). OneChunk t.outcome.after tag content turns) is h
 
+-- no shutdown waits after a turn, nor after another name of it
+asks_none : {t u : Transition} → t ≡ u → awaits_opening t.outcome.after t.outcome.after.core ≡ false → awaits_opening u.outcome.after u.outcome.after.core ≡ false
+asks_none is none = subst (λ (x : Transition). awaits_opening x.outcome.after x.outcome.after.core ≡ false) is none
+
 worked_alone : (e : Endpoint) (tag : ℕ) (content : Content) (counted : Transition) (turns : List Transition) → counted ≡ transition arrival (arrival_outcome e)
+    → awaits_opening e e.core ≡ false
     → ((o : Outcome) → BeginTurn counted.outcome.after counted.outcome.after.core (has_data_chunk counted.outcome.after.options.follow_rfc (content ∷ [])) o → o ≡ still counted.outcome.after)
     → WholeTurns counted.outcome.after (record { tag = tag; contents = content ∷ [] }) turns → Taken e tag content (counted ∷ turns)
-worked_alone e tag content counted [] is rests turns = absurd turns
-worked_alone e tag content counted (begun ∷ ts) is rests turns =
+worked_alone e tag content counted [] is none rests turns = absurd turns
+worked_alone e tag content counted (begun ∷ ts) is none rests turns =
     let first : begun ≡ transition (packet_begins (content ∷ [])) (still counted.outcome.after) = turned_as begun (packet_begins (content ∷ [])) _ turns.0.is (rests begun.outcome turns.0.comes) in
-    let h : OneChunk counted.outcome.after tag content ts = behind_begin counted.outcome.after tag content begun ts first (one_chunk begun.outcome.after tag content ts turns.1) in
+    let asks : awaits_opening begun.outcome.after begun.outcome.after.core ≡ false = asks_none (sym first) (asks_none (sym is) none) in
+    let h : OneChunk counted.outcome.after tag content ts = behind_begin counted.outcome.after tag content begun ts first (one_chunk begun.outcome.after tag content ts
+    (subst (λ (asks : Bool). ChunkTurns begun.outcome.after tag (content ∷ []) (packet_ends ∷ asked_again asks) ts) asks turns.1)) in
     record {
       outcome = h.outcome;
       comes = subst (λ (t : Transition). ContentTurn t.outcome.after tag content h.outcome) is h.comes;
@@ -113,16 +121,16 @@ worked_alone e tag content counted (begun ∷ ts) is rests turns =
     }
 
 pub taken : Wire → (e : Endpoint) (theirs : Options) (with_checksum : Bool) (tag : ℕ) (content : Content) (turns : List Transition)
-    → IsTaken e.options theirs with_checksum tag content → admits e.core (record { tag = tag; contents = content ∷ [] }) ≡ all_chunks
+    → IsTaken e.options theirs with_checksum tag content → admits e.core (record { tag = tag; contents = content ∷ [] }) ≡ all_chunks → awaits_opening e e.core ≡ false
     → ((counted : Endpoint) (o : Outcome) → BeginTurn counted e.core (has_data_chunk counted.options.follow_rfc (content ∷ [])) o → o ≡ still counted)
     → HandleInput e (emission_bytes (ports_of theirs) (alone with_checksum tag content)) turns → Taken e tag content turns
-taken law e theirs with_checksum tag content turns h admitted rests (unreadable ts none reads) = absurd (none _ (is_read law e.options theirs with_checksum tag content h))
-taken law e theirs with_checksum tag content turns h admitted rests (readable packet counted ts is_packet counting reads) =
+taken law e theirs with_checksum tag content turns h admitted none_asked rests (unreadable ts none reads) = absurd (none _ (is_read law e.options theirs with_checksum tag content h))
+taken law e theirs with_checksum tag content turns h admitted none_asked rests (readable packet counted ts is_packet counting reads) =
     let sent_packet : Packet = record { tag = tag; contents = content ∷ [] } in
     let is : packet_in packet ≡ sent_packet = reads_as_sent law.as_itself e.options theirs (alone with_checksum tag content) packet h.fits h.sendable is_packet in
     let here : AdmittedTurns counted.outcome.after sent_packet (admits e.core sent_packet) ts = subst (λ (p : Packet). AdmittedTurns counted.outcome.after p (admits e.core p) ts) is reads in
     let worked : WholeTurns counted.outcome.after sent_packet ts = subst (λ (a : Admission). AdmittedTurns counted.outcome.after sent_packet a ts) admitted here in
     let counts : counted ≡ transition arrival (arrival_outcome e) = turned_as counted arrival (arrival_outcome e) counting.is counting.comes in
     let same_core : counted.outcome.after.core ≡ e.core = ap (λ (t : Transition). t.outcome.after.core) counts in
-    worked_alone e tag content counted ts counts
+    worked_alone e tag content counted ts counts none_asked
     (λ o begin. rests counted.outcome.after o (subst (λ (c : Core). BeginTurn counted.outcome.after c (has_data_chunk counted.outcome.after.options.follow_rfc (content ∷ [])) o) same_core begin)) worked

@@ -162,7 +162,7 @@ init_is_taken law a b p good own port =
 pub answers : HandshakeLaws → (a b : Options) (p : Pair) (turns : List Transition) → Good a → Good b → FitsPair p → a.remote_port ≡ b.local_port
     → HandleInput (fresh_endpoint b) (emission_bytes (ports_of a) (init_emission (fresh_endpoint a) p)) turns → Answers a b p turns
 answers law a b p turns good_a good_b own port input =
-    answers_by a b p turns good_b (taken law.wire (fresh_endpoint b) a true 0 (init (introduction_of a p)) turns (init_is_taken law a b p good_a own port) refl (λ e o rests. rests) input)
+    answers_by a b p turns good_b (taken law.wire (fresh_endpoint b) a true 0 (init (introduction_of a p)) turns (init_is_taken law a b p good_a own port) refl refl (λ e o rests. rests) input)
 
 -- ---- INIT ACK
 
@@ -264,4 +264,4 @@ echoes law a b p q turns good_a good_b mine own port input =
     let content : Content = init_ack (answer_to a b p q) (Some (cookie_bytes (made_cookie a b p q))) in
     echoes_by a b p q turns good_a
     (taken law.wire (waiting a p) b (eqb (agreed_method (offer_of b) (offer_of a)) 0) p.tag content turns (answer_is_taken law a b p q good_b mine own port)
-    (ack_admitted (cookie_wait p) (answer_to a b p q) (cookie_bytes (made_cookie a b p q)) p.tag refl mine.tag_is_not_zero) (λ e o rests. rests) input)
+    (ack_admitted (cookie_wait p) (answer_to a b p q) (cookie_bytes (made_cookie a b p q)) p.tag refl mine.tag_is_not_zero) refl (λ e o rests. rests) input)

@@ -22,7 +22,7 @@ use Rattle.dcsctp_spec_runs.specs.Fitting.{TurnFits}
 use Rattle.dcsctp_spec_runs.proofs.DeliveryLemmas.{longest_connects}
 use Rattle.dcsctp_theorem_association.specs.OneSide.{EffectsMean}
 use Rattle.dcsctp_theorem_sockets.proofs.Follow.{Followed, follow_turns}
-use Rattle.dcsctp_theorem_sockets.proofs.ActMoves.{TakesNoOptions, ActFollows, act_follows}
+use Rattle.dcsctp_theorem_sockets.proofs.ActMoves.{IgnoresMessageSize, ActFollows, act_follows}
 use Rattle.dcsctp_theorem_sockets.proofs.TurnsFit.{connect_fits}
 
 -- the laws below that the runs of sockets rest on
@@ -106,10 +106,10 @@ connect_moves law options turns side theirs [] h turn = absurd turn
 connect_moves law options turns side theirs (t ∷ []) h turn = connected_by law options turns side theirs t h turn.0.comes
 connect_moves law options turns side theirs (t ∷ next ∷ more) h turn = absurd turn.1
 
--- ---- an act in which the options have no part
+-- ---- an act in which the greatest size of a message has no part
 
 -- its turn, and whatever comes after it
-pub act_then : Below → (options : Options) (turns : List Transition) (side : SideState) (theirs : List Effect) (act : Act) (t : Transition) (more : List Transition) → TakesNoOptions act
+pub act_then : Below → (options : Options) (turns : List Transition) (side : SideState) (theirs : List Effect) (act : Act) (t : Transition) (more : List Transition) → IgnoresMessageSize act
     → Followed options turns side → ControlledAct (endpoint_after options turns) act t.outcome → TurnFits t.outcome
     → ((choices : Choices) → let after : SideState = after_changes side (act_change side.options side.core act choices ∷ []) in
     Followed options (turns ++ t ∷ []) after → SideMoves options (turns ++ t ∷ []) after theirs more)
@@ -118,14 +118,14 @@ act_then law options turns side theirs act t more any h controlled fits rest =
     let followed : ActFollows options turns side act t = act_follows law.effects_mean options turns side act t any h controlled fits in
     moves_then options turns side theirs (t ∷ []) more (does act) (act_change side.options side.core act followed.choices ∷ []) (followed.choices, refl) (rest followed.choices followed.follows)
 
-pub act_once : Below → (options : Options) (turns : List Transition) (side : SideState) (theirs : List Effect) (act : Act) (t : Transition) → TakesNoOptions act
+pub act_once : Below → (options : Options) (turns : List Transition) (side : SideState) (theirs : List Effect) (act : Act) (t : Transition) → IgnoresMessageSize act
     → Followed options turns side → ControlledAct (endpoint_after options turns) act t.outcome → TurnFits t.outcome → SideMoves options turns side theirs (t ∷ [])
 act_once law options turns side theirs act t any h controlled fits =
     let followed : ActFollows options turns side act t = act_follows law.effects_mean options turns side act t any h controlled fits in
     moves_once options turns side theirs (t ∷ []) (does act) (act_change side.options side.core act followed.choices ∷ []) (followed.choices, refl) followed.follows
 
 -- what a call or a timer brings
-pub act_moves : Below → (options : Options) (turns : List Transition) (side : SideState) (theirs : List Effect) (act : Act) (more : List Transition) → TakesNoOptions act
+pub act_moves : Below → (options : Options) (turns : List Transition) (side : SideState) (theirs : List Effect) (act : Act) (more : List Transition) → IgnoresMessageSize act
     → Followed options turns side → ((o : Outcome) → ActTurn (endpoint_after options turns) act o → TurnFits o)
     → Turns (endpoint_after options turns) (act_input act ∷ []) more → SideMoves options turns side theirs more
 act_moves law options turns side theirs act [] any h fits turn = absurd turn
@@ -136,4 +136,4 @@ act_moves law options turns side theirs act (t ∷ next ∷ more) any h fits tur
 -- a turn that is a flush of the association
 pub flush_moves : Below → (options : Options) (turns : List Transition) (side : SideState) (theirs : List Effect) (t : Transition) → Followed options turns side
     → ControlledAct (endpoint_after options turns) flushes t.outcome → TurnFits t.outcome → SideMoves options turns side theirs (t ∷ [])
-flush_moves law options turns side theirs t h controlled fits = act_once law options turns side theirs flushes t (λ p q core choices. refl) h controlled fits
+flush_moves law options turns side theirs t h controlled fits = act_once law options turns side theirs flushes t (λ p q core choices same. refl) h controlled fits

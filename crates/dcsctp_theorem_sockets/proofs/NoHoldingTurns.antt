@@ -10,7 +10,7 @@ use Rattle.dcsctp_spec_lemmas.specs.spec.endpoint.Following.{Following}
 use Rattle.dcsctp_spec_lemmas.specs.spec.association.Effect.{Effect, ends, Change, emitted_alone}
 use Rattle.dcsctp_spec_lemmas.specs.spec.association.Choices.{Filling, Choices}
 use Rattle.dcsctp_spec_lemmas.specs.spec.association.HandshakeChanges.{init_change_where_open, echo_change}
-use Rattle.dcsctp_spec_lemmas.specs.spec.association.ShutdownChanges.{shutdown_step_change_in, shutdown_call_change_in, shutdown_again_change_in, shutdown_change_in, shutdown_ack_change_in, shutdown_complete_change_in}
+use Rattle.dcsctp_spec_lemmas.specs.spec.association.ShutdownChanges.{shutdown_call_change_echoed, shutdown_step_change_in, shutdown_call_change_in, shutdown_again_change_in, shutdown_change_in, shutdown_ack_change_in, shutdown_complete_change_in}
 use Rattle.dcsctp_spec_lemmas.specs.spec.association.Acts.{Act, connect, t1_expires, shut_down, step_of_shutdown, shutdown_repeats, abort_with, hands_over, flushes, request_again, request_renewed, hand_over_change_in, flush_change, act_change, plain_change, shutdown_chunk_change}
 use Rattle.dcsctp_theorem_sockets.proofs.NoHolding.{HoldsNone, none-append, none-alone, none-flush, none-sent, none-request, none-renewed}
 
@@ -21,6 +21,11 @@ step_none : (phase : OpenPhase) (my : Pair) (held : Held) (tsn : ℕ) (is_acknow
 step_none shutdown_pending my held tsn true = (tt, tt)
 step_none shutdown_received my held tsn true = (tt, tt)
 step_none phase my held tsn is_acknowledged = tt
+
+call_echoed_none : (follows : Bool) (my : Pair) (held : Held) (cookie : List ℕ) (tsn : ℕ) (is_acknowledged : Bool)
+    → HoldsNone (shutdown_call_change_echoed follows my held cookie tsn is_acknowledged).effects
+call_echoed_none true my held cookie tsn is_acknowledged = tt
+call_echoed_none false my held cookie tsn is_acknowledged = step_none shutdown_pending my held tsn is_acknowledged
 
 call_none : (phase : OpenPhase) (my : Pair) (held : Held) (tsn : ℕ) (is_acknowledged : Bool) → HoldsNone (shutdown_call_change_in phase my held tsn is_acknowledged).effects
 call_none established my held tsn is_acknowledged = step_none shutdown_pending my held tsn is_acknowledged
@@ -46,7 +51,7 @@ echoed_act_none : (options : Options) (my : Pair) (held : Held) (cookie : List �
 echoed_act_none options my held cookie connect choices = tt
 echoed_act_none options my held cookie (t1_expires true) choices = again_echo_none my held cookie choices.fits choices.filling
 echoed_act_none options my held cookie (t1_expires false) choices = (tt, tt)
-echoed_act_none options my held cookie shut_down choices = step_none shutdown_pending my held choices.tsn choices.is_acknowledged
+echoed_act_none options my held cookie shut_down choices = call_echoed_none options.follow_rfc my held cookie choices.tsn choices.is_acknowledged
 echoed_act_none options my held cookie step_of_shutdown choices = tt
 echoed_act_none options my held cookie shutdown_repeats choices = tt
 echoed_act_none options my held cookie (abort_with reason) choices = aborts_none held (causes_of reason) choices.fits

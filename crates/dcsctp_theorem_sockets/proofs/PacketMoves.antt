@@ -1,6 +1,6 @@
 -- What comes of a delivery at one socket is moves of its side in the machine that agreement is
 -- proved on.
-use Rattle.std.proofs.Common.{◌≡◌, ◌^◌, ◌<◌, ℕ, Option, None, Some, List, [], ◌∷◌, ◌++◌, inl, inr, refl, sym, subst, ap, append_assoc}
+use Rattle.std.proofs.Common.{false, true, Bool, ◌≡◌, ◌^◌, ◌<◌, ℕ, Option, None, Some, List, [], ◌∷◌, ◌++◌, inl, inr, refl, sym, subst, ap, append_assoc}
 use Rattle.std.specs.List.{AllByRecursion, slice_get}
 use Rattle.dcsctp_spec_lemmas.specs.wire.Format.{IsPacket}
 use Rattle.dcsctp_spec_lemmas.specs.types.declared.options.Options.{Options}
@@ -8,12 +8,13 @@ use Rattle.dcsctp_spec_lemmas.specs.types.Settings.{SameOptions, FitsOptions, wi
 use Rattle.dcsctp_spec_lemmas.specs.spec.Packet.{Content, Packet, packet_in, emission_bytes}
 use Rattle.dcsctp_spec_lemmas.specs.spec.endpoint.Endpoint.{Endpoint, Core, fresh_endpoint}
 use Rattle.dcsctp_spec_lemmas.specs.spec.endpoint.Outcome.{Outcome, still}
-use Rattle.dcsctp_spec_lemmas.specs.spec.endpoint.Turn.{Input, arrival, refusal, packet_ends, has_data_chunk, unreadable_text, arrival_outcome, refusal_outcome}
-use Rattle.dcsctp_spec_lemmas.specs.spec.endpoint.CallTurns.{Transition, Turns, ChunkTurns, WholeTurns, AdmittedTurns, HandleInput, unreadable, readable, events_of}
+use Rattle.dcsctp_spec_lemmas.specs.spec.endpoint.Turn.{act_input, Input, arrival, refusal, packet_ends, has_data_chunk, unreadable_text, arrival_outcome, refusal_outcome}
+use Rattle.dcsctp_spec_lemmas.specs.spec.endpoint.MessageOutcomes.{awaits_opening}
+use Rattle.dcsctp_spec_lemmas.specs.spec.endpoint.CallTurns.{packet_tail, asked_again, Transition, Turns, ChunkTurns, WholeTurns, AdmittedTurns, HandleInput, unreadable, readable, events_of}
 use Rattle.dcsctp_spec_lemmas.specs.spec.Admission.{Admission, all_chunks, shutdown_acks_alone, refused, admits, shutdown_acks_in}
 use Rattle.dcsctp_spec_lemmas.specs.spec.association.Controlled.{IsControlled, ControlledAct}
 use Rattle.dcsctp_spec_lemmas.specs.spec.association.Effect.{Effect, sends, Change, unchanged}
-use Rattle.dcsctp_spec_lemmas.specs.spec.association.Acts.{shutdown_repeats, act_change}
+use Rattle.dcsctp_spec_lemmas.specs.spec.association.Acts.{flushes, shut_down, shutdown_repeats, act_change}
 use Rattle.dcsctp_spec_runs.specs.Laws.{IsRest, dropped, ended, AreChunkTurns}
 use Rattle.dcsctp_spec_runs.specs.Past.{HasEffect}
 use Rattle.dcsctp_spec_runs.specs.World.{SideState, after_changes, ChunkChanges, PacketChanges, worked_whole, worked_acks, receives}
@@ -25,10 +26,10 @@ use Rattle.dcsctp_spec_laws.proofs.DataLemmas.{flushed_act, end_at}
 use Rattle.dcsctp_spec_runs.proofs.DeliveryLemmas.{same_options_move}
 use Rattle.dcsctp_theorem_association.proofs.Alone.{packet_turns}
 use Rattle.dcsctp_theorem_sockets.proofs.DataFits.{end_fits}
-use Rattle.dcsctp_theorem_sockets.proofs.Deliver.{IsSent, sent_at, reads_as_sent, Fits, ChunksFit, EndFits, chunk_turns_fit, nothing_ends, packet_end_fits, acks_sendable}
+use Rattle.dcsctp_theorem_sockets.proofs.Deliver.{tail_fits, IsSent, sent_at, reads_as_sent, Fits, ChunksFit, EndFits, chunk_turns_fit, nothing_ends, acks_sendable}
 use Rattle.dcsctp_theorem_sockets.proofs.Follow.{Went, Followed, after_last, follow_turns, follow_idle}
-use Rattle.dcsctp_theorem_sockets.proofs.ShutdownFits.{begin_fits}
-use Rattle.dcsctp_theorem_sockets.proofs.Moves.{Below, SideMoves, rests, nothing_happens, rests_then, moves_then, act_then, flush_moves, none_rests}
+use Rattle.dcsctp_theorem_sockets.proofs.ShutdownFits.{shut_down_fits, begin_fits}
+use Rattle.dcsctp_theorem_sockets.proofs.Moves.{act_moves, Below, SideMoves, rests, nothing_happens, rests_then, moves_then, act_then, flush_moves, none_rests}
 
 -- ---- a packet that is counted, and one that is refused
 
@@ -87,6 +88,23 @@ abbrev EndMoves : List Input → Type 0
 EndMoves tail = (options : Options) (turns : List Transition) (side : SideState) (theirs : List Effect) (more : List Transition) → Followed options turns side
     → Turns (endpoint_after options turns) tail more → SideMoves options turns side theirs more
 
+pub shut_down_moves : Below → (options : Options) (turns : List Transition) (side : SideState) (theirs : List Effect) (more : List Transition) → Followed options turns side
+    → Turns (endpoint_after options turns) (act_input shut_down ∷ []) more → SideMoves options turns side theirs more
+shut_down_moves law options turns side theirs more h turn =
+    let e : Endpoint = endpoint_after options turns in
+    act_moves law options turns side theirs shut_down more (λ p q core choices same. ap (λ (x : Options). act_change x core shut_down choices) same) h (λ o is. subst TurnFits (sym is) (shut_down_fits e e.core h.fits h.fits.core)) turn
+
+-- what comes after the chunks of a packet
+tail_moves : Below → (asks : Bool) → EndMoves (packet_ends ∷ asked_again asks)
+tail_moves law false options turns side theirs more h taken = end_moves law options turns side theirs more h taken
+tail_moves law true options turns side theirs [] h taken = absurd taken
+tail_moves law true options turns side theirs (t ∷ more) h taken =
+    let e : Endpoint = endpoint_after options turns in
+    act_then law options turns side theirs flushes t more (λ p q core choices same. refl) h (flushed_act e t.outcome (end_at e e.queues.transfer t.outcome taken.0.comes))
+    (end_fits e e.queues.transfer t.outcome taken.0.comes h.fits)
+    (λ choices follows. shut_down_moves law options (turns ++ t ∷ []) _ theirs more follows
+    (subst (λ (x : Endpoint). Turns x (act_input shut_down ∷ []) more) (sym (after_last _ turns t)) taken.1))
+
 rest_moves : (tail : List Input) (options : Options) (turns : List Transition) (side : SideState) (theirs : List Effect) (more : List Transition) → EndMoves tail → Followed options turns side
     → IsRest (endpoint_after options turns) tail more → SideMoves options turns side theirs more
 rest_moves tail options turns side theirs more end h (dropped none) = nothing_happens options turns side theirs more h none
@@ -127,19 +145,20 @@ chunks_move law options turns side theirs packet contents tail more h was_sent t
 -- its chunks, after the turn before them
 behind_begun : Below → (options : Options) (turns : List Transition) (side : SideState) (theirs : List Effect) (packet : Packet) (begun : Transition) (more : List Transition)
     → admits side.core packet ≡ all_chunks → Followed options (turns ++ begun ∷ []) side → HasEffect (sends packet) theirs → SendablePacket packet
-    → ChunkTurns begun.outcome.after packet.tag packet.contents (packet_ends ∷ []) more → SideMoves options (turns ++ begun ∷ []) side theirs more
+    → ChunkTurns begun.outcome.after packet.tag packet.contents (packet_tail begun.outcome.after) more → SideMoves options (turns ++ begun ∷ []) side theirs more
 behind_begun law options turns side theirs packet begun more is first was_sent good taken =
-    chunks_move law options (turns ++ begun ∷ []) side theirs packet packet.contents (packet_ends ∷ []) more first was_sent good.tag good.contents packet_end_fits (end_moves law)
+    chunks_move law options (turns ++ begun ∷ []) side theirs packet packet.contents (packet_tail begun.outcome.after) more first was_sent good.tag good.contents
+    (tail_fits (awaits_opening begun.outcome.after begun.outcome.after.core)) (tail_moves law (awaits_opening begun.outcome.after begun.outcome.after.core))
     (λ changes moves. worked_whole (law.admitted.whole side.core packet is) moves)
-    (subst (λ (x : Endpoint). ChunkTurns x packet.tag packet.contents (packet_ends ∷ []) more) (sym (after_last _ turns begun)) taken)
+    (subst (λ (x : Endpoint). ChunkTurns x packet.tag packet.contents (packet_tail begun.outcome.after) more) (sym (after_last _ turns begun)) taken)
 
 -- A SHUTDOWN that is sent before them is a move of its own, and the association stays.
 begun_by_act : Below → (options : Options) (turns : List Transition) (side : SideState) (theirs : List Effect) (packet : Packet) (begun : Transition) (more : List Transition)
     → admits side.core packet ≡ all_chunks → Followed options turns side → HasEffect (sends packet) theirs → SendablePacket packet
     → ControlledAct (endpoint_after options turns) shutdown_repeats begun.outcome → TurnFits begun.outcome
-    → ChunkTurns begun.outcome.after packet.tag packet.contents (packet_ends ∷ []) more → SideMoves options turns side theirs (begun ∷ more)
+    → ChunkTurns begun.outcome.after packet.tag packet.contents (packet_tail begun.outcome.after) more → SideMoves options turns side theirs (begun ∷ more)
 begun_by_act law options turns side theirs packet begun more is h was_sent good repeats fits taken =
-    act_then law options turns side theirs shutdown_repeats begun more (λ p q core choices. refl) h repeats fits
+    act_then law options turns side theirs shutdown_repeats begun more (λ p q core choices same. refl) h repeats fits
     (λ choices follows. behind_begun law options turns (after_changes side (act_change side.options side.core shutdown_repeats choices ∷ [])) theirs packet begun more
     (subst (λ (core : Core). admits core packet ≡ all_chunks) (sym (repeated_keeps side.options side.core choices)) is) follows was_sent good taken)
 

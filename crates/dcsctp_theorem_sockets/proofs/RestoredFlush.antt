@@ -12,7 +12,7 @@ use Rattle.dcsctp_spec_lemmas.specs.spec.queues.SendQueue.{SendQueueState, numbe
 use Rattle.dcsctp_spec_lemmas.specs.spec.queues.Transfer.{Transfer, is_idle}
 use Rattle.dcsctp_spec_lemmas.specs.spec.endpoint.BegunResets.{BegunReset, streams_within, last_assigned_tsn, stream_field, begun_where, begun_in, after_begun}
 use Rattle.dcsctp_spec_lemmas.specs.spec.endpoint.DataOutcomes.{AnswersTo, flush_by}
-use Rattle.dcsctp_spec_lemmas.specs.spec.endpoint.FlushOutcomes.{Answer, first_ask, GivesUpWhere, GivesWhere, IsAnswerOfQueues, AreFlushAnswers, at_limit, at_empty, after_packet, may_forward, packets_allowed, draft_to, filled, room_in, stage_of}
+use Rattle.dcsctp_spec_lemmas.specs.spec.endpoint.FlushOutcomes.{may_be_asked, Answer, first_ask, GivesUpWhere, GivesWhere, IsAnswerOfQueues, AreFlushAnswers, at_limit, at_empty, after_packet, may_forward, packets_allowed, draft_to, filled, room_in, stage_of}
 use Rattle.dcsctp_spec_lemmas.specs.spec.endpoint.RestoreOutcomes.{RestoreTurn}
 use Rattle.dcsctp_spec_lemmas.proofs.FlushKeeps.{begun_by, flush_keeps}
 use Rattle.dcsctp_theorem_sockets.specs.Restores.{RestoredSocketsBeginNothing}
@@ -45,7 +45,7 @@ first_where : (b : Bool) (e : Endpoint) (draft : Emission) (transfer : Transfer)
 first_where true e draft transfer answer h are = ap (λ (a : Answer). a.begun) h
 first_where false e draft transfer answer h are =
     h.begins
-    ∙ begins_nothing (held_in e.core) (room_in e (filled draft (plain_contents answer.acknowledgements))) (last_assigned_tsn h.gave_up.queue) h.gave_up.waiting
+    ∙ begins_nothing (may_be_asked e.core e.options.follow_rfc) (room_in e (filled draft (plain_contents answer.acknowledgements))) (last_assigned_tsn h.gave_up.queue) h.gave_up.waiting
     (gave_up_open (may_forward first_ask e transfer.retransmission) e.moment transfer (room_in e (filled draft (plain_contents h.sacks)))
     (stage_of e.queues.queue transfer.retransmission [] 0) h.gave_up h.next h.forwards h.gives_up are)
 

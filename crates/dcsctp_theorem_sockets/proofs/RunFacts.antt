@@ -1,6 +1,6 @@
 -- Runs of two sockets with their inputs and numbers, written by hand and computed by the definitions:
 -- a wrong rule in specs/ would not check here.
-use Rattle.std.proofs.Common.{◌≡◌, ℕ, Bool, true, eqb, None, Some, List, [], ◌∷◌, ◌++◌, map, inl, inr, refl, sym, subst}
+use Rattle.std.proofs.Common.{false, ◌≡◌, ℕ, Bool, true, eqb, None, Some, List, [], ◌∷◌, ◌++◌, map, inl, inr, refl, sym, subst}
 use Rattle.dcsctp_spec_lemmas.specs.wire.declared.reconfiguration.ReconfigurationResponseResult.TheVariants.{SuccessPerformed, InProgress}
 use Rattle.dcsctp_spec_lemmas.specs.types.declared.association.Pair.{Pair}
 use Rattle.dcsctp_spec_lemmas.specs.types.declared.options.Options.{Options}
@@ -18,7 +18,8 @@ use Rattle.dcsctp_spec_lemmas.specs.spec.association.HandshakeChanges.{introduct
 use Rattle.dcsctp_spec_lemmas.specs.spec.endpoint.Outcome.{Outcome, still}
 use Rattle.dcsctp_spec_lemmas.specs.spec.endpoint.Following.{Following, next_chunk}
 use Rattle.dcsctp_spec_lemmas.specs.spec.endpoint.Turn.{Input, arrival, packet_begins, chunk_input, packet_ends, act_input, has_data_chunk, BeginTurn, ContentTurn, arrival_outcome}
-use Rattle.dcsctp_spec_lemmas.specs.spec.endpoint.CallTurns.{Transition, transition, Turns, AfterChunk, ChunkTurns, WholeTurns, AdmittedTurns, HandleInput, readable}
+use Rattle.dcsctp_spec_lemmas.specs.spec.endpoint.MessageOutcomes.{awaits_opening}
+use Rattle.dcsctp_spec_lemmas.specs.spec.endpoint.CallTurns.{packet_tail, asked_again, Transition, transition, Turns, AfterChunk, ChunkTurns, WholeTurns, AdmittedTurns, HandleInput, readable}
 use Rattle.dcsctp_spec_lemmas.specs.spec.association.Effect.{AssociationIdentity, identity_of, Effect, draws, holds, connects, begins, gives_up, completes, accepts, performs}
 use Rattle.dcsctp_spec_lemmas.specs.spec.association.Acts.{connect}
 use Rattle.dcsctp_spec_lemmas.specs.spec.Admission.{Admission, all_chunks, admits}
@@ -30,7 +31,7 @@ use Rattle.dcsctp_theorem_sockets.specs.Handshake.{AreFitting, AreConnected}
 use Rattle.dcsctp_theorem_sockets.proofs.Deliver.{built, built_reads}
 use Rattle.dcsctp_theorem_sockets.proofs.HandshakeReads.{Wire, IsTaken, alone, counted_at, delivered, is_read}
 use Rattle.dcsctp_theorem_sockets.proofs.HandshakeTurns.{HandshakeLaws, Good, connect_sends, answering, answer_sends, init_is_taken, waiting, made_cookie, case_at_start, answer_to, echoing, echo_sends, answer_is_taken, ack_admitted}
-use Rattle.dcsctp_theorem_sockets.proofs.HandshakeEnds.{begun_by, answered_by, echoed_by, acknowledged_by, connected_by, answered as answered_once, acknowledgement, establishing, cookie_reads, established_idle, established_sends, echo_is_taken, awaited, held_here, connecting_last, ack_admitted as cookie_ack_admitted, ack_is_taken}
+use Rattle.dcsctp_theorem_sockets.proofs.HandshakeEnds.{none_is_asked, begun_by, answered_by, echoed_by, acknowledged_by, connected_by, answered as answered_once, acknowledgement, establishing, cookie_reads, established_idle, established_sends, echo_is_taken, awaited, held_here, connecting_last, ack_admitted as cookie_ack_admitted, ack_is_taken}
 use Rattle.dcsctp_theorem_sockets.proofs.HandshakeRuns.{run_of, fitting_sockets_connect}
 use Rattle.dcsctp_theorem_sockets.proofs.Idle.{OwesNothing, still_ends}
 use Rattle.dcsctp_theorem_sockets.proofs.IdleTurns.{init_ack_turn_of, cookie_echo_turn_of, cookie_ack_turn_of}
@@ -114,15 +115,18 @@ ended_in_progress e h = elim (h.completed mine 1 (inl refl)) [ inl is ↦ is.1 |
 -- It is a call of its turns.
 gives : Wire → (e : Endpoint) (other : Options) (with_checksum : Bool) (tag : ℕ) (content : Content) (o : Outcome) → IsTaken e.options other with_checksum tag content
     → admits e.core (record { tag = tag; contents = content ∷ [] }) ≡ all_chunks → BeginTurn (counted_at e) e.core (has_data_chunk e.options.follow_rfc (content ∷ [])) (still (counted_at e))
-    → ContentTurn (counted_at e) tag content o → o.following ≡ next_chunk → OwesNothing o.after.queues.transfer → HandleInput e (emission_bytes (ports_of other) (alone with_checksum tag content)) (delivered e tag content o)
-gives law e other with_checksum tag content o h admitted begun comes goes_on owes =
+    → ContentTurn (counted_at e) tag content o → o.following ≡ next_chunk → OwesNothing o.after.queues.transfer → awaits_opening e e.core ≡ false → HandleInput e (emission_bytes (ports_of other) (alone with_checksum tag content)) (delivered e tag content o)
+gives law e other with_checksum tag content o h admitted begun comes goes_on owes none_asked =
     let packet : Packet = record { tag = tag; contents = content ∷ [] } in
     let last : List Transition = transition packet_ends (still o.after) ∷ [] in
     let rest : List Transition = transition (packet_begins (content ∷ [])) (still (counted_at e)) ∷ transition (chunk_input tag content) o ∷ last in
     let behind : AfterChunk o.following (ChunkTurns o.after tag [] (packet_ends ∷ []) last) (Turns o.after (packet_ends ∷ []) last) (last ≡ []) =
     subst (λ (f : Following). AfterChunk f (ChunkTurns o.after tag [] (packet_ends ∷ []) last) (Turns o.after (packet_ends ∷ []) last) (last ≡ [])) (sym goes_on)
     (record { is = refl; comes = still_ends o.after owes }, tt) in
-    let whole : WholeTurns (counted_at e) packet rest = (record { is = refl; comes = begun }, (record { is = refl; comes = comes }, behind)) in
+    let chunk : ChunkTurns (counted_at e) tag (content ∷ []) (packet_ends ∷ []) (transition (chunk_input tag content) o ∷ last) = (record { is = refl; comes = comes }, behind) in
+    let tail : ChunkTurns (counted_at e) tag (content ∷ []) (packet_tail (counted_at e)) (transition (chunk_input tag content) o ∷ last) =
+    subst (λ (asks : Bool). ChunkTurns (counted_at e) tag (content ∷ []) (packet_ends ∷ asked_again asks) (transition (chunk_input tag content) o ∷ last)) (sym none_asked) chunk in
+    let whole : WholeTurns (counted_at e) packet rest = (record { is = refl; comes = begun }, tail) in
     readable (built (ports_of other) packet) (transition arrival (arrival_outcome e)) rest (is_read law e.options other with_checksum tag content h) (record { is = refl; comes = refl })
     (subst (λ (p : Packet). AdmittedTurns (counted_at e) p (admits e.core p) rest) (sym (built_reads (ports_of other) packet h.sendable))
     (subst (λ (a : Admission). AdmittedTurns (counted_at e) packet a rest) (sym admitted) whole))
@@ -164,16 +168,16 @@ handshake_runs law a b w good_a good_b to_b to_a =
     let first : Turns (fresh_endpoint a) (act_input connect ∷ []) (begun_by a w.word w.next) =
     (record { is = refl; comes = (w.word, w.next, sym (connect_sends a w.word w.next good_a.allow.mtu)) }, tt) in
     let second = gives law.wire (fresh_endpoint b) a true 0 (init (introduction_of a p)) (answering a b p w.word' w.next') (init_is_taken law a b p good_a own to_b) refl refl
-    (w.word', w.next', sym (answer_sends a b p w.word' w.next' good_b.allow.mtu)) refl tt in
+    (w.word', w.next', sym (answer_sends a b p w.word' w.next' good_b.allow.mtu)) refl tt refl in
     let third = gives law.wire (waiting a p) b (eqb (agreed_method (offer_of b) (offer_of a)) 0) p.tag (init_ack (answer_to a b p q) (Some bytes)) (echoing a b p q w.tie)
     (answer_is_taken law a b p q good_b own other to_a) (ack_admitted (cookie_wait p) (answer_to a b p q) bytes p.tag refl own.tag_is_not_zero) refl
-    (init_ack_turn_of (counted_at (waiting a p)) (answer_to a b p q) bytes p w.tie (echoing a b p q w.tie) refl refl (sym (echo_sends a b p q w.tie good_a))) refl (refl, refl) in
+    (init_ack_turn_of (counted_at (waiting a p)) (answer_to a b p q) bytes p w.tie (echoing a b p q w.tie) refl refl (sym (echo_sends a b p q w.tie good_a))) refl (refl, refl) refl in
     let fourth = gives law.wire (answered_once b q) a true q.tag (cookie_echo bytes) (establishing a b p q w.tie') (echo_is_taken a b p q good_a other to_b) refl refl
     (cookie_echo_turn_of (counted_at (answered_once b q)) q.tag bytes (made_cookie a b p q) w.tie' (establishing a b p q w.tie') refl (cookie_reads law a b p q good_a own other)
-    (case_at_start (counted_at (answered_once b q)) a b p q refl refl refl refl other.tag_is_not_zero) (established_idle a b p q w.tie') (sym (established_sends a b p q w.tie' good_b))) refl (refl, refl) in
+    (case_at_start (counted_at (answered_once b q)) a b p q refl refl refl refl other.tag_is_not_zero) (established_idle a b p q w.tie') (sym (established_sends a b p q w.tie' good_b))) refl (refl, refl) refl in
     let fifth = gives law.wire (awaited a b p q w.tie) b (acknowledgement a b p q).with_checksum p.tag cookie_ack (connecting_last a b p q w.tie) (ack_is_taken a b p q good_b own to_a)
     (cookie_ack_admitted (cookie_echoed p (held_here a b p q) bytes) p.tag refl own.tag_is_not_zero) refl
-    (cookie_ack_turn_of (counted_at (awaited a b p q w.tie)) p (held_here a b p q) bytes (connecting_last a b p q w.tie) refl refl refl) refl (refl, refl) in
+    (cookie_ack_turn_of (counted_at (awaited a b p q w.tie)) p (held_here a b p q) bytes (connecting_last a b p q w.tie) refl refl refl) refl (refl, refl) (none_is_asked a.follow_rfc) in
     (fifth, (fourth, (third, (second, (first, tt)))))
 
 six_run : HandshakeLaws → (a b : Options) (w : Words) → Good a → Good b → a.remote_port ≡ b.local_port → b.remote_port ≡ a.local_port → SocketRun (record { a = a; b = b }) (six_acts a b w)

@@ -13,7 +13,7 @@ use Rattle.dcsctp_spec_lemmas.specs.spec.endpoint.Turn.{BeginTurn}
 use Rattle.dcsctp_spec_lemmas.specs.spec.association.CookieEchoChanges.{stale_error}
 use Rattle.dcsctp_spec_lemmas.specs.spec.endpoint.CookieEchoOutcomes.{refused_restart_outcome}
 use Rattle.dcsctp_spec_lemmas.specs.spec.endpoint.EndOutcomes.{reflected_outcome}
-use Rattle.dcsctp_spec_lemmas.specs.spec.endpoint.ShutdownOutcomes.{received_tsn, phase_at, t2_begun, t2_goes_on, may_go_on, step_by, step_outcome, t1_stopped, shut_down_outcome, shutdown_outcome, shutdown_ack_outcome, shutdown_complete_outcome, shutdown_sent_again, t2_again_outcome, shutdown_repeated}
+use Rattle.dcsctp_spec_lemmas.specs.spec.endpoint.ShutdownOutcomes.{shut_down_echoed, received_tsn, phase_at, t2_begun, t2_goes_on, may_go_on, step_by, step_outcome, t1_stopped, shut_down_outcome, shutdown_outcome, shutdown_ack_outcome, shutdown_complete_outcome, shutdown_sent_again, t2_again_outcome, shutdown_repeated}
 use Rattle.dcsctp_spec_runs.specs.Fitting.{FitsHeld, FitsCore, FitsEndpoint, Sendable, TurnFits}
 use Rattle.dcsctp_spec_lemmas.specs.spec.CookieFits.{FitsPair}
 use Rattle.dcsctp_theorem_sockets.proofs.FlushFits.{still_fits}
@@ -97,10 +97,15 @@ stopped_fits e my held h own fits =
     step_by_fits (may_go_on e) (phase_at (t1_stopped e) shutdown_pending my held) shutdown_pending my held
     (record { valid = h.valid; options = h.options; core = (own, fits); t1 = tt }) own fits
 
+echoed_fits : (follows : Bool) (e : Endpoint) (my : Pair) (held : Held) → FitsEndpoint e → FitsPair my → FitsHeld held → TurnFits (shut_down_echoed follows e my held)
+echoed_fits true e my held h own fits =
+    record { after = record { valid = h.valid; options = h.options; core = h.core; t1 = h.t1 }; sends = tt }
+echoed_fits false e my held h own fits = stopped_fits e my held h own fits
+
 pub shut_down_fits : (e : Endpoint) (core : Core) → FitsEndpoint e → FitsCore core → TurnFits (shut_down_outcome e core)
 shut_down_fits e closed h own = still_fits e h
 shut_down_fits e (cookie_wait my) h own = record { after = record { valid = h.valid; options = h.options; core = tt; t1 = tt }; sends = (tt, tt) }
-shut_down_fits e (cookie_echoed my held cookie) h own = stopped_fits e my held h own.0 own.1
+shut_down_fits e (cookie_echoed my held cookie) h own = echoed_fits e.options.follow_rfc e my held h own.0 own.1
 shut_down_fits e (open_in established my held) h own = step_from_fits e shutdown_pending my held h own.0 own.1
 shut_down_fits e (open_in shutdown_pending my held) h own = still_fits e h
 shut_down_fits e (open_in shutdown_sent my held) h own = still_fits e h

@@ -8,7 +8,7 @@ use Rattle.dcsctp_spec_lemmas.specs.spec.endpoint.Endpoint.{Endpoint, Core, clos
 use Rattle.dcsctp_spec_lemmas.specs.spec.endpoint.Outcome.{Outcome, contents_len}
 use Rattle.dcsctp_spec_lemmas.specs.spec.endpoint.Turn.{BeginTurn}
 use Rattle.dcsctp_spec_lemmas.specs.spec.endpoint.EndOutcomes.{reflected_outcome}
-use Rattle.dcsctp_spec_lemmas.specs.spec.endpoint.ShutdownOutcomes.{received_tsn, sends_shutdown, sends_shutdown_ack, phase_at, t2_begun, may_go_on, step_by, step_outcome, t1_stopped, shut_down_outcome, shutdown_outcome, completed_outcome, shutdown_ack_outcome, shutdown_complete_outcome, t2_goes_on, shutdown_sent_again, t2_again_outcome}
+use Rattle.dcsctp_spec_lemmas.specs.spec.endpoint.ShutdownOutcomes.{shut_down_echoed, received_tsn, sends_shutdown, sends_shutdown_ack, phase_at, t2_begun, may_go_on, step_by, step_outcome, t1_stopped, shut_down_outcome, shutdown_outcome, completed_outcome, shutdown_ack_outcome, shutdown_complete_outcome, t2_goes_on, shutdown_sent_again, t2_again_outcome}
 use Rattle.dcsctp_theorem_sockets.proofs.Sizes.{AtLimit, TurnSizes}
 
 -- ---- what is sent
@@ -55,10 +55,14 @@ step_from_sizes limit e phase my held h = step_by_sizes (may_go_on e) limit (pha
 
 -- ---- the user's call
 
+echoed_sizes : (follows : Bool) (limit : ℕ) (e : Endpoint) (my : Pair) (held : Held) → AtLimit limit e → TurnSizes limit (shut_down_echoed follows e my held)
+echoed_sizes true limit e my held h = (h, tt)
+echoed_sizes false limit e my held h = step_from_sizes limit (t1_stopped e) shutdown_pending my held h
+
 pub shut_down_sizes : (limit : ℕ) (e : Endpoint) (core : Core) → AtLimit limit e → TurnSizes limit (shut_down_outcome e core)
 shut_down_sizes limit e closed h = (h, tt)
 shut_down_sizes limit e (cookie_wait my) h = (h, tt)
-shut_down_sizes limit e (cookie_echoed my held cookie) h = step_from_sizes limit (t1_stopped e) shutdown_pending my held h
+shut_down_sizes limit e (cookie_echoed my held cookie) h = echoed_sizes e.options.follow_rfc limit e my held h
 shut_down_sizes limit e (open_in established my held) h = step_from_sizes limit e shutdown_pending my held h
 shut_down_sizes limit e (open_in shutdown_pending my held) h = (h, tt)
 shut_down_sizes limit e (open_in shutdown_sent my held) h = (h, tt)

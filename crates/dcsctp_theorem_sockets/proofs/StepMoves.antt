@@ -18,7 +18,7 @@ use Rattle.dcsctp_spec_lemmas.specs.spec.endpoint.MessageOutcomes.{Sending, send
 use Rattle.dcsctp_spec_runs.specs.Fitting.{FitsEndpoint, TurnFits}
 use Rattle.dcsctp_spec_lemmas.specs.spec.endpoint.CallTurns.{Transition, IsTurn, Turns}
 use Rattle.dcsctp_spec_lemmas.specs.spec.association.Effect.{Effect, unchanged}
-use Rattle.dcsctp_spec_lemmas.specs.spec.association.Acts.{shut_down, abort_with, hands_over, flushes}
+use Rattle.dcsctp_spec_lemmas.specs.spec.association.Acts.{abort_with, hands_over, flushes}
 use Rattle.dcsctp_spec_runs.specs.World.{SideState}
 use Rattle.dcsctp_spec_lemmas.specs.spec.Handover.{readiness_of}
 use Rattle.dcsctp_spec_lemmas.specs.spec.HandoverInputs.{inputs_of_handover}
@@ -27,12 +27,11 @@ use Rattle.dcsctp_spec_laws.proofs.DataLemmas.{flushed_act, send_at, resets_at, 
 use Rattle.dcsctp_theorem_sockets.proofs.DataFits.{send_fits, resets_fits, take_fits}
 use Rattle.dcsctp_theorem_sockets.proofs.Aborting.{aborting_fits}
 use Rattle.dcsctp_theorem_sockets.proofs.HandoverTurns.{hand_over_fits}
-use Rattle.dcsctp_theorem_sockets.proofs.ShutdownFits.{shut_down_fits}
 use Rattle.dcsctp_theorem_sockets.proofs.Follow.{Followed, after_last, follow_idle}
 use Rattle.dcsctp_theorem_sockets.proofs.TimeMoves.{clock_follows}
 use Rattle.dcsctp_theorem_sockets.proofs.ExpiryMoves.{expiries_move}
 use Rattle.dcsctp_theorem_sockets.proofs.Moves.{Below, SideMoves, rests, nothing_happens, rests_then, flush_moves, connect_moves, act_moves}
-use Rattle.dcsctp_theorem_sockets.proofs.PacketMoves.{delivery_moves}
+use Rattle.dcsctp_theorem_sockets.proofs.PacketMoves.{shut_down_moves, delivery_moves}
 
 -- ---- close and shutdown
 
@@ -40,13 +39,7 @@ abort_moves : Below → (options : Options) (turns : List Transition) (side : Si
     → Turns (endpoint_after options turns) (act_input (abort_with reason) ∷ []) more → SideMoves options turns side theirs more
 abort_moves law options turns side theirs reason more h turn =
     let e : Endpoint = endpoint_after options turns in
-    act_moves law options turns side theirs (abort_with reason) more (λ p q core choices. refl) h (λ o is. subst TurnFits (sym is) (aborting_fits e e.core reason h.fits h.fits.core)) turn
-
-shut_down_moves : Below → (options : Options) (turns : List Transition) (side : SideState) (theirs : List Effect) (more : List Transition) → Followed options turns side
-    → Turns (endpoint_after options turns) (act_input shut_down ∷ []) more → SideMoves options turns side theirs more
-shut_down_moves law options turns side theirs more h turn =
-    let e : Endpoint = endpoint_after options turns in
-    act_moves law options turns side theirs shut_down more (λ p q core choices. refl) h (λ o is. subst TurnFits (sym is) (shut_down_fits e e.core h.fits h.fits.core)) turn
+    act_moves law options turns side theirs (abort_with reason) more (λ p q core choices same. refl) h (λ o is. subst TurnFits (sym is) (aborting_fits e e.core reason h.fits h.fits.core)) turn
 
 -- ---- a handover
 
@@ -54,7 +47,7 @@ shut_down_moves law options turns side theirs more h turn =
 hand_over_moves : Below → (options : Options) (turns : List Transition) (side : SideState) (theirs : List Effect) (readiness : ℕ) (more : List Transition) → Followed options turns side
     → Turns (endpoint_after options turns) (inputs_of_handover readiness) more → SideMoves options turns side theirs more
 hand_over_moves law options turns side theirs zero more h turn =
-    act_moves law options turns side theirs hands_over more (λ p q core choices. refl) h (λ o is. hand_over_fits (endpoint_after options turns) o is h.fits) turn
+    act_moves law options turns side theirs hands_over more (λ p q core choices same. refl) h (λ o is. hand_over_fits (endpoint_after options turns) o is h.fits) turn
 hand_over_moves law options turns side theirs (suc reasons) [] h turn = nothing_happens options turns side theirs [] h refl
 hand_over_moves law options turns side theirs (suc reasons) (t ∷ more) h turn = absurd turn
 

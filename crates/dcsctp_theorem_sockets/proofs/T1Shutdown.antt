@@ -5,7 +5,7 @@ use Rattle.dcsctp_spec_lemmas.specs.types.declared.association.Held.{Held}
 use Rattle.dcsctp_spec_lemmas.specs.spec.endpoint.Endpoint.{Endpoint, Core, closed, cookie_wait, cookie_echoed, open_in, OpenPhase, established, shutdown_pending, shutdown_sent, shutdown_received, shutdown_ack_sent}
 use Rattle.dcsctp_spec_lemmas.specs.spec.endpoint.Outcome.{Outcome}
 use Rattle.dcsctp_spec_lemmas.specs.spec.endpoint.Turn.{BeginTurn}
-use Rattle.dcsctp_spec_lemmas.specs.spec.endpoint.ShutdownOutcomes.{phase_at, may_go_on, step_by, step_outcome, t1_stopped, shut_down_outcome, shutdown_outcome, shutdown_ack_outcome, shutdown_complete_outcome, t2_goes_on, shutdown_sent_again, t2_again_outcome}
+use Rattle.dcsctp_spec_lemmas.specs.spec.endpoint.ShutdownOutcomes.{shut_down_echoed, phase_at, may_go_on, step_by, step_outcome, t1_stopped, shut_down_outcome, shutdown_outcome, shutdown_ack_outcome, shutdown_complete_outcome, t2_goes_on, shutdown_sent_again, t2_again_outcome}
 use Rattle.dcsctp_theorem_sockets.proofs.T1Turns.{Up, UpAfter}
 
 -- ---- a step of it
@@ -30,10 +30,14 @@ step_from_up e phase my held = step_by_up (may_go_on e) (phase_at e phase my hel
 
 -- ---- the user's call
 
+echoed_up : (follows : Bool) (e : Endpoint) (my : Pair) (held : Held) → Up e → UpAfter (shut_down_echoed follows e my held)
+echoed_up true e my held h = h
+echoed_up false e my held h = step_from_up (t1_stopped e) shutdown_pending my held
+
 pub shut_down_up : (e : Endpoint) (core : Core) → Up e → UpAfter (shut_down_outcome e core)
 shut_down_up e closed h = h
 shut_down_up e (cookie_wait my) h = tt
-shut_down_up e (cookie_echoed my held cookie) h = step_from_up (t1_stopped e) shutdown_pending my held
+shut_down_up e (cookie_echoed my held cookie) h = echoed_up e.options.follow_rfc e my held h
 shut_down_up e (open_in established my held) h = step_from_up e shutdown_pending my held
 shut_down_up e (open_in shutdown_pending my held) h = h
 shut_down_up e (open_in shutdown_sent my held) h = h

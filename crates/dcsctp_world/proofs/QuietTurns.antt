@@ -6,7 +6,8 @@ use Rattle.dcsctp_core.specs.types.declared.ends.AbortReason.TheVariants.{TooMan
 use Rattle.dcsctp_core.specs.types.declared.snapshot.HandoverSocketState.{HandoverSocketState}
 use Rattle.dcsctp_core.specs.types.declared.snapshot.HandoverSocketState.TheVariants as states
 use Rattle.dcsctp_core.specs.spec.Admission.{Admission, all_chunks, shutdown_acks_alone, refused, admits, shutdown_acks_in}
-use Rattle.dcsctp_core.specs.spec.endpoint.CallTurns.{Transition, IsTurn, Turns, AfterChunk, ChunkTurns, WholeTurns, AdmittedTurns, HandleInput, unreadable, readable}
+use Rattle.dcsctp_core.specs.spec.endpoint.MessageOutcomes.{awaits_opening}
+use Rattle.dcsctp_core.specs.spec.endpoint.CallTurns.{packet_tail, asked_again, Transition, IsTurn, Turns, AfterChunk, ChunkTurns, WholeTurns, AdmittedTurns, HandleInput, unreadable, readable}
 use Rattle.dcsctp_core.specs.spec.endpoint.Endpoint.{Endpoint, Core, closed, cookie_wait, cookie_echoed, open_in}
 use Rattle.dcsctp_core.specs.spec.endpoint.Following.{Following, next_chunk, packet_end, dropped_rest}
 use Rattle.dcsctp_core.specs.spec.Packet.{Content, Packet, packet_in}
@@ -88,11 +89,15 @@ chunks_quiet (content ∷ contents) e tag tail (t ∷ turns) quiet taken =
     (rest_quiet t.outcome.following t.outcome.after tail turns (ChunkTurns t.outcome.after tag contents tail turns) quiet
     (λ rest. chunks_quiet contents t.outcome.after tag tail turns quiet rest) taken.1)
 
+tail_quiet : (asks : Bool) → AllQuiet (packet_ends ∷ asked_again asks)
+tail_quiet true = (tt, (tt, tt))
+tail_quiet false = (tt, tt)
+
 whole_quiet : (e : Endpoint) (packet : Packet) (turns : List Transition) → WholeTurns e packet turns → AreQuiet e turns
 whole_quiet e packet [] taken = absurd taken
 whole_quiet e packet (t ∷ turns) taken =
     first_quiet e (packet_begins packet.contents) t turns tt taken.0
-    (chunks_quiet packet.contents t.outcome.after packet.tag (packet_ends ∷ []) turns (tt, tt) taken.1)
+    (chunks_quiet packet.contents t.outcome.after packet.tag (packet_tail t.outcome.after) turns (tail_quiet (awaits_opening t.outcome.after t.outcome.after.core)) taken.1)
 
 admitted_quiet : (e : Endpoint) (packet : Packet) (admission : Admission) (turns : List Transition) → AdmittedTurns e packet admission turns → AreQuiet e turns
 admitted_quiet e packet all_chunks turns taken = whole_quiet e packet turns taken

@@ -21,7 +21,7 @@ const STEPS: usize = 300;
 // What must happen at least in all schedules of a test.
 const LEAST: Counts = Counts {
     connected: 200,
-    restarted: 20,
+    restarted: 10,
     closed: 100,
     aborted: 100,
     performed: 50,

@@ -103,7 +103,7 @@ abbrev pub act_change : Options → Core → Act → Choices → Change
 act_change options core connect choices = connect_change options core choices
 act_change options core (t1_expires true) choices = t1_again_change options core choices
 act_change options core (t1_expires false) choices = t1_gives_up_change core
-act_change options core shut_down choices = shutdown_call_change core choices.tsn choices.is_acknowledged
+act_change options core shut_down choices = shutdown_call_change options core choices.tsn choices.is_acknowledged
 act_change options core step_of_shutdown choices = shutdown_step_change core choices.tsn choices.is_acknowledged
 act_change options core shutdown_repeats choices = shutdown_again_change core choices.tsn
 act_change options core (abort_with reason) choices = abort_call_change core (causes_of reason) choices.fits

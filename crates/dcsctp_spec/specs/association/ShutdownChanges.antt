@@ -29,12 +29,18 @@ abbrev pub shutdown_call_change_in : OpenPhase → Pair → Held → ℕ → Boo
 shutdown_call_change_in established my held tsn is_acknowledged = shutdown_step_change_in shutdown_pending my held tsn is_acknowledged
 shutdown_call_change_in phase my held tsn is_acknowledged = unchanged (open_in phase my held)
 
--- The user shuts the association down. One whose COOKIE ACK is awaited will never connect.
-abbrev pub shutdown_call_change : Core → ℕ → Bool → Change
-shutdown_call_change closed tsn is_acknowledged = unchanged closed
-shutdown_call_change (cookie_wait my) tsn is_acknowledged = ended []
-shutdown_call_change (cookie_echoed my held cookie) tsn is_acknowledged = shutdown_step_change_in shutdown_pending my held tsn is_acknowledged
-shutdown_call_change (open_in phase my held) tsn is_acknowledged = shutdown_call_change_in phase my held tsn is_acknowledged
+-- while the COOKIE ACK is awaited: by the RFC it waits
+abbrev pub shutdown_call_change_echoed : Bool → Pair → Held → List ℕ → ℕ → Bool → Change
+shutdown_call_change_echoed true my held cookie tsn is_acknowledged = unchanged (cookie_echoed my held cookie)
+shutdown_call_change_echoed false my held cookie tsn is_acknowledged = shutdown_step_change_in shutdown_pending my held tsn is_acknowledged
+
+-- The user shuts the association down.
+abbrev pub shutdown_call_change : Options → Core → ℕ → Bool → Change
+shutdown_call_change options closed tsn is_acknowledged = unchanged closed
+shutdown_call_change options (cookie_wait my) tsn is_acknowledged = ended []
+shutdown_call_change options (cookie_echoed my held cookie) tsn is_acknowledged =
+    shutdown_call_change_echoed options.follow_rfc my held cookie tsn is_acknowledged
+shutdown_call_change options (open_in phase my held) tsn is_acknowledged = shutdown_call_change_in phase my held tsn is_acknowledged
 
 -- The association is aborted, by the user, for a violation, or after too many errors. An ABORT is sent if the peer is known and
 -- the packet fits (RFC 9260, sections 8.1 and 9.1).

@@ -1,5 +1,5 @@
 -- A call is a list of turns. Each starts at the endpoint that the one before it left.
-use Rattle.std.specs.Prelude.{◌≡◌, ℕ, List, [], ◌∷◌, ◌++◌, ◌⊎◌, take}
+use Rattle.std.specs.Prelude.{◌≡◌, ℕ, Bool, true, false, List, [], ◌∷◌, ◌++◌, ◌⊎◌, take}
 use Rattle.dcsctp_types.specs.declared.association.Pair.{Pair}
 use Rattle.dcsctp_types.specs.declared.word.Word.{Word}
 use Rattle.dcsctp_types.specs.Settings.{wire_options}
@@ -10,7 +10,9 @@ use Rattle.dcsctp_spec.specs.endpoint.Endpoint.{Endpoint}
 use Rattle.dcsctp_spec.specs.association.Effect.{Effect, drawn_in}
 use Rattle.dcsctp_spec.specs.endpoint.Outcome.{Outcome}
 use Rattle.dcsctp_spec.specs.endpoint.Following.{Following, next_chunk, packet_end, dropped_rest}
-use Rattle.dcsctp_spec.specs.endpoint.Turn.{Input, arrival, refusal, packet_begins, chunk_input, packet_ends, Turn, unreadable_text}
+use Rattle.dcsctp_spec.specs.association.Acts.{shut_down}
+use Rattle.dcsctp_spec.specs.endpoint.MessageOutcomes.{awaits_opening}
+use Rattle.dcsctp_spec.specs.endpoint.Turn.{Input, arrival, refusal, packet_begins, chunk_input, packet_ends, act_input, Turn, unreadable_text}
 use Rattle.dcsctp_types.specs.wire.Content.{PacketContent}
 use Rattle.dcsctp_types.specs.wire.Format.{IsPacket}
 
@@ -77,11 +79,20 @@ ChunkTurns e tag (content ∷ contents) ends (turn ∷ turns) =
     IsTurn e (chunk_input tag content) turn
     × AfterChunk turn.outcome.following (ChunkTurns turn.outcome.after tag contents ends turns) (Turns turn.outcome.after ends turns) (turns ≡ [])
 
--- A packet whose chunks are handled: what precedes them, its chunks, and its end.
+-- A shutdown that waits for the association to open is asked for again.
+abbrev pub asked_again : Bool → List Input
+asked_again false = []
+asked_again true = act_input shut_down ∷ []
+
+-- what comes after the chunks of a packet
+abbrev pub packet_tail : Endpoint → List Input
+packet_tail e = packet_ends ∷ asked_again (awaits_opening e e.core)
+
+-- A packet whose chunks are handled: what precedes them, its chunks, and what comes after them.
 abbrev pub WholeTurns : Endpoint → Packet → List Transition → Type 0
 WholeTurns e packet [] = ⊥
 WholeTurns e packet (begun ∷ turns) =
-    IsTurn e (packet_begins packet.contents) begun × ChunkTurns begun.outcome.after packet.tag packet.contents (packet_ends ∷ []) turns
+    IsTurn e (packet_begins packet.contents) begun × ChunkTurns begun.outcome.after packet.tag packet.contents (packet_tail begun.outcome.after) turns
 
 -- A packet that was read and counted. If its SHUTDOWN ACK chunks alone are handled, nothing else of it is.
 abbrev pub AdmittedTurns : Endpoint → Packet → Admission → List Transition → Type 0
@@ -107,14 +118,14 @@ pub data HandleInput (e : Endpoint) (bytes : List ℕ) : List Transition → Typ
 abbrev pub FirstTurns : Endpoint → ℕ → List Content → List Transition → Type 0
 FirstTurns e tag contents turns = (count : ℕ) × ChunkTurns e tag (take count contents) [] turns
 
--- The first turns of a packet whose chunks are handled: what precedes them, and that many of them. Or all of them, and its end,
--- in which an allocation failed.
+-- The first turns of a packet whose chunks are handled: what precedes them, and that many of them. Or all of them, and the first of
+-- what comes after them, in the last of which an allocation failed.
 abbrev pub FirstOfWhole : Endpoint → Packet → List Transition → Type 0
 FirstOfWhole e packet [] = Unit {0}
 FirstOfWhole e packet (begun ∷ turns) =
     IsTurn e (packet_begins packet.contents) begun
     × (FirstTurns begun.outcome.after packet.tag packet.contents turns
-    ⊎ ChunkTurns begun.outcome.after packet.tag packet.contents (packet_ends ∷ []) turns)
+    ⊎ (count : ℕ) × ChunkTurns begun.outcome.after packet.tag packet.contents (take count (packet_tail begun.outcome.after)) turns)
 
 -- the first turns after a packet was counted
 abbrev pub FirstAdmitted : Endpoint → Packet → Admission → List Transition → Type 0

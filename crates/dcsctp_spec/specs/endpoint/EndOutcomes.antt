@@ -40,6 +40,7 @@ closed_after e =
       outstanding = None;
       renewable = None;
       heartbeat_sent = None;
+      shutdown_asked = false;
       timers = stopped_timers;
       queues = record e.queues { transfer = None };
       left = left_by e.options e.queues.transfer e.left;

@@ -1,5 +1,5 @@
 -- What a socket is between two turns (RFC 9260, sections 4 and 5).
-use Rattle.std.specs.Prelude.{◌==◌, ℕ, ◌+◌, ◌*◌, ◌/◌, ◌%◌, ◌^◌, min, Bool, false, not, ◌&&◌, if◌then◌else◌, Option, None, Some, List, []}
+use Rattle.std.specs.Prelude.{◌==◌, ℕ, ◌+◌, ◌*◌, ◌/◌, ◌%◌, ◌^◌, min, Bool, true, false, not, ◌&&◌, if◌then◌else◌, Option, None, Some, List, []}
 use Rattle.std.specs.Duration.{as_nanos, max_nanos}
 use Rattle.dcsctp_spec.specs.endpoint.Timers.{TimerSettings, RunningTimer, started}
 use Rattle.dcsctp_spec.specs.queues.Transfer.{EndpointQueues, empty_queues}
@@ -51,6 +51,13 @@ own_tag closed = 0
 own_tag (cookie_wait my) = my.tag
 own_tag (cookie_echoed my held cookie) = my.tag
 own_tag (open_in phase my held) = my.tag
+
+-- Is a COOKIE ACK awaited?
+abbrev pub is_cookie_echoed : Core → Bool
+is_cookie_echoed closed = false
+is_cookie_echoed (cookie_wait my) = false
+is_cookie_echoed (cookie_echoed my held cookie) = true
+is_cookie_echoed (open_in phase my held) = false
 
 -- what is known of a peer
 abbrev pub held_in : Core → Option Held
@@ -130,6 +137,8 @@ pub record Endpoint : Type 0 where
   pub heartbeat_sent : Option ℕ
   -- Was a HEARTBEAT, an INIT or a RE-CONFIG of the present packet answered?
   pub has_answered : Bool
+  -- Was a shutdown asked for while the COOKIE ACK of this association was awaited? Only by the RFC.
+  pub shutdown_asked : Bool
   pub timers : Timers
   -- No FORWARD-TSN is sent before.
   pub no_forward_tsn_before : ℕ
@@ -183,6 +192,7 @@ fresh_endpoint options =
       heartbeat_counter = 0;
       heartbeat_sent = None;
       has_answered = false;
+      shutdown_asked = false;
       timers = stopped_timers;
       no_forward_tsn_before = 0;
       counts = record { packets_received = 0; packets_sent = 0; messages_queued = 0 };

@@ -1,5 +1,5 @@
 -- Messages that the user sends: which a socket takes, the events about one that it refuses, and what is sent.
-use Rattle.std.specs.Prelude.{◌≡◌, ◌==◌, ◌||◌, ◌+◌, ◌++◌, is_none, ℕ, Bool, true, false, Option, None, Some, List, [], ◌∷◌, length, nat_le, nat_lt, codes, if◌then◌else◌}
+use Rattle.std.specs.Prelude.{◌≡◌, ◌==◌, ◌&&◌, ◌||◌, ◌+◌, ◌++◌, is_none, ℕ, Bool, true, false, Option, None, Some, List, [], ◌∷◌, length, nat_le, nat_lt, codes, if◌then◌else◌}
 use Rattle.std.specs.Option.{option_map}
 use Rattle.dcsctp_types.specs.declared.kinds.ErrorKind.{ErrorKind}
 use Rattle.dcsctp_types.specs.declared.kinds.ErrorKind.TheVariants.{ProtocolViolation, WrongSequence, ResourceExhaustion}
@@ -36,6 +36,11 @@ is_shutting_down (cookie_wait my) = false
 is_shutting_down (cookie_echoed my held cookie) = false
 is_shutting_down (open_in phase my held) = is_shutting_in phase
 
+-- Does a shutdown wait for the association to open?
+abbrev pub awaits_opening : Endpoint → Core → Bool
+awaits_opening e (cookie_echoed my held cookie) = e.options.follow_rfc && e.shutdown_asked
+awaits_opening e core = false
+
 -- Is the send buffer full, in all or for this stream?
 abbrev pub is_full : Options → SendQueueState → ℕ → Bool
 is_full options queue id =
@@ -46,7 +51,7 @@ abbrev pub message_refusal : Endpoint → ℕ → ℕ → Option MessageRefusal
 message_refusal e id bytes =
     if bytes == 0 then Some empty_payload
     else if nat_lt e.options.max_message_size bytes then Some (message_too_large bytes e.options.max_message_size)
-    else if is_shutting_down e.core then Some shutting_down
+    else if is_shutting_down e.core || awaits_opening e e.core then Some shutting_down
     else if is_full e.options e.queues.queue id then Some resource_exhaustion
     else None
 

@@ -17,7 +17,7 @@ use Rattle.dcsctp_spec.specs.queues.SendQueue.{SendQueueState}
 use Rattle.dcsctp_spec.specs.queues.Transfer.{Transfer}
 use Rattle.dcsctp_spec.specs.endpoint.Endpoint.{Endpoint, Core, cookie_echoed, open_in, OutstandingRequest}
 use Rattle.dcsctp_spec.specs.endpoint.Timers.{started}
-use Rattle.dcsctp_spec.specs.endpoint.Outcome.{Outcome, still, quiet, emits, behind, noting, to_peer, answers_with}
+use Rattle.dcsctp_spec.specs.endpoint.Outcome.{Outcome, still, quiet, behind, noting, to_peer, answers_with}
 use Rattle.dcsctp_spec.specs.association.Effect.{Effect, completes, fails, performs, renews}
 use Rattle.dcsctp_spec.specs.association.FlushChanges.{next_number}
 use Rattle.dcsctp_spec.specs.association.ResetChanges.{HandledParameters, work_chunk}

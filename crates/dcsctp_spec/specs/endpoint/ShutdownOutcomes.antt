@@ -125,16 +125,21 @@ step_from e phase my held = step_by (may_go_on e) (phase_at e phase my held) pha
 abbrev pub t1_stopped : Endpoint → Endpoint
 t1_stopped e = record e { timers = record e.timers { t1 = None } }
 
+-- It is asked for while the COOKIE ACK is awaited. By the RFC nothing but the COOKIE ECHO may be sent until then, so it waits (RFC
+-- 9260, section 5.1, C); else the association will never connect.
+abbrev pub shut_down_echoed : Bool → Endpoint → Pair → Held → Outcome
+shut_down_echoed true e my held = still (record e { shutdown_asked = true })
+shut_down_echoed false e my held = step_from (t1_stopped e) shutdown_pending my held
+
 abbrev pub shut_down_open : Endpoint → OpenPhase → Pair → Held → Outcome
 shut_down_open e established my held = step_from e shutdown_pending my held
 shut_down_open e phase my held = still e
 
--- The user shuts the association down. One that has no peer yet ends; one whose COOKIE ACK is awaited will never connect. Its
--- change is `shutdown_call_change`.
+-- The user shuts the association down. One that has no peer yet ends. Its change is `shutdown_call_change`.
 abbrev pub shut_down_outcome : Endpoint → Core → Outcome
 shut_down_outcome e closed = still e
 shut_down_outcome e (cookie_wait my) = ended_outcome (quiet e [] []) events.closed
-shut_down_outcome e (cookie_echoed my held cookie) = step_from (t1_stopped e) shutdown_pending my held
+shut_down_outcome e (cookie_echoed my held cookie) = shut_down_echoed e.options.follow_rfc e my held
 shut_down_outcome e (open_in phase my held) = shut_down_open e phase my held
 
 -- ---- chunks

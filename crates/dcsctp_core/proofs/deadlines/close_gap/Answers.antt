@@ -1,6 +1,5 @@
-use Rattle.std.proofs.Common.{arith, ◌∙◌, sym, ap, length-set}
+use Rattle.std.proofs.Common.{arith, ◌∙◌, length-set}
 use Rattle.dcsctp_core.proofs.GapLemmas.{gap_to_back}
-use Rattle.dcsctp_core.proofs.PlaceLemmas.{last_gap}
 use Rattle.dcsctp_core.proofs.deadlines.close_gap.Goals as goal
 
 pub loop-place-preserved : goal.loop-place-preserved

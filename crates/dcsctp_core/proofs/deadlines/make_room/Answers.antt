@@ -1,4 +1,4 @@
-use Rattle.std.proofs.Common.{◌≡◌, ◌+◌, ◌-◌, arith, refl, sym, subst, ◌∙◌, drop, set, take, length-set}
+use Rattle.std.proofs.Common.{◌≡◌, ◌+◌, ◌-◌, arith, refl, sym, subst, ◌∙◌, drop, take, length-set}
 use Rattle.dcsctp_core.specs.Listing.{BeginsAfter}
 use Rattle.dcsctp_core.proofs.GapLemmas.{gap_to_front}
 use Rattle.dcsctp_core.proofs.PlaceLemmas.{begins_later, begins_nowhere, ends_by, front_same, last_gap}

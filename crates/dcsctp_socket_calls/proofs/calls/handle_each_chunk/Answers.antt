@@ -1,11 +1,11 @@
 use Rattle.std.proofs.lemmas.Result.{err_from_is_err_and}
 use Rattle.std.proofs.lemmas.List.{take_all}
 use Rattle.std.proofs.Common.{◌≡◌, ◌++◌, ◌+◌, ◌∷◌, [], List, take, ap, subst, ◌∙◌, arith, inl}
-use Rattle.dcsctp_spec_laws.proofs.TurnLemmas.{GoOn-push, chunk_turns_keep_ports}
+use Rattle.dcsctp_spec_laws.proofs.TurnLemmas.{GoOn-push, chunk_turns_keep_ports, chunk_turns-whole}
 use Rattle.dcsctp_core.specs.types.Settings.{ports_of}
 use Rattle.dcsctp_core.specs.spec.endpoint.Endpoint.{Endpoint}
 use Rattle.dcsctp_core.specs.spec.Packet.{Content, content_in}
-use Rattle.dcsctp_core.specs.spec.endpoint.Turn.{packet_ends}
+use Rattle.dcsctp_core.specs.spec.endpoint.Turn.{Input}
 use Rattle.dcsctp_core.specs.spec.endpoint.CallTurns.{Transition, ChunkTurns, FirstTurns}
 use Rattle.dcsctp_core.specs.declared.following.Following.{Following}
 use Rattle.dcsctp_core.specs.View.{view_of}
@@ -15,7 +15,7 @@ use Rattle.dcsctp_core.specs.wire.declared.chunk.Chunk.{Chunk}
 use Rattle.dcsctp_core.specs.wire.Content.{chunk_content, packet_content}
 use Rattle.dcsctp_socket_calls.specs.Parts.{ChunksCut}
 use Rattle.dcsctp_socket_calls.proofs.CallLemmas.{adds_cut}
-use Rattle.dcsctp_socket_calls.proofs.ChunkLoop.{contents_of, worked_as, turns_more, turns_end, turns_cut, turns_whole, ports_more, first_turns}
+use Rattle.dcsctp_socket_calls.proofs.ChunkLoop.{contents_of, worked_as, turns_more, turns_end, turns_cut, ports_more, first_turns}
 use Rattle.dcsctp_socket_calls.proofs.calls.handle_each_chunk.Goals as goal
 
 pub loop-chunk-preserved : goal.loop-chunk-preserved
@@ -53,9 +53,9 @@ returns-in-DroppedRest g c =
     let content : Content = content_in (chunk_content c.chunk-item.result) in
     let last : Transition = worked_as tag content step.outcome in
     let ports = chunk_turns_keep_ports start.endpoint tag (contents_of (take c.loop-chunk.chunk-index chunks)) done.turns done.goes_on done.are in
-    let are : ChunkTurns start.endpoint tag contents (packet_ends ∷ []) (done.turns ++ last ∷ []) =
-    subst (λ (cs : List Chunk). ChunkTurns start.endpoint tag (contents_of cs) (packet_ends ∷ []) (done.turns ++ last ∷ [])) all
-    (turns_end start.endpoint here.endpoint tag chunks c.loop-chunk.chunk-index c.chunk-item.result done.turns step.outcome
+    let are : (ends : List Input) → ChunkTurns start.endpoint tag contents ends (done.turns ++ last ∷ []) =
+    λ ends. subst (λ (cs : List Chunk). ChunkTurns start.endpoint tag (contents_of cs) ends (done.turns ++ last ∷ [])) all
+    (turns_end start.endpoint here.endpoint tag chunks c.loop-chunk.chunk-index c.chunk-item.result done.turns step.outcome ends
     c.loop-chunk-test.true c.chunk-item.is done.goes_on done.are done.moves.endpoint step.turn
     (step.following ∙ ap (λ (f : Following). following_of f) c.in-DroppedRest.is)) in
     record {
@@ -65,7 +65,7 @@ returns-in-DroppedRest g c =
       ports = ports_more start.endpoint here.endpoint tag content done.turns step.outcome done.moves.endpoint step.turn ports;
     }
 
--- The chunk cut the others, and the packet's end follows.
+-- The chunk cut the others, and what comes after them follows.
 pub returns-in-PacketEnd : goal.returns-in-PacketEnd
 returns-in-PacketEnd g c =
     let done = c.loop-chunk.invariant in
@@ -82,15 +82,15 @@ returns-in-PacketEnd g c =
     let ports = chunk_turns_keep_ports start.endpoint tag (contents_of (take c.loop-chunk.chunk-index chunks)) done.turns done.goes_on done.are in
     record {
       turns = done.turns ++ last ∷ [];
-      are = λ (end : Transition) is. subst (λ (cs : List Chunk). ChunkTurns start.endpoint tag (contents_of cs) (packet_ends ∷ []) ((done.turns ++ last ∷ []) ++ end ∷ [])) all
-          (turns_cut start.endpoint here.endpoint tag chunks c.loop-chunk.chunk-index c.chunk-item.result done.turns step.outcome end
+      are = λ (ends : List Input) (after : List Transition) come. subst (λ (cs : List Chunk). ChunkTurns start.endpoint tag (contents_of cs) ends ((done.turns ++ last ∷ []) ++ after)) all
+          (turns_cut start.endpoint here.endpoint tag chunks c.loop-chunk.chunk-index c.chunk-item.result done.turns step.outcome ends after
           c.loop-chunk-test.true c.chunk-item.is done.goes_on done.are done.moves.endpoint step.turn
-          (step.following ∙ ap (λ (f : Following). following_of f) c.in-PacketEnd.is) is);
+          (step.following ∙ ap (λ (f : Following). following_of f) c.in-PacketEnd.is) come);
       moves = moves_then g.R.Rng.stream start here next done.turns (last ∷ []) ports done.moves (moves_one g.R.Rng.stream here next last step.moves);
       ports = ports_more start.endpoint here.endpoint tag content done.turns step.outcome done.moves.endpoint step.turn ports;
     }
 
--- All chunks had their turns, and the packet's end follows.
+-- All chunks had their turns, and what comes after them follows.
 pub returns : goal.returns
 returns g c =
     let done = c.loop-chunk.invariant in
@@ -104,7 +104,7 @@ returns g c =
     let worked : ChunkTurns start.endpoint tag contents [] done.turns = subst (λ (cs : List Content). ChunkTurns start.endpoint tag cs [] done.turns) all done.are in
     record {
       turns = done.turns;
-      are = λ (end : Transition) is. turns_whole start.endpoint tag contents done.turns done.goes_on worked end is;
+      are = λ (ends : List Input) (after : List Transition) come. chunk_turns-whole start.endpoint tag contents ends done.turns after done.goes_on worked come;
       moves = done.moves;
       ports = chunk_turns_keep_ports start.endpoint tag contents done.turns done.goes_on worked;
     }

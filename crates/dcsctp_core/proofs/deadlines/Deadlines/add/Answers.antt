@@ -1,4 +1,4 @@
-use Rattle.std.proofs.Common.{◌≡◌, ◌+◌, ◌≤◌, None, Some, arith, ap, subst, sym, ◌∙◌, take}
+use Rattle.std.proofs.Common.{◌+◌, None, Some, arith, ap, subst, sym, ◌∙◌, take}
 use Rattle.dcsctp_core.specs.Listing.{placed, rank, AllBelow, IsAbsent, IsListing}
 use Rattle.dcsctp_core.proofs.ListingLemmas.{listing-placed}
 use Rattle.dcsctp_core.proofs.RelistLemmas.{below-absent, below_added}

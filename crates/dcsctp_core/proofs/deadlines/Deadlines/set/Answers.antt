@@ -1,9 +1,8 @@
 use Rattle.std.proofs.Common.{◌≡◌, ◌+◌, ◌<◌, Some, arith, ap, ap₂, subst, sym, ◌∙◌, get_or, take}
-use Rattle.dcsctp_core.specs.declared.deadlines.Entry.{Entry}
 use Rattle.dcsctp_core.specs.Listing.{besides, placed, set_in, without, IsAbsent, IsListing}
 use Rattle.dcsctp_core.proofs.ListingLemmas.{listing-placed, listing-without, without-absent}
 use Rattle.dcsctp_core.proofs.PlaceLemmas.{absent-without, listed_at}
-use Rattle.dcsctp_core.proofs.SettingLemmas.{all_absent, all_are, all_listing, found_nowhere, others_absent, others_are, others_listing, room, same_moment, unchanged}
+use Rattle.dcsctp_core.proofs.SettingLemmas.{all_absent, all_are, found_nowhere, others_absent, others_are, others_listing, room, same_moment, unchanged}
 use Rattle.dcsctp_core.proofs.deadlines.Deadlines.set.Goals as goal
 
 pub invariant_of-self : goal.invariant_of-self
