@@ -336,8 +336,8 @@ typedef struct dcsctp_socket {
  * A silent peer is given up by DCSCTP_EVENT_ABORTED. That takes:
  *
  *     what the peer doesn't answer                 by default       heartbeat_interval 0
- *     INIT                                         511 s            511 s
- *     COOKIE ECHO                                  511 s            511 s
+ *     INIT                                         180 s            180 s
+ *     COOKIE ECHO                                  180 s            180 s
  *     HEARTBEAT, with nothing else to send         1,846 to 1,876 s never
  *     data, before a round trip was measured       177.5 s          177.5 s
  *     data, at the least timeout (400 ms)          176.8 s          176.8 s
@@ -355,10 +355,12 @@ typedef struct dcsctp_socket {
  *   interval is above 0 but no longer than half of `rto_initial` (without `follow_rfc`: all of it),
  *   a HEARTBEAT may never be an error.
  *
- * `max_timer_backoff_duration`: each wait for an answer to data, to SHUTDOWN or to a request to
- *   reset streams is twice the last one, but no longer than this, nor than `rto_max`. Only the
- *   first may be longer than this. Without `follow_rfc` only this is a limit, and for data alone: a
- *   peer that doesn't answer a SHUTDOWN is given up by HEARTBEATs.
+ * `max_timer_backoff_duration`: each wait for an answer to INIT, to COOKIE ECHO, to data, to
+ *   SHUTDOWN or to a request to reset streams is twice the last one, but no longer than this, nor
+ *   than `rto_max`. Only the first may be longer than this. Without `follow_rfc` only this is a
+ *   limit, and for data alone: a peer that doesn't answer a SHUTDOWN is given up by HEARTBEATs, and
+ *   one that doesn't answer an INIT after 511 s if you set `max_init_retransmits` to 8, and by
+ *   default never.
  *   A full window is probed after the same waits. With DCSCTP_NEVER, if the packet that reports the
  *   open window is lost, the next probe may come only after as long as the pause was, or after
  *   `rto_max` with `follow_rfc`.
@@ -428,7 +430,7 @@ typedef struct dcsctp_options {
     uint64_t min_rtt_variance;                           /* minimum of 4 * RTTVAR: 220 ms */
     int32_t max_burst;                                   /* packets sent at once: 4 */
     uint32_t max_retransmissions;                        /* of data; or DCSCTP_NO_LIMIT: 60 */
-    uint32_t max_init_retransmits;                       /* of INIT, COOKIE ECHO; or no limit: 8 */
+    uint32_t max_init_retransmits;                       /* of INIT, COOKIE ECHO; or none: 60 */
     uint32_t zero_checksum_method;                       /* RFC 9653; 0 none, 1 DTLS: 0 */
     uint32_t enable_partial_reliability;                 /* switch, RFC 3758: 1 */
     uint32_t enable_message_interleaving;                /* switch, RFC 8260: 0 */
@@ -488,7 +490,7 @@ void dcsctp_destroy(dcsctp_socket *socket) DCSCTP_CALL;
 /* ---- Commands ------------------------------------------------------------------------------- */
 
 /* Begins an association: DCSCTP_EVENT_CONNECTED follows, or DCSCTP_EVENT_ABORTED, by default after
- * 511 s if nobody answers (see dcsctp_options), and with `follow_rfc` at once if the peer answers
+ * 180 s if nobody answers (see dcsctp_options), and with `follow_rfc` at once if the peer answers
  * by an ABORT, or that its cookie is stale. If the socket isn't closed, it does nothing.
  * Errors: NO_SOCKET, FAILED, OUT_OF_MEMORY. */
 int32_t dcsctp_connect(dcsctp_socket *socket) DCSCTP_CHECKED_CALL;

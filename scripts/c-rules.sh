@@ -32,7 +32,7 @@ shown() {
             values twice <<<"$runs" | spread %g 1
             ;;
         beats) values count <<<"$runs" | spread %g 1 ;;
-        aborts | stale) values seconds <<<"$runs" | spread %.2f 1 ;;
+        aborts | stale | dark) values seconds <<<"$runs" | spread %.2f 1 ;;
         *) values count <<<"$runs" | sum ;;
     esac
 }
@@ -64,6 +64,7 @@ table() {
     row cookies '10 s' 10
     row forged '50 ms' 50
     row beats '50 ms' 50
+    row dark "70 s, C's limits" 70 3
     row farewells '5 %' 50
 }
 

@@ -443,7 +443,7 @@ class Options:
     min_rtt_variance: int = 220_000_000
     max_burst: int = 4
     max_retransmissions: int = 60
-    max_init_retransmits: int = 8
+    max_init_retransmits: int = 60
     zero_checksum_method: int = 0
     enable_partial_reliability: bool = True
     enable_message_interleaving: bool = False

@@ -470,6 +470,24 @@ static void beats(const uint64_t *given) {
     printf("count %u\n", most);
 }
 
+/* A connects over a link that is dark for given[0] s. No wait may be longer than given[1] s. When are
+ * both connected? */
+static void dark(const uint64_t *given) {
+    options.max_timer_backoff_duration = given[1] * SECONDS;
+    options.max_init_retransmits = 60;
+    begin(50 * MILLISECONDS);
+    const uint64_t start = link.now;
+    link.dark = 1;
+    EQUAL("connect", dcsctp_connect(&ends[A].socket), 0);
+    serve(A);
+    run(given[0] * SECONDS);
+    link.dark = 0;
+    while (!both_are(DCSCTP_STATE_CONNECTED))
+        run(10 * MILLISECONDS);
+    printf("seconds %.2f\n", (double)(link.now - start) / SECONDS);
+    finish();
+}
+
 /* A queues a message, connects, and shuts down as soon as it has sent a COOKIE ECHO, while given[0] of
  * 1,000 packets are lost. How often does the message not come within ten minutes, of 1,000? */
 static void farewells(const uint64_t *given) {
@@ -497,7 +515,8 @@ static const struct {
 } tried[] = {{"reports", reports}, {"trips", trips},         {"bottleneck", bottleneck},
              {"next", next},       {"abandoned", abandoned}, {"aborts", aborts},
              {"missing", missing}, {"cookies", cookies},     {"stale", stale},
-             {"forged", forged},   {"beats", beats},         {"farewells", farewells}};
+             {"forged", forged},   {"beats", beats},         {"dark", dark},
+             {"farewells", farewells}};
 
 int main(int count, char **words) {
     uint64_t given[2] = {0, 0};
@@ -506,6 +525,7 @@ int main(int count, char **words) {
     dcsctp_options_init(&options);
     options.max_timer_backoff_duration = DCSCTP_NEVER;
     options.max_retransmissions = 10;
+    options.max_init_retransmits = 8;
     for (size_t i = 0; count > 3 && i < sizeof tried / sizeof *tried; i++)
         if (strcmp(words[1], tried[i].name) == 0) {
             options.follow_rfc = strcmp(words[2], "on") == 0;

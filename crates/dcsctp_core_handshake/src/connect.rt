@@ -18,7 +18,7 @@ use crate::texts::NO_COOKIE;
 use dcsctp_core::api::{
     Capabilities, ErrorKind, Options, Pair, SctpImplementation, SocketEvent, SocketTime,
 };
-use dcsctp_core::send_timer::{BackoffAlgorithm, Timer};
+use dcsctp_core::send_timer::{BackoffAlgorithm, Timer, longest_wait};
 use dcsctp_core::wire::{
     AbortChunk, Chunk, CookieEchoChunk, ErrorCause, InitChunk, parameter_type,
 };
@@ -41,7 +41,7 @@ fn started_t1(options: &Options, now: SocketTime, duration: Duration) -> Timer
         duration,
         BackoffAlgorithm::Exponential,
         options.max_init_retransmits,
-        None,
+        longest_wait(options),
     );
     timer.start(now);
     timer

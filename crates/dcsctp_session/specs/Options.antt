@@ -135,9 +135,15 @@ pub record ShowsOptions (numbers : OptionsRecord) (options : Options) : Type 0 w
   pub flags : ShowsFlags numbers options
 
 -- The options of a caller in C who sets none: the default ones, but that the RFCs are followed where the port doesn't, that no wait
--- for an answer but the first is longer than this, and that 60 of them may be in vain.
+-- for an answer but the first is longer than this, and that 60 of them may be in vain, in a handshake too.
 abbrev pub standard_options : Duration → Options → Options
-standard_options longest options = record options { follow_rfc = true; max_timer_backoff_duration = Some longest; max_retransmissions = Some 60 }
+standard_options longest options =
+    record options {
+      follow_rfc = true;
+      max_timer_backoff_duration = Some longest;
+      max_retransmissions = Some 60;
+      max_init_retransmits = Some 60;
+    }
 
 -- The numbers are written for these, and the longest wait is 3 s.
 pub record ShowsDefault (numbers : OptionsRecord) : Type 0 where

@@ -118,9 +118,9 @@ fn limit(number: u32) -> Option<u32>
 }
 
 impl OptionsRecord {
-    /// The numbers that encode the default options, but for three, since a caller in C has no port to follow.
+    /// The numbers that encode the default options, but for four, since a caller in C has no upstream to follow.
     /// `follow_rfc` is on. And a link may be dark for minutes without an end of the association: no wait for
-    /// an answer but the first is longer than 3 s, and 60 of them may be in vain.
+    /// an answer but the first is longer than 3 s, and 60 of them may be in vain, in a handshake too.
     pub fn standard() -> OptionsRecord
         ensures { ShowsDefault result }
     {
@@ -128,6 +128,7 @@ impl OptionsRecord {
         options.follow_rfc = true;
         options.max_timer_backoff_duration = Some(Duration::from_secs(3));
         options.max_retransmissions = Some(60);
+        options.max_init_retransmits = Some(60);
         OptionsRecord::of(&options)
     }
 

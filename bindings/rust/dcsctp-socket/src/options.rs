@@ -55,7 +55,7 @@ pub struct Options {
     pub max_burst: i32,
     /// Of data; `None`: no limit. 60.
     pub max_retransmissions: Option<u32>,
-    /// Of INIT and COOKIE ECHO; `None`: no limit. 8.
+    /// Of INIT and COOKIE ECHO; `None`: no limit. 60.
     pub max_init_retransmits: Option<u32>,
     /// RFC 9653; 0 none, 1 DTLS: 0.
     pub zero_checksum_method: u32,
@@ -106,7 +106,7 @@ impl Default for Options {
             min_rtt_variance: Duration::from_millis(220),
             max_burst: 4,
             max_retransmissions: Some(60),
-            max_init_retransmits: Some(8),
+            max_init_retransmits: Some(60),
             zero_checksum_method: 0,
             enable_partial_reliability: true,
             enable_message_interleaving: false,

@@ -29,8 +29,8 @@
 //! # The feature `follow_rfc`
 //!
 //! Without it a socket behaves as upstream's. With it, the socket keeps rules of the RFCs that upstream doesn't:
-//! `dcsctp.h` lists them. The defaults stay upstream's. Those of `dcsctp.h` differ in two: 3 s as
-//! `max_timer_backoff_duration`, and 60 as `max_retransmissions`.
+//! `dcsctp.h` lists them. The defaults stay upstream's. Those of `dcsctp.h` differ in three: 3 s as
+//! `max_timer_backoff_duration`, and 60 as `max_retransmissions` and `max_init_retransmits`.
 //!
 //! # What differs from upstream
 //!

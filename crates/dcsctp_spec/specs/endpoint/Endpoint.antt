@@ -1,7 +1,7 @@
 -- What a socket is between two turns (RFC 9260, sections 4 and 5).
 use Rattle.std.specs.Prelude.{◌==◌, ℕ, ◌+◌, ◌*◌, ◌/◌, ◌%◌, ◌^◌, min, Bool, true, false, not, ◌&&◌, if◌then◌else◌, Option, None, Some, List, []}
 use Rattle.std.specs.Duration.{as_nanos, max_nanos}
-use Rattle.dcsctp_spec.specs.endpoint.Timers.{TimerSettings, RunningTimer, started}
+use Rattle.dcsctp_spec.specs.endpoint.Timers.{TimerSettings, RunningTimer, started, longest_wait}
 use Rattle.dcsctp_spec.specs.queues.Transfer.{EndpointQueues, empty_queues}
 use Rattle.dcsctp_spec.specs.Reconfiguration.{NumberedReset}
 use Rattle.dcsctp_types.specs.declared.association.Pair.{Pair}
@@ -77,11 +77,11 @@ pub record Timers : Type 0 where
 abbrev pub stopped_timers : Timers
 stopped_timers = record { t1 = None; t2 = None; reconfiguration = None; heartbeat_interval = None; heartbeat_timeout = None }
 
--- T1-init and T1-cookie: each wait is twice the last one, without a limit. The options say how often a packet is sent again (RFC
--- 9260, section 5.1).
+-- T1-init and T1-cookie: each wait is twice the last one. The options say how often a packet is sent again (RFC 9260, section 5.1).
+-- By the RFC no wait is longer than a retransmission's (RFC 9260, section 6.3.3, E2).
 abbrev pub t1_settings : Options → ℕ → TimerSettings
 t1_settings options duration =
-    record { duration = duration; terms = record { backoff = Exponential; max_restarts = options.max_init_retransmits; max_backoff = None } }
+    record { duration = duration; terms = record { backoff = Exponential; max_restarts = options.max_init_retransmits; max_backoff = longest_wait options } }
 
 -- the heartbeat interval: it restarts without a limit (RFC 9260, section 8.3)
 abbrev pub heartbeat_settings : Options → TimerSettings
