@@ -360,7 +360,7 @@ typedef struct dcsctp_socket {
  *   than `rto_max`. Only the first may be longer than this. Without `follow_rfc` only this is a
  *   limit, and for data alone: a peer that doesn't answer a SHUTDOWN is given up by HEARTBEATs, and
  *   one that doesn't answer an INIT after 511 s if you set `max_init_retransmits` to 8, and by
- *   default never.
+ *   default never. With `follow_rfc` 8 takes 24 s; and 60 takes 56 minutes with DCSCTP_NEVER.
  *   A full window is probed after the same waits. With DCSCTP_NEVER, if the packet that reports the
  *   open window is lost, the next probe may come only after as long as the pause was, or after
  *   `rto_max` with `follow_rfc`.
@@ -397,10 +397,11 @@ typedef struct dcsctp_socket {
  *   had no room for is sent again once it opens. Errors are counted for each association. A
  *   shutdown also waits until the peer knows what was abandoned. A SACK lists as many gaps as fit.
  *   An ABORT ends an attempt to connect. A late COOKIE ECHO of the last association begins none. A
- *   stale cookie is answered by an ERROR, and such an answer ends an attempt to connect. Where both
- *   ends connect, what is in flight is sent again, and may be read twice, if none was acknowledged,
- *   no reset was begun, and our pair and what both ends support stay. Parts of messages count 256
- *   bytes more in the receive window. Of a packet's HEARTBEATs, INITs and RE-CONFIG requests one is
+ *   stale cookie is answered by an ERROR, and such an answer ends an attempt to connect. A shutdown
+ *   and resets of streams wait for the end of the handshake. Where both ends connect, what is in
+ *   flight while the COOKIE ACK is awaited is sent again, and may be read twice, if none was
+ *   acknowledged, and our pair and what both ends support stay. Parts of messages count 256 bytes
+ *   more in the receive window. Of a packet's HEARTBEATs, INITs and RE-CONFIG requests one is
  *   answered. A shutdown also waits for a message behind a reset of its stream, if it has no
  *   lifetime. I-DATA while a SHUTDOWN awaits its answer brings another. A closed socket takes only
  *   its own cookies. The heartbeat interval of a restored association starts at once, not with its
@@ -491,7 +492,8 @@ void dcsctp_destroy(dcsctp_socket *socket) DCSCTP_CALL;
 
 /* Begins an association: DCSCTP_EVENT_CONNECTED follows, or DCSCTP_EVENT_ABORTED, by default after
  * 180 s if nobody answers (see dcsctp_options), and with `follow_rfc` at once if the peer answers
- * by an ABORT, or that its cookie is stale. If the socket isn't closed, it does nothing.
+ * by an ABORT, or that its cookie is stale. So it may right after dcsctp_close, if the peer gets
+ * the INIT before the ABORT: connect again. If the socket isn't closed, it does nothing.
  * Errors: NO_SOCKET, FAILED, OUT_OF_MEMORY. */
 int32_t dcsctp_connect(dcsctp_socket *socket) DCSCTP_CHECKED_CALL;
 
@@ -778,9 +780,9 @@ int32_t dcsctp_send_many(dcsctp_socket *socket, const dcsctp_outgoing_message *m
  * count: a live association can be aborted within three minutes. With `follow_rfc` the user of a
  * peer without it may get the event of one reset twice.
  *
- * A request waits for DCSCTP_EVENT_CONNECTED. Without `follow_rfc` wait for it before this call: if
- * both ends connect, an earlier request may be forgotten. Then neither event comes, and messages
- * sent until then may be lost.
+ * A request waits for DCSCTP_EVENT_CONNECTED. It is forgotten if the peer begins anew before that,
+ * and without `follow_rfc` if both ends connect: then neither event comes, and messages sent until
+ * then may be lost. Between the request and its event, another call for the stream does nothing.
  *
  * Errors: NO_SOCKET, NOT_CONNECTED, NOT_SUPPORTED, FAILED, OUT_OF_MEMORY. OUT_OF_MEMORY: if the
  * numbers can't be copied, nothing has changed, and the call may be tried again. */
