@@ -398,15 +398,16 @@ typedef struct dcsctp_socket {
  *   shutdown also waits until the peer knows what was abandoned. A SACK lists as many gaps as fit.
  *   An ABORT ends an attempt to connect. A late COOKIE ECHO of the last association begins none. A
  *   stale cookie is answered by an ERROR, and such an answer ends an attempt to connect. A shutdown
- *   and resets of streams wait for the end of the handshake. Where both ends connect, what is in
- *   flight while the COOKIE ACK is awaited is sent again, and may be read twice, if none was
- *   acknowledged, and our pair and what both ends support stay. Parts of messages count 256 bytes
- *   more in the receive window. Of a packet's HEARTBEATs, INITs and RE-CONFIG requests one is
- *   answered. A shutdown also waits for a message behind a reset of its stream, if it has no
- *   lifetime. I-DATA while a SHUTDOWN awaits its answer brings another. A closed socket takes only
- *   its own cookies. The heartbeat interval of a restored association starts at once, not with its
- *   next data. At 0, and with upstream's limits (above), the socket behaves as upstream, but for a
- *   few differences: docs/design/differences.md has a row for each, and for each rule. */
+ *   and resets of streams wait for the end of the handshake. Data, SACKs and resets that come
+ *   before the COOKIE ACK are dropped. Where both ends connect, what was sent before it is sent
+ *   again, and may be read twice, if our pair and what both ends support stay. Parts of messages
+ *   count 256 bytes more in the receive window. Of a packet's HEARTBEATs, INITs and RE-CONFIG
+ *   requests one is answered. A shutdown also waits for a message behind a reset of its stream, if
+ *   it has no lifetime. I-DATA while a SHUTDOWN awaits its answer brings another. A closed socket
+ *   takes only its own cookies, unless they are forged by one who saw its packets. The heartbeat
+ *   interval of a restored association starts at once, not with its next data. At 0, and with
+ *   upstream's limits (above), the socket behaves as upstream, but for a few differences:
+ *   docs/design/differences.md has a row for each, and for each rule. */
 typedef struct dcsctp_options {
     size_t size;                                         /* sizeof(dcsctp_options) */
     size_t mtu;                                          /* longest packet that is sent: 1,191 */
@@ -780,9 +781,10 @@ int32_t dcsctp_send_many(dcsctp_socket *socket, const dcsctp_outgoing_message *m
  * count: a live association can be aborted within three minutes. With `follow_rfc` the user of a
  * peer without it may get the event of one reset twice.
  *
- * A request waits for DCSCTP_EVENT_CONNECTED. It is forgotten if the peer begins anew before that,
- * and without `follow_rfc` if both ends connect: then neither event comes, and messages sent until
- * then may be lost. Between the request and its event, another call for the stream does nothing.
+ * A request waits for DCSCTP_EVENT_CONNECTED. It is forgotten if the peer begins anew before that
+ * with other options, and without `follow_rfc` if both ends connect: then neither event comes, and
+ * messages sent until then may be lost. Between the request and its event, another call for the
+ * stream does nothing.
  *
  * Errors: NO_SOCKET, NOT_CONNECTED, NOT_SUPPORTED, FAILED, OUT_OF_MEMORY. OUT_OF_MEMORY: if the
  * numbers can't be copied, nothing has changed, and the call may be tried again. */

@@ -34,6 +34,7 @@ use Rattle.dcsctp_delivery_turns.specs.Actions.{IsOpening, NotStale}
 use Rattle.dcsctp_delivery_sockets.specs.Echoes.{MayFollow, AllMayFollow}
 use Rattle.dcsctp_delivery_shown.proofs.Allowed.{Allowed, AllAllowed}
 use Rattle.dcsctp_delivery_shown.proofs.Turns.{SameKinds, LinkIs, EndpointIs, MovesLink, link_stays, link_ends, link_begins, TurnIs, turn_is}
+use Rattle.dcsctp_spec_lemmas.proofs.EarlyLemmas.{content_by}
 
 -- The peer is known.
 abbrev pub IsHeldIn : Core → Type 0
@@ -166,11 +167,12 @@ plain_held e (unworked (i_forward_tsn_chunk tsn streams)) o fresh turn = flushed
 plain_held e (unworked (error_chunk causes)) o fresh turn = same_core e o (error_outcome e e.core causes) turn (error_core e e.core causes fresh)
 plain_held e (unworked chunk) o fresh turn = same_core e o (still e) turn refl
 
-reset_held : (core : Core) (parameters : List ResetParameter) (choices : Choices) → IsHeldIn core → IsHeldIn (re_config_change core parameters choices).core
-reset_held closed parameters choices held = held
-reset_held (cookie_wait my) parameters choices held = held
-reset_held (cookie_echoed my of_peer cookie) parameters choices held = tt
-reset_held (open_in phase my of_peer) parameters choices held = tt
+reset_held : (follows : Bool) (core : Core) (parameters : List ResetParameter) (choices : Choices) → IsHeldIn core → IsHeldIn (re_config_change follows core parameters choices).core
+reset_held follows closed parameters choices held = held
+reset_held follows (cookie_wait my) parameters choices held = held
+reset_held true (cookie_echoed my of_peer cookie) parameters choices held = tt
+reset_held false (cookie_echoed my of_peer cookie) parameters choices held = tt
+reset_held follows (open_in phase my of_peer) parameters choices held = tt
 
 module _ (kinds : Capabilities) where
   -- What may go under the one capabilities may go under others of the same kinds.
@@ -189,10 +191,12 @@ module _ (kinds : Capabilities) where
 
   module _ (law : ChunksAreControlled) where
     follows_held : (e : Endpoint) (tag : ℕ) (content : Content) (o : Outcome) → MayFollow content → Allowed kinds content → EndpointIs kinds e → ContentTurn e tag content o → IsHeldIn e.core → IsHeldIn o.after.core
-    follows_held e tag (plain chunk) o may allowed h turn held = plain_held e chunk o allowed.1 (subst (λ (v : Option Violation). PlainTurnBy e chunk v o) (breaks_nothing e.core chunk h.linked allowed.0) turn) held
+    follows_held e tag (plain chunk) o may allowed h turn held =
+        content_by e tag (plain chunk) o (λ dropped. same_core e o (still e) dropped refl held)
+        (λ handled. plain_held e chunk o allowed.1 (subst (λ (v : Option Violation). PlainTurnBy e chunk v o) (breaks_nothing e.core chunk h.linked allowed.0) handled) held) turn
     follows_held e tag (re_config parameters) o may allowed h turn held =
         let controlled : ControlledChunk e tag (re_config parameters) o = law e tag (re_config parameters) o turn tt in
-        subst IsHeldIn (sym (controlled.2.core ∙ ap (λ c. c.core) controlled.1.2)) (reset_held e.core parameters controlled.1.0 held)
+        subst IsHeldIn (sym (controlled.2.core ∙ ap (λ c. c.core) controlled.1.2)) (reset_held e.options.follow_rfc e.core parameters controlled.1.0 held)
     follows_held e tag (init introduction) o may allowed h turn held = absurd may
     follows_held e tag (init_ack introduction cookie) o may allowed h turn held = absurd may
     follows_held e tag (cookie_echo bytes) o may allowed h turn held = absurd may

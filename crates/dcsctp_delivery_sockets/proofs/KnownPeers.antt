@@ -8,14 +8,14 @@ use Rattle.dcsctp_spec_lemmas.specs.types.declared.association.Held.{Held}
 use Rattle.dcsctp_spec_lemmas.specs.types.declared.association.Pair.{Pair}
 use Rattle.dcsctp_spec_lemmas.specs.types.declared.options.Options.{Options}
 use Rattle.dcsctp_spec_lemmas.specs.spec.endpoint.CallTurns.{Transition, AlongTurns, after_all, effects_of}
-use Rattle.dcsctp_spec_lemmas.specs.spec.endpoint.Endpoint.{Endpoint, Core, closed, cookie_wait, cookie_echoed, open_in, fresh_endpoint}
-use Rattle.dcsctp_spec_lemmas.specs.spec.Packet.{re_config}
+use Rattle.dcsctp_spec_lemmas.specs.spec.endpoint.Endpoint.{Endpoint, Core, closed, cookie_wait, cookie_echoed, open_in, established, fresh_endpoint}
+use Rattle.dcsctp_spec_lemmas.specs.spec.Packet.{cookie_ack, re_config}
 use Rattle.dcsctp_spec_runs.specs.Past.{Each, InPlace, number_to_perform}
 use Rattle.dcsctp_spec_lemmas.specs.spec.Reconfiguration.{due, ResetParameter, outgoing_reset_request, reconfiguration_response}
 use Rattle.dcsctp_spec_lemmas.specs.types.Settings.{SameOptions}
 use Rattle.dcsctp_spec_runs.specs.World.{SideState, after_effects, ControlTurn, acted, worked, resumed, SideRun, side_after}
 use Rattle.dcsctp_spec_lemmas.specs.spec.association.Acts.{Act, connect, t1_expires, shut_down, step_of_shutdown, shutdown_repeats, abort_with, hands_over, flushes, request_again, request_renewed, act_change, chunk_change}
-use Rattle.dcsctp_spec_lemmas.specs.spec.association.Choices.{Choices, idle_choices}
+use Rattle.dcsctp_spec_lemmas.specs.spec.association.Choices.{Choices, nothing_to_send, idle_choices}
 use Rattle.dcsctp_spec_lemmas.specs.spec.association.Effect.{Effect, performs, noted, Change}
 use Rattle.dcsctp_spec_lemmas.specs.spec.association.FlushChanges.{next_number}
 use Rattle.dcsctp_spec_lemmas.specs.spec.association.ResetChanges.{again, next, astray, request_place, RequestOutcome, repeated, outgoing_by, reset_sent}
@@ -30,6 +30,7 @@ use Rattle.dcsctp_theorem_sockets.proofs.NotedLemmas.{number_to_accept-noted, in
 use Rattle.dcsctp_theorem_sockets.proofs.SocketsAlone.{Moves, it_rests, it_moves}
 use Rattle.dcsctp_theorem_sockets.proofs.TimeMoves.{longest_expires}
 use Rattle.dcsctp_delivery_turns.specs.PeerRequests.{KnowsPeer, KnowsPeerIn}
+use Rattle.dcsctp_spec_lemmas.specs.spec.association.HandshakeChanges.{cookie_ack_change}
 
 -- ---- a request in progress
 
@@ -71,28 +72,41 @@ module _ (options : Options) (steps : List (List Change)) (run : SideRun options
   abbrev side : SideState
   side = side_after options steps
 
-  known_held : (core : Core) (my : Pair) (held : Held) → side.core ≡ core → LeavesHeld side.past my held
-      → ((choices : Choices) → (chunk_change options core 0 (re_config (repeats_last held)) choices).effects ≡ (resets.peer_part_handled my held (repeats_last held) choices).effects) → KnowsPeer (noted side.past) held
+  -- A request in progress has a number that the past knows: it would be performed if it came again.
+  performs_known : (core : Core) (my : Pair) (held : Held) → side.core ≡ core
+      → ((choices : Choices) → (chunk_change options core 0 (re_config (repeats_last held)) choices).effects ≡ (resets.peer_part_handled my held (repeats_last held) choices).effects)
+      → held.peer_result ≡ InProgress → number_to_perform (noted side.past) ≡ Some held.peer_last
   unfolding repeats_last
-  known_held core my held at leaves is =
-      record {
-        accepts = number_to_accept-noted side.past ∙ leaves.peer_next;
-        performs = λ in_progress.
-            (let change : Change = chunk_change options core 0 (re_config (repeats_last held)) (idle_choices my) in
-            let turn : ControlTurn options side.core change =
-            worked 0 (re_config (repeats_last held)) (idle_choices my) (ap (λ (c : Core). chunk_change options c 0 (re_config (repeats_last held)) (idle_choices my)) (sym at)) in
-            number_known my held side.past in_progress
-            (subst (λ (effects : List Effect). Each InPlace (after_effects effects side.past)) (is (idle_choices my)) (effects_in_place options ((change ∷ []) ∷ steps) ((turn, tt), run))));
-      }
+  performs_known core my held at is in_progress =
+      let change : Change = chunk_change options core 0 (re_config (repeats_last held)) (idle_choices my) in
+      let turn : ControlTurn options side.core change =
+      worked 0 (re_config (repeats_last held)) (idle_choices my) (ap (λ (c : Core). chunk_change options c 0 (re_config (repeats_last held)) (idle_choices my)) (sym at)) in
+      number_known my held side.past in_progress
+      (subst (λ (effects : List Effect). Each InPlace (after_effects effects side.past)) (is (idle_choices my)) (effects_in_place options ((change ∷ []) ∷ steps) ((turn, tt), run)))
 
-  knows_peer : (core : Core) → side.core ≡ core → LeavesCore side.past core → KnowsPeerIn (noted side.past) core
+module _ (options : Options) (steps : List (List Change)) (run : SideRun options steps) where
+  -- By the RFC none is handled before the COOKIE ACK. So that comes first, and nothing is sent then.
+  echoed_performs : (my : Pair) (held : Held) (cookie : List ℕ) → (side_after options steps).core ≡ cookie_echoed my held cookie
+      → held.peer_result ≡ InProgress → number_to_perform (noted (side_after options steps).past) ≡ Some held.peer_last
+  echoed_performs my held cookie at in_progress =
+      let silent : Choices = record (idle_choices my) { filling = record nothing_to_send { is_allowed = false } } in
+      let ack : Change = cookie_ack_change (cookie_echoed my held cookie) silent in
+      let turn : ControlTurn options (side_after options steps).core ack =
+      worked 0 cookie_ack silent (ap (λ (c : Core). chunk_change options c 0 cookie_ack silent) (sym at)) in
+      performs_known options ((ack ∷ []) ∷ steps) ((turn, tt), run) (open_in established my held) my held refl (λ choices. refl) in_progress
+
+  known_by : (my : Pair) (held : Held) → LeavesHeld (side_after options steps).past my held
+      → (held.peer_result ≡ InProgress → number_to_perform (noted (side_after options steps).past) ≡ Some held.peer_last) → KnowsPeer (noted (side_after options steps).past) held
+  known_by my held leaves known = record { accepts = number_to_accept-noted (side_after options steps).past ∙ leaves.peer_next; performs = known }
+
+  knows_peer : (core : Core) → (side_after options steps).core ≡ core → LeavesCore (side_after options steps).past core → KnowsPeerIn (noted (side_after options steps).past) core
   knows_peer closed at leaves = tt
   knows_peer (cookie_wait my) at leaves = tt
-  knows_peer (cookie_echoed my held cookie) at leaves = known_held (cookie_echoed my held cookie) my held at leaves (λ choices. refl)
-  knows_peer (open_in phase my held) at leaves = known_held (open_in phase my held) my held at leaves (λ choices. refl)
+  knows_peer (cookie_echoed my held cookie) at leaves = known_by my held leaves (echoed_performs my held cookie at)
+  knows_peer (open_in phase my held) at leaves = known_by my held leaves (performs_known options steps run (open_in phase my held) my held at (λ choices. refl))
 
-  pub run_knows : KnowsPeerIn (noted side.past) side.core
-  run_knows = knows_peer side.core refl (past_is_state options steps run)
+  pub run_knows : KnowsPeerIn (noted (side_after options steps).past) (side_after options steps).core
+  run_knows = knows_peer (side_after options steps).core refl (past_is_state options steps run)
 
 -- ---- the longest message has no part in it
 

@@ -41,6 +41,7 @@ use Rattle.dcsctp_delivery_turns.specs.Actions.{IsCall}
 use Rattle.dcsctp_delivery_turns.specs.Asking.{own_with, own_of, own_in}
 use Rattle.dcsctp_delivery_turns.specs.Completing.{EndsOwn, CompletesOwn}
 use Rattle.dcsctp_delivery_turns.proofs.Performed.{outgoing_out, incoming_out}
+use Rattle.dcsctp_spec_lemmas.proofs.EarlyLemmas.{content_by}
 
 -- ---- effects one after another
 
@@ -247,7 +248,8 @@ module _ (my : Pair) (number : ℕ) where
   content_ends e tag (init_ack theirs cookie) o turn has = absurd (by_chunk e tag (init_ack theirs cookie) o (init_ack_controlled e tag theirs cookie o turn) has)
   content_ends e tag (cookie_echo cookie) o turn has = absurd (by_chunk e tag (cookie_echo cookie) o (cookie_echo_controlled e tag cookie o turn) has)
   content_ends e tag cookie_ack o turn has = absurd (by_chunk e tag cookie_ack o (cookie_ack_controlled e tag o turn) has)
-  content_ends e tag (re_config parameters) o turn has = reset_ends e e.core parameters o refl turn has
+  content_ends e tag (re_config parameters) o turn has =
+      content_by e tag (re_config parameters) o (λ dropped. absurd (same_none o _ dropped (λ h. h) has)) (λ handled. reset_ends e e.core parameters o refl handled has) turn
   content_ends e tag (abort reflected causes) o turn has = absurd (by_chunk e tag (abort reflected causes) o (abort_controlled e tag reflected causes o turn) has)
   content_ends e tag (shutdown tsn) o turn has = absurd (by_chunk e tag (shutdown tsn) o (shutdown_controlled e tag tsn o turn) has)
   content_ends e tag shutdown_ack o turn has = absurd (by_chunk e tag shutdown_ack o (shutdown_ack_controlled e tag o turn) has)

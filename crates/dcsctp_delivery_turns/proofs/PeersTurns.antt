@@ -17,6 +17,7 @@ use Rattle.dcsctp_delivery_turns.proofs.PeerRequests.{answers_ask, none_ends}
 use Rattle.dcsctp_delivery_turns.proofs.UnaskedHandshake.{CalmTurns, goes_on, begins, collides}
 use Rattle.dcsctp_delivery_turns.proofs.UnaskedTurns.{calm_turns}
 use Rattle.dcsctp_delivery_turns.proofs.Waiting.{WaitedIn, AsksNothing, as_this, rests}
+use Rattle.dcsctp_spec_lemmas.proofs.EarlyLemmas.{content_by}
 
 -- ---- what is handled
 
@@ -100,7 +101,9 @@ peer_by : (input : Input) → Handles input → (e : Endpoint) (o : Outcome) (pa
 peer_by input (calmly calm) e o past link transfer left knows plainly may turn linked known at = calm_peer link past e input o transfer left known at (calm_turns e input o calm may turn)
 peer_by input (handles tag parameters is) e o past link transfer left knows plainly may turn linked known at =
     subst (λ (i : Input). PeerTurns link past e i o transfer.reassembly.deferral left.reassembly.deferral) (sym is)
-    (reset_peer link past e tag e.core parameters o transfer left knows linked (subst (λ (i : Input). IsPlainRequest (came_by i)) is plainly) known at (subst (λ (i : Input). Turn e i o) is turn))
+    (content_by e tag (re_config parameters) o (λ dropped. calm_peer link past e (chunk_input tag (re_config parameters)) o transfer left known at (goes_on (as_this e.queues.transfer o _ dropped (rests e))))
+    (λ handled. reset_peer link past e tag e.core parameters o transfer left knows linked (subst (λ (i : Input). IsPlainRequest (came_by i)) is plainly) known at handled)
+    (subst (λ (i : Input). Turn e i o) is turn))
 
 pub peers_turn : PeersTurn
 peers_turn e input o past link transfer left knows plainly may turn linked known at = peer_by input (input_handles input) e o past link transfer left knows plainly may turn linked known at
@@ -128,7 +131,9 @@ reset_unlinked e (open_in phase my held) parameters o none turn = absurd (cc)
 unlinked_by : (input : Input) → Handles input → (e : Endpoint) (o : Outcome) → IsCall input → Turn e input o → identity_in e.core ≡ None → NoneAsked o.effects × WaitsNot e o
 unlinked_by input (calmly calm) e o may turn none = calm_unlinked (came_by input) e o (calm_turns e input o calm may turn)
 unlinked_by input (handles tag parameters is) e o may turn none =
-    let asks = reset_unlinked e e.core parameters o none (subst (λ (i : Input). Turn e i o) is turn) in
+    let asks =
+    content_by e tag (re_config parameters) o (λ dropped. as_this e.queues.transfer o _ dropped (rests e)) (λ handled. reset_unlinked e e.core parameters o none handled)
+    (subst (λ (i : Input). Turn e i o) is turn) in
     (asks.none, waits_not e o asks)
 
 pub unlinked_asks_nothing : UnlinkedAsksNothing
@@ -144,7 +149,9 @@ reset_ends e (open_in phase my held) parameters o transfer turn known none = abs
 
 ends_by : (input : Input) → Handles input → (e : Endpoint) (o : Outcome) (transfer : Transfer) → IsCall input → Turn e input o → e.queues.transfer ≡ Some transfer → o.after.queues.transfer ≡ None → NoneAsked o.effects
 ends_by input (calmly calm) e o transfer may turn known none = calm_asks_nothing e input o calm may turn
-ends_by input (handles tag parameters is) e o transfer may turn known none = reset_ends e e.core parameters o transfer (subst (λ (i : Input). Turn e i o) is turn) known none
+ends_by input (handles tag parameters is) e o transfer may turn known none =
+    content_by e tag (re_config parameters) o (λ dropped. subst (λ (x : Outcome). NoneAsked x.effects) (sym dropped) tt)
+    (λ handled. reset_ends e e.core parameters o transfer handled known none) (subst (λ (i : Input). Turn e i o) is turn)
 
 pub ends_ask_nothing : EndsAskNothing
 ends_ask_nothing e input o transfer may turn known none = ends_by input (input_handles input) e o transfer may turn known none

@@ -238,7 +238,7 @@ module _ (to : ℕ) where
       (subst (λ (c : Core). IsPeerTag c to) (sym kept) (with_peer (Some (re_config parameters)) to e.core w.held at tag)) tag
       (events_none (their_streams (requested_in parameters)) (own_streams e.outstanding) w.effects) (chunk_answers my state held parameters) turn.allowed)))
 
-  idle_goes : (e : Endpoint) (parameters : List ResetParameter) → Goes (Some (re_config parameters)) to e (still e)
+  pub idle_goes : (e : Endpoint) (parameters : List ResetParameter) → Goes (Some (re_config parameters)) to e (still e)
   idle_goes e parameters = works_resets refl (inside e) (inside e) unended (unreset refl) (rests (Some (re_config parameters)) to (inside e))
 
   pub reset_goes : (e : Endpoint) (core : Core) (parameters : List ResetParameter) (o : Outcome) → e.core ≡ core → IsPeerTag e.core to → IsPeerTag core to → ResetTurn e core parameters o → Goes (Some (re_config parameters)) to e o

@@ -16,8 +16,9 @@ use Rattle.dcsctp_delivery_turns.proofs.Shutdown.{step_link, step_makes, shut_do
 use Rattle.dcsctp_delivery_turns.proofs.Data.{turn_link, flush_makes, end_goes}
 use Rattle.dcsctp_delivery_turns.proofs.HeardShutdown.{heard_goes}
 use Rattle.dcsctp_delivery_turns.proofs.Messages.{take_goes, send_goes, own_resets_go}
-use Rattle.dcsctp_delivery_turns.proofs.Resets.{reset_goes}
+use Rattle.dcsctp_delivery_turns.proofs.Resets.{reset_goes, idle_goes}
 use Rattle.dcsctp_delivery_turns.proofs.Others.{plain_goes, timer_goes}
+use Rattle.dcsctp_spec_lemmas.proofs.EarlyLemmas.{content_by}
 
 pub own_peer : (core : Core) → IsPeerTag core (peer_tag core)
 own_peer closed = tt
@@ -34,12 +35,17 @@ content_goes e tag (init theirs) o turn = subst (Goes _ (peer_tag e.core) e) (sy
 content_goes e tag (init_ack theirs cookie) o turn = subst (Goes _ (peer_tag e.core) e) (sym turn.3) (init_ack_goes (Some (init_ack theirs cookie)) (λ parameters is. absurd (cc)) (peer_tag e.core) tt e theirs cookie e.core turn.0 turn.1 turn.2)
 content_goes e tag (cookie_echo bytes) o turn = subst (Goes _ (peer_tag e.core) e) (sym turn.3) (echo_goes (Some (cookie_echo bytes)) (λ parameters is. absurd (cc)) (peer_tag e.core) tt e e.core tag (cookie_at bytes) turn.0 turn.1 refl (own_peer e.core) (own_peer e.core) turn.2)
 content_goes e tag cookie_ack o turn = subst (Goes _ (peer_tag e.core) e) (sym turn.2) (cookie_ack_goes _ (λ parameters is. absurd (cc)) (peer_tag e.core) e e.core turn.0 refl (own_peer e.core) turn.1)
-content_goes e tag (re_config parameters) o turn = reset_goes (peer_tag e.core) e e.core parameters o refl (own_peer e.core) (own_peer e.core) turn
+content_goes e tag (re_config parameters) o turn =
+    content_by e tag (re_config parameters) o (λ dropped. subst (Goes _ (peer_tag e.core) e) (sym dropped) (idle_goes (peer_tag e.core) e parameters))
+    (λ handled. reset_goes (peer_tag e.core) e e.core parameters o refl (own_peer e.core) (own_peer e.core) handled) turn
 content_goes e tag (abort reflected causes) o turn = subst (Goes _ (peer_tag e.core) e) (sym turn) (abort_goes _ (λ parameters is. absurd (cc)) (peer_tag e.core) e causes e.core)
 content_goes e tag (shutdown tsn) o turn = heard_goes _ (λ parameters is. absurd (cc)) (peer_tag e.core) e e.core tsn o refl (own_peer e.core) turn
 content_goes e tag shutdown_ack o turn = subst (Goes _ (peer_tag e.core) e) (sym turn) (shutdown_ack_goes _ (λ parameters is. absurd (cc)) (peer_tag e.core) e e.core tag)
 content_goes e tag (shutdown_complete reflected) o turn = subst (Goes _ (peer_tag e.core) e) (sym turn) (shutdown_complete_goes _ (λ parameters is. absurd (cc)) (peer_tag e.core) e e.core)
-content_goes e tag (plain chunk) o turn = plain_goes (peer_tag e.core) e chunk o (own_peer e.core) turn
+content_goes e tag (plain chunk) o turn =
+    content_by e tag (plain chunk) o
+    (λ dropped. subst (Goes _ (peer_tag e.core) e) (sym dropped) (goes_on (λ parameters is. absurd (cc)) refl (rests (Some (plain chunk)) (peer_tag e.core) (inside e))))
+    (λ handled. plain_goes (peer_tag e.core) e chunk o (own_peer e.core) handled) turn
 
 act_goes : (e : Endpoint) (act : Act) (o : Outcome) → IsCall (act_input act) → ActTurn e act o → Goes None (peer_tag e.core) e o
 act_goes e connect o may turn = subst (Goes None (peer_tag e.core) e) (sym turn.2) (connect_goes None none_calm (peer_tag e.core) e e.core turn.0 turn.1 refl)

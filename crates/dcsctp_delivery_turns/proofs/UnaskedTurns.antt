@@ -32,6 +32,7 @@ use Rattle.dcsctp_delivery_turns.specs.PeerRequests.{SameWaits}
 use Rattle.dcsctp_delivery_turns.proofs.Waiting.{StillWaits, same_waits, some_wait, all_wait, AsksNothing, as_this, rests, said, emitted, ended}
 use Rattle.dcsctp_delivery_turns.proofs.UnaskedEnds.{step_asks, shut_down_asks, heard_asks, shutdown_ack_asks, shutdown_complete_asks, repeats_ask, begin_asks, abort_asks, aborting_asks, gives_up_asks, hand_over_asks}
 use Rattle.dcsctp_delivery_turns.proofs.UnaskedHandshake.{CalmTurns, goes_on, init_asks, connect_asks, again_asks, cookie_ack_asks, init_ack_calm, echo_calm}
+use Rattle.dcsctp_spec_lemmas.proofs.EarlyLemmas.{content_by}
 
 -- ---- other chunks and timers
 
@@ -143,7 +144,9 @@ content_calm e tag (abort reflected causes) o calm turn = goes_on (as_this e.que
 content_calm e tag (shutdown tsn) o calm turn = goes_on (heard_asks e e.core tsn o turn)
 content_calm e tag shutdown_ack o calm turn = goes_on (as_this e.queues.transfer o _ turn (shutdown_ack_asks e e.core tag))
 content_calm e tag (shutdown_complete reflected) o calm turn = goes_on (as_this e.queues.transfer o _ turn (shutdown_complete_asks e e.core))
-content_calm e tag (plain chunk) o calm turn = goes_on (plain_asks e chunk (violation_at e.core chunk) o turn)
+content_calm e tag (plain chunk) o calm turn =
+    content_by e tag (plain chunk) o (λ dropped. goes_on (as_this e.queues.transfer o _ dropped (rests e)))
+    (λ handled. goes_on (plain_asks e chunk (violation_at e.core chunk) o handled)) turn
 
 act_asks : (e : Endpoint) (act : Act) (o : Outcome) → IsCall (act_input act) → ActTurn e act o → AsksNothing e.queues.transfer o
 act_asks e connect o may turn = as_this e.queues.transfer o _ turn.2 (connect_asks e e.core turn.0 turn.1)

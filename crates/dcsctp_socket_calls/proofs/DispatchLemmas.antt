@@ -17,7 +17,7 @@ use Rattle.dcsctp_core_heartbeat.specs.Heartbeats.{heartbeat_turn, heartbeat_ack
 use Rattle.dcsctp_core.specs.spec.endpoint.Endpoint.{Endpoint, Core, closed, cookie_wait, cookie_echoed, open_in, OpenPhase, established, shutdown_pending, shutdown_sent, shutdown_received, shutdown_ack_sent}
 use Rattle.dcsctp_core.specs.spec.endpoint.Outcome.{Outcome, still, quiet, sends, fits, answers_with, to_peer}
 use Rattle.dcsctp_core.specs.spec.endpoint.Following.{next_chunk, packet_end, dropped_rest}
-use Rattle.dcsctp_core.specs.spec.endpoint.Turn.{ContentTurn}
+use Rattle.dcsctp_core.specs.spec.endpoint.Turn.{ContentTurn, comes_early, HandledTurn, ContentTurnBy}
 use Rattle.dcsctp_core.specs.spec.endpoint.CallTurns.{Transition, ChunkTurns}
 use Rattle.dcsctp_core.specs.types.declared.association.Pair.{Pair}
 use Rattle.dcsctp_core.specs.types.declared.association.Held.{Held}
@@ -29,7 +29,7 @@ use Rattle.dcsctp_core.specs.declared.following.Following.TheVariants.{NextChunk
 use Rattle.dcsctp_core.specs.declared.following.Following.{Following}
 use Rattle.dcsctp_core.specs.View.{View, core_of, endpoint_of, view_of, Moves, MovesAll, CutTurn}
 use Rattle.dcsctp_core.specs.Handling.{TakesPossibleTurn, CutIn, IsHandledTurn, HandlesTurn}
-use Rattle.dcsctp_core.proofs.Moving.{moves_one}
+use Rattle.dcsctp_core.proofs.Moving.{moves_one, moves_still}
 use Rattle.dcsctp_core.proofs.spec_lemmas.OneAnswerLemmas.{answered_by}
 use Rattle.dcsctp_spec_laws.proofs.TurnLemmas.{and_further}
 use Rattle.dcsctp_core_ends.specs.Ends.{violation_in, aborting_turn, error_turn}
@@ -39,9 +39,27 @@ use Rattle.dcsctp_socket_calls.specs.Unknown.{unknown_turn}
 use Rattle.dcsctp_socket_calls.proofs.AckLoop.{no_ack}
 use Rattle.dcsctp_socket_calls.proofs.ChunkLoop.{worked_as}
 
+-- One that doesn't come before the COOKIE ACK is handled.
+pub late_at : (e : Endpoint) (tag : ℕ) (content : Content) (o : Outcome) → comes_early e content ≡ false → HandledTurn e tag content o → ContentTurn e tag content o
+late_at e tag content o late turn = subst (λ (early : Bool). ContentTurnBy early e tag content o) (sym late) turn
+
+-- One that does is dropped.
+pub early_worked : {R : Type 0} (stream : R → Stream) (old : View R) (tag : ℕ) (content : Content) → comes_early old.endpoint content ≡ true → ChunkMoves stream tag content old NextChunk old
+early_worked stream old tag content early =
+    record {
+      outcome = still old.endpoint;
+      turn = subst (λ (is_early : Bool). ContentTurnBy is_early old.endpoint tag content (still old.endpoint)) (sym early) refl;
+      following = refl;
+      moves = moves_still stream old;
+    }
+
 -- A chunk that breaks nothing has the turn of its kind.
-pub plain_at : (e : Endpoint) (chunk : Plain) (o : Outcome) → violation_at e.core chunk ≡ None → PlainTurnBy e chunk None o → PlainTurn e chunk o
-plain_at e chunk o none turn = subst (λ (v : Option Violation). PlainTurnBy e chunk v o) (sym none) turn
+plain_as : (e : Endpoint) (chunk : Plain) (o : Outcome) → violation_at e.core chunk ≡ None → PlainTurnBy e chunk None o → PlainTurn e chunk o
+plain_as e chunk o none turn = subst (λ (v : Option Violation). PlainTurnBy e chunk v o) (sym none) turn
+
+pub plain_at : (e : Endpoint) (tag : ℕ) (chunk : Plain) (o : Outcome) → comes_early e (plain chunk) ≡ false → violation_at e.core chunk ≡ None → PlainTurnBy e chunk None o
+    → ContentTurn e tag (plain chunk) o
+plain_at e tag chunk o late none turn = late_at e tag (plain chunk) o late (plain_as e chunk o none turn)
 
 -- ---- a violation
 
@@ -53,36 +71,39 @@ aborting_drops e (cookie_echoed my held cookie) chunk violation is = refl
 aborting_drops e (open_in phase my held) chunk violation is = refl
 
 -- Only a chunk that speaks of no association breaks the protocol.
-violates : (e : Endpoint) (tag : ℕ) (content : Content) (violation : Violation) → violation_in e.core content ≡ Some violation
+violates : (e : Endpoint) (tag : ℕ) (content : Content) (violation : Violation) → comes_early e content ≡ false → violation_in e.core content ≡ Some violation
     → ContentTurn e tag content (aborting_outcome e e.core (reasons.Violation violation)) × ((aborting_outcome e e.core (reasons.Violation violation)).following ≡ dropped_rest)
-violates e tag (init theirs) violation is = absurd (cc)
-violates e tag (init_ack theirs cookie) violation is = absurd (cc)
-violates e tag (cookie_echo cookie) violation is = absurd (cc)
-violates e tag cookie_ack violation is = absurd (cc)
-violates e tag (re_config parameters) violation is = absurd (cc)
-violates e tag (abort reflected causes) violation is = absurd (cc)
-violates e tag (shutdown tsn) violation is = absurd (cc)
-violates e tag shutdown_ack violation is = absurd (cc)
-violates e tag (shutdown_complete reflected) violation is = absurd (cc)
-violates e tag (plain chunk) violation is = (
-  subst (λ (v : Option Violation). PlainTurnBy e chunk v (aborting_outcome e e.core (reasons.Violation violation))) (sym is) refl,
+violates e tag (init theirs) violation late is = absurd (cc)
+violates e tag (init_ack theirs cookie) violation late is = absurd (cc)
+violates e tag (cookie_echo cookie) violation late is = absurd (cc)
+violates e tag cookie_ack violation late is = absurd (cc)
+violates e tag (re_config parameters) violation late is = absurd (cc)
+violates e tag (abort reflected causes) violation late is = absurd (cc)
+violates e tag (shutdown tsn) violation late is = absurd (cc)
+violates e tag shutdown_ack violation late is = absurd (cc)
+violates e tag (shutdown_complete reflected) violation late is = absurd (cc)
+violates e tag (plain chunk) violation late is = (
+  late_at e tag (plain chunk) _ late (subst (λ (v : Option Violation). PlainTurnBy e chunk v (aborting_outcome e e.core (reasons.Violation violation))) (sym is) refl),
   aborting_drops e e.core chunk violation is,
 )
 
 -- what is known of a chunk in memory, once its kind is
+pub late_for : (e : Endpoint) (x y : Chunk) → x ≡ y → comes_early e (content_in (chunk_content x)) ≡ false → comes_early e (content_in (chunk_content y)) ≡ false
+late_for e x y is late = subst (λ (c : Chunk). comes_early e (content_in (chunk_content c)) ≡ false) is late
+
 pub none_for : (core : Core) (x y : Chunk) → x ≡ y → violation_in core (content_in (chunk_content x)) ≡ None → violation_in core (content_in (chunk_content y)) ≡ None
 none_for core x y is none = subst (λ (c : Chunk). violation_in core (content_in (chunk_content c)) ≡ None) is none
 
-pub violation_worked : {R : Type 0} (stream : R → Stream) (old new : View R) (tag : ℕ) (content : Content) (violation : Violation) → violation_in old.endpoint.core content ≡ Some violation
+pub violation_worked : {R : Type 0} (stream : R → Stream) (old new : View R) (tag : ℕ) (content : Content) (violation : Violation) → comes_early old.endpoint content ≡ false → violation_in old.endpoint.core content ≡ Some violation
     → Moves stream old (aborting_turn (reasons.Violation violation) old) new → ChunkMoves stream tag content old DroppedRest new
-violation_worked stream old new tag content violation is moves =
-    let turn = violates old.endpoint tag content violation is in
+violation_worked stream old new tag content violation late is moves =
+    let turn = violates old.endpoint tag content violation late is in
     record { outcome = aborting_turn (reasons.Violation violation) old; turn = turn.0; following = turn.1; moves = moves }
 
-pub violation_cut : {R : Type 0} (old : View R) (tag : ℕ) (content : Content) (violation : Violation) (events : List (Event (List ℕ))) → violation_in old.endpoint.core content ≡ Some violation
+pub violation_cut : {R : Type 0} (old : View R) (tag : ℕ) (content : Content) (violation : Violation) (events : List (Event (List ℕ))) → comes_early old.endpoint content ≡ false → violation_in old.endpoint.core content ≡ Some violation
     → CutTurn old (aborting_turn (reasons.Violation violation) old) events → ChunkCut tag content old events
-violation_cut old tag content violation events is cut =
-    record { outcome = aborting_turn (reasons.Violation violation) old; turn = (violates old.endpoint tag content violation is).0; cut = cut }
+violation_cut old tag content violation events late is cut =
+    record { outcome = aborting_turn (reasons.Violation violation) old; turn = (violates old.endpoint tag content violation late is).0; cut = cut }
 
 -- ---- the chunks of a shutdown
 
@@ -151,7 +172,7 @@ not_ack stream view tag chunk other =
 
 pub unknown_is : {R : Type 0} (context : Context R) (tag type flags : ℕ) (value : List ℕ) → violation_at (core_of context.state) (unknown type flags value) ≡ None
     → ContentTurn (endpoint_of context) tag (plain (unknown type flags value)) (unknown_turn type flags value (view_of context))
-unknown_is context tag type flags value none = plain_at (endpoint_of context) (unknown type flags value) (unknown_turn type flags value (view_of context)) none refl
+unknown_is context tag type flags value none = plain_as (endpoint_of context) (unknown type flags value) (unknown_turn type flags value (view_of context)) none refl
 
 -- ---- heartbeats
 
@@ -192,17 +213,17 @@ heartbeat_ack_follows e (Some counter) = counted_follows (counter == e.heartbeat
 
 pub heartbeat_is : {R : Type 0} (context : Context R) (tag : ℕ) (parameters : List ParameterContent) → violation_at (core_of context.state) (heartbeat parameters) ≡ None
     → ContentTurn (endpoint_of context) tag (plain (heartbeat parameters)) (heartbeat_turn parameters (view_of context))
-heartbeat_is context tag parameters none = plain_at (endpoint_of context) (heartbeat parameters) (heartbeat_turn parameters (view_of context)) none refl
+heartbeat_is context tag parameters none = plain_as (endpoint_of context) (heartbeat parameters) (heartbeat_turn parameters (view_of context)) none refl
 
 pub heartbeat_ack_is : {R : Type 0} (context : Context R) (tag : ℕ) (parameters : List ParameterContent) → violation_at (core_of context.state) (heartbeat_ack parameters) ≡ None
     → ContentTurn (endpoint_of context) tag (plain (heartbeat_ack parameters)) (heartbeat_ack_turn parameters (view_of context))
-heartbeat_ack_is context tag parameters none = plain_at (endpoint_of context) (heartbeat_ack parameters) (heartbeat_ack_turn parameters (view_of context)) none refl
+heartbeat_ack_is context tag parameters none = plain_as (endpoint_of context) (heartbeat_ack parameters) (heartbeat_ack_turn parameters (view_of context)) none refl
 
 -- ---- an ERROR
 
 pub error_is : {R : Type 0} (context : Context R) (tag : ℕ) (causes : List Cause) → violation_at (core_of context.state) (unworked (error_chunk causes)) ≡ None
     → ContentTurn (endpoint_of context) tag (plain (unworked (error_chunk causes))) (error_turn causes (view_of context))
-error_is context tag causes none = plain_at (endpoint_of context) (unworked (error_chunk causes)) (error_turn causes (view_of context)) none refl
+error_is context tag causes none = plain_as (endpoint_of context) (unworked (error_chunk causes)) (error_turn causes (view_of context)) none refl
 
 -- ---- turns that may turn out in more than one way
 

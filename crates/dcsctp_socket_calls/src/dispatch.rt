@@ -1,9 +1,10 @@
 //! Which handler a chunk goes to.
 
-ghost use Rattle.std.specs.Prelude.{◌≡◌, None};
+ghost use Rattle.std.specs.Prelude.{◌≡◌, false, None};
 ghost use Rattle.dcsctp_core.specs.wire.Content.{chunk_content};
 ghost use Rattle.dcsctp_core.specs.spec.Packet.{content_in};
-ghost use Rattle.dcsctp_core.specs.View.{core_of};
+ghost use Rattle.dcsctp_core.specs.spec.endpoint.Turn.{needs_connection, comes_early};
+ghost use Rattle.dcsctp_core.specs.View.{core_of, endpoint_of};
 ghost use Rattle.dcsctp_core_ends.specs.Ends.{violation_in};
 ghost use Rattle.dcsctp_socket_calls.specs.Parts.{HandlesChunk};
 
@@ -24,6 +25,28 @@ use dcsctp_core_resets::handle_re_config;
 use rand_core::Rng;
 use std::alloc::AllocError;
 
+// Is this data, or does it speak of data or of streams?
+fn needs_connection(chunk: &Chunk<'_>) -> bool
+    ensures { result ≡ needs_connection (content_in (chunk_content chunk.now)) }
+{
+    match chunk {
+        Chunk::Data(_)
+        | Chunk::IData(_)
+        | Chunk::Sack(_)
+        | Chunk::ForwardTsn(_)
+        | Chunk::IForwardTsn(_)
+        | Chunk::ReConfig(_) => true,
+        _ => false,
+    }
+}
+
+// Does such a chunk come before the COOKIE ACK? With `Options::follow_rfc` it is dropped (RFC 9260, section 6).
+fn comes_early<R: Rng>(context: &Context<R>, chunk: &Chunk<'_>) -> bool
+    ensures { result ≡ comes_early (endpoint_of context.now) (content_in (chunk_content chunk.now)) }
+{
+    context.state.awaits_cookie_ack() && context.options.follow_rfc && needs_connection(chunk)
+}
+
 /// Handles a chunk of an admitted packet with this header tag, and says what follows it. One that breaks the
 /// negotiated protocol aborts the association.
 pub(crate) fn handle_chunk<R: Rng>(
@@ -34,6 +57,9 @@ pub(crate) fn handle_chunk<R: Rng>(
     ensures { HandlesChunk R.stream header_tag (content_in (chunk_content chunk.now)) context.old
         result context.new }
 {
+    if comes_early(context, chunk) {
+        return Ok(Following::NextChunk);
+    }
     match violation_of(&context.state, chunk) {
         Some(violation) => {
             abort_association(context, AbortReason::Violation(violation))?;
@@ -43,14 +69,16 @@ pub(crate) fn handle_chunk<R: Rng>(
     }
 }
 
-// Handles a chunk that breaks nothing.
+// Handles a chunk that breaks nothing, and doesn't come early.
 fn dispatch_chunk<R: Rng>(
     context: &mut Context<R>,
     header_tag: u32,
     chunk: &Chunk<'_>,
 ) -> Result<Following, AllocError>
-    requires { violation_in (core_of context.old.state) (content_in (chunk_content chunk.now))
-        ≡ None }
+    requires late { comes_early (endpoint_of context.old) (content_in (chunk_content chunk.now))
+        ≡ false }
+    requires unbroken { violation_in (core_of context.old.state)
+        (content_in (chunk_content chunk.now)) ≡ None }
     ensures { HandlesChunk R.stream header_tag (content_in (chunk_content chunk.now)) context.old
         result context.new }
 {

@@ -23,6 +23,7 @@ use Rattle.dcsctp_spec_lemmas.proofs.AbortLemmas.{by_error_outcome}
 use Rattle.dcsctp_spec_laws.proofs.LeftActs.{aborting_leaves, act_leaves, timer_stays}
 use Rattle.dcsctp_spec_laws.proofs.LeftChunks.{init_leaves, init_ack_leaves, cookie_echo_leaves, cookie_ack_leaves, reset_leaves, abort_leaves, shutdown_ack_leaves, shutdown_complete_leaves}
 use Rattle.dcsctp_spec_laws.proofs.LeftData.{data_stays, forward_stays, sack_stays, shutdown_stays, end_stays, send_stays, own_resets_stay, take_leaves}
+use Rattle.dcsctp_spec_lemmas.proofs.EarlyLemmas.{content_by}
 
 -- ---- chunks that don't concern the association
 
@@ -91,12 +92,12 @@ content_leaves e tag (init theirs) o turn = init_leaves e theirs o turn
 content_leaves e tag (init_ack theirs cookie) o turn = init_ack_leaves e theirs cookie o turn
 content_leaves e tag (cookie_echo cookie) o turn = cookie_echo_leaves e tag cookie o turn
 content_leaves e tag cookie_ack o turn = cookie_ack_leaves e o turn
-content_leaves e tag (re_config parameters) o turn = reset_leaves e parameters o turn
+content_leaves e tag (re_config parameters) o turn = content_by e tag (re_config parameters) o (λ dropped. rests e o dropped) (λ handled. reset_leaves e parameters o handled) turn
 content_leaves e tag (abort reflected causes) o turn = subst (LeavesIn e) (sym turn) (abort_leaves e causes e.core)
 content_leaves e tag (shutdown tsn) o turn = inl (shutdown_stays e tsn o turn)
 content_leaves e tag shutdown_ack o turn = subst (LeavesIn e) (sym turn) (shutdown_ack_leaves e e.core tag)
 content_leaves e tag (shutdown_complete reflected) o turn = subst (LeavesIn e) (sym turn) (shutdown_complete_leaves e e.core)
-content_leaves e tag (plain chunk) o turn = plain_by e chunk (violation_at e.core chunk) o turn
+content_leaves e tag (plain chunk) o turn = content_by e tag (plain chunk) o (λ dropped. rests e o dropped) (λ handled. plain_by e chunk (violation_at e.core chunk) o handled) turn
 
 -- ---- every turn
 

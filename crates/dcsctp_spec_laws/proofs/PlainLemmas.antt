@@ -27,6 +27,8 @@ use Rattle.dcsctp_spec_lemmas.specs.spec.association.Controlled.{observations_of
 use Rattle.dcsctp_spec_lemmas.proofs.ControlHandshake.{no_choices, filling_where, still_controlled, ControlledAt}
 use Rattle.dcsctp_spec_laws.proofs.ControlEnds.{aborts_where}
 use Rattle.dcsctp_spec_lemmas.proofs.OneAnswerLemmas.{answered_by}
+use Rattle.dcsctp_spec_lemmas.specs.spec.endpoint.Turn.{ContentTurn}
+use Rattle.dcsctp_spec_lemmas.proofs.EarlyLemmas.{content_by}
 
 -- what a chunk chooses where nothing waits and nothing is sent
 abbrev nothing_chosen : Endpoint → Choices
@@ -232,5 +234,6 @@ plain_by e tag (unworked (shutdown_complete_chunk reflected)) None o is turn = r
 plain_by e tag (unworked (re_config_chunk parameters)) None o is turn = rests e tag (unworked (re_config_chunk parameters)) o turn
 plain_by e tag (unworked (unknown_chunk type flags value)) None o is turn = rests e tag (unworked (unknown_chunk type flags value)) o turn
 
-pub plain_controlled : (e : Endpoint) (tag : ℕ) (chunk : Plain) (o : Outcome) → PlainTurn e chunk o → ControlledChunk e tag (plain chunk) o
-plain_controlled e tag chunk o turn = plain_by e tag chunk (violation_at e.core chunk) o refl turn
+pub plain_controlled : (e : Endpoint) (tag : ℕ) (chunk : Plain) (o : Outcome) → ContentTurn e tag (plain chunk) o → ControlledChunk e tag (plain chunk) o
+plain_controlled e tag chunk o turn =
+    content_by e tag (plain chunk) o (λ dropped. rests e tag chunk o dropped) (λ handled. plain_by e tag chunk (violation_at e.core chunk) o refl handled) turn

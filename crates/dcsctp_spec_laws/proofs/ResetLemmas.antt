@@ -11,18 +11,20 @@ use Rattle.dcsctp_spec_lemmas.specs.spec.endpoint.Event.{Event, sent, error}
 use Rattle.dcsctp_spec_lemmas.specs.spec.Packet.{re_config, Packet, Emission}
 use Rattle.dcsctp_spec_lemmas.specs.spec.Reconfiguration.{NumberedReset, RequestState, early, due, renewed, ResetParameter, outgoing_reset_request, incoming_reset_request, reconfiguration_response, other_reset_parameter}
 use Rattle.dcsctp_spec_lemmas.specs.spec.queues.Transfer.{Transfer}
-use Rattle.dcsctp_spec_lemmas.specs.spec.endpoint.Endpoint.{Endpoint, Core, closed, cookie_wait, cookie_echoed, open_in, may_answer}
-use Rattle.dcsctp_spec_lemmas.specs.spec.endpoint.Outcome.{Outcome, quiet, answering as counted, answered_where, packet_counted, behind, noting, to_peer, fits as fits_mtu, sends as sends_out}
+use Rattle.dcsctp_spec_lemmas.specs.spec.endpoint.Endpoint.{Endpoint, Core, closed, cookie_wait, cookie_echoed, open_in, is_cookie_echoed, may_answer}
+use Rattle.dcsctp_spec_lemmas.specs.spec.endpoint.Outcome.{Outcome, quiet, answering as counted, answered_where, packet_counted, behind, noting, to_peer, fits as fits_mtu, sends as sends_out, still}
 use Rattle.dcsctp_spec_lemmas.specs.spec.endpoint.Following.{next_chunk}
 use Rattle.dcsctp_spec_lemmas.specs.spec.association.Effect.{Effect, accepts, performs, renews, completes, fails, sends, noted, unchanged}
 use Rattle.dcsctp_spec_lemmas.specs.spec.association.Choices.{Choices}
 use Rattle.dcsctp_spec_lemmas.specs.spec.association.FlushChanges.{Flushed, flush}
-use Rattle.dcsctp_spec_lemmas.specs.spec.association.ResetChanges.{RequestPlace, again, next, astray, request_place, RequestOutcome, performed_request, repeated, next_request, is_due, outgoing_by, incoming_by, Informed, informed_by, is_outstanding, informed_where, HandledParameters, work_parameters, work_chunk, reset_sent, peer_part_handled, re_config_change}
+use Rattle.dcsctp_spec_lemmas.specs.spec.association.ResetChanges.{RequestPlace, again, next, astray, request_place, RequestOutcome, performed_request, repeated, next_request, is_due, outgoing_by, incoming_by, Informed, informed_by, is_outstanding, informed_where, HandledParameters, work_parameters, work_chunk, reset_sent, peer_part_handled, echoed_re_config_change, re_config_change}
 use Rattle.dcsctp_spec_lemmas.specs.spec.association.Controlled.{Observation, packet_sent, peer_reset_performed, own_reset_performed, own_reset_failed, observations_of_events, observations_of_effects, IsControlled, ControlledChunk}
 use Rattle.dcsctp_spec_lemmas.specs.spec.endpoint.FlushOutcomes.{Answer, draft_to, flush_of, FlushAnswers}
 use Rattle.dcsctp_spec_lemmas.specs.spec.endpoint.ResetOutcomes.{request_state, renewable_left, parameters_handled_in, OwnAnswer, unanswered, retried, was_performed, has_failed, answered_in, reset_events, reset_events_of, core_with, resets_handled, reset_refusal_text, responses_by, ResponseAnswers, WorksResets, ResetTurn}
 use Rattle.dcsctp_spec_lemmas.proofs.ControlHandshake.{no_choices, ControlledAt, still_controlled}
 use Rattle.dcsctp_spec_lemmas.proofs.FlushKeeps.{IsPeerTag, filling_of, flush_effects, Rebuilds, rebuilds_open, rebuilds_echoed, FlushesTo, flush_controlled, signs_append}
+use Rattle.dcsctp_spec_lemmas.specs.spec.endpoint.Turn.{ContentTurn}
+use Rattle.dcsctp_spec_lemmas.proofs.EarlyLemmas.{content_where}
 
 -- ---- what the parameters bring
 
@@ -326,20 +328,52 @@ resets_at e rebuilt my held parameters o is with peer builds turn =
 -- as a turn of the association that is held
 held_at : (e : Endpoint) (core : Core) (rebuilt : Held → Core) (tag : ℕ) (my : Pair) (held : Held) (parameters : List ResetParameter) (o : Outcome)
     → e.core ≡ core → core ≡ rebuilt held → ((h : Held) → core_with (rebuilt held) h ≡ rebuilt h) → ((h : Held) → IsPeerTag (rebuilt h) h.peer.tag) → ((h : Held) → Rebuilds rebuilt h)
-    → ((choices : Choices) → re_config_change core parameters choices ≡ record { core = rebuilt (peer_part_handled my held parameters choices).held; effects = (peer_part_handled my held parameters choices).effects; following = next_chunk })
+    → ((choices : Choices) → re_config_change e.options.follow_rfc core parameters choices ≡ record { core = rebuilt (peer_part_handled my held parameters choices).held; effects = (peer_part_handled my held parameters choices).effects; following = next_chunk })
     → WorksResets e my held parameters o → ControlledAt e core tag (re_config parameters) o
 held_at e core rebuilt tag my held parameters o is here with peer builds change turn =
     let at = resets_at e rebuilt my held parameters o (is ∙ here) with peer builds turn in
-    (re_config_change core parameters at.0, (at.0, tt, refl), subst (IsControlled e o) (sym (change at.0)) at.1)
+    (re_config_change e.options.follow_rfc core parameters at.0, (at.0, tt, refl), subst (IsControlled e o) (sym (change at.0)) at.1)
 
-reset_at : (e : Endpoint) (core : Core) (tag : ℕ) (parameters : List ResetParameter) (o : Outcome) → e.core ≡ core → ResetTurn e core parameters o → ControlledAt e core tag (re_config parameters) o
-reset_at e closed tag parameters o is turn = subst (ControlledAt e closed tag (re_config parameters)) (sym turn) (unchanged closed, (no_choices e false, tt, refl), still_controlled e closed is)
-reset_at e (cookie_wait my) tag parameters o is turn =
+-- the change of a chunk while the COOKIE ACK is awaited, by the option
+dropped_change : (follows : Bool) (my : Pair) (held : Held) (cookie : List ℕ) (parameters : List ResetParameter) (choices : Choices) → (follows && true) ≡ true
+    → unchanged (cookie_echoed my held cookie) ≡ echoed_re_config_change follows my held cookie parameters choices
+dropped_change true my held cookie parameters choices is_early = refl
+dropped_change false my held cookie parameters choices is_early = absurd (cc)
+
+handled_change : (follows : Bool) (my : Pair) (held : Held) (cookie : List ℕ) (parameters : List ResetParameter) (choices : Choices) → (follows && true) ≡ false
+    → echoed_re_config_change follows my held cookie parameters choices ≡ echoed_re_config_change false my held cookie parameters choices
+handled_change true my held cookie parameters choices is_late = absurd (cc)
+handled_change false my held cookie parameters choices is_late = refl
+
+reset_at : (e : Endpoint) (core : Core) (tag : ℕ) (parameters : List ResetParameter) (o : Outcome) → e.core ≡ core → (e.options.follow_rfc && is_cookie_echoed core) ≡ false → ResetTurn e core parameters o
+    → ControlledAt e core tag (re_config parameters) o
+reset_at e closed tag parameters o is is_late turn = subst (ControlledAt e closed tag (re_config parameters)) (sym turn) (unchanged closed, (no_choices e false, tt, refl), still_controlled e closed is)
+reset_at e (cookie_wait my) tag parameters o is is_late turn =
     subst (ControlledAt e (cookie_wait my) tag (re_config parameters)) (sym turn) (unchanged (cookie_wait my), (no_choices e false, tt, refl), still_controlled e (cookie_wait my) is)
-reset_at e (cookie_echoed my held cookie) tag parameters o is turn =
-    held_at e (cookie_echoed my held cookie) (λ h. cookie_echoed my h cookie) tag my held parameters o is refl (λ h. refl) (λ h. refl) (rebuilds_echoed my cookie) (λ choices. refl) turn
-reset_at e (open_in phase my held) tag parameters o is turn =
+reset_at e (cookie_echoed my held cookie) tag parameters o is is_late turn =
+    held_at e (cookie_echoed my held cookie) (λ h. cookie_echoed my h cookie) tag my held parameters o is refl (λ h. refl) (λ h. refl) (rebuilds_echoed my cookie)
+    (λ choices. handled_change e.options.follow_rfc my held cookie parameters choices is_late) turn
+reset_at e (open_in phase my held) tag parameters o is is_late turn =
     held_at e (open_in phase my held) (λ h. open_in phase my h) tag my held parameters o is refl (λ h. refl) (λ h. refl) (rebuilds_open phase my) (λ choices. refl) turn
 
-pub reset_controlled : (e : Endpoint) (tag : ℕ) (parameters : List ResetParameter) (o : Outcome) → ResetTurn e e.core parameters o → ControlledChunk e tag (re_config parameters) o
-reset_controlled e tag parameters o turn = reset_at e e.core tag parameters o refl turn
+never_early : (follows : Bool) → (follows && false) ≡ true → ⊥
+never_early true is_early = absurd (cc)
+never_early false is_early = absurd (cc)
+
+-- one that is dropped
+dropped_at : (e : Endpoint) (core : Core) (tag : ℕ) (parameters : List ResetParameter) → e.core ≡ core → (e.options.follow_rfc && is_cookie_echoed core) ≡ true
+    → ControlledAt e core tag (re_config parameters) (still e)
+dropped_at e closed tag parameters is is_early = absurd (never_early e.options.follow_rfc is_early)
+dropped_at e (cookie_wait my) tag parameters is is_early = absurd (never_early e.options.follow_rfc is_early)
+dropped_at e (cookie_echoed my held cookie) tag parameters is is_early = (
+  unchanged (cookie_echoed my held cookie),
+  (no_choices e false, tt, dropped_change e.options.follow_rfc my held cookie parameters (no_choices e false) is_early),
+  still_controlled e (cookie_echoed my held cookie) is,
+)
+dropped_at e (open_in phase my held) tag parameters is is_early = absurd (never_early e.options.follow_rfc is_early)
+
+pub reset_controlled : (e : Endpoint) (tag : ℕ) (parameters : List ResetParameter) (o : Outcome) → ContentTurn e tag (re_config parameters) o → ControlledChunk e tag (re_config parameters) o
+reset_controlled e tag parameters o turn =
+    content_where e tag (re_config parameters) o
+    (λ is_early rests. subst (ControlledChunk e tag (re_config parameters)) (sym rests) (dropped_at e e.core tag parameters refl is_early))
+    (λ is_late handled. reset_at e e.core tag parameters o refl is_late handled) turn

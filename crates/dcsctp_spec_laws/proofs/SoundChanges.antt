@@ -90,7 +90,7 @@ module _ (p : Options) where
   chunk_sound core header (init_ack theirs cookie) choices said h = init_ack_sound p core theirs cookie choices said h
   chunk_sound core header (cookie_echo cookie) choices said h = read_echo_sound p core header cookie (cookie_at cookie) choices refl h
   chunk_sound core header cookie_ack choices said h = cookie_ack_sound p core choices h
-  chunk_sound core header (re_config parameters) choices said h = re_config_sound p core parameters choices h
+  chunk_sound core header (re_config parameters) choices said h = re_config_sound p p.follow_rfc core parameters choices h
   chunk_sound core header (abort reflected causes) choices said h = abort_sound p core h
   chunk_sound core header (shutdown tsn) choices said h =
       let stepped : Change = shutdown_change core choices.tsn choices.is_acknowledged in

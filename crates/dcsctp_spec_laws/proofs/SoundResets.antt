@@ -81,8 +81,9 @@ module _ (p : Options) where
       let after : HandledParameters = work_chunk my choices.state held parameters in
       reset_sent_sound after.is_refused after.held after.answers choices (chunk_worked_sound my choices.state held parameters h)
 
-  pub re_config_sound : (core : Core) (parameters : List ResetParameter) (choices : Choices) → IsSoundCore p core → IsSoundCore p (re_config_change core parameters choices).core
-  re_config_sound closed parameters choices h = h
-  re_config_sound (cookie_wait my) parameters choices h = h
-  re_config_sound (cookie_echoed my held cookie) parameters choices h = (h.0, reset_worked_sound my held parameters choices h.1)
-  re_config_sound (open_in phase my held) parameters choices h = (h.0, reset_worked_sound my held parameters choices h.1)
+  pub re_config_sound : (follows : Bool) (core : Core) (parameters : List ResetParameter) (choices : Choices) → IsSoundCore p core → IsSoundCore p (re_config_change follows core parameters choices).core
+  re_config_sound follows closed parameters choices h = h
+  re_config_sound follows (cookie_wait my) parameters choices h = h
+  re_config_sound true (cookie_echoed my held cookie) parameters choices h = h
+  re_config_sound false (cookie_echoed my held cookie) parameters choices h = (h.0, reset_worked_sound my held parameters choices h.1)
+  re_config_sound follows (open_in phase my held) parameters choices h = (h.0, reset_worked_sound my held parameters choices h.1)

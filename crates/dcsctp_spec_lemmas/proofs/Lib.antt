@@ -8,6 +8,7 @@ pub mod CleanedBlockLemmas
 pub mod ControlEcho
 pub mod ControlHandshake
 pub mod DueItemLemmas
+pub mod EarlyLemmas
 pub mod FilledAnswers
 pub mod FilledOutcomes
 pub mod FlushKeeps

@@ -102,10 +102,11 @@ flush_ends (cookie_echoed my held cookie) choices = sent_ends held choices
 flush_ends (open_in phase my held) choices = sent_ends held choices
 flush_ends core choices = tt
 
-re_config_answers : (core : Core) (parameters : List ResetParameter) (choices : Choices) → AllAnswer parameters (re_config_change core parameters choices).effects
-re_config_answers (cookie_echoed my held cookie) parameters choices = reset_answers my held parameters choices
-re_config_answers (open_in phase my held) parameters choices = reset_answers my held parameters choices
-re_config_answers core parameters choices = tt
+re_config_answers : (follows : Bool) (core : Core) (parameters : List ResetParameter) (choices : Choices) → AllAnswer parameters (re_config_change follows core parameters choices).effects
+re_config_answers true (cookie_echoed my held cookie) parameters choices = tt
+re_config_answers false (cookie_echoed my held cookie) parameters choices = reset_answers my held parameters choices
+re_config_answers follows (open_in phase my held) parameters choices = reset_answers my held parameters choices
+re_config_answers follows core parameters choices = tt
 
 request_sent_ends : (held : Held) (request : Option ℕ) (reset : RequestedReset) (fits : Bool) → EndsNone (request_sent held request reset fits)
 request_sent_ends held None reset fits = tt
@@ -216,7 +217,7 @@ chunk_answers options core header (init theirs) choices = change_by (λ change. 
 chunk_answers options core header (init_ack theirs cookie) choices = init_ack_ends options core theirs cookie choices
 chunk_answers options core header (cookie_echo cookie) choices = echo_ends options core header (cookie_at cookie) choices
 chunk_answers options core header cookie_ack choices = cookie_ack_ends core choices
-chunk_answers options core header (re_config parameters) choices = re_config_answers core parameters choices
+chunk_answers options core header (re_config parameters) choices = re_config_answers options.follow_rfc core parameters choices
 chunk_answers options core header (abort reflected causes) choices = abort_ends options core
 chunk_answers options core header (shutdown cumulative_tsn) choices =
     let stepped : Change = shutdown_change core choices.tsn choices.is_acknowledged in

@@ -142,14 +142,15 @@ flush_change_says core choices = tt
 flush_meant : (core : Core) (choices : Choices) → Meant core (flush_change core choices)
 flush_meant core choices = same_meant (flush_change_link core choices) (flush_change_says core choices)
 
-re_config_meant : (core : Core) (parameters : List ResetParameter) (choices : Choices) → Meant core (re_config_change core parameters choices)
-re_config_meant (cookie_echoed my held cookie) parameters choices =
+re_config_meant : (follows : Bool) (core : Core) (parameters : List ResetParameter) (choices : Choices) → Meant core (re_config_change follows core parameters choices)
+re_config_meant true (cookie_echoed my held cookie) parameters choices = same_meant refl tt
+re_config_meant false (cookie_echoed my held cookie) parameters choices =
     same_meant (some_link (reset_link my held parameters choices))
     (reset_says (cookie_echoed my (peer_part_handled my held parameters choices).held cookie) my held parameters choices refl refl)
-re_config_meant (open_in phase my held) parameters choices =
+re_config_meant follows (open_in phase my held) parameters choices =
     same_meant (some_link (reset_link my held parameters choices))
     (reset_says (open_in phase my (peer_part_handled my held parameters choices).held) my held parameters choices refl refl)
-re_config_meant core parameters choices = same_meant refl tt
+re_config_meant follows core parameters choices = same_meant refl tt
 
 request_says : (core : Core) (held : Held) (request : Option ℕ) (reset : RequestedReset) (fits : Bool) → AllSay core (request_sent held request reset fits)
 request_says core held None reset fits = tt
@@ -209,7 +210,7 @@ chunk_meant options core header (init theirs) choices = change_by (Meant core) o
 chunk_meant options core header (init_ack theirs cookie) choices = init_ack_meant options core theirs cookie choices
 chunk_meant options core header (cookie_echo cookie) choices = echo_meant options core header (cookie_at cookie) choices
 chunk_meant options core header cookie_ack choices = cookie_ack_meant core choices
-chunk_meant options core header (re_config parameters) choices = re_config_meant core parameters choices
+chunk_meant options core header (re_config parameters) choices = re_config_meant options.follow_rfc core parameters choices
 chunk_meant options core header (abort reflected causes) choices = abort_meant options core
 chunk_meant options core header (shutdown cumulative_tsn) choices = heard_meant core choices
 chunk_meant options core header shutdown_ack choices = shutdown_ack_meant core header choices.following

@@ -114,7 +114,7 @@ front_kept law options their_offer mine theirs core header (cookie_echo bytes) b
 front_kept law options their_offer mine theirs core header cookie_ack behind choices my_tags their_tags h delivered is own makes =
     cookie_ack_kept (offer_of options) their_offer mine theirs core choices header h is own
 front_kept law options their_offer mine theirs core header (re_config parameters) behind choices my_tags their_tags h delivered is own makes =
-    re_config_kept (offer_of options) their_offer mine theirs core parameters choices header my_tags h is own
+    re_config_kept options.follow_rfc (offer_of options) their_offer mine theirs core parameters choices header my_tags h is own
 front_kept law options their_offer mine theirs core header (abort reflected causes) behind choices my_tags their_tags h delivered is own makes =
     abort_kept (offer_of options) their_offer mine theirs options core h
 front_kept law options their_offer mine theirs core header (shutdown tsn) behind choices my_tags their_tags h delivered is own makes =
@@ -136,7 +136,7 @@ behind_kept options their_offer mine theirs core header (init_ack introduction c
 behind_kept options their_offer mine theirs core header (cookie_echo bytes) choices tags h is = absurd is
 behind_kept options their_offer mine theirs core header cookie_ack choices tags h is = absurd is
 behind_kept options their_offer mine theirs core header (re_config parameters) choices tags h is =
-    re_config_kept (offer_of options) their_offer mine theirs core parameters choices (own_tag core) tags h (requests_true theirs mine (own_tag core) parameters is) refl
+    re_config_kept options.follow_rfc (offer_of options) their_offer mine theirs core parameters choices (own_tag core) tags h (requests_true theirs mine (own_tag core) parameters is) refl
 behind_kept options their_offer mine theirs core header (abort reflected causes) choices tags h is = absurd is
 behind_kept options their_offer mine theirs core header (shutdown tsn) choices tags h is = absurd is
 behind_kept options their_offer mine theirs core header shutdown_ack choices tags h is = absurd is

@@ -124,10 +124,11 @@ flush_ends_once (cookie_echoed my held cookie) choices = stays_echoed (no_ends-s
 flush_ends_once (open_in phase my held) choices = stays_open (no_ends-sent held choices)
 flush_ends_once core choices = stays refl
 
-re_config_ends_once : (core : Core) (parameters : List ResetParameter) (choices : Choices) → OneEnd core (re_config_change core parameters choices)
-re_config_ends_once (cookie_echoed my held cookie) parameters choices = stays_echoed (no_ends-reset my held parameters choices)
-re_config_ends_once (open_in phase my held) parameters choices = stays_open (no_ends-reset my held parameters choices)
-re_config_ends_once core parameters choices = stays refl
+re_config_ends_once : (follows : Bool) (core : Core) (parameters : List ResetParameter) (choices : Choices) → OneEnd core (re_config_change follows core parameters choices)
+re_config_ends_once true (cookie_echoed my held cookie) parameters choices = stays refl
+re_config_ends_once false (cookie_echoed my held cookie) parameters choices = stays_echoed (no_ends-reset my held parameters choices)
+re_config_ends_once follows (open_in phase my held) parameters choices = stays_open (no_ends-reset my held parameters choices)
+re_config_ends_once follows core parameters choices = stays refl
 
 no_ends-request : (held : Held) (request : Option ℕ) (reset : RequestedReset) (fits : Bool) → ends_in (request_sent held request reset fits) ≡ 0
 no_ends-request held None reset fits = refl
@@ -251,7 +252,7 @@ chunk_ends_once options core header (init theirs) choices = change_by (OneEnd co
 chunk_ends_once options core header (init_ack theirs cookie) choices = init_ack_ends_once options core theirs cookie choices
 chunk_ends_once options core header (cookie_echo cookie) choices = echo_ends_once options core header (cookie_at cookie) choices
 chunk_ends_once options core header cookie_ack choices = cookie_ack_ends_once core choices
-chunk_ends_once options core header (re_config parameters) choices = re_config_ends_once core parameters choices
+chunk_ends_once options core header (re_config parameters) choices = re_config_ends_once options.follow_rfc core parameters choices
 chunk_ends_once options core header (abort reflected causes) choices = abort_ends_once options core
 chunk_ends_once options core header (shutdown cumulative_tsn) choices = heard_ends_once core choices
 chunk_ends_once options core header shutdown_ack choices = shutdown_ack_ends_once core header choices.following

@@ -34,11 +34,12 @@ flush_keeps (cookie_echoed my held cookie) choices past good =
 flush_keeps (open_in phase my held) choices past good = stands_open phase (sent_leads (identity_of my held) good.0 held choices past good.1)
 flush_keeps core choices past good = good
 
-re_config_keeps : (core : Core) (parameters : List ResetParameter) (choices : Choices) → Keeps core (re_config_change core parameters choices)
-re_config_keeps (cookie_echoed my held cookie) parameters choices past good =
+re_config_keeps : (follows : Bool) (core : Core) (parameters : List ResetParameter) (choices : Choices) → Keeps core (re_config_change follows core parameters choices)
+re_config_keeps true (cookie_echoed my held cookie) parameters choices past good = good
+re_config_keeps false (cookie_echoed my held cookie) parameters choices past good =
     stands_echoed cookie (reset_leads (identity_of my held) (Some (identity_of my held)) held parameters choices past good)
-re_config_keeps (open_in phase my held) parameters choices past good = stands_open phase (reset_leads (identity_of my held) good.0 held parameters choices past good.1)
-re_config_keeps core parameters choices past good = good
+re_config_keeps follows (open_in phase my held) parameters choices past good = stands_open phase (reset_leads (identity_of my held) good.0 held parameters choices past good.1)
+re_config_keeps follows core parameters choices past good = good
 
 request_keeps : (core : Core) (held : Held) (request : Option ℕ) (reset : RequestedReset) (fits : Bool) (past : List Effect) → Good core past → Good core (after_effects (request_sent held request reset fits) past)
 request_keeps core held None reset fits past good = good
@@ -148,7 +149,7 @@ chunk_keeps options core header (init theirs) choices past good = change_by (Kee
 chunk_keeps options core header (init_ack theirs cookie) choices past good = init_ack_keeps options core theirs cookie choices past good
 chunk_keeps options core header (cookie_echo cookie) choices past good = echo_keeps options core header (cookie_at cookie) choices past good
 chunk_keeps options core header cookie_ack choices past good = cookie_ack_keeps core choices past good
-chunk_keeps options core header (re_config parameters) choices past good = re_config_keeps core parameters choices past good
+chunk_keeps options core header (re_config parameters) choices past good = re_config_keeps options.follow_rfc core parameters choices past good
 chunk_keeps options core header (abort reflected causes) choices past good = abort_keeps options core past good
 chunk_keeps options core header (shutdown cumulative_tsn) choices past good =
     let stepped : Change = shutdown_change core choices.tsn choices.is_acknowledged in

@@ -160,12 +160,14 @@ reset_kept my_offer their_offer mine theirs my held parameters choices tags h ar
       pair = sent.pair ∙ k.working.pair;
     }
 
-pub re_config_kept : (my_offer their_offer : Offer) (mine theirs : List Effect) (core : Core) (parameters : List ResetParameter) (choices : Choices) (tag : ℕ)
+pub re_config_kept : (follows : Bool) (my_offer their_offer : Offer) (mine theirs : List Effect) (core : Core) (parameters : List ResetParameter) (choices : Choices) (tag : ℕ)
     → SameTag mine → TrueCore my_offer their_offer mine theirs core → TrueParameters theirs mine tag parameters → tag ≡ own_tag core
-    → Kept my_offer their_offer mine theirs (re_config_change core parameters choices)
-re_config_kept my_offer their_offer mine theirs closed parameters choices tag tags h are is = unchanged_kept my_offer their_offer mine theirs closed h
-re_config_kept my_offer their_offer mine theirs (cookie_wait my) parameters choices tag tags h are is = unchanged_kept my_offer their_offer mine theirs (cookie_wait my) h
-re_config_kept my_offer their_offer mine theirs (cookie_echoed my held bytes) parameters choices tag tags h are is =
+    → Kept my_offer their_offer mine theirs (re_config_change follows core parameters choices)
+re_config_kept follows my_offer their_offer mine theirs closed parameters choices tag tags h are is = unchanged_kept my_offer their_offer mine theirs closed h
+re_config_kept follows my_offer their_offer mine theirs (cookie_wait my) parameters choices tag tags h are is = unchanged_kept my_offer their_offer mine theirs (cookie_wait my) h
+re_config_kept true my_offer their_offer mine theirs (cookie_echoed my held bytes) parameters choices tag tags h are is =
+    unchanged_kept my_offer their_offer mine theirs (cookie_echoed my held bytes) h
+re_config_kept false my_offer their_offer mine theirs (cookie_echoed my held bytes) parameters choices tag tags h are is =
     let k : ResetKept my_offer their_offer mine theirs my held (peer_part_handled my held parameters choices) =
     reset_kept my_offer their_offer mine theirs my held parameters choices tags h.0 (subst (λ (t : ℕ). TrueParameters theirs mine t parameters) is are) in
     record {
@@ -176,7 +178,7 @@ re_config_kept my_offer their_offer mine theirs (cookie_echoed my held bytes) pa
         record { cookie = h.2.cookie; reads = h.2.reads; maker = h.2.maker ∙ sym k.pair; addressee = h.2.addressee; offer = h.2.offer },
       );
     }
-re_config_kept my_offer their_offer mine theirs (open_in phase my held) parameters choices tag tags h are is =
+re_config_kept follows my_offer their_offer mine theirs (open_in phase my held) parameters choices tag tags h are is =
     let k : ResetKept my_offer their_offer mine theirs my held (peer_part_handled my held parameters choices) =
     reset_kept my_offer their_offer mine theirs my held parameters choices tags h (subst (λ (t : ℕ). TrueParameters theirs mine t parameters) is are) in
     record { effects = k.true_effects; core = k.facts }

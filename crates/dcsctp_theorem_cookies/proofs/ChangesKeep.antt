@@ -204,7 +204,7 @@ module _ (rules : Rules) where
   chunk_keeps options core header (init_ack theirs cookie) choices h k made = init_ack_keeps options core theirs cookie choices h k
   chunk_keeps options core header (cookie_echo bytes) choices h k made = cookie_echo_keeps options core header (cookie_at bytes) choices h
   chunk_keeps options core header cookie_ack choices h k made = cookie_ack_keeps core choices h
-  chunk_keeps options core header (re_config parameters) choices h k made = re_config_keeps rules core parameters choices h
+  chunk_keeps options core header (re_config parameters) choices h k made = re_config_keeps rules options.follow_rfc core parameters choices h
   chunk_keeps options core header (abort reflected causes) choices h k made = abort_keeps options core h
   chunk_keeps options core header (shutdown tsn) choices h k made = heard_keeps core choices h
   chunk_keeps options core header shutdown_ack choices h k made = shutdown_ack_keeps core header choices.following h

@@ -82,10 +82,11 @@ module _ (rules : Rules) where
       effects_append rules first.effects (reset_sent first.is_refused first.held first.answers choices).effects
       (chunk_keeps_in my choices.state held parameters) (reset_sent_keeps first.is_refused first.held first.answers choices)
 
-  pub re_config_keeps : (core : Core) (parameters : List ResetParameter) (choices : Choices) → CoreKeeps rules core → ChangeKeeps rules (re_config_change core parameters choices)
-  re_config_keeps (cookie_echoed my held bytes) parameters choices h = record { effects = reset_keeps my held parameters choices; core = h }
-  re_config_keeps (open_in phase my held) parameters choices h = record { effects = reset_keeps my held parameters choices; core = h }
-  re_config_keeps core parameters choices h = unchanged_keeps rules core h
+  pub re_config_keeps : (follows : Bool) (core : Core) (parameters : List ResetParameter) (choices : Choices) → CoreKeeps rules core → ChangeKeeps rules (re_config_change follows core parameters choices)
+  re_config_keeps true (cookie_echoed my held bytes) parameters choices h = unchanged_keeps rules (cookie_echoed my held bytes) h
+  re_config_keeps false (cookie_echoed my held bytes) parameters choices h = record { effects = reset_keeps my held parameters choices; core = h }
+  re_config_keeps follows (open_in phase my held) parameters choices h = record { effects = reset_keeps my held parameters choices; core = h }
+  re_config_keeps follows core parameters choices h = unchanged_keeps rules core h
 
   request_keeps : (held : Held) (number : Option ℕ) (reset : RequestedReset) (fits : Bool) → EffectsKeep rules (request_sent held number reset fits)
   request_keeps held None reset fits = tt

@@ -10,7 +10,7 @@ use Rattle.dcsctp_spec_lemmas.specs.spec.Packet.{Content, init, init_ack, cookie
 use Rattle.dcsctp_spec_lemmas.specs.spec.Reconfiguration.{RequestedReset}
 use Rattle.dcsctp_spec_lemmas.specs.spec.endpoint.Endpoint.{Endpoint, Core, cookie_wait, cookie_echoed, open_in}
 use Rattle.dcsctp_spec_lemmas.specs.spec.endpoint.Endpoint as machine
-use Rattle.dcsctp_spec_lemmas.specs.spec.endpoint.Outcome.{Outcome}
+use Rattle.dcsctp_spec_lemmas.specs.spec.endpoint.Outcome.{Outcome, still}
 use Rattle.dcsctp_spec_lemmas.specs.spec.association.Controlled.{observations_of_events, observations_of_effects}
 use Rattle.dcsctp_spec_lemmas.specs.spec.endpoint.CallTurns.{Transition, IsTurn}
 use Rattle.dcsctp_spec_lemmas.specs.spec.endpoint.Turn.{Input, arrival, refusal, packet_begins, chunk_input, packet_ends, act_input, user_sets, user_sends, user_resets, user_takes, timer_expires, time_passes, restores, has_data_chunk, ContentTurn, ActTurn}
@@ -31,8 +31,13 @@ use Rattle.dcsctp_theorem_sockets.proofs.BurstChunks.{timer_few, reset_behind, p
 use Rattle.dcsctp_theorem_sockets.proofs.HeardShutdowns.{heard_counts}
 use Rattle.dcsctp_theorem_sockets.proofs.HandoverTurns.{hand_over_few}
 use Rattle.dcsctp_theorem_sockets.proofs.RestoreTurns.{restore_few}
+use Rattle.dcsctp_spec_lemmas.proofs.EarlyLemmas.{content_by}
 
 -- ---- a chunk
+
+-- Nothing happens, so no packet is sent.
+no_packets : (e : Endpoint) (content : Content) (o : Outcome) → o ≡ still e → count o.events ≤ packets_of_chunk e.options content (allowed_after o)
+no_packets e content o is = subst (λ (x : Outcome). count x.events ≤ packets_of_chunk e.options content (allowed_after o)) (sym is) (none _)
 
 -- with what is allowed by the options that the turn leaves
 chunk_counts : (e : Endpoint) (tag : ℕ) (content : Content) (o : Outcome) → ContentTurn e tag content o → count o.events ≤ packets_of_chunk e.options content (allowed_after o)
@@ -43,12 +48,14 @@ chunk_counts e tag (init_ack theirs cookie) o turn =
 chunk_counts e tag (cookie_echo bytes) o turn =
     subst (λ (x : Outcome). count x.events ≤ packets_of_chunk e.options (cookie_echo bytes) (allowed_after x)) (sym turn.3) (echo_counts e e.core tag (cookie_at bytes) turn.0 turn.1 refl turn.2)
 chunk_counts e tag cookie_ack o turn = subst (λ (x : Outcome). count x.events ≤ allowed_after x) (sym turn.2) (cookie_ack_is_burst e e.core turn.0 turn.1)
-chunk_counts e tag (re_config parameters) o turn = reset_behind e e.core parameters o refl turn
+chunk_counts e tag (re_config parameters) o turn =
+    content_by e tag (re_config parameters) o (λ dropped. no_packets e (re_config parameters) o dropped) (λ handled. reset_behind e e.core parameters o refl handled) turn
 chunk_counts e tag (abort reflected causes) o turn = subst (Few 0) (sym turn) (abort_few e causes e.core)
 chunk_counts e tag (shutdown tsn) o turn = heard_counts e tsn o turn
 chunk_counts e tag shutdown_ack o turn = subst (Few 1) (sym turn) (shutdown_ack_few e e.core tag)
 chunk_counts e tag (shutdown_complete reflected) o turn = subst (Few 0) (sym turn) (shutdown_complete_few e e.core)
-chunk_counts e tag (plain chunk) o turn = plain_counts e chunk o turn
+chunk_counts e tag (plain chunk) o turn =
+    content_by e tag (plain chunk) o (λ dropped. no_packets e (plain chunk) o dropped) (λ handled. plain_counts e chunk o handled) turn
 
 -- ---- a request again
 

@@ -20,6 +20,8 @@ use Rattle.dcsctp_spec_lemmas.proofs.AbortLemmas.{by_abort}
 use Rattle.dcsctp_spec_lemmas.proofs.OneAnswerLemmas.{change_by}
 use Rattle.dcsctp_theorem_sockets.proofs.NoHolding.{IsNoHolding, HoldsNone, none-alone, none-flush, none-sent, none-reset}
 use Rattle.dcsctp_theorem_sockets.proofs.NoHoldingTurns.{ended_none, again_echo_none, init_none, heard_none, shutdown_ack_none, complete_none, plain_none, closed_plain_none, waiting_plain_none, echoed_plain_none, act_none}
+use Rattle.dcsctp_spec_lemmas.specs.spec.Reconfiguration.{ResetParameter}
+use Rattle.dcsctp_spec_lemmas.specs.spec.association.ResetChanges.{echoed_re_config_change}
 
 -- An association that is there from here on isn't the one that was there.
 abbrev pub Anew : Core → List Effect → Type 0
@@ -139,6 +141,11 @@ echo_anew options core header (Ok cookie) choices =
 
 -- ---- every other chunk
 
+reset_anew : (follows : Bool) (my : Pair) (held : Held) (echoed : List ℕ) (parameters : List ResetParameter) (choices : Choices)
+    → New (cookie_echoed my held echoed) (echoed_re_config_change follows my held echoed parameters choices).effects
+reset_anew true my held echoed parameters choices = none_anew (cookie_echoed my held echoed) [] tt
+reset_anew false my held echoed parameters choices = none_anew (cookie_echoed my held echoed) _ (none-reset my held parameters choices)
+
 echoed_chunk_anew : (options : Options) (my : Pair) (held : Held) (echoed : List ℕ) (header : ℕ) (content : Content) (choices : Choices)
     → New (cookie_echoed my held echoed) (chunk_change options (cookie_echoed my held echoed) header content choices).effects
 echoed_chunk_anew options my held echoed header (init theirs) choices =
@@ -146,7 +153,7 @@ echoed_chunk_anew options my held echoed header (init theirs) choices =
 echoed_chunk_anew options my held echoed header (init_ack theirs cookie) choices = none_anew (cookie_echoed my held echoed) [] tt
 echoed_chunk_anew options my held echoed header (cookie_echo cookie) choices = echo_anew options (cookie_echoed my held echoed) header (cookie_at cookie) choices
 echoed_chunk_anew options my held echoed header cookie_ack choices = none_anew (cookie_echoed my held echoed) (cookie_ack_change (cookie_echoed my held echoed) choices).effects (tt, none-flush held.peer.tag held [] choices.filling)
-echoed_chunk_anew options my held echoed header (re_config parameters) choices = none_anew (cookie_echoed my held echoed) _ (none-reset my held parameters choices)
+echoed_chunk_anew options my held echoed header (re_config parameters) choices = reset_anew options.follow_rfc my held echoed parameters choices
 echoed_chunk_anew options my held echoed header (abort reflected causes) choices = none_anew (cookie_echoed my held echoed) (ends ∷ []) (tt, tt)
 echoed_chunk_anew options my held echoed header (shutdown tsn) choices = none_anew (cookie_echoed my held echoed) _ (none-sent held choices)
 echoed_chunk_anew options my held echoed header shutdown_ack choices = none_anew (cookie_echoed my held echoed) (emitted header (shutdown_complete true ∷ [])) (tt, tt)

@@ -27,6 +27,7 @@ use Rattle.dcsctp_theorem_sockets.proofs.SizesData.{flush_turn_sizes, end_sizes,
 use Rattle.dcsctp_theorem_sockets.proofs.SizesShutdown.{step_sizes, shut_down_sizes, shutdown_ack_sizes, shutdown_complete_sizes, t2_again_sizes, begin_sizes}
 use Rattle.dcsctp_theorem_sockets.proofs.SizesTurns.{init_sizes, connect_sizes, init_ack_sizes, cookie_ack_sizes, echo_sizes, abort_sizes, aborting_sizes, again_sizes, gives_up_sizes}
 use Rattle.dcsctp_theorem_sockets.proofs.T1Lemmas.{IsMade, MayBe, these_may_come}
+use Rattle.dcsctp_spec_lemmas.proofs.EarlyLemmas.{content_by}
 
 -- ---- each turn
 
@@ -36,12 +37,14 @@ chunk_sizes limit e tag (init theirs) o turn h =
 chunk_sizes limit e tag (init_ack theirs cookie) o turn h = subst (TurnSizes limit) (sym turn.3) (init_ack_sizes limit e theirs cookie e.core turn.0 turn.1 turn.2 h)
 chunk_sizes limit e tag (cookie_echo bytes) o turn h = subst (TurnSizes limit) (sym turn.3) (echo_sizes limit e e.core tag (cookie_at bytes) turn.0 turn.1 turn.2 h)
 chunk_sizes limit e tag cookie_ack o turn h = subst (TurnSizes limit) (sym turn.2) (cookie_ack_sizes limit e e.core turn.0 turn.1 h)
-chunk_sizes limit e tag (re_config parameters) o turn h = reset_sizes limit e e.core parameters o turn h
+chunk_sizes limit e tag (re_config parameters) o turn h =
+    content_by e tag (re_config parameters) o (λ dropped. subst (TurnSizes limit) (sym dropped) (h, tt)) (λ handled. reset_sizes limit e e.core parameters o handled h) turn
 chunk_sizes limit e tag (abort reflected causes) o turn h = subst (TurnSizes limit) (sym turn) (abort_sizes limit e causes e.core h)
 chunk_sizes limit e tag (shutdown tsn) o turn h = heard_sizes limit e tsn o turn h
 chunk_sizes limit e tag shutdown_ack o turn h = subst (TurnSizes limit) (sym turn) (shutdown_ack_sizes limit e e.core tag h)
 chunk_sizes limit e tag (shutdown_complete reflected) o turn h = subst (TurnSizes limit) (sym turn) (shutdown_complete_sizes limit e e.core h)
-chunk_sizes limit e tag (plain chunk) o turn h = plain_sizes limit e chunk o turn h
+chunk_sizes limit e tag (plain chunk) o turn h =
+    content_by e tag (plain chunk) o (λ dropped. subst (TurnSizes limit) (sym dropped) (h, tt)) (λ handled. plain_sizes limit e chunk o handled h) turn
 
 act_sizes : (limit : ℕ) (e : Endpoint) (act : Act) (o : Outcome) → IsMade act → ActTurn e act o → AtLimit limit e → TurnSizes limit o
 act_sizes limit e connect o may turn h = subst (TurnSizes limit) (sym turn.2) (connect_sizes limit e e.core turn.0 turn.1 h)

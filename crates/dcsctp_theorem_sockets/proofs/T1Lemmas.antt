@@ -23,6 +23,7 @@ use Rattle.dcsctp_theorem_sockets.proofs.HeardShutdowns.{heard_up}
 use Rattle.dcsctp_theorem_sockets.proofs.T1Shutdown.{step_up, shut_down_up, shutdown_ack_up, shutdown_complete_up, t2_again_up, begin_up}
 use Rattle.dcsctp_theorem_sockets.proofs.TimerFits.{goes_on_runs}
 use Rattle.dcsctp_theorem_sockets.proofs.T1Data.{flush_turn_up, end_up, take_up, send_up, resets_up}
+use Rattle.dcsctp_spec_lemmas.proofs.EarlyLemmas.{content_by}
 
 -- ---- what may come
 
@@ -69,12 +70,13 @@ chunk_up e tag (init theirs) o turn h = subst UpAfter (sym turn.2) (init_by UpAf
 chunk_up e tag (init_ack theirs cookie) o turn h = subst UpAfter (sym turn.3) (init_ack_up e theirs cookie e.core turn.0 turn.1 turn.2 h)
 chunk_up e tag (cookie_echo bytes) o turn h = subst UpAfter (sym turn.3) (echo_up e e.core tag (cookie_at bytes) turn.0 turn.1 turn.2 h)
 chunk_up e tag cookie_ack o turn h = subst UpAfter (sym turn.2) (cookie_ack_up e e.core turn.0 turn.1 h)
-chunk_up e tag (re_config parameters) o turn h = reset_up e e.core parameters o turn h
+chunk_up e tag (re_config parameters) o turn h =
+    content_by e tag (re_config parameters) o (λ dropped. subst UpAfter (sym dropped) h) (λ handled. reset_up e e.core parameters o handled h) turn
 chunk_up e tag (abort reflected causes) o turn h = subst UpAfter (sym turn) (abort_up e causes e.core h)
 chunk_up e tag (shutdown tsn) o turn h = heard_up e tsn o turn h
 chunk_up e tag shutdown_ack o turn h = subst UpAfter (sym turn) (shutdown_ack_up e e.core tag h)
 chunk_up e tag (shutdown_complete reflected) o turn h = subst UpAfter (sym turn) (shutdown_complete_up e e.core h)
-chunk_up e tag (plain chunk) o turn h = plain_up e chunk o turn h
+chunk_up e tag (plain chunk) o turn h = content_by e tag (plain chunk) o (λ dropped. subst UpAfter (sym dropped) h) (λ handled. plain_up e chunk o handled h) turn
 
 act_up : (e : Endpoint) (act : Act) (o : Outcome) → IsMade act → ActTurn e act o → Up e → UpAfter o
 act_up e connect o may turn h = subst UpAfter (sym turn.2) (connect_up e e.core turn.0 turn.1 h)

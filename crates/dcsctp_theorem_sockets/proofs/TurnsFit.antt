@@ -37,6 +37,7 @@ use Rattle.dcsctp_theorem_sockets.proofs.Sendable.{init_sendable, init_ack_senda
 use Rattle.dcsctp_theorem_sockets.proofs.Sent.{all_sent_append}
 use Rattle.dcsctp_theorem_sockets.proofs.HeardShutdowns.{heard_fits}
 use Rattle.dcsctp_theorem_sockets.proofs.ShutdownFits.{stale_sendable, shutdown_ack_sendable, shutdown_ack_fits, shutdown_complete_fits, refused_restart_fits}
+use Rattle.dcsctp_spec_lemmas.proofs.EarlyLemmas.{content_by}
 
 -- ---- one packet at most
 
@@ -239,9 +240,11 @@ turn_fits law e tag (init theirs) o turn h tagged good =
 turn_fits law e tag (init_ack theirs cookie) o turn h tagged good = subst TurnFits (sym turn.3) (init_ack_fits e theirs cookie e.core turn.0 turn.1 turn.2 h h.core good)
 turn_fits law e tag (cookie_echo bytes) o turn h tagged good = subst TurnFits (sym turn.3) (echo_fits e e.core tag bytes (cookie_at bytes) turn.0 turn.1 turn.2 refl h h.core good.fits)
 turn_fits law e tag cookie_ack o turn h tagged good = subst TurnFits (sym turn.2) (cookie_ack_fits e e.core turn.0 turn.1 h h.core)
-turn_fits law e tag (re_config parameters) o turn h tagged good = reset_fits e e.core parameters o turn h h.core good
+turn_fits law e tag (re_config parameters) o turn h tagged good =
+    content_by e tag (re_config parameters) o (λ dropped. subst TurnFits (sym dropped) (still_fits e h)) (λ handled. reset_fits e e.core parameters o handled h h.core good) turn
 turn_fits law e tag (abort reflected causes) o turn h tagged good = subst TurnFits (sym turn) (abort_fits e causes e.core h)
 turn_fits law e tag (shutdown cumulative_tsn) o turn h tagged good = heard_fits e cumulative_tsn o turn h
 turn_fits law e tag shutdown_ack o turn h tagged good = subst TurnFits (sym turn) (shutdown_ack_fits e e.core tag h h.core tagged)
 turn_fits law e tag (shutdown_complete reflected) o turn h tagged good = subst TurnFits (sym turn) (shutdown_complete_fits e e.core h)
-turn_fits law e tag (plain chunk) o turn h tagged good = plain_fits e chunk o turn h good
+turn_fits law e tag (plain chunk) o turn h tagged good =
+    content_by e tag (plain chunk) o (λ dropped. subst TurnFits (sym dropped) (still_fits e h)) (λ handled. plain_fits e chunk o handled h good) turn

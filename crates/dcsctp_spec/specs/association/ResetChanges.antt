@@ -184,11 +184,16 @@ peer_part_handled my held parameters choices =
     let sent : Flushed = reset_sent performed_request.is_refused performed_request.held performed_request.answers choices in
     record { held = sent.held; effects = performed_request.effects ++ sent.effects }
 
-abbrev pub re_config_change : Core → List ResetParameter → Choices → Change
-re_config_change (cookie_echoed my held cookie) parameters choices =
+-- By the RFC one that comes before the COOKIE ACK is dropped.
+abbrev pub echoed_re_config_change : Bool → Pair → Held → List ℕ → List ResetParameter → Choices → Change
+echoed_re_config_change true my held cookie parameters choices = unchanged (cookie_echoed my held cookie)
+echoed_re_config_change false my held cookie parameters choices =
     let after : Informed = peer_part_handled my held parameters choices in
     record { core = cookie_echoed my after.held cookie; effects = after.effects; following = next_chunk }
-re_config_change (open_in phase my held) parameters choices =
+
+abbrev pub re_config_change : Bool → Core → List ResetParameter → Choices → Change
+re_config_change follows_rfc (cookie_echoed my held cookie) parameters choices = echoed_re_config_change follows_rfc my held cookie parameters choices
+re_config_change follows_rfc (open_in phase my held) parameters choices =
     let after : Informed = peer_part_handled my held parameters choices in
     record { core = open_in phase my after.held; effects = after.effects; following = next_chunk }
-re_config_change core parameters choices = unchanged core
+re_config_change follows_rfc core parameters choices = unchanged core

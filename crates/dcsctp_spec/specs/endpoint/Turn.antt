@@ -1,8 +1,9 @@
 -- One turn of an endpoint: an input, and its outcome.
-use Rattle.std.specs.Prelude.{◌≡◌, ℕ, Bool, true, false, List, [], ◌∷◌, codes, if◌then◌else◌}
+use Rattle.std.specs.Prelude.{◌≡◌, ℕ, Bool, true, false, List, [], ◌∷◌, codes, ◌&&◌, if◌then◌else◌}
 use Rattle.dcsctp_types.specs.declared.kinds.ErrorKind.TheVariants.{ParseFailed}
-use Rattle.dcsctp_spec.specs.Packet.{Content, init, init_ack, cookie_echo, cookie_ack, re_config, abort, shutdown, shutdown_ack, shutdown_complete, plain, is_data}
-use Rattle.dcsctp_spec.specs.endpoint.Endpoint.{Endpoint, Core, open_in, shutdown_sent}
+use Rattle.dcsctp_types.specs.wire.Content.{data_chunk, i_data_chunk, sack_chunk, forward_tsn_chunk, i_forward_tsn_chunk}
+use Rattle.dcsctp_spec.specs.Packet.{Content, init, init_ack, cookie_echo, cookie_ack, re_config, abort, shutdown, shutdown_ack, shutdown_complete, plain, unworked, is_data}
+use Rattle.dcsctp_spec.specs.endpoint.Endpoint.{Endpoint, Core, open_in, shutdown_sent, is_cookie_echoed}
 use Rattle.dcsctp_spec.specs.endpoint.Outcome.{Outcome, still, count_up, reports}
 use Rattle.dcsctp_types.specs.Snapshot.{Snapshot}
 use Rattle.dcsctp_spec.specs.endpoint.HandoverOutcomes.{hand_over_outcome}
@@ -77,18 +78,42 @@ BeginTurn e core has o = o ≡ still e
 abbrev pub EndTurn : Endpoint → Outcome → Type 0
 EndTurn e o = EndsBy e e.queues.transfer o
 
+-- Is this data, or does it speak of data or of streams?
+abbrev pub needs_connection : Content → Bool
+needs_connection (re_config parameters) = true
+needs_connection (plain (unworked (data_chunk chunk))) = true
+needs_connection (plain (unworked (i_data_chunk chunk))) = true
+needs_connection (plain (unworked (sack_chunk chunk))) = true
+needs_connection (plain (unworked (forward_tsn_chunk tsn streams))) = true
+needs_connection (plain (unworked (i_forward_tsn_chunk tsn streams))) = true
+needs_connection content = false
+
+-- Does such a chunk come before the COOKIE ACK? By the RFC it is dropped (RFC 9260, section 6): where both sides connect, it may
+-- belong to another association, in which the peer sends it again.
+abbrev pub comes_early : Endpoint → Content → Bool
+comes_early e content = needs_connection content && (e.options.follow_rfc && is_cookie_echoed e.core)
+
+-- What a chunk does that is handled.
+abbrev pub HandledTurn : Endpoint → ℕ → Content → Outcome → Type 0
+HandledTurn e tag (init theirs) o = InitTurn e theirs o
+HandledTurn e tag (init_ack theirs cookie) o = InitAckTurn e theirs cookie o
+HandledTurn e tag (cookie_echo cookie) o = CookieEchoTurn e tag cookie o
+HandledTurn e tag cookie_ack o = CookieAckTurn e o
+HandledTurn e tag (re_config parameters) o = ResetTurn e e.core parameters o
+HandledTurn e tag (abort reflected causes) o = o ≡ abort_outcome e causes e.core
+HandledTurn e tag (shutdown cumulative_tsn) o = ShutdownTurn e e.core cumulative_tsn o
+HandledTurn e tag shutdown_ack o = o ≡ shutdown_ack_outcome e e.core tag
+HandledTurn e tag (shutdown_complete reflected) o = o ≡ shutdown_complete_outcome e e.core
+HandledTurn e tag (plain chunk) o = PlainTurn e chunk o
+
+-- by whether it comes early
+abbrev pub ContentTurnBy : Bool → Endpoint → ℕ → Content → Outcome → Type 0
+ContentTurnBy true e tag content o = o ≡ still e
+ContentTurnBy false e tag content o = HandledTurn e tag content o
+
 -- What a chunk does.
 abbrev pub ContentTurn : Endpoint → ℕ → Content → Outcome → Type 0
-ContentTurn e tag (init theirs) o = InitTurn e theirs o
-ContentTurn e tag (init_ack theirs cookie) o = InitAckTurn e theirs cookie o
-ContentTurn e tag (cookie_echo cookie) o = CookieEchoTurn e tag cookie o
-ContentTurn e tag cookie_ack o = CookieAckTurn e o
-ContentTurn e tag (re_config parameters) o = ResetTurn e e.core parameters o
-ContentTurn e tag (abort reflected causes) o = o ≡ abort_outcome e causes e.core
-ContentTurn e tag (shutdown cumulative_tsn) o = ShutdownTurn e e.core cumulative_tsn o
-ContentTurn e tag shutdown_ack o = o ≡ shutdown_ack_outcome e e.core tag
-ContentTurn e tag (shutdown_complete reflected) o = o ≡ shutdown_complete_outcome e e.core
-ContentTurn e tag (plain chunk) o = PlainTurn e chunk o
+ContentTurn e tag content o = ContentTurnBy (comes_early e content) e tag content o
 
 -- What the user and the timers bring.
 abbrev pub ActTurn : Endpoint → Act → Outcome → Type 0

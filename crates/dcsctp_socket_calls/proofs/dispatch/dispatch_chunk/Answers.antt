@@ -20,7 +20,7 @@ use Rattle.dcsctp_core_data.specs.Shutdown.{ShutdownAt}
 use Rattle.dcsctp_core_resets.specs.Requests.{reset_parameters}
 use Rattle.dcsctp_core_resets.specs.Resets.{ReConfigAt}
 use Rattle.dcsctp_socket_calls.proofs.DataTurns.{data_goes, forward_goes, sack_goes, shutdown_goes, cookie_ack_goes, reset_goes}
-use Rattle.dcsctp_socket_calls.proofs.DispatchLemmas.{none_for, unknown_is, tries_worked, tries_cut, heartbeat_follows, heartbeat_ack_follows, heartbeat_is, heartbeat_ack_is, error_is, plain_at, takes_worked, takes_cut}
+use Rattle.dcsctp_socket_calls.proofs.DispatchLemmas.{none_for, unknown_is, tries_worked, tries_cut, heartbeat_follows, heartbeat_ack_follows, heartbeat_is, heartbeat_ack_is, error_is, plain_at, takes_worked, takes_cut, late_at, late_for}
 use Rattle.dcsctp_socket_calls.proofs.dispatch.dispatch_chunk.Goals as goal
 
 pub returns-in_ok-handle_init-in-Init : goal.returns-in_ok-handle_init-in-Init
@@ -47,7 +47,7 @@ returns-in_ok-handle_heartbeat_request-in-HeartbeatRequest g c =
     let parameters = map parameter_content c.in-HeartbeatRequest.request.parameters.items in
     rw c.in-HeartbeatRequest.is
     (tries_worked g.R.Rng.stream old c.handle_heartbeat_request.new.context c.args.header_tag _ (heartbeat_turn parameters (view_of old))
-    (heartbeat_is old c.args.header_tag parameters (none_for (core_of old.state) _ _ c.in-HeartbeatRequest.is c.requires)) (heartbeat_follows (endpoint_of old) (core_of old.state) parameters) c.in_ok-handle_heartbeat_request-in-HeartbeatRequest.ensures)
+    (heartbeat_is old c.args.header_tag parameters (none_for (core_of old.state) _ _ c.in-HeartbeatRequest.is c.requires.unbroken)) (heartbeat_follows (endpoint_of old) (core_of old.state) parameters) c.in_ok-handle_heartbeat_request-in-HeartbeatRequest.ensures)
 
 pub returns-in_err-handle_heartbeat_request-in-HeartbeatRequest : goal.returns-in_err-handle_heartbeat_request-in-HeartbeatRequest
 returns-in_err-handle_heartbeat_request-in-HeartbeatRequest g c =
@@ -56,7 +56,7 @@ returns-in_err-handle_heartbeat_request-in-HeartbeatRequest g c =
     rw c.in-HeartbeatRequest.is
     (rw (err_from_is_err_and c.from_residual-in_err-handle_heartbeat_request-in-HeartbeatRequest.result c.from_residual-in_err-handle_heartbeat_request-in-HeartbeatRequest.ensures.1).1
     (tries_cut old (view_of c.handle_heartbeat_request.new.context) c.args.header_tag _ (heartbeat_turn parameters (view_of old))
-    (heartbeat_is old c.args.header_tag parameters (none_for (core_of old.state) _ _ c.in-HeartbeatRequest.is c.requires)) c.in_err-handle_heartbeat_request-in-HeartbeatRequest.ensures))
+    (heartbeat_is old c.args.header_tag parameters (none_for (core_of old.state) _ _ c.in-HeartbeatRequest.is c.requires.unbroken)) c.in_err-handle_heartbeat_request-in-HeartbeatRequest.ensures))
 
 pub returns-in_ok-handle_heartbeat_ack-in-HeartbeatAck : goal.returns-in_ok-handle_heartbeat_ack-in-HeartbeatAck
 returns-in_ok-handle_heartbeat_ack-in-HeartbeatAck g c =
@@ -64,7 +64,7 @@ returns-in_ok-handle_heartbeat_ack-in-HeartbeatAck g c =
     let parameters = map parameter_content c.in-HeartbeatAck.ack.parameters.items in
     rw c.in-HeartbeatAck.is
     (tries_worked g.R.Rng.stream old c.handle_heartbeat_ack.new.context c.args.header_tag _ (heartbeat_ack_turn parameters (view_of old))
-    (heartbeat_ack_is old c.args.header_tag parameters (none_for (core_of old.state) _ _ c.in-HeartbeatAck.is c.requires)) (heartbeat_ack_follows (endpoint_of old) (counter_of (info_in parameters))) c.in_ok-handle_heartbeat_ack-in-HeartbeatAck.ensures)
+    (heartbeat_ack_is old c.args.header_tag parameters (none_for (core_of old.state) _ _ c.in-HeartbeatAck.is c.requires.unbroken)) (heartbeat_ack_follows (endpoint_of old) (counter_of (info_in parameters))) c.in_ok-handle_heartbeat_ack-in-HeartbeatAck.ensures)
 
 pub returns-in_err-handle_heartbeat_ack-in-HeartbeatAck : goal.returns-in_err-handle_heartbeat_ack-in-HeartbeatAck
 returns-in_err-handle_heartbeat_ack-in-HeartbeatAck g c =
@@ -73,7 +73,7 @@ returns-in_err-handle_heartbeat_ack-in-HeartbeatAck g c =
     rw c.in-HeartbeatAck.is
     (rw (err_from_is_err_and c.from_residual-in_err-handle_heartbeat_ack-in-HeartbeatAck.result c.from_residual-in_err-handle_heartbeat_ack-in-HeartbeatAck.ensures.1).1
     (tries_cut old (view_of c.handle_heartbeat_ack.new.context) c.args.header_tag _ (heartbeat_ack_turn parameters (view_of old))
-    (heartbeat_ack_is old c.args.header_tag parameters (none_for (core_of old.state) _ _ c.in-HeartbeatAck.is c.requires)) c.in_err-handle_heartbeat_ack-in-HeartbeatAck.ensures))
+    (heartbeat_ack_is old c.args.header_tag parameters (none_for (core_of old.state) _ _ c.in-HeartbeatAck.is c.requires.unbroken)) c.in_err-handle_heartbeat_ack-in-HeartbeatAck.ensures))
 
 pub returns-in_ok-handle_shutdown-in-Shutdown : goal.returns-in_ok-handle_shutdown-in-Shutdown
 returns-in_ok-handle_shutdown-in-Shutdown g c =
@@ -103,7 +103,7 @@ returns-in-Error g c =
     let causes = map cause_content c.in-Error.error.error_causes.items in
     rw c.in-Error.is
     (works_whole g.R.Rng.stream c.args.header_tag _ (error_turn causes) old c.handle_error.result c.handle_error.new.context
-    (error_is old c.args.header_tag causes (none_for (core_of old.state) _ _ c.in-Error.is c.requires)) c.handle_error.ensures)
+    (error_is old c.args.header_tag causes (none_for (core_of old.state) _ _ c.in-Error.is c.requires.unbroken)) c.handle_error.ensures)
 
 pub returns-in-ShutdownComplete : goal.returns-in-ShutdownComplete
 returns-in-ShutdownComplete g c =
@@ -116,7 +116,7 @@ returns-in_ok-handle_re_config-in-ReConfig g c =
     let old = view_of c.args.context.now in
     let parameters = reset_parameters c.in-ReConfig.re_config.parameters.items in
     rw c.in-ReConfig.is
-    (takes_worked g.R.Rng.stream old (view_of c.handle_re_config.new.context) c.args.header_tag (re_config parameters) (ReConfigAt parameters) (λ o turn. turn)
+    (takes_worked g.R.Rng.stream old (view_of c.handle_re_config.new.context) c.args.header_tag (re_config parameters) (ReConfigAt parameters) (λ o turn. late_at old.endpoint c.args.header_tag (re_config parameters) o (late_for old.endpoint _ _ c.in-ReConfig.is c.requires.late) turn)
     (λ o turn. reset_goes old.endpoint parameters o turn) c.in_ok-handle_re_config-in-ReConfig.ensures)
 
 pub returns-in_err-handle_re_config-in-ReConfig : goal.returns-in_err-handle_re_config-in-ReConfig
@@ -124,7 +124,7 @@ returns-in_err-handle_re_config-in-ReConfig g c =
     let parameters = reset_parameters c.in-ReConfig.re_config.parameters.items in
     rw c.in-ReConfig.is
     (rw (err_from_is_err_and c.from_residual-in_err-handle_re_config-in-ReConfig.result c.from_residual-in_err-handle_re_config-in-ReConfig.ensures.1).1
-    (takes_cut (view_of c.args.context.now) c.args.header_tag (re_config parameters) (ReConfigAt parameters) _ (λ o turn. turn) c.in_err-handle_re_config-in-ReConfig.ensures))
+    (takes_cut (view_of c.args.context.now) c.args.header_tag (re_config parameters) (ReConfigAt parameters) _ (λ o turn. late_at (endpoint_of c.args.context.now) c.args.header_tag (re_config parameters) o (late_for (endpoint_of c.args.context.now) _ _ c.in-ReConfig.is c.requires.late) turn) c.in_err-handle_re_config-in-ReConfig.ensures))
 
 pub returns-in-Unknown : goal.returns-in-Unknown
 returns-in-Unknown g c =
@@ -133,7 +133,7 @@ returns-in-Unknown g c =
     rw c.in-Unknown.is
     (works_chunk g.R.Rng.stream c.args.header_tag (plain (machine.unknown unknown.chunk_type unknown.flags unknown.value.now)) (unknown_turn unknown.chunk_type unknown.flags unknown.value.now) old
     c.handle_unknown.result c.handle_unknown.new.context
-    (unknown_is old c.args.header_tag unknown.chunk_type unknown.flags unknown.value.now (none_for (core_of old.state) _ _ c.in-Unknown.is c.requires)) c.handle_unknown.ensures)
+    (unknown_is old c.args.header_tag unknown.chunk_type unknown.flags unknown.value.now (none_for (core_of old.state) _ _ c.in-Unknown.is c.requires.unbroken)) c.handle_unknown.ensures)
 
 -- ---- data
 
@@ -144,7 +144,7 @@ returns-in_ok-handle_data-in-Data g c =
     let d = data_content c.in-Data.data in
     rw c.in-Data.is
     (takes_worked g.R.Rng.stream (view_of old) (view_of new) c.args.header_tag (plain (unworked (data_chunk d))) (DataAt (data_arrival d))
-    (λ o turn. plain_at (endpoint_of old) (unworked (data_chunk d)) o (none_for (core_of old.state) _ _ c.in-Data.is c.requires) turn)
+    (λ o turn. plain_at (endpoint_of old) c.args.header_tag (unworked (data_chunk d)) o (late_for (endpoint_of old) _ _ c.in-Data.is c.requires.late) (none_for (core_of old.state) _ _ c.in-Data.is c.requires.unbroken) turn)
     (λ o turn. data_goes (endpoint_of old) (data_arrival d) o turn)
     (subst (λ (x : Arrival). TakesPossibleTurn g.R.Rng.stream (DataAt x) (view_of old) (view_of new)) c.of_data.ensures c.in_ok-handle_data-in-Data.ensures))
 
@@ -156,7 +156,7 @@ returns-in_err-handle_data-in-Data g c =
     rw c.in-Data.is
     (rw (err_from_is_err_and c.from_residual-in_err-handle_data-in-Data.result c.from_residual-in_err-handle_data-in-Data.ensures.1).1
     (takes_cut (view_of old) c.args.header_tag (plain (unworked (data_chunk d))) (DataAt (data_arrival d)) (view_of new).events
-    (λ o turn. plain_at (endpoint_of old) (unworked (data_chunk d)) o (none_for (core_of old.state) _ _ c.in-Data.is c.requires) turn)
+    (λ o turn. plain_at (endpoint_of old) c.args.header_tag (unworked (data_chunk d)) o (late_for (endpoint_of old) _ _ c.in-Data.is c.requires.late) (none_for (core_of old.state) _ _ c.in-Data.is c.requires.unbroken) turn)
     (subst (λ (x : Arrival). CutIn (DataAt x) (view_of old) (view_of new).events) c.of_data.ensures c.in_err-handle_data-in-Data.ensures)))
 
 pub returns-in_ok-handle_data-in-IData : goal.returns-in_ok-handle_data-in-IData
@@ -166,7 +166,7 @@ returns-in_ok-handle_data-in-IData g c =
     let d = i_data_content c.in-IData.data in
     rw c.in-IData.is
     (takes_worked g.R.Rng.stream (view_of old) (view_of new) c.args.header_tag (plain (unworked (i_data_chunk d))) (DataAt (i_data_arrival d))
-    (λ o turn. plain_at (endpoint_of old) (unworked (i_data_chunk d)) o (none_for (core_of old.state) _ _ c.in-IData.is c.requires) turn)
+    (λ o turn. plain_at (endpoint_of old) c.args.header_tag (unworked (i_data_chunk d)) o (late_for (endpoint_of old) _ _ c.in-IData.is c.requires.late) (none_for (core_of old.state) _ _ c.in-IData.is c.requires.unbroken) turn)
     (λ o turn. data_goes (endpoint_of old) (i_data_arrival d) o turn)
     (subst (λ (x : Arrival). TakesPossibleTurn g.R.Rng.stream (DataAt x) (view_of old) (view_of new)) c.of_i_data.ensures c.in_ok-handle_data-in-IData.ensures))
 
@@ -178,7 +178,7 @@ returns-in_err-handle_data-in-IData g c =
     rw c.in-IData.is
     (rw (err_from_is_err_and c.from_residual-in_err-handle_data-in-IData.result c.from_residual-in_err-handle_data-in-IData.ensures.1).1
     (takes_cut (view_of old) c.args.header_tag (plain (unworked (i_data_chunk d))) (DataAt (i_data_arrival d)) (view_of new).events
-    (λ o turn. plain_at (endpoint_of old) (unworked (i_data_chunk d)) o (none_for (core_of old.state) _ _ c.in-IData.is c.requires) turn)
+    (λ o turn. plain_at (endpoint_of old) c.args.header_tag (unworked (i_data_chunk d)) o (late_for (endpoint_of old) _ _ c.in-IData.is c.requires.late) (none_for (core_of old.state) _ _ c.in-IData.is c.requires.unbroken) turn)
     (subst (λ (x : Arrival). CutIn (DataAt x) (view_of old) (view_of new).events) c.of_i_data.ensures c.in_err-handle_data-in-IData.ensures)))
 
 pub returns-in_ok-handle_sack-in-Sack : goal.returns-in_ok-handle_sack-in-Sack
@@ -187,7 +187,7 @@ returns-in_ok-handle_sack-in-Sack g c =
     let d = sack_content c.in-Sack.sack in
     rw c.in-Sack.is
     (takes_worked g.R.Rng.stream (view_of old) (view_of c.handle_sack.new.context) c.args.header_tag (plain (unworked (sack_chunk d))) (SackAt d)
-    (λ o turn. plain_at (endpoint_of old) (unworked (sack_chunk d)) o (none_for (core_of old.state) _ _ c.in-Sack.is c.requires) turn)
+    (λ o turn. plain_at (endpoint_of old) c.args.header_tag (unworked (sack_chunk d)) o (late_for (endpoint_of old) _ _ c.in-Sack.is c.requires.late) (none_for (core_of old.state) _ _ c.in-Sack.is c.requires.unbroken) turn)
     (λ o turn. sack_goes (endpoint_of old) (endpoint_of old).queues.transfer d o turn) c.in_ok-handle_sack-in-Sack.ensures)
 
 pub returns-in_err-handle_sack-in-Sack : goal.returns-in_err-handle_sack-in-Sack
@@ -197,7 +197,7 @@ returns-in_err-handle_sack-in-Sack g c =
     rw c.in-Sack.is
     (rw (err_from_is_err_and c.from_residual-in_err-handle_sack-in-Sack.result c.from_residual-in_err-handle_sack-in-Sack.ensures.1).1
     (takes_cut (view_of old) c.args.header_tag (plain (unworked (sack_chunk d))) (SackAt d) (view_of c.handle_sack.new.context).events
-    (λ o turn. plain_at (endpoint_of old) (unworked (sack_chunk d)) o (none_for (core_of old.state) _ _ c.in-Sack.is c.requires) turn)
+    (λ o turn. plain_at (endpoint_of old) c.args.header_tag (unworked (sack_chunk d)) o (late_for (endpoint_of old) _ _ c.in-Sack.is c.requires.late) (none_for (core_of old.state) _ _ c.in-Sack.is c.requires.unbroken) turn)
     c.in_err-handle_sack-in-Sack.ensures))
 
 pub returns-in_ok-handle_forward_tsn-in-ForwardTsn : goal.returns-in_ok-handle_forward_tsn-in-ForwardTsn
@@ -206,7 +206,7 @@ returns-in_ok-handle_forward_tsn-in-ForwardTsn g c =
     let d = c.in-ForwardTsn.forward_tsn in
     rw c.in-ForwardTsn.is
     (takes_worked g.R.Rng.stream (view_of old) (view_of c.handle_forward_tsn.new.context) c.args.header_tag (plain (unworked (forward_tsn_chunk d.new_cumulative_tsn d.skipped_streams.now))) (ForwardAt d.new_cumulative_tsn (skipped_in d.skipped_streams.now))
-    (λ o turn. plain_at (endpoint_of old) (unworked (forward_tsn_chunk d.new_cumulative_tsn d.skipped_streams.now)) o (none_for (core_of old.state) _ _ c.in-ForwardTsn.is c.requires) turn)
+    (λ o turn. plain_at (endpoint_of old) c.args.header_tag (unworked (forward_tsn_chunk d.new_cumulative_tsn d.skipped_streams.now)) o (late_for (endpoint_of old) _ _ c.in-ForwardTsn.is c.requires.late) (none_for (core_of old.state) _ _ c.in-ForwardTsn.is c.requires.unbroken) turn)
     (λ o turn. forward_goes (endpoint_of old) (endpoint_of old).queues.transfer d.new_cumulative_tsn (skipped_in d.skipped_streams.now) o turn) c.in_ok-handle_forward_tsn-in-ForwardTsn.ensures)
 
 pub returns-in_err-handle_forward_tsn-in-ForwardTsn : goal.returns-in_err-handle_forward_tsn-in-ForwardTsn
@@ -216,7 +216,7 @@ returns-in_err-handle_forward_tsn-in-ForwardTsn g c =
     rw c.in-ForwardTsn.is
     (rw (err_from_is_err_and c.from_residual-in_err-handle_forward_tsn-in-ForwardTsn.result c.from_residual-in_err-handle_forward_tsn-in-ForwardTsn.ensures.1).1
     (takes_cut (view_of old) c.args.header_tag (plain (unworked (forward_tsn_chunk d.new_cumulative_tsn d.skipped_streams.now))) (ForwardAt d.new_cumulative_tsn (skipped_in d.skipped_streams.now)) (view_of c.handle_forward_tsn.new.context).events
-    (λ o turn. plain_at (endpoint_of old) (unworked (forward_tsn_chunk d.new_cumulative_tsn d.skipped_streams.now)) o (none_for (core_of old.state) _ _ c.in-ForwardTsn.is c.requires) turn)
+    (λ o turn. plain_at (endpoint_of old) c.args.header_tag (unworked (forward_tsn_chunk d.new_cumulative_tsn d.skipped_streams.now)) o (late_for (endpoint_of old) _ _ c.in-ForwardTsn.is c.requires.late) (none_for (core_of old.state) _ _ c.in-ForwardTsn.is c.requires.unbroken) turn)
     c.in_err-handle_forward_tsn-in-ForwardTsn.ensures))
 
 pub returns-in_ok-handle_i_forward_tsn-in-IForwardTsn : goal.returns-in_ok-handle_i_forward_tsn-in-IForwardTsn
@@ -225,7 +225,7 @@ returns-in_ok-handle_i_forward_tsn-in-IForwardTsn g c =
     let d = c.in-IForwardTsn.forward_tsn in
     rw c.in-IForwardTsn.is
     (takes_worked g.R.Rng.stream (view_of old) (view_of c.handle_i_forward_tsn.new.context) c.args.header_tag (plain (unworked (i_forward_tsn_chunk d.new_cumulative_tsn d.skipped_streams.now))) (ForwardAt d.new_cumulative_tsn (messages_skipped_in d.skipped_streams.now))
-    (λ o turn. plain_at (endpoint_of old) (unworked (i_forward_tsn_chunk d.new_cumulative_tsn d.skipped_streams.now)) o (none_for (core_of old.state) _ _ c.in-IForwardTsn.is c.requires) turn)
+    (λ o turn. plain_at (endpoint_of old) c.args.header_tag (unworked (i_forward_tsn_chunk d.new_cumulative_tsn d.skipped_streams.now)) o (late_for (endpoint_of old) _ _ c.in-IForwardTsn.is c.requires.late) (none_for (core_of old.state) _ _ c.in-IForwardTsn.is c.requires.unbroken) turn)
     (λ o turn. forward_goes (endpoint_of old) (endpoint_of old).queues.transfer d.new_cumulative_tsn (messages_skipped_in d.skipped_streams.now) o turn) c.in_ok-handle_i_forward_tsn-in-IForwardTsn.ensures)
 
 pub returns-in_err-handle_i_forward_tsn-in-IForwardTsn : goal.returns-in_err-handle_i_forward_tsn-in-IForwardTsn
@@ -235,7 +235,7 @@ returns-in_err-handle_i_forward_tsn-in-IForwardTsn g c =
     rw c.in-IForwardTsn.is
     (rw (err_from_is_err_and c.from_residual-in_err-handle_i_forward_tsn-in-IForwardTsn.result c.from_residual-in_err-handle_i_forward_tsn-in-IForwardTsn.ensures.1).1
     (takes_cut (view_of old) c.args.header_tag (plain (unworked (i_forward_tsn_chunk d.new_cumulative_tsn d.skipped_streams.now))) (ForwardAt d.new_cumulative_tsn (messages_skipped_in d.skipped_streams.now)) (view_of c.handle_i_forward_tsn.new.context).events
-    (λ o turn. plain_at (endpoint_of old) (unworked (i_forward_tsn_chunk d.new_cumulative_tsn d.skipped_streams.now)) o (none_for (core_of old.state) _ _ c.in-IForwardTsn.is c.requires) turn)
+    (λ o turn. plain_at (endpoint_of old) c.args.header_tag (unworked (i_forward_tsn_chunk d.new_cumulative_tsn d.skipped_streams.now)) o (late_for (endpoint_of old) _ _ c.in-IForwardTsn.is c.requires.late) (none_for (core_of old.state) _ _ c.in-IForwardTsn.is c.requires.unbroken) turn)
     c.in_err-handle_i_forward_tsn-in-IForwardTsn.ensures))
 
 -- ---- the handshake
