@@ -1,8 +1,7 @@
 -- A flush for which no packet is made: there is nothing to put into one.
 use Rattle.dcsctp_transfer.specs.spec.queues.Filling.{none as no_step}
-use Rattle.dcsctp_transfer.proofs.spec_lemmas.MarkedItemLemmas.{fewer_marked}
 use Rattle.std.proofs.lemmas.Bool.Decides.{nat_tests}
-use Rattle.std.proofs.Common.{◌≡◌, ◌&&◌, ◌||◌, ℕ, zero, suc, Bool, true, false, nat_lt, Option, None, Some, [], refl, sym, ap, subst, arith, inl, ◌+◌}
+use Rattle.std.proofs.Common.{◌≡◌, ◌&&◌, ◌||◌, ℕ, zero, suc, Bool, true, false, nat_lt, Option, None, Some, [], refl, sym, ap, subst, arith, inl}
 use Rattle.rand_core.specs.Stream.{Stream}
 use Rattle.dcsctp_transfer.specs.spec.queues.OwnResets.{ready_streams}
 use Rattle.dcsctp_transfer.specs.types.declared.association.Held.{Held}
@@ -24,25 +23,18 @@ use Rattle.dcsctp_core.proofs.Moving.{moves_still}
 use Rattle.dcsctp_core.proofs.FillLemmas.{none_begun}
 use Rattle.dcsctp_core.proofs.FlushLemmas.{flushes_none, flushes_last}
 use Rattle.dcsctp_core.proofs.LoopLemmas.{held_by_tcb, flush_no_peer}
-use Rattle.dcsctp_transfer.specs.spec.queues.Abandoning.{NoneDue}
-use Rattle.dcsctp_transfer.specs.types.declared.progress.Change.TheVariants.{Abandon}
 use Rattle.dcsctp_transfer.specs.spec.queues.Filling.{Stage}
-use Rattle.dcsctp_transfer.proofs.spec_lemmas.DueItemLemmas.{due_marked}
+use Rattle.dcsctp_transfer.proofs.spec_lemmas.DueItemLemmas.{none_due}
 
 -- ---- there is nothing to give
 
--- No item waits to be sent again, so none is due to be abandoned.
+-- No item waits to be sent again.
 unmarked : (queue : SendQueueState) (state : RetransmissionState) → may_give queue state ≡ false → marked_items state.outstanding.items ≡ 0
 unmarked queue state is = go (marked_items state.outstanding.items) (has_queued_data queue && can_send state) is
   where
     go : (n : ℕ) (b : Bool) → (nat_lt 0 n || b) ≡ false → n ≡ 0
     go zero b is = refl
     go (suc n) b is = absurd (grind (arith, nat_tests))
-
-none_due : (now : ℕ) (state : RetransmissionState) → marked_items state.outstanding.items ≡ 0 → NoneDue now state
-none_due now state none place due =
-    let less = fewer_marked Abandon (λ progress. refl) place (place + 1) place state.outstanding.items due.item (omega arith) (omega arith) due.at (due_marked now state.partial_reliability due.item due.due) in
-    omega (arith, less, none)
 
 -- So no message is abandoned, and no FORWARD-TSN goes.
 no_forward : (b : Bool) (now : ℕ) (queue : SendQueueState) (transfer : Transfer) (room : ℕ) → (b ≡ true → is_first_abandoned transfer.retransmission.outstanding.items ≡ false) → may_give queue transfer.retransmission ≡ false

@@ -1,12 +1,15 @@
 -- Which item is due to be abandoned.
-use Rattle.std.proofs.Common.{◌≡◌, ◌⊎◌, inl, inr, ℕ, zero, suc, ◌<◌, ◌&&◌, Bool, true, false, Some, List, [], ◌∷◌, refl, ap, sym, ◌∙◌, arith}
+use Rattle.std.proofs.Common.{◌≡◌, ◌⊎◌, inl, inr, ℕ, zero, suc, ◌<◌, ◌&&◌, Bool, true, false, Some, List, [], ◌∷◌, refl, ap, sym, ◌∙◌, arith, ◌+◌}
 use Rattle.std.specs.List.{slice_get}
 use Rattle.dcsctp_spec.specs.types.declared.progress.ItemState.{ItemState}
 use Rattle.dcsctp_spec.specs.types.declared.progress.ItemState.TheVariants.{InFlight, Marked, Acknowledged, Abandoned}
-use Rattle.dcsctp_spec.specs.queues.Abandoning.{NoneAwaitedBefore}
+use Rattle.dcsctp_spec.specs.queues.Abandoning.{NoneAwaitedBefore, NoneDue}
 use Rattle.dcsctp_spec.specs.queues.NextItem.{is_abandonment_due}
-use Rattle.dcsctp_spec.specs.queues.Items.{Item}
+use Rattle.dcsctp_spec.specs.queues.Items.{Item, marked_items}
 use Rattle.dcsctp_spec.specs.types.queues.Progress.{is_marked, is_unacknowledged}
+use Rattle.dcsctp_spec.specs.queues.Retransmission.{RetransmissionState}
+use Rattle.dcsctp_spec.specs.types.declared.progress.Change.TheVariants.{Abandon}
+use Rattle.dcsctp_spec_lemmas.proofs.MarkedItemLemmas.{fewer_marked}
 
 -- The first item that is awaited is due to be abandoned.
 pub record FirstDue (now : ℕ) (negotiated : Bool) (items : List Item) : Type 0 where
@@ -64,3 +67,9 @@ due_or_not now negotiated (x ∷ xs) = go (due_or_not now negotiated xs) (is_aba
     go later false is true waits = inr (none_due_before now negotiated x xs is waits)
     go (inl later) false is false gone = inl (due_behind now negotiated x xs gone later)
     go (inr none_later) false is false gone = inr (none_due_behind now negotiated x xs is none_later)
+
+-- No item waits to be sent again, so none is due.
+pub none_due : (now : ℕ) (state : RetransmissionState) → marked_items state.outstanding.items ≡ 0 → NoneDue now state
+none_due now state none place due =
+    let less = fewer_marked Abandon (λ progress. refl) place (place + 1) place state.outstanding.items due.item (omega arith) (omega arith) due.at (due_marked now state.partial_reliability due.item due.due) in
+    omega (arith, less, none)

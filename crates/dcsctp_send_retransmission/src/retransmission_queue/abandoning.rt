@@ -116,7 +116,8 @@ impl RetransmissionQueue {
         Ok(self.is_first_abandoned())
     }
 
-    // Abandons what is due, from the first item on up to one that is still awaited.
+    // Abandons what is due, from the first item on up to one that is still awaited. Only what waits to be sent again
+    // may be due.
     fn give_up_first(
         &mut self,
         events: &mut Events,
@@ -126,6 +127,9 @@ impl RetransmissionQueue {
         ensures { GivesUpDue now (stage self.old queue.old events.old [] 0)
             (stage self.new queue.new events.new [] 0) result }
     {
+        if self.outstanding.marked_items() == 0 {
+            return Ok(());
+        }
         for place in 0..self.outstanding.len() {
             self.give_up_if_due(events, queue, now, place)?;
             if self.is_awaited(place) {

@@ -6,6 +6,16 @@ use Rattle.dcsctp_api.specs.spec.queues.NextItem.{is_abandonment_due}
 use Rattle.dcsctp_send_retransmission.proofs.StatesLemmas.{found}
 use Rattle.dcsctp_send_retransmission.proofs.GivingUpLemmas.{if_grows, scans_none, scans_at, scans_stop, scans_on, scanned_to}
 use Rattle.dcsctp_send_retransmission.proofs.retransmission_queue.RetransmissionQueue.give_up_first.Goals as goal
+use Rattle.dcsctp_api.specs.spec.queues.Items.{marked_items}
+use Rattle.dcsctp_api.specs.spec.queues.Filling.{none}
+use Rattle.dcsctp_send_retransmission.proofs.spec_lemmas.DueItemLemmas.{none_due}
+
+pub returns-then-marked_items-eq0 : goal.returns-then-marked_items-eq0
+returns-then-marked_items-eq0 c = (
+  none,
+  none_due c.args.now c.args.self.now
+      (sym (ap (λ (q : RetransmissionState). marked_items q.outstanding.items) c.self.view_is) ∙ (sym c.marked_items.ensures ∙ c.if-marked_items-eq0.true)),
+)
 
 pub loop-place-init : goal.loop-place-init
 loop-place-init c = scans_none c.args.now (stage c.args.self.now c.args.queue.now c.args.events.now [] 0)
