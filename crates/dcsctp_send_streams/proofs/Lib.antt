@@ -1,3 +1,4 @@
+pub mod BoxLemmas
 pub mod BytesLemmas
 pub mod CountLemmas
 pub mod HandedOutLemmas

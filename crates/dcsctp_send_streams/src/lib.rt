@@ -6,6 +6,7 @@ mod data;
 mod message;
 mod paused;
 mod stream;
+mod stream_list;
 mod streams;
 mod turns;
 

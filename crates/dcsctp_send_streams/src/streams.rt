@@ -5,6 +5,7 @@ mod resetting;
 use crate::message::QueuedMessage;
 use crate::paused::PausedIds;
 use crate::stream::OutgoingStream;
+use crate::stream_list::StreamList;
 use crate::turns::move_turn;
 use dcsctp_api::types::{HandoverOutgoingStream, Pause, Turn, UnderWay};
 use dcsctp_api::{SocketTime, StreamId};
@@ -15,7 +16,7 @@ use std::marker::Model;
 /// All streams that were used, in ascending order, with the turns of those that may begin a message.
 #[derive(Drop)]
 pub struct Streams {
-    items: Vec<OutgoingStream>,
+    items: StreamList,
 
     // In order, the last turn first. There is room for one of each stream.
     turns: VecDeque<Turn>,
@@ -32,9 +33,9 @@ impl Model for Streams {
 
     ghost Value = { List Stream };
 
-    ghost view = { λ streams. streams.items.items };
+    ghost view = { λ streams. streams.items };
 
-    ghost invariant = { λ streams. AreStreamsKept streams.items.items streams.turns.items (deque_capacity streams.turns) streams.paused };
+    ghost invariant = { λ streams. AreStreamsKept streams.items streams.turns.items (deque_capacity streams.turns) streams.paused };
 }
 
 impl Streams {
@@ -52,7 +53,7 @@ impl Streams {
         ensures { result ≡ [] }
     {
         Streams {
-            items: Vec::new(alloc),
+            items: StreamList::new(alloc),
             turns: VecDeque::new(alloc),
             paused: PausedIds::new(alloc),
         }
@@ -76,13 +77,13 @@ impl Streams {
         let mut high = self.items.len();
         'halving: while low < high {
             let middle = low + (high - low) / 2;
-            if self.items[middle].id().0 < id.0 {
+            if self.items.at(middle).id().0 < id.0 {
                 low = middle + 1;
             } else {
                 high = middle;
             }
         }
-        if low < self.items.len() && self.items[low].id().0 == id.0 {
+        if low < self.items.len() && self.items.at(low).id().0 == id.0 {
             return Ok(low);
         }
         Err(low)
@@ -93,7 +94,7 @@ impl Streams {
         requires { place < length self.now }
         ensures { result.now ≡ stream_at self.now place }
     {
-        &self.items[place]
+        self.items.at(place)
     }
 
     /// Adds a stream that was never used, at the place that `find` returned. `Err`: an allocation failed, and
@@ -103,10 +104,9 @@ impl Streams {
         ensures ok { OnOk result (self.new ≡ insert self.old place stream) }
         ensures err { OnErr result (self.new ≡ self.old) }
     {
-        self.items.reserve(1)?;
-        let spare = self.items.capacity().saturating_sub(self.turns.len());
-        self.turns.reserve(spare)?;
-        self.paused.reserve(self.items.capacity())?;
+        let room = self.items.reserve()?;
+        self.turns.reserve(room.saturating_sub(self.turns.len()))?;
+        self.paused.reserve(room)?;
         let id = stream.id();
         let pause = stream.pause_state();
         let turn = stream.turn();
@@ -142,6 +142,7 @@ impl Streams {
             self.now }
     {
         self.items
+            .boxes()
             .iter()
             .any(|stream| stream.turn().is_some() && stream.has_live(now))
     }
@@ -153,6 +154,7 @@ impl Streams {
             self.now }
     {
         self.items
+            .boxes()
             .iter()
             .any(|stream| stream.is_paused() && stream.has_lasting())
     }
@@ -161,7 +163,10 @@ impl Streams {
     pub fn has_messages(&self) -> bool
         ensures { result ≡ list_any has_messages self.now }
     {
-        self.items.iter().any(|stream| stream.front().is_some())
+        self.items
+            .boxes()
+            .iter()
+            .any(|stream| stream.front().is_some())
     }
 
     /// Is any stream to be reset, or was its reset requested?
@@ -170,7 +175,7 @@ impl Streams {
         ensures ascending { IsAscending self.now }
         ensures bytes { AllByRecursion HaveBytes self.now }
     {
-        self.items.iter().any(|stream| stream.is_paused())
+        self.items.boxes().iter().any(|stream| stream.is_paused())
     }
 
     /// Adds a message after the others of the stream. `Err`: an allocation failed, and nothing has changed.
@@ -181,7 +186,7 @@ impl Streams {
             (with_message message (stream_at self.old place))) }
         ensures err { OnErr result (self.new ≡ self.old) }
     {
-        let stream = &mut self.items[place];
+        let stream = self.items.at_mut(place);
         let before = stream.turn();
         stream.push(message)?;
         let after = stream.turn();
@@ -203,7 +208,7 @@ impl Streams {
             (with_rest message rest (stream_at self.old place))) }
         ensures err { OnErr result (self.new ≡ self.old) }
     {
-        let stream = &mut self.items[place];
+        let stream = self.items.at_mut(place);
         let before = stream.turn();
         stream.push_rest(message, rest)?;
         let after = stream.turn();
@@ -219,7 +224,7 @@ impl Streams {
             ≡ slice_set self.old place (without_front (stream_at self.old place)) }
         ensures result { result ≡ front_of (stream_at self.old place).messages }
     {
-        let stream = &mut self.items[place];
+        let stream = self.items.at_mut(place);
         let before = stream.turn();
         let message = stream.pop();
         let after = stream.turn();
@@ -233,7 +238,7 @@ impl Streams {
         ensures { self.new
             ≡ slice_set self.old place (stream_restored named.now (stream_at self.old place)) }
     {
-        let stream = &mut self.items[place];
+        let stream = self.items.at_mut(place);
         let before = stream.turn();
         stream.restore(named);
         let after = stream.turn();
@@ -246,7 +251,7 @@ impl Streams {
         ensures { self.new
             ≡ slice_set self.old place (record (stream_at self.old place) { priority = priority }) }
     {
-        let stream = &mut self.items[place];
+        let stream = self.items.at_mut(place);
         let before = stream.turn();
         stream.set_priority(priority);
         let after = stream.turn();
@@ -260,7 +265,7 @@ impl Streams {
             ≡ slice_set self.old place
             (record (stream_at self.old place) { threshold = threshold }) }
     {
-        let stream = &mut self.items[place];
+        let stream = self.items.at_mut(place);
         stream.set_threshold(threshold);
     }
 
@@ -272,7 +277,7 @@ impl Streams {
             (record (stream_at self.old
             place) { amount = (stream_at self.old place).amount - size }) }
     {
-        let stream = &mut self.items[place];
+        let stream = self.items.at_mut(place);
         stream.reduce(size);
     }
 
@@ -282,7 +287,7 @@ impl Streams {
         ensures { self.new
             ≡ slice_set self.old place (amount_raised size (stream_at self.old place)) }
     {
-        let stream = &mut self.items[place];
+        let stream = self.items.at_mut(place);
         stream.raise(size);
     }
 
@@ -293,7 +298,7 @@ impl Streams {
             ≡ slice_set self.old place
             (stream_counted is_interleaved is_unordered (stream_at self.old place)) }
     {
-        let stream = &mut self.items[place];
+        let stream = self.items.at_mut(place);
         stream.count_begun(is_interleaved, is_unordered);
     }
 
@@ -302,7 +307,7 @@ impl Streams {
         requires { place < length self.old }
         ensures { self.new ≡ slice_set self.old place (served turn (stream_at self.old place)) }
     {
-        if self.items[place].last_turn() != turn {
+        if self.items.at(place).last_turn() != turn {
             self.give_turn(place, turn);
         }
     }
@@ -312,7 +317,7 @@ impl Streams {
         requires { place < length self.old }
         ensures { self.new ≡ slice_set self.old place (served turn (stream_at self.old place)) }
     {
-        let stream = &mut self.items[place];
+        let stream = self.items.at_mut(place);
         let before = stream.turn();
         stream.serve(turn);
         let after = stream.turn();

@@ -44,7 +44,7 @@ impl Streams {
         requires { place < length self.old }
         ensures { self.new ≡ slice_set self.old place (paused kept (stream_at self.old place)) }
     {
-        let stream = &mut self.items[place];
+        let stream = self.items.at_mut(place);
         let id = stream.id();
         let before = stream.turn();
         let pause_before = stream.pause_state();
@@ -60,7 +60,7 @@ impl Streams {
         requires { place < length self.old }
         ensures { self.new ≡ slice_set self.old place (handed_out (stream_at self.old place)) }
     {
-        let stream = &mut self.items[place];
+        let stream = self.items.at_mut(place);
         let id = stream.id();
         let before = stream.turn();
         let pause_before = stream.pause_state();
@@ -76,7 +76,7 @@ impl Streams {
         requires { place < length self.old }
         ensures { self.new ≡ slice_set self.old place (begun_anew (stream_at self.old place)) }
     {
-        let stream = &mut self.items[place];
+        let stream = self.items.at_mut(place);
         let id = stream.id();
         let before = stream.turn();
         let pause_before = stream.pause_state();
@@ -92,7 +92,7 @@ impl Streams {
         requires { place < length self.old }
         ensures { self.new ≡ slice_set self.old place (committed (stream_at self.old place)) }
     {
-        let stream = &mut self.items[place];
+        let stream = self.items.at_mut(place);
         let id = stream.id();
         let before = stream.turn();
         let pause_before = stream.pause_state();
@@ -108,7 +108,7 @@ impl Streams {
         requires { place < length self.old }
         ensures { self.new ≡ slice_set self.old place (rolled_back (stream_at self.old place)) }
     {
-        let stream = &mut self.items[place];
+        let stream = self.items.at_mut(place);
         let id = stream.id();
         let before = stream.turn();
         let pause_before = stream.pause_state();
@@ -124,7 +124,7 @@ impl Streams {
         requires { place < length self.old }
         ensures { self.new ≡ slice_set self.old place (emptied (stream_at self.old place)) }
     {
-        let stream = &mut self.items[place];
+        let stream = self.items.at_mut(place);
         let id = stream.id();
         let before = stream.turn();
         let pause_before = stream.pause_state();

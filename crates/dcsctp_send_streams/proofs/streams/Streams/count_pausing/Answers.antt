@@ -5,4 +5,4 @@ use Rattle.dcsctp_send_streams.proofs.streams.Streams.count_pausing.Goals as goa
 pub returns-clause-count : goal.returns-clause-count
 returns-clause-count c =
     rw (← c.self.view_is)
-    (c.len.ensures ∙ (c.self.inside.paused.pausing.ok.0 ∙ (ap length c.self.invariant.paused.pausing ∙ length-pausing c.self.inside.items.items)))
+    (c.len.ensures ∙ (c.self.inside.paused.pausing.ok.0 ∙ (ap length c.self.invariant.paused.pausing ∙ length-pausing c.self.inside.items)))

@@ -8,7 +8,7 @@ use Rattle.dcsctp_send_streams.proofs.streams.Streams.find.Goals.{else-low-len-v
 pub halving-preserved-then-id : goal.halving-preserved-then-id
 halving-preserved-then-id c =
     let ascending : IsAscending c.args.self.now = rw c.self.view_is at c.self.invariant.ranked.ascending in
-    let is = id_read c.args.self.now _ _ _ _ c.self.view_is (omega arith) c.index.ensures c.id.ensures in
+    let is = id_read c.args.self.now _ _ _ _ c.self.view_is (omega arith) c.at.ensures c.id.ensures in
     record {
       in_range = (omega arith, omega arith);
       below = lesser_through c.args.self.now _ c.args.id.0 ascending (omega arith) (rw is at c.if-id.true);
@@ -18,7 +18,7 @@ halving-preserved-then-id c =
 pub halving-preserved : goal.halving-preserved
 halving-preserved c =
     let ascending : IsAscending c.args.self.now = rw c.self.view_is at c.self.invariant.ranked.ascending in
-    let is = id_read c.args.self.now _ _ _ _ c.self.view_is (omega arith) c.index.ensures c.id.ensures in
+    let is = id_read c.args.self.now _ _ _ _ c.self.view_is (omega arith) c.at.ensures c.id.ensures in
     record {
       in_range = (omega arith, omega arith);
       below = c.halving.invariant.below;
@@ -28,10 +28,10 @@ halving-preserved c =
 pub returns-clause-found : goal.returns-clause-found
 returns-clause-found c =
     let ascending : IsAscending c.args.self.now = rw c.self.view_is at c.self.invariant.ranked.ascending in
-    let inside : length c.self.inside.items.items ≡ length c.args.self.now = rw c.self.view_is in
+    let inside : length c.self.inside.items ≡ length c.args.self.now = rw c.self.view_is in
     elim c.else-low-len.branch [
       | else-low-len-via-then-low-len+else-id-2 w ↦
-          let is = id_read c.args.self.now _ _ _ _ c.self.view_is (omega arith) w.index-then-low-len.ensures w.id-then-low-len.ensures in
+          let is = id_read c.args.self.now _ _ _ _ c.self.view_is (omega arith) w.at-then-low-len.ensures w.id-then-low-len.ensures in
           let on = c.halving.invariant.above c.halving.low (omega arith) (omega arith) in
           (omega arith, c.halving.invariant.below, above_from c.args.self.now c.halving.low c.args.id.0 ascending (omega (arith, is, on)))
       | else-low-len-via-else-low-len w ↦

@@ -5,7 +5,7 @@ use Rattle.dcsctp_send_streams.proofs.streams.Streams.pausing_at.Goals as goal
 
 pub index-requires : goal.index-requires
 index-requires c =
-    let lt : c.args.place < count_pausing c.self.inside.items.items = rw c.self.view_is c.requires in
-    let count = length-pausing c.self.inside.items.items in
+    let lt : c.args.place < count_pausing c.self.inside.items = rw c.self.view_is c.requires in
+    let count = length-pausing c.self.inside.items in
     let same = ap length c.self.invariant.paused.pausing in
     omega (arith, lt, count, same, c.self.inside.paused.pausing.ok.0)

@@ -6,11 +6,11 @@ use Rattle.dcsctp_send_streams.proofs.streams.Streams.raise.Goals as goal
 
 pub invariant_of-self : goal.invariant_of-self
 invariant_of-self c =
-    let lt : c.args.place < length c.self.inside.items.items = rw c.self.view_is c.requires in
+    let lt : c.args.place < length c.self.inside.items = rw c.self.view_is c.requires in
     record {
-      ranked = ranked_read_same _ _ _ c.args.place _ _ c.self.invariant.ranked lt c.index_mut-stream.ensures.value
+      ranked = ranked_read_same _ _ _ c.args.place _ _ c.self.invariant.ranked lt c.at_mut-stream.ensures.value
           (rw c.raise.ensures refl) (rw c.raise.ensures refl);
-      paused = paused_same _ _ c.args.place _ _ c.self.invariant.ranked.ascending c.self.invariant.paused lt c.index_mut-stream.ensures.value
+      paused = paused_same _ _ c.args.place _ _ c.self.invariant.ranked.ascending c.self.invariant.paused lt c.at_mut-stream.ensures.value
           (rw c.raise.ensures refl) (rw c.raise.ensures refl);
-      bytes = bytes_same _ c.args.place _ _ c.self.invariant.bytes lt c.index_mut-stream.ensures.value (rw c.raise.ensures refl);
+      bytes = bytes_same _ c.args.place _ _ c.self.invariant.bytes lt c.at_mut-stream.ensures.value (rw c.raise.ensures refl);
     }
