@@ -14,19 +14,15 @@ use Rattle.dcsctp_delivery_associations.proofs.AnsweringRests.{after_new, perfor
 
 -- ---- it begins where it is expected
 
--- The receiver had no association with this tag, and none with this tag of the peer.
+-- The receiver had no association with this tag of the peer.
 abbrev pub IsNewTag : List Effect → AssociationIdentity → Type 0
-IsNewTag their_past new = (old : AssociationIdentity) → HasEffect (holds old) their_past → (old.my.tag ≢ new.my.tag) × (old.peer.tag ≢ new.peer.tag)
-
--- Where the sender had this pair, it had it with this tag.
-abbrev pub IsMatched : List Effect → AssociationIdentity → Type 0
-IsMatched past new = (link : AssociationIdentity) → HasEffect (holds link) past → link.my.tag ≡ new.peer.tag → link.peer.tag ≡ new.my.tag
+IsNewTag their_past new = (old : AssociationIdentity) → HasEffect (holds old) their_past → old.peer.tag ≢ new.peer.tag
 
 module _ (requests : ℕ → Requests) (mine : Option AssociationIdentity) (past : List Effect) (theirs : Option AssociationIdentity) (happened their_past : List Effect) (waits waits' : Option DeferralModel) (new : AssociationIdentity)
-    (a : AnswersRequests requests mine past theirs their_past waits) (some : new.my.tag ≢ 0) (noted : HasEffect (holds new) happened) (only : (link : AssociationIdentity) → HasEffect (holds link) happened → link ≡ new)
+    (a : AnswersRequests requests mine past theirs their_past waits) (some : new.peer.tag ≢ 0) (noted : HasEffect (holds new) happened) (only : (link : AssociationIdentity) → HasEffect (holds link) happened → link ≡ new)
     (no_performs : (my : Pair) (number : ℕ) → WasPerformed my number happened → ⊥) (is_new : IsNewTag their_past new) where
   abbrev t : ℕ
-  t = new.my.tag
+  t = new.peer.tag
 
   abbrev later : List Effect
   later = after_effects happened their_past
@@ -38,13 +34,13 @@ module _ (requests : ℕ → Requests) (mine : Option AssociationIdentity) (past
   joined_when : (tag : ℕ) (my : Pair) → WasJoined later tag my → WasJoined their_past tag my ⊎ ((tag ≡ t) × (my ≡ new.peer))
   joined_when tag my was =
       elim (after_split (holds was.link) happened their_past was.held) [
-        | inl there ↦ inr (sym was.tag_is ∙ ap (λ (l : AssociationIdentity). l.my.tag) (only was.link there), sym was.my_is ∙ ap (λ (l : AssociationIdentity). l.peer) (only was.link there))
+        | inl there ↦ inr (sym was.tag_is ∙ ap (λ (l : AssociationIdentity). l.peer.tag) (only was.link there), sym was.my_is ∙ ap (λ (l : AssociationIdentity). l.peer) (only was.link there))
         | inr old ↦ inl (record { link = was.link; held = old; tag_is = was.tag_is; my_is = was.my_is; some = was.some })
       ]
 
   -- The new pair of the peer was of none before.
   other_pair : (tag : ℕ) (my : Pair) → WasJoined their_past tag my → my ≡ new.peer → ⊥
-  other_pair tag my was same = (is_new was.link was.held).1 (ap (λ (p : Pair). p.tag) (was.my_is ∙ same))
+  other_pair tag my was same = is_new was.link was.held (ap (λ (p : Pair). p.tag) (was.my_is ∙ same))
 
   none_performed_yet : (my : Pair) (number : ℕ) → my ≡ new.peer → WasPerformed my number their_past → ⊥
   none_performed_yet my number same has = let j = a.joined my number has in other_pair j.0 (requests j.0).my j.1 (j.2 ∙ same)
@@ -52,7 +48,7 @@ module _ (requests : ℕ → Requests) (mine : Option AssociationIdentity) (past
   new_joined : WasJoined later t new.peer
   new_joined = record { link = new; held = after_new (holds new) happened their_past noted; tag_is = refl; my_is = refl; some = some }
 
-  module _ (is_matched : IsMatched past new) (first_is : (requests t).first ≡ new.peer.first_tsn) (my_is : (requests t).my ≡ new.peer)
+  module _ (first_is : (requests t).first ≡ new.peer.first_tsn) (my_is : (requests t).my ≡ new.peer)
       (accept : number_to_accept later ≡ Some (request_number_at new.peer.first_tsn 0)) (perform : number_to_perform later ≡ None) (empty : waits' ≡ None) where
     performed_still : (tag : ℕ) → WasJoined later tag (requests tag).my → WerePerformed (requests tag) later
     performed_still tag was number has =
@@ -70,13 +66,11 @@ module _ (requests : ℕ → Requests) (mine : Option AssociationIdentity) (past
         go (inr here) (inl other) = other_pair two (requests two).my other (sym same ∙ here.1)
         go (inr here) (inr there) = ne (here.0 ∙ sym there.0)
 
-    mine_still : (link : AssociationIdentity) → mine ≡ Some link → (tag : ℕ) → link.peer.tag ≢ tag → WasJoined later tag (requests tag).my → link.my ≢ (requests tag).my
+    mine_still : (link : AssociationIdentity) → mine ≡ Some link → (tag : ℕ) → link.my.tag ≢ tag → WasJoined later tag (requests tag).my → link.my ≢ (requests tag).my
     mine_still link is tag ne was same =
         elim (joined_when tag (requests tag).my was) [
           | inl old ↦ a.mine_apart link is tag ne old same
-          | inr here ↦ (
-              (let held = (a.mine_held link is).0 in ne (sym held.tag_is ∙ is_matched held.link held.held (ap (λ (p : Pair). p.tag) (held.my_is ∙ same ∙ here.1)) ∙ sym here.0))
-              )
+          | inr here ↦ ne (ap (λ (p : Pair). p.tag) (same ∙ here.1) ∙ sym here.0)
         ]
 
     accept_first : (l : List BegunReset) → l ≡ [] → number_to_accept later ≡ Some (request_number_at (requests t).first (length l))
@@ -115,7 +109,7 @@ module _ (requests : ℕ → Requests) (mine : Option AssociationIdentity) (past
           mine_held = a.mine_held;
           mine_first = a.mine_first;
           theirs_held = λ there is. (
-              let same : new ≡ there = cc in subst (λ (l : AssociationIdentity). WasJoined later l.my.tag l.peer × ((requests l.my.tag).my ≡ l.peer)) same (new_joined, my_is)
+              let same : new ≡ there = cc in subst (λ (l : AssociationIdentity). WasJoined later l.peer.tag l.peer × ((requests l.peer.tag).my ≡ l.peer)) same (new_joined, my_is)
               );
-          stands = λ there is. (let same : new ≡ there = cc in subst (λ (l : AssociationIdentity). StandsSo (requests l.my.tag) later waits') same (stands_new (a.asked t some)));
+          stands = λ there is. (let same : new ≡ there = cc in subst (λ (l : AssociationIdentity). StandsSo (requests l.peer.tag) later waits') same (stands_new (a.asked t some)));
         }

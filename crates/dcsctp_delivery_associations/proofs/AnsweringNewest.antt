@@ -90,8 +90,8 @@ module _ (requests : Requests) (their_past : List Effect) (waits : Option Deferr
       ne_place here = ne (due.at ∙ ap (request_number_at requests.first) here ∙ sym (newest_number requests.first due.newest due.earlier all due.is numbers))
 
 pub due_there : (requests : ℕ → Requests) (mine : Option AssociationIdentity) (past : List Effect) (link : AssociationIdentity) (their_past : List Effect) (waits : Option DeferralModel) (begun : BegunReset)
-    → AnswersRequests requests mine past (Some link) their_past waits → IsInStep (requests link.my.tag) their_past waits → places.HasEntry begun (requests link.my.tag).asking.requests
-    → length (requests link.my.tag).asking.requests < 2 ^ 32 - 1 → (number_to_accept their_past ≡ Some begun.number) ⊎ (number_to_perform their_past ≡ Some begun.number)
-    → IsDueAt (requests link.my.tag) waits begun
+    → AnswersRequests requests mine past (Some link) their_past waits → IsInStep (requests link.peer.tag) their_past waits → places.HasEntry begun (requests link.peer.tag).asking.requests
+    → length (requests link.peer.tag).asking.requests < 2 ^ 32 - 1 → (number_to_accept their_past ≡ Some begun.number) ⊎ (number_to_perform their_past ≡ Some begun.number)
+    → IsDueAt (requests link.peer.tag) waits begun
 due_there requests mine past link their_past waits begun a step has few expected =
-    due_in_step (requests link.my.tag) their_past waits begun (numbers_of (requests link.my.tag) their_past (a.asked link.my.tag (a.theirs_held link refl).0.some)) has few step expected
+    due_in_step (requests link.peer.tag) their_past waits begun (numbers_of (requests link.peer.tag) their_past (a.asked link.peer.tag (a.theirs_held link refl).0.some)) has few step expected

@@ -12,13 +12,13 @@ use Rattle.dcsctp_delivery_directions.specs.Directions.{nothing_asked}
 use Rattle.dcsctp_delivery_associations.specs.Answered.{Requests, request_number_at, SenderHadPeer, WasJoined, AreAsked, WerePerformed, StandsSo, AnswersRequests}
 use Rattle.dcsctp_delivery_associations.proofs.Growing.{set_all}
 use Rattle.dcsctp_delivery_associations.proofs.AnsweringRests.{same_requests}
-use Rattle.dcsctp_delivery_associations.proofs.AnsweringBegins.{IsNewTag, IsMatched, begins_expected}
+use Rattle.dcsctp_delivery_associations.proofs.AnsweringBegins.{IsNewTag, begins_expected}
 
 -- ---- a tag that none had
 
 module _ (requests : ℕ → Requests) (mine : Option AssociationIdentity) (past : List Effect) (theirs : Option AssociationIdentity) (their_past : List Effect) (waits : Option DeferralModel) (t : ℕ) (fresh : Requests)
-    (a : AnswersRequests requests mine past theirs their_past waits) (none : fresh.asking ≡ nothing_asked) (not_mine : (link : AssociationIdentity) → mine ≡ Some link → link.peer.tag ≢ t)
-    (not_joined : (link : AssociationIdentity) → HasEffect (holds link) their_past → link.my.tag ≢ t) where
+    (a : AnswersRequests requests mine past theirs their_past waits) (none : fresh.asking ≡ nothing_asked) (not_mine : (link : AssociationIdentity) → mine ≡ Some link → link.my.tag ≢ t)
+    (not_joined : (link : AssociationIdentity) → HasEffect (holds link) their_past → link.peer.tag ≢ t) where
   abbrev all : ℕ → Requests
   all = set_at t fresh requests
 
@@ -35,7 +35,7 @@ module _ (requests : ℕ → Requests) (mine : Option AssociationIdentity) (past
       a.apart one two ne (subst (λ (r : Requests). WasJoined their_past one r.my) first joined) (subst (λ (r : Requests). WasJoined their_past two r.my) second was)
       (ap (λ (r : Requests). r.my) (sym first) ∙ same ∙ ap (λ (r : Requests). r.my) second)
 
-  mine_there : (link : AssociationIdentity) → mine ≡ Some link → (tag : ℕ) → link.peer.tag ≢ tag → WasJoined their_past tag (all tag).my → link.my ≢ (all tag).my
+  mine_there : (link : AssociationIdentity) → mine ≡ Some link → (tag : ℕ) → link.my.tag ≢ tag → WasJoined their_past tag (all tag).my → link.my ≢ (all tag).my
   mine_there link is tag ne was same =
       let there : all tag ≡ requests tag = other tag (of_joined tag (all tag).my was) in
       a.mine_apart link is tag ne (subst (λ (r : Requests). WasJoined their_past tag r.my) there was) (same ∙ ap (λ (r : Requests). r.my) there)
@@ -55,13 +55,13 @@ module _ (requests : ℕ → Requests) (mine : Option AssociationIdentity) (past
             (j.0, subst (λ (r : Requests). WasJoined their_past j.0 r.my) same j.1, ap (λ (r : Requests). r.my) (sym same) ∙ j.2)
             );
         mine_held = λ link is. (
-            let held = a.mine_held link is in (held.0, ap (λ (r : Requests). r.my) (other link.peer.tag (not_mine link is)) ∙ held.1)
+            let held = a.mine_held link is in (held.0, ap (λ (r : Requests). r.my) (other link.my.tag (not_mine link is)) ∙ held.1)
             );
-        mine_first = λ link is. ap (λ (r : Requests). r.first) (other link.peer.tag (not_mine link is)) ∙ a.mine_first link is;
+        mine_first = λ link is. ap (λ (r : Requests). r.first) (other link.my.tag (not_mine link is)) ∙ a.mine_first link is;
         theirs_held = λ link is. (
-            let held = a.theirs_held link is in (held.0, ap (λ (r : Requests). r.my) (other link.my.tag (of_joined link.my.tag link.peer held.0)) ∙ held.1)
+            let held = a.theirs_held link is in (held.0, ap (λ (r : Requests). r.my) (other link.peer.tag (of_joined link.peer.tag link.peer held.0)) ∙ held.1)
             );
-        stands = λ link is. subst (λ (r : Requests). StandsSo r their_past waits) (sym (other link.my.tag (of_joined link.my.tag link.peer (a.theirs_held link is).0))) (a.stands link is);
+        stands = λ link is. subst (λ (r : Requests). StandsSo r their_past waits) (sym (other link.peer.tag (of_joined link.peer.tag link.peer (a.theirs_held link is).0))) (a.stands link is);
       }
 
 -- ---- an association begins
@@ -69,28 +69,28 @@ module _ (requests : ℕ → Requests) (mine : Option AssociationIdentity) (past
 -- The sender has the matching association, or it has begun nothing under this tag, and has no association there.
 abbrev pub IsCrossedOrAwaited : Requests → Option AssociationIdentity → AssociationIdentity → Type 0
 IsCrossedOrAwaited requests mine new =
-    ((requests.first ≡ new.peer.first_tsn) × (requests.my ≡ new.peer)) ⊎ ((requests.asking ≡ nothing_asked) × ((link : AssociationIdentity) → mine ≡ Some link → link.peer.tag ≢ new.my.tag))
+    ((requests.first ≡ new.peer.first_tsn) × (requests.my ≡ new.peer)) ⊎ ((requests.asking ≡ nothing_asked) × ((link : AssociationIdentity) → mine ≡ Some link → link.my.tag ≢ new.peer.tag))
 
 pub opens_anew : (requests : ℕ → Requests) (mine : Option AssociationIdentity) (past : List Effect) (theirs : Option AssociationIdentity) (happened their_past : List Effect) (waits waits' : Option DeferralModel) (new : AssociationIdentity)
-    → AnswersRequests requests mine past theirs their_past waits → new.my.tag ≢ 0 → HasEffect (holds new) happened → ((link : AssociationIdentity) → HasEffect (holds link) happened → link ≡ new)
-    → ((my : Pair) (number : ℕ) → WasPerformed my number happened → ⊥) → IsNewTag their_past new → IsMatched past new → IsCrossedOrAwaited (requests new.my.tag) mine new
+    → AnswersRequests requests mine past theirs their_past waits → new.peer.tag ≢ 0 → HasEffect (holds new) happened → ((link : AssociationIdentity) → HasEffect (holds link) happened → link ≡ new)
+    → ((my : Pair) (number : ℕ) → WasPerformed my number happened → ⊥) → IsNewTag their_past new → IsCrossedOrAwaited (requests new.peer.tag) mine new
     → number_to_accept (after_effects happened their_past) ≡ Some (request_number_at new.peer.first_tsn 0) → number_to_perform (after_effects happened their_past) ≡ None → waits' ≡ None
-    → AnswersRequests (set_at new.my.tag (record { my = new.peer; first = new.peer.first_tsn; asking = (requests new.my.tag).asking; is_interleaved = (requests new.my.tag).is_interleaved }) requests)
+    → AnswersRequests (set_at new.peer.tag (record { my = new.peer; first = new.peer.first_tsn; asking = (requests new.peer.tag).asking; is_interleaved = (requests new.peer.tag).is_interleaved }) requests)
     mine past (Some new) (after_effects happened their_past) waits'
-opens_anew requests mine past theirs happened their_past waits waits' new a some noted only no_performs is_new is_matched (inl crossed) accept perform empty =
-    same_requests (set_at new.my.tag fresh requests) requests mine past (Some new) (after_effects happened their_past) waits' (set_all (λ n r. r ≡ requests n) new.my.tag fresh requests fresh_is (λ n ne. refl))
-    (begins_expected requests mine past theirs happened their_past waits waits' new a some noted only no_performs is_new is_matched crossed.0 crossed.1 accept perform empty)
+opens_anew requests mine past theirs happened their_past waits waits' new a some noted only no_performs is_new (inl crossed) accept perform empty =
+    same_requests (set_at new.peer.tag fresh requests) requests mine past (Some new) (after_effects happened their_past) waits' (set_all (λ n r. r ≡ requests n) new.peer.tag fresh requests fresh_is (λ n ne. refl))
+    (begins_expected requests mine past theirs happened their_past waits waits' new a some noted only no_performs is_new crossed.0 crossed.1 accept perform empty)
   where
     fresh : Requests
-    fresh = record { my = new.peer; first = new.peer.first_tsn; asking = (requests new.my.tag).asking; is_interleaved = (requests new.my.tag).is_interleaved }
+    fresh = record { my = new.peer; first = new.peer.first_tsn; asking = (requests new.peer.tag).asking; is_interleaved = (requests new.peer.tag).is_interleaved }
 
-    fresh_is : fresh ≡ requests new.my.tag
+    fresh_is : fresh ≡ requests new.peer.tag
     fresh_is =
-        ap (λ (p : Pair). record fresh { my = p }) (sym crossed.1) ∙ ap (λ (n : ℕ). record fresh { my = (requests new.my.tag).my; first = n }) (sym crossed.0)
-opens_anew requests mine past theirs happened their_past waits waits' new a some noted only no_performs is_new is_matched (inr awaited) accept perform empty =
-    begins_expected (set_at new.my.tag fresh requests) mine past theirs happened their_past waits waits' new
-    (with_fresh requests mine past theirs their_past waits new.my.tag fresh a awaited.0 awaited.1 (λ link has. (is_new link has).0)) some noted only no_performs is_new is_matched
-    (ap (λ (r : Requests). r.first) (set_same new.my.tag fresh requests)) (ap (λ (r : Requests). r.my) (set_same new.my.tag fresh requests)) accept perform empty
+        ap (λ (p : Pair). record fresh { my = p }) (sym crossed.1) ∙ ap (λ (n : ℕ). record fresh { my = (requests new.peer.tag).my; first = n }) (sym crossed.0)
+opens_anew requests mine past theirs happened their_past waits waits' new a some noted only no_performs is_new (inr awaited) accept perform empty =
+    begins_expected (set_at new.peer.tag fresh requests) mine past theirs happened their_past waits waits' new
+    (with_fresh requests mine past theirs their_past waits new.peer.tag fresh a awaited.0 awaited.1 is_new) some noted only no_performs is_new
+    (ap (λ (r : Requests). r.first) (set_same new.peer.tag fresh requests)) (ap (λ (r : Requests). r.my) (set_same new.peer.tag fresh requests)) accept perform empty
   where
     fresh : Requests
-    fresh = record { my = new.peer; first = new.peer.first_tsn; asking = (requests new.my.tag).asking; is_interleaved = (requests new.my.tag).is_interleaved }
+    fresh = record { my = new.peer; first = new.peer.first_tsn; asking = (requests new.peer.tag).asking; is_interleaved = (requests new.peer.tag).is_interleaved }

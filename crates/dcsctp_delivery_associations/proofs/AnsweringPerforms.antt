@@ -22,9 +22,9 @@ use Rattle.dcsctp_delivery_associations.proofs.AnsweringRests.{performed_new, pe
 
 module _ (requests : ℕ → Requests) (mine : Option AssociationIdentity) (past : List Effect) (link : AssociationIdentity) (happened their_past : List Effect) (waits waits' : Option DeferralModel) (begun : BegunReset)
     (a : AnswersRequests requests mine past (Some link) their_past waits) (no_holds : (new : AssociationIdentity) → HasEffect (holds new) happened → ⊥)
-    (only : (peer : Pair) (other : ℕ) → WasPerformed peer other happened → (peer ≡ link.peer) × (other ≡ begun.number)) (has : places.HasEntry begun (requests link.my.tag).asking.requests) where
+    (only : (peer : Pair) (other : ℕ) → WasPerformed peer other happened → (peer ≡ link.peer) × (other ≡ begun.number)) (has : places.HasEntry begun (requests link.peer.tag).asking.requests) where
   abbrev t : ℕ
-  t = link.my.tag
+  t = link.peer.tag
 
   abbrev later : List Effect
   later = after_effects happened their_past
@@ -63,11 +63,11 @@ module _ (requests : ℕ → Requests) (mine : Option AssociationIdentity) (past
   apart_still : (one two : ℕ) → one ≢ two → WasJoined later one (requests one).my → WasJoined later two (requests two).my → (requests one).my ≢ (requests two).my
   apart_still one two ne first second = a.apart one two ne (before one (requests one).my first) (before two (requests two).my second)
 
-  mine_still : (there : AssociationIdentity) → mine ≡ Some there → (tag : ℕ) → there.peer.tag ≢ tag → WasJoined later tag (requests tag).my → there.my ≢ (requests tag).my
+  mine_still : (there : AssociationIdentity) → mine ≡ Some there → (tag : ℕ) → there.my.tag ≢ tag → WasJoined later tag (requests tag).my → there.my ≢ (requests tag).my
   mine_still there is tag ne was = a.mine_apart there is tag ne (before tag (requests tag).my was)
 
-  held_still : (there : AssociationIdentity) → Some link ≡ Some there → WasJoined later there.my.tag there.peer × ((requests there.my.tag).my ≡ there.peer)
-  held_still there is = let held = a.theirs_held there is in (joined_later happened their_past there.my.tag there.peer held.0, held.1)
+  held_still : (there : AssociationIdentity) → Some link ≡ Some there → WasJoined later there.peer.tag there.peer × ((requests there.peer.tag).my ≡ there.peer)
+  held_still there is = let held = a.theirs_held there is in (joined_later happened their_past there.peer.tag there.peer held.0, held.1)
 
   -- The requests stay as they are.
   performs_same : (WasJoined later t (requests t).my → WerePerformed (requests t) later) → StandsSo (requests t) later waits' → AnswersRequests requests mine past (Some link) later waits'
@@ -85,7 +85,7 @@ module _ (requests : ℕ → Requests) (mine : Option AssociationIdentity) (past
         mine_held = a.mine_held;
         mine_first = a.mine_first;
         theirs_held = held_still;
-        stands = λ there is. (let same : link ≡ there = cc in subst (λ (l : AssociationIdentity). StandsSo (requests l.my.tag) later waits') same stands);
+        stands = λ there is. (let same : link ≡ there = cc in subst (λ (l : AssociationIdentity). StandsSo (requests l.peer.tag) later waits') same stands);
       }
 
   -- Messages don't interleave.
@@ -140,12 +140,12 @@ module _ (requests : ℕ → Requests) (mine : Option AssociationIdentity) (past
         joined = λ my number there. (
             let j = joined_still my number there in (j.0, subst (WasJoined later j.0) (sym (my_same j.0)) j.1, my_same j.0 ∙ j.2)
             );
-        mine_held = λ there is. (let held = a.mine_held there is in (held.0, my_same there.peer.tag ∙ held.1));
-        mine_first = λ there is. first_same there.peer.tag ∙ a.mine_first there is;
-        theirs_held = λ there is. (let held = held_still there is in (held.0, my_same there.my.tag ∙ held.1));
+        mine_held = λ there is. (let held = a.mine_held there is in (held.0, my_same there.my.tag ∙ held.1));
+        mine_first = λ there is. first_same there.my.tag ∙ a.mine_first there is;
+        theirs_held = λ there is. (let held = held_still there is in (held.0, my_same there.peer.tag ∙ held.1));
         stands = λ there is. (
             let same : link ≡ there = cc in
-            subst (λ (l : AssociationIdentity). StandsSo (all l.my.tag) later waits') same
+            subst (λ (l : AssociationIdentity). StandsSo (all l.peer.tag) later waits') same
             (subst (λ (r : Requests). StandsSo r later waits') (sym (set_same t changed requests))
             (answered.in_step
             (answered.all_performed (accept ∙ ap Some (number_behind (requests t).first begun earlier (requests t).asking.requests top numbers)) perform empty (inr refl))))

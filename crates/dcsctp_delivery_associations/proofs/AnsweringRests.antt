@@ -144,10 +144,10 @@ same_requests new old mine past theirs their_past waits same a =
           let k : WasJoined their_past j.0 (new j.0).my × ((new j.0).my ≡ my) = subst (λ (r : Requests). WasJoined their_past j.0 r.my × (r.my ≡ my)) (sym (same j.0)) (j.1, j.2) in
           (j.0, k.0, k.1)
           );
-      mine_held = λ link is. subst (λ (r : Requests). SenderHadPeer past link.peer.tag link.my × (r.my ≡ link.my)) (sym (same link.peer.tag)) (a.mine_held link is);
-      mine_first = λ link is. subst (λ (r : Requests). r.first ≡ link.my.first_tsn) (sym (same link.peer.tag)) (a.mine_first link is);
-      theirs_held = λ link is. subst (λ (r : Requests). WasJoined their_past link.my.tag link.peer × (r.my ≡ link.peer)) (sym (same link.my.tag)) (a.theirs_held link is);
-      stands = λ link is. subst (λ (r : Requests). StandsSo r their_past waits) (sym (same link.my.tag)) (a.stands link is);
+      mine_held = λ link is. subst (λ (r : Requests). SenderHadPeer past link.my.tag link.my × (r.my ≡ link.my)) (sym (same link.my.tag)) (a.mine_held link is);
+      mine_first = λ link is. subst (λ (r : Requests). r.first ≡ link.my.first_tsn) (sym (same link.my.tag)) (a.mine_first link is);
+      theirs_held = λ link is. subst (λ (r : Requests). WasJoined their_past link.peer.tag link.peer × (r.my ≡ link.peer)) (sym (same link.peer.tag)) (a.theirs_held link is);
+      stands = λ link is. subst (λ (r : Requests). StandsSo r their_past waits) (sym (same link.peer.tag)) (a.stands link is);
     }
 
 -- ---- nothing is performed
@@ -174,7 +174,7 @@ module _ (requests : ℕ → Requests) (mine : Option AssociationIdentity) (past
       }
 
   -- It has the same one, of which `StandsSo` holds again.
-  pub stays_standing : ((link : AssociationIdentity) → theirs ≡ Some link → StandsSo (requests link.my.tag) (after_effects happened their_past) waits') → AnswersRequests requests mine past theirs (after_effects happened their_past) waits'
+  pub stays_standing : ((link : AssociationIdentity) → theirs ≡ Some link → StandsSo (requests link.peer.tag) (after_effects happened their_past) waits') → AnswersRequests requests mine past theirs (after_effects happened their_past) waits'
   stays_standing stands =
       record {
         asked = rests.asked;
@@ -185,7 +185,7 @@ module _ (requests : ℕ → Requests) (mine : Option AssociationIdentity) (past
         joined = rests.joined;
         mine_held = a.mine_held;
         mine_first = a.mine_first;
-        theirs_held = λ link is. (let held = a.theirs_held link is in (joined_later happened their_past link.my.tag link.peer held.0, held.1));
+        theirs_held = λ link is. (let held = a.theirs_held link is in (joined_later happened their_past link.peer.tag link.peer held.0, held.1));
         stands = stands;
       }
 
@@ -214,4 +214,4 @@ pub asks_nothing : (requests : ℕ → Requests) (mine : Option AssociationIdent
     → AnswersRequests requests mine past (Some link) (after_effects happened their_past) waits'
 asks_nothing requests mine past link happened their_past waits waits' a no_holds no_performs accept perform same =
     stays_standing requests mine past (Some link) happened their_past waits waits' a no_holds no_performs
-    (λ there is. stands_same (requests there.my.tag) their_past (after_effects happened their_past) waits waits' accept perform same (a.stands there is))
+    (λ there is. stands_same (requests there.peer.tag) their_past (after_effects happened their_past) waits waits' accept perform same (a.stands there is))

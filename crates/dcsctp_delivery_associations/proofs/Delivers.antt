@@ -1,6 +1,6 @@
 -- What was read in all associations together.
 use Rattle.std.proofs.Common.{◌≡◌, ◌≢◌, ℕ, Bool, true, false, ◌<◌, ◌^◌, None, List, [], ◌∷◌, length, refl, sym, ◌∙◌, ap, arith, subst, inl, inr}
-use Rattle.std.specs.Prelude.{if◌then◌else◌}
+use Rattle.std.specs.Prelude.{◌+◌, if◌then◌else◌}
 use Rattle.std.proofs.lemmas.Bool.Decides.{eqb_tells}
 use Rattle.dcsctp_spec_lemmas.specs.types.declared.options.Options.{Options}
 use Rattle.dcsctp_spec_lemmas.specs.spec.endpoint.Endpoint.{Endpoint, fresh_endpoint}
@@ -21,9 +21,9 @@ use Rattle.dcsctp_delivery_directions.proofs.Marking.{directions_deliver_for_goo
 use Rattle.dcsctp_delivery_turns.proofs.Beginnings.{fresh_at_zero}
 use Rattle.dcsctp_delivery_turns.proofs.Unbegun.{fresh_is_at_zero}
 use Rattle.dcsctp_delivery_turns.proofs.Runs.{senders_begin}
-use Rattle.dcsctp_delivery_associations.specs.Ends.{SendingEnd, joined, new_end, Ends, MarksLeft, Awaits, Between}
+use Rattle.dcsctp_delivery_associations.specs.Ends.{SendingEnd, joined, new_end, Ends, MarksLeft, Awaits, chunks_before, Between}
 use Rattle.dcsctp_delivery_associations.specs.Laws.{AreEnds}
-use Rattle.dcsctp_delivery_associations.specs.Reads.{Read, Reading, nothing_read, with_tag, messages_of}
+use Rattle.dcsctp_delivery_associations.specs.Reads.{Read, Reading, nothing_read, with_key, messages_of}
 use Rattle.dcsctp_delivery_associations.proofs.Growing.{AllFound, set_all}
 
 -- ---- lists of places, one for each tag, in one
@@ -46,33 +46,33 @@ taken : (queued : List Message) (list : List ℕ) (message : MessageContent) (me
 taken queued [] message messages were = absurd were
 taken queued (place ∷ others) message messages were = record { place = place; others = others; is = refl; was = were.0; were = were.1 }
 
-tag_first : (r : Read) (reads : List Read) → with_tag r.tag (r ∷ reads) ≡ r.message ∷ with_tag r.tag reads
-tag_first r reads = elim (eqb_tells r.tag r.tag) [ inl t ↦ ap (λ (b : Bool). if b then r.message ∷ with_tag r.tag reads else with_tag r.tag reads) t.0 | inr t ↦ absurd (t.1 refl) ]
+tag_first : (r : Read) (reads : List Read) → with_key r.tags.peer (r ∷ reads) ≡ r.message ∷ with_key r.tags.peer reads
+tag_first r reads = elim (eqb_tells r.tags.peer r.tags.peer) [ inl t ↦ ap (λ (b : Bool). if b then r.message ∷ with_key r.tags.peer reads else with_key r.tags.peer reads) t.0 | inr t ↦ absurd (t.1 refl) ]
 
-tag_rest : (tag : ℕ) (r : Read) (reads : List Read) → tag ≢ r.tag → with_tag tag (r ∷ reads) ≡ with_tag tag reads
+tag_rest : (tag : ℕ) (r : Read) (reads : List Read) → tag ≢ r.tags.peer → with_key tag (r ∷ reads) ≡ with_key tag reads
 tag_rest tag r reads ne =
-    elim (eqb_tells r.tag tag) [ inl t ↦ absurd (ne (sym t.1)) | inr t ↦ ap (λ (b : Bool). if b then r.message ∷ with_tag tag reads else with_tag tag reads) t.0 ]
+    elim (eqb_tells r.tags.peer tag) [ inl t ↦ absurd (ne (sym t.1)) | inr t ↦ ap (λ (b : Bool). if b then r.message ∷ with_key tag reads else with_key tag reads) t.0 ]
 
-together : (queued : List Message) (reads : List Read) (lists : ℕ → List ℕ) → ((tag : ℕ) → WereQueued queued (lists tag) (with_tag tag reads)) → ((tag : ℕ) → AreDistinct (lists tag))
+together : (queued : List Message) (reads : List Read) (lists : ℕ → List ℕ) → ((tag : ℕ) → WereQueued queued (lists tag) (with_key tag reads)) → ((tag : ℕ) → AreDistinct (lists tag))
     → ((one other place : ℕ) → one ≢ other → HasEntry place (lists one) → HasEntry place (lists other) → ⊥) → Together queued lists reads
 together queued [] lists were distinct apart = record { places = []; were = tt; once = tt; from = λ place has. absurd has }
 together queued (r ∷ reads) lists were distinct apart =
-    let first : Taken queued (lists r.tag) r.message (with_tag r.tag reads) =
-    taken queued (lists r.tag) r.message (with_tag r.tag reads) (subst (WereQueued queued (lists r.tag)) (tag_first r reads) (were r.tag)) in
-    let rest : ℕ → List ℕ = set_at r.tag first.others lists in
-    let own : AreDistinct (first.place ∷ first.others) = subst AreDistinct first.is (distinct r.tag) in
+    let first : Taken queued (lists r.tags.peer) r.message (with_key r.tags.peer reads) =
+    taken queued (lists r.tags.peer) r.message (with_key r.tags.peer reads) (subst (WereQueued queued (lists r.tags.peer)) (tag_first r reads) (were r.tags.peer)) in
+    let rest : ℕ → List ℕ = set_at r.tags.peer first.others lists in
+    let own : AreDistinct (first.place ∷ first.others) = subst AreDistinct first.is (distinct r.tags.peer) in
     let back : (tag place : ℕ) → HasEntry place (rest tag) → HasEntry place (lists tag) =
-    set_all (λ tag l. (place : ℕ) → HasEntry place l → HasEntry place (lists tag)) r.tag first.others lists (λ place has. subst (λ (l : List ℕ). HasEntry place l) (sym first.is) (inr has)) (λ tag ne place has. has) in
+    set_all (λ tag l. (place : ℕ) → HasEntry place l → HasEntry place (lists tag)) r.tags.peer first.others lists (λ place has. subst (λ (l : List ℕ). HasEntry place l) (sym first.is) (inr has)) (λ tag ne place has. has) in
     let others : Together queued rest reads =
     together queued reads rest
-    (set_all (λ tag l. WereQueued queued l (with_tag tag reads)) r.tag first.others lists first.were (λ tag ne. subst (WereQueued queued (lists tag)) (tag_rest tag r reads ne) (were tag)))
-    (set_all (λ tag l. AreDistinct l) r.tag first.others lists own.1 (λ tag ne. distinct tag))
+    (set_all (λ tag l. WereQueued queued l (with_key tag reads)) r.tags.peer first.others lists first.were (λ tag ne. subst (WereQueued queued (lists tag)) (tag_rest tag r reads ne) (were tag)))
+    (set_all (λ tag l. AreDistinct l) r.tags.peer first.others lists own.1 (λ tag ne. distinct tag))
     (λ one other place ne has has'. apart one other place ne (back one place has) (back other place has')) in
     let none : HasEntry first.place others.places → ⊥ = λ has. (
     let found = others.from first.place has in
-    elim (decide found.0 r.tag) [
-      | inl e ↦ own.0 (subst (λ (l : List ℕ). HasEntry first.place l) (set_same r.tag first.others lists) (subst (λ (t : ℕ). HasEntry first.place (rest t)) e found.1))
-      | inr ne ↦ apart found.0 r.tag first.place ne (back found.0 first.place found.1) (subst (λ (l : List ℕ). HasEntry first.place l) (sym first.is) (inl refl))
+    elim (decide found.0 r.tags.peer) [
+      | inl e ↦ own.0 (subst (λ (l : List ℕ). HasEntry first.place l) (set_same r.tags.peer first.others lists) (subst (λ (t : ℕ). HasEntry first.place (rest t)) e found.1))
+      | inr ne ↦ apart found.0 r.tags.peer first.place ne (back found.0 first.place found.1) (subst (λ (l : List ℕ). HasEntry first.place l) (sym first.is) (inl refl))
     ]
     ) in
     record {
@@ -80,7 +80,7 @@ together queued (r ∷ reads) lists were distinct apart =
       were = (first.was, others.were);
       once = (none, others.once);
       from = λ place has. elim has [
-        | inl e ↦ (r.tag, subst (λ (l : List ℕ). HasEntry place l) (sym first.is) (inl e))
+        | inl e ↦ (r.tags.peer, subst (λ (l : List ℕ). HasEntry place l) (sym first.is) (inl e))
         | inr t ↦ (let found = others.from place t in (found.0, back found.0 place found.1))
       ];
     }
@@ -101,7 +101,7 @@ were_unmarked marks queued (place ∷ places) (content ∷ contents) found were 
 -- ---- all associations
 
 module _ (options : Options) (ends : Ends) (e : Endpoint) (queued : List Message) (past : List Effect) (packets : List Emission) (other : Endpoint) (their_past : List Effect) (reading : Reading)
-    (h : Between options ends e queued past packets other their_past reading) (many : length queued < 2 ^ 64) (few : (tag : ℕ) → chunks_to tag packets < 2 ^ 30) where
+    (h : Between options ends e queued past packets other their_past reading) (many : length queued < 2 ^ 64) (few : (tag : ℕ) → chunks_before (ends.former tag) packets + chunks_to (ends.latest tag) packets < 2 ^ 30) where
   delivered : (tag : ℕ) → DeliveredForGood (joined (ends.sends tag) (ends.gets tag))
   delivered tag =
       let fewer = h.sender.short tag in
@@ -132,7 +132,7 @@ module _ (options : Options) (ends : Ends) (e : Endpoint) (queued : List Message
   unfolding lists
   ends_deliver =
       let all = together queued reading.reads lists
-      (λ tag. were_unmarked (ends.sends tag).queued queued (lists tag) (with_tag tag reading.reads) (h.sender.marks tag)
+      (λ tag. were_unmarked (ends.sends tag).queued queued (lists tag) (with_key tag reading.reads) (h.sender.marks tag)
       (subst (WereQueued (ends.sends tag).queued (lists tag)) (sym (h.receiver.were_read tag)) (delivered tag).delivered.were_queued))
       (λ tag. (delivered tag).delivered.once) apart in
       record { places = all.places; were_queued = all.were; once = all.once }
@@ -142,7 +142,7 @@ module _ (options : Options) (ends : Ends) (e : Endpoint) (queued : List Message
 pub ends_begin : (never_resets : ℕ → Bool) (mine options : Options) → AreEnds never_resets options (fresh_endpoint mine) [] [] [] (fresh_endpoint options) [] nothing_read
 ends_begin never_resets mine options =
     record {
-      ends = record { sends = λ tag. nothing; gets = λ tag. new_end options 0; firsts = λ tag. 0; never_resets = never_resets };
+      ends = record { sends = λ tag. nothing; gets = λ tag. new_end options 0; firsts = λ tag. 0; latest = λ tag. 0; former = λ tag. None; never_resets = never_resets };
       is = refl;
       between = record {
         runs = λ tag. senders_begin mine options 0 options.max_receiver_window_buffer_size never_resets;
@@ -161,13 +161,19 @@ ends_begin never_resets mine options =
           begun = λ tag some. inl awaits;
           kinds = λ tag some. inl awaits;
           all_sent = tt;
+          to_is = refl;
+          went = inl refl;
+          replaced = λ tag former is. absurd (cc);
+          known = λ link has. absurd has;
         };
+        mine = λ link is. absurd (cc);
         asks = tt;
         numbered = λ tag some anew. refl;
         kept = λ tag some only id never. never;
         dropping = λ tag id resets. resets;
         unbegun = λ never. record { unlinked = refl; idle = refl; zero = fresh_is_at_zero mine; all = λ id never. record { waits = λ place message at. absurd (cc); unpaused = tt } };
-        receiver = record { fits = record { first = 0; asking = nothing_asked; fits = tt }; current = λ transfer there. absurd (cc); left = inl refl; last = λ link is. absurd (cc); were_read = λ tag. refl; begun = λ tag. inl refl };
+        receiver = record { fits = record { first = 0; asking = nothing_asked; fits = tt }; current = λ transfer there. absurd (cc); left = inl refl; last = λ link is. absurd (cc); were_read = λ tag. refl; begun = λ tag. inl refl; last_of = inl refl; reads_of = tt };
+        alone = λ tag. inr (senders_begin options options 0 options.max_receiver_window_buffer_size (λ id. false));
       };
       answered = record {
         pairs = λ tag. record { tag = 0; first_tsn = 0 };

@@ -23,6 +23,20 @@ set_all P k v f here others t =
       | inr ne ↦ subst (P t) (sym (set_other k t v f ne)) (others t ne)
     ]
 
+-- three tables
+pub set_three : {A : Type 0} {B : Type 0} {C : Type 0} (P : ℕ → A → B → C → Type 0) (k : ℕ) (u : A) (v : B) (w : C) (f : ℕ → A) (g : ℕ → B) (h : ℕ → C) → P k u v w → ((t : ℕ) → t ≢ k → P t (f t) (g t) (h t))
+    → (t : ℕ) → P t (set_at k u f t) (set_at k v g t) (set_at k w h t)
+set_three P k u v w f g h here others t =
+    elim (decide t k) [
+      | inl e ↦
+          subst (λ (n : ℕ). P n (set_at k u f n) (set_at k v g n) (set_at k w h n)) (sym e)
+          (subst (λ (x : _). P k x (set_at k v g k) (set_at k w h k)) (sym (set_same k u f))
+          (subst (λ (x : _). P k u x (set_at k w h k)) (sym (set_same k v g)) (subst (P k u v) (sym (set_same k w h)) here)))
+      | inr ne ↦
+          subst (λ (x : _). P t x (set_at k v g t) (set_at k w h t)) (sym (set_other k t u f ne))
+          (subst (λ (x : _). P t (f t) x (set_at k w h t)) (sym (set_other k t v g ne)) (subst (P t (f t) (g t)) (sym (set_other k t w h ne)) (others t ne)))
+    ]
+
 -- ---- what a turn queues
 
 where_adds : (why : Option MessageRefusal) (sending : Sending) (queued : List Message) → queued_where why sending queued ≡ queued_where why sending [] ++ queued

@@ -30,9 +30,9 @@ use Rattle.dcsctp_delivery_order.proofs.FewDirections.{plain_few_deliver_in_orde
 use Rattle.dcsctp_delivery_order.specs.PlainDirections.{FewOnEachStream}
 use Rattle.dcsctp_delivery_associations.proofs.FewMarks.{few_marks}
 use Rattle.dcsctp_delivery_order.proofs.PlainFront.{plain_directions_deliver_without_gaps}
-use Rattle.dcsctp_delivery_associations.specs.Ends.{ReceivingEnd, joined, Ends, HadKind, IsOnlyTag, BeginsAnew, Awaits, Between}
-use Rattle.dcsctp_delivery_associations.specs.InOrder.{Interleaves}
-use Rattle.dcsctp_delivery_associations.specs.Reads.{Reading, with_tag}
+use Rattle.dcsctp_delivery_associations.specs.Ends.{ReceivingEnd, joined, Ends, HadKind, IsOnlyOwn, BeginsAnew, Awaits, chunks_before, Between}
+use Rattle.dcsctp_delivery_associations.specs.InOrder.{InterleavesUnder}
+use Rattle.dcsctp_delivery_associations.specs.Reads.{Reading, with_key}
 use Rattle.dcsctp_delivery_associations.proofs.Delivers.{were_unmarked}
 use Rattle.dcsctp_delivery_associations.proofs.Growing.{AllFound}
 
@@ -148,26 +148,26 @@ by_stream_unmarked keeps never_resets marks queued contents found kept d =
 
 -- ---- one association
 
-nothing_in_order : (queued : List Message) (contents : List MessageContent) → contents ≡ [] → DeliveredInOrder queued contents
+pub nothing_in_order : (queued : List Message) (contents : List MessageContent) → contents ≡ [] → DeliveredInOrder queued contents
 nothing_in_order queued contents none = subst (DeliveredInOrder queued) (sym none) (record { delivered = record { places = []; were_queued = tt; once = tt }; in_order = λ id. tt })
 
-nothing_before : (queued : List Message) (contents : List MessageContent) → contents ≡ [] → DeliveredWithoutGaps queued contents
+pub nothing_before : (queued : List Message) (contents : List MessageContent) → contents ≡ [] → DeliveredWithoutGaps queued contents
 nothing_before queued contents none =
     subst (DeliveredWithoutGaps queued) (sym none)
     (record { ordered = record { delivered = record { places = []; were_queued = tt; once = tt }; in_order = λ id. tt }; no_gap = λ id earlier later has on on' before. absurd has })
 
-nothing_by_stream : (never_resets : ℕ → Bool) (queued : List Message) (contents : List MessageContent) → contents ≡ [] → DeliveredByStream never_resets queued contents
+pub nothing_by_stream : (never_resets : ℕ → Bool) (queued : List Message) (contents : List MessageContent) → contents ≡ [] → DeliveredByStream never_resets queued contents
 nothing_by_stream never_resets queued contents none =
     let d = nothing_before queued contents none in record { ordered = d.ordered; no_gap = λ id never are. d.no_gap id }
 
 -- Nothing is read where nothing was queued.
-read_none : (queued : List Message) → queued ≡ [] → (contents : List MessageContent) (places : List ℕ) → WereQueued queued places contents → contents ≡ []
+pub read_none : (queued : List Message) → queued ≡ [] → (contents : List MessageContent) (places : List ℕ) → WereQueued queued places contents → contents ≡ []
 read_none queued none [] places were = refl
 read_none queued none (content ∷ contents) [] were = absurd were
 read_none queued none (content ∷ contents) (place ∷ places) were = (let nowhere : at_place place [] ≡ Some were.0.message = subst (λ (l : List Message). at_place place l ≡ Some were.0.message) none were.0.at in absurd (cc))
 
 module _ (options : Options) (ends : Ends) (e : Endpoint) (queued : List Message) (past : List Effect) (packets : List Emission) (other : Endpoint) (their_past : List Effect) (reading : Reading)
-    (h : Between options ends e queued past packets other their_past reading) (many : length queued < 2 ^ 64) (few : (tag : ℕ) → chunks_to tag packets < 2 ^ 30) where
+    (h : Between options ends e queued past packets other their_past reading) (many : length queued < 2 ^ 64) (few : (tag : ℕ) → chunks_before (ends.former tag) packets + chunks_to (ends.latest tag) packets < 2 ^ 30) where
   -- fewer TSNs were assigned under a tag than can be distinguished
   module _ (tag : ℕ) where
     short : length (ends.sends tag).queued < 2 ^ 64
@@ -186,46 +186,46 @@ module _ (options : Options) (ends : Ends) (e : Endpoint) (queued : List Message
     own = joined (ends.sends tag) (ends.gets tag)
 
     -- Nothing is read under the tag 0.
-    none_at_zero : tag ≡ 0 → with_tag tag reading.reads ≡ []
+    none_at_zero : tag ≡ 0 → with_key tag reading.reads ≡ []
     none_at_zero zero = elim (h.receiver.begun tag) [ inl new ↦ h.receiver.were_read tag ∙ ap (λ (g : ReceivingEnd). g.read) new | inr had ↦ absurd (had.some zero) ]
 
     -- Nothing is read where the sender hasn't begun.
-    none_awaited : Awaits (ends.sends tag) → with_tag tag reading.reads ≡ []
+    none_awaited : Awaits (ends.sends tag) → with_key tag reading.reads ≡ []
     none_awaited waits =
         let d = directions_deliver options (ends.firsts tag) options.max_receiver_window_buffer_size own (h.runs tag) (h.small tag) (little tag) (short tag) in
         h.receiver.were_read tag ∙ read_none (ends.sends tag).queued waits.queued (ends.gets tag).read d.places d.were_queued
 
     -- No request was begun where none was sent.
-    unasked : requests_to tag packets ≡ 0 → (ends.sends tag).asking.requests ≡ []
+    unasked : requests_to (ends.latest tag) packets ≡ 0 → (ends.sends tag).asking.requests ≡ []
     unasked none =
         let sent = requests_are_sent options (ends.firsts tag) options.max_receiver_window_buffer_size own (h.runs tag) in
         let few' = h.sender.few_requests tag in
         is_empty (ends.sends tag).asking.requests (omega (arith, sent, few', none))
 
-    in_order_so : DeliveredInOrder (ends.sends tag).queued (ends.gets tag).read → DeliveredInOrder queued (with_tag tag reading.reads)
-    in_order_so all = in_order_unmarked (ends.sends tag).queued queued (with_tag tag reading.reads) (h.sender.marks tag) (subst (DeliveredInOrder (ends.sends tag).queued) (sym (h.receiver.were_read tag)) all)
+    in_order_so : DeliveredInOrder (ends.sends tag).queued (ends.gets tag).read → DeliveredInOrder queued (with_key tag reading.reads)
+    in_order_so all = in_order_unmarked (ends.sends tag).queued queued (with_key tag reading.reads) (h.sender.marks tag) (subst (DeliveredInOrder (ends.sends tag).queued) (sym (h.receiver.were_read tag)) all)
 
-    front_so : DeliveredWithoutGaps (ends.sends tag).queued (ends.gets tag).read → DeliveredWithoutGaps queued (with_tag tag reading.reads)
-    front_so all = front_unmarked (ends.sends tag).queued queued (with_tag tag reading.reads) (h.sender.marks tag) (subst (DeliveredWithoutGaps (ends.sends tag).queued) (sym (h.receiver.were_read tag)) all)
+    front_so : DeliveredWithoutGaps (ends.sends tag).queued (ends.gets tag).read → DeliveredWithoutGaps queued (with_key tag reading.reads)
+    front_so all = front_unmarked (ends.sends tag).queued queued (with_key tag reading.reads) (h.sender.marks tag) (subst (DeliveredWithoutGaps (ends.sends tag).queued) (sym (h.receiver.were_read tag)) all)
 
     -- Either nothing was read under the tag, or the sender had an association of it.
-    by_begun : {P : Type 0} → (with_tag tag reading.reads ≡ [] → P) → (tag ≢ 0 → HadKind past tag (ends.sends tag).queues.queue.is_interleaved → P) → P
+    by_begun : {P : Type 0} → (with_key tag reading.reads ≡ [] → P) → (tag ≢ 0 → HadKind past tag (ends.sends tag).queues.queue.is_interleaved → P) → P
     by_begun none had = elim (decide tag 0) [ inl zero ↦ none (none_at_zero zero) | inr some ↦ elim (h.sender.kinds tag some) [ inl waits ↦ none (none_awaited waits) | inr kind ↦ had some kind ] ]
 
-  pub ends_deliver_in_order : (tag : ℕ) → BeginsAnew e past tag → Interleaves past tag → DeliveredInOrder queued (with_tag tag reading.reads)
+  pub ends_deliver_in_order : (tag : ℕ) → BeginsAnew e past tag → InterleavesUnder past tag → DeliveredInOrder queued (with_key tag reading.reads)
   ends_deliver_in_order tag anew interleaves =
-      by_begun tag (nothing_in_order queued (with_tag tag reading.reads))
+      by_begun tag (nothing_in_order queued (with_key tag reading.reads))
       (λ some had. in_order_so tag
       (directions_deliver_in_order options (ends.firsts tag) options.max_receiver_window_buffer_size (own tag) (h.runs tag) (h.small tag) (little tag) (short tag)
-      (sym had.kind_is ∙ interleaves had.link had.held had.tag_is) (h.numbered tag some anew)))
+      (sym (had.kind_is interleaves.0 interleaves.1 interleaves.2) ∙ interleaves.3) (h.numbered tag some anew)))
 
-  pub ends_deliver_by_stream : (tag : ℕ) → IsOnlyTag past tag → Interleaves past tag → DeliveredByStream ends.never_resets queued (with_tag tag reading.reads)
+  pub ends_deliver_by_stream : (tag : ℕ) → IsOnlyOwn past tag → InterleavesUnder past tag → DeliveredByStream ends.never_resets queued (with_key tag reading.reads)
   ends_deliver_by_stream tag only interleaves =
-      by_begun tag (nothing_by_stream ends.never_resets queued (with_tag tag reading.reads))
-      (λ some had. by_stream_unmarked (ends.sends tag).beginning.keeps ends.never_resets (ends.sends tag).queued queued (with_tag tag reading.reads) (h.sender.marks tag) (h.kept tag some only)
+      by_begun tag (nothing_by_stream ends.never_resets queued (with_key tag reading.reads))
+      (λ some had. by_stream_unmarked (ends.sends tag).beginning.keeps ends.never_resets (ends.sends tag).queued queued (with_key tag reading.reads) (h.sender.marks tag) (h.kept tag some only)
       (subst (DeliveredByStream (ends.sends tag).beginning.keeps (ends.sends tag).queued) (sym (h.receiver.were_read tag))
       (streams_deliver_without_gaps options (ends.firsts tag) options.max_receiver_window_buffer_size (own tag) (h.runs tag) (h.small tag) (little tag) (short tag)
-      (sym had.kind_is ∙ interleaves had.link had.held had.tag_is) (h.numbered tag some (inr only)))))
+      (sym (had.kind_is interleaves.0 interleaves.1 interleaves.2) ∙ interleaves.3) (h.numbered tag some (inr only)))))
 
   module _ (window : options.max_receiver_window_buffer_size < 2 ^ 32) where
     room : options.max_receiver_window_buffer_size ≤ 2 ^ 63
@@ -245,13 +245,13 @@ module _ (options : Options) (ends : Ends) (e : Endpoint) (queued : List Message
         plain_few_deliver_in_order options (ends.firsts tag) options.max_receiver_window_buffer_size (own tag) (h.runs tag) (h.small tag) (little tag) (short tag) is from none
         (few_marks queued (ends.sends tag).queued (h.sender.short tag) (h.sender.marks tag) few)
 
-    pub ends_deliver_data_in_order : AreUnlimited queued ⊎ FewOnEachStream queued → (tag : ℕ) → BeginsAnew e past tag → requests_to tag packets ≡ 0 → DeliveredInOrder queued (with_tag tag reading.reads)
+    pub ends_deliver_data_in_order : AreUnlimited queued ⊎ FewOnEachStream queued → (tag : ℕ) → BeginsAnew e past tag → requests_to (ends.latest tag) packets ≡ 0 → DeliveredInOrder queued (with_key tag reading.reads)
     ends_deliver_data_in_order which tag anew none =
-        by_begun tag (nothing_in_order queued (with_tag tag reading.reads))
+        by_begun tag (nothing_in_order queued (with_key tag reading.reads))
         (λ some had. in_order_so tag (own_data tag (ends.sends tag).queues.queue.is_interleaved refl (h.numbered tag some anew) (unasked tag none) which))
 
     -- Either way of numbering leaves no gap.
-    own_front : AreUnlimited queued → (tag : ℕ) → tag ≢ 0 → ((id : ℕ) → ends.never_resets id ≡ true) → IsOnlyTag past tag → (kind : Bool) → (ends.sends tag).queues.queue.is_interleaved ≡ kind
+    own_front : AreUnlimited queued → (tag : ℕ) → tag ≢ 0 → ((id : ℕ) → ends.never_resets id ≡ true) → IsOnlyOwn past tag → (kind : Bool) → (ends.sends tag).queues.queue.is_interleaved ≡ kind
         → DeliveredWithoutGaps (ends.sends tag).queued (ends.gets tag).read
     own_front are tag some never only true is =
         directions_deliver_without_gaps options (ends.firsts tag) options.max_receiver_window_buffer_size (own tag) (h.runs tag) (h.small tag) (little tag) (short tag) is
@@ -260,7 +260,7 @@ module _ (options : Options) (ends : Ends) (e : Endpoint) (queued : List Message
         plain_directions_deliver_without_gaps options (ends.firsts tag) options.max_receiver_window_buffer_size (own tag) (h.runs tag) (h.small tag) (little tag) (short tag) room is
         (h.numbered tag some (inr only)) (λ id. h.kept tag some only id (never id)) (unlimited are tag)
 
-    pub ends_deliver_without_gaps : AreUnlimited queued → ((id : ℕ) → ends.never_resets id ≡ true) → (tag : ℕ) → IsOnlyTag past tag → DeliveredWithoutGaps queued (with_tag tag reading.reads)
+    pub ends_deliver_without_gaps : AreUnlimited queued → ((id : ℕ) → ends.never_resets id ≡ true) → (tag : ℕ) → IsOnlyOwn past tag → DeliveredWithoutGaps queued (with_key tag reading.reads)
     ends_deliver_without_gaps are never tag only =
-        by_begun tag (nothing_before queued (with_tag tag reading.reads))
+        by_begun tag (nothing_before queued (with_key tag reading.reads))
         (λ some had. front_so tag (own_front are tag some never only (ends.sends tag).queues.queue.is_interleaved refl))

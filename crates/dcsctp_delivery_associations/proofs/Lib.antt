@@ -11,6 +11,7 @@ pub mod Held
 pub mod Senders
 pub mod SenderStays
 pub mod SenderBegins
+pub mod SenderOutlasts
 pub mod SenderTurns
 pub mod WhatIsLeft
 pub mod WhatIsRead
@@ -30,3 +31,5 @@ pub mod ReceiverTurns
 pub mod Delivers
 pub mod FewMarks
 pub mod InOrder
+pub mod Tagged
+pub mod Moved

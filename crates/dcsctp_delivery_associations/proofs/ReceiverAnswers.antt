@@ -26,8 +26,8 @@ use Rattle.dcsctp_delivery_directions.specs.Requests.{IsOfBegun}
 use Rattle.dcsctp_delivery_directions.proofs.Requests.{requests_were_begun}
 use Rattle.dcsctp_delivery_turns.specs.Actions.{IsOpening, came_by, Begun, IsCall, IsCalm}
 use Rattle.dcsctp_delivery_turns.specs.Asking.{AreNumbered}
-use Rattle.dcsctp_delivery_turns.specs.PeerRequests.{KnowsPeerIn, IsPlainRequest, IsDue, WaitsFor, PeerTurns, asks_nothing, performs_it, defers_it, begins_anew, collides_anew}
-use Rattle.dcsctp_delivery_turns.specs.Runs.{HasNewTag, IsNewest, PerformsNewest, performed_where, PerformedBy}
+use Rattle.dcsctp_delivery_turns.specs.PeerRequests.{KnowsPeerIn, IsPlainRequest, IsDue, WaitsFor, PeerTurns, asks_nothing, performs_it, defers_it, begins_anew}
+use Rattle.dcsctp_delivery_turns.specs.Runs.{IsNewest, PerformsNewest, performed_where, PerformedBy}
 use Rattle.dcsctp_delivery_turns.specs.Sides.{WasSent}
 use Rattle.dcsctp_delivery_turns.proofs.Holding.{holds_mean, ends_mean}
 use Rattle.dcsctp_delivery_turns.proofs.PeersTurns.{peers_turn}
@@ -109,18 +109,11 @@ module _ (ends : Ends) (pairs : ℕ → Pair) (tag : ℕ) (got : ReceivingEnd) w
 -- ---- an association continues
 
 module _ (ends : Ends) (e : Endpoint) (past : List Effect) (d : Endpoint) (their_past : List Effect) (w : AreAnswered ends e past d their_past) (input : Input) (o : Outcome) (may : IsCall input) (turn : Turn d input o)
-    (new_tags : (link old : AssociationIdentity) → HasEffect (holds link) o.effects → HasEffect (holds old) their_past → old.my.tag ≢ link.my.tag) where
+    (new_tags : (link old : AssociationIdentity) → HasEffect (holds link) o.effects → HasEffect (holds old) their_past → old.peer.tag ≢ link.peer.tag) where
   no_holds : identity_in o.after.core ≡ identity_in d.core → (link : AssociationIdentity) → HasEffect (holds link) o.effects → ⊥
   no_holds same link has =
-      let there : WasJoined their_past link.my.tag link.peer = (w.answers.theirs_held link (sym same ∙ holds_mean d input o link may turn has)).0 in
+      let there : WasJoined their_past link.peer.tag link.peer = (w.answers.theirs_held link (sym same ∙ holds_mean d input o link may turn has)).0 in
       new_tags link there.link has there.held there.tag_is
-
-  -- No association begins under the own tag of the one before.
-  pub has_new_tag : HasNewTag d input o
-  has_new_tag collision =
-      let there = (w.answers.theirs_held collision.old collision.was).0 in
-      new_tags collision.opened.link there.link (subst (HasEffect (holds collision.opened.link)) (sym collision.opened.noted) (inl refl)) there.held
-      (there.tag_is ∙ sym collision.tag)
 
   no_holds_none : identity_in o.after.core ≡ None → (link : AssociationIdentity) → HasEffect (holds link) o.effects → ⊥
   no_holds_none none link has = (let clash : ◌≡◌ {A = Option AssociationIdentity} None (Some link) = sym none ∙ holds_mean d input o link may turn has in absurd (cc))
@@ -133,21 +126,21 @@ module _ (ends : Ends) (e : Endpoint) (past : List Effect) (d : Endpoint) (their
     there_waits = transfer.reassembly.deferral
 
     abbrev tag : ℕ
-    tag = link.my.tag
+    tag = link.peer.tag
 
     answers_here : AnswersRequests (requests_of ends w.pairs) (identity_in e.core) past (Some link) their_past transfer.reassembly.deferral
     answers_here =
         subst (λ (t : Option Transfer). AnswersRequests (requests_of ends w.pairs) (identity_in e.core) past (Some link) their_past (waiting_deferral t)) there
         (subst (λ (l : Option AssociationIdentity). AnswersRequests (requests_of ends w.pairs) (identity_in e.core) past l their_past (waiting_deferral d.queues.transfer)) linked w.answers)
 
-    module _ (size : ℕ) (options : Options) (direction : Direction) (first : ℕ) (run : DirectionRun options first size direction) (asked_is : direction.asking ≡ (ends.sends link.my.tag).asking) (sent : WasSent direction.sent (came_by input))
-        (few : length (ends.sends link.my.tag).asking.requests < 2 ^ 32 - 1) (knows : KnowsPeerIn their_past d.core) where
+    module _ (size : ℕ) (options : Options) (direction : Direction) (first : ℕ) (run : DirectionRun options first size direction) (asked_is : direction.asking ≡ (ends.sends link.peer.tag).asking) (sent : WasSent direction.sent (came_by input))
+        (few : length (ends.sends link.peer.tag).asking.requests < 2 ^ 32 - 1) (knows : KnowsPeerIn their_past d.core) where
       peers : PeerTurns link their_past d input o transfer.reassembly.deferral left.reassembly.deferral
       peers = peers_turn d input o their_past link transfer left knows (plainly_sent options first size direction run (came_by input) sent) may turn linked there is_left
 
       -- the request that is handled
       handled : (number : ℕ) (reset : RequestedReset) → came_by input ≡ Some (reset_request number reset)
-          → (begun : BegunReset) × places.HasEntry begun (ends.sends link.my.tag).asking.requests × (begun.number ≡ number) × (begun.reset ≡ reset)
+          → (begun : BegunReset) × places.HasEntry begun (ends.sends link.peer.tag).asking.requests × (begun.number ≡ number) × (begun.reset ≡ reset)
       handled number reset came =
           let found = begun_of options first size direction run number reset (subst (λ (c : Option Content). WasSent direction.sent c) came sent) in
           (found.0, subst (λ (a : Asking). places.HasEntry found.0 a.requests) asked_is found.1, found.2, found.3)
@@ -158,24 +151,23 @@ module _ (ends : Ends) (e : Endpoint) (past : List Effect) (d : Endpoint) (their
           let is : ◌≡◌ {A = Option RequestedReset} (Some reset) (Some other) = ap requested_in same ∙ asked in
           cc
 
-      numbers_here : AreNumbered (ends.firsts link.my.tag) (ends.sends link.my.tag).asking.requests
-      numbers_here = numbers_of (requests_of ends w.pairs link.my.tag) their_past (answers_here.asked link.my.tag (answers_here.theirs_held link refl).0.some)
+      numbers_here : AreNumbered (ends.firsts link.peer.tag) (ends.sends link.peer.tag).asking.requests
+      numbers_here = numbers_of (requests_of ends w.pairs link.peer.tag) their_past (answers_here.asked link.peer.tag (answers_here.theirs_held link refl).0.some)
 
       -- It is due, and wants what the newest wants.
-      due_so : IsInStep (requests_of ends w.pairs link.my.tag) their_past transfer.reassembly.deferral → (number : ℕ) (reset : RequestedReset) → (came : came_by input ≡ Some (reset_request number reset)) → IsDue their_past number
-          → IsDueAt (requests_of ends w.pairs link.my.tag) transfer.reassembly.deferral (handled number reset came).0
+      due_so : IsInStep (requests_of ends w.pairs link.peer.tag) their_past transfer.reassembly.deferral → (number : ℕ) (reset : RequestedReset) → (came : came_by input ≡ Some (reset_request number reset)) → IsDue their_past number
+          → IsDueAt (requests_of ends w.pairs link.peer.tag) transfer.reassembly.deferral (handled number reset came).0
       due_so step number reset came due =
           let found = handled number reset came in
           due_there (requests_of ends w.pairs) (identity_in e.core) past link their_past transfer.reassembly.deferral found.0 answers_here step found.1 few (subst (IsDue their_past) (sym found.2) due)
 
       -- So does what is performed.
-      pub performs_newest : IsInStep (requests_of ends w.pairs link.my.tag) their_past transfer.reassembly.deferral → PerformsNewest direction transfer (came_by input) o.effects
+      pub performs_newest : IsInStep (requests_of ends w.pairs link.peer.tag) their_past transfer.reassembly.deferral → PerformsNewest direction transfer (came_by input) o.effects
       performs_newest step done parameters reset came asked = by_peers peers
         where
           by_peers : PeerTurns link their_past d input o transfer.reassembly.deferral left.reassembly.deferral → IsNewest direction transfer reset
           by_peers (asks_nothing none same) = (let clash : true ≡ false = sym done ∙ reset_none o.effects none in absurd (cc))
           by_peers (defers_it number other came' due none accept perform kept is waits) = (let found = some_reset o.effects done in absurd (none found.0 found.1 found.2))
-          by_peers (collides_anew collision none empty) = absurd (has_new_tag collision)
           by_peers (begins_anew begun opening linked' none empty) = (let clash : true ≡ false = sym done ∙ reset_none o.effects none in absurd (cc))
           by_peers (performs_it number other came' due only has accept perform empty) =
               let found = handled number other came' in
@@ -191,31 +183,30 @@ module _ (ends : Ends) (e : Endpoint) (past : List Effect) (d : Endpoint) (their
               }
 
       -- Where nothing was asked nothing is performed.
-      pub nothing_performed : has_reset o.effects ≡ true → (ends.sends link.my.tag).asking ≡ nothing_asked → ⊥
+      pub nothing_performed : has_reset o.effects ≡ true → (ends.sends link.peer.tag).asking ≡ nothing_asked → ⊥
       nothing_performed done none = by_peers peers
         where
           by_peers : PeerTurns link their_past d input o transfer.reassembly.deferral left.reassembly.deferral → ⊥
           by_peers (asks_nothing unasked same) = (let clash : true ≡ false = sym done ∙ reset_none o.effects unasked in absurd (cc))
           by_peers (defers_it number other came due unreset accept perform kept is waits) = (let found = some_reset o.effects done in unreset found.0 found.1 found.2)
-          by_peers (collides_anew collision unasked empty) = absurd (has_new_tag collision)
           by_peers (begins_anew begun opening linked' unasked empty) = (let clash : true ≡ false = sym done ∙ reset_none o.effects unasked in absurd (cc))
           by_peers (performs_it number other came due only has accept perform empty) = (let found = handled number other came in subst (λ (a : Asking). places.HasEntry found.0 a.requests) none found.1)
 
       -- the number of a request that is performed, beside that of the newest
       abbrev Compares : (ℕ → ℕ → Type 0) → Type 0
       Compares Are =
-          (number : ℕ) → WasPerformed link.peer number o.effects → (newest : BegunReset) (earlier : List BegunReset) → (ends.sends link.my.tag).asking.requests ≡ newest ∷ earlier → Are number newest.number
+          (number : ℕ) → WasPerformed link.peer number o.effects → (newest : BegunReset) (earlier : List BegunReset) → (ends.sends link.peer.tag).asking.requests ≡ newest ∷ earlier → Are number newest.number
 
       -- how far the receiver is: what it performs is the newest; or it isn't, or messages don't interleave
       abbrev pub Standing : Bool → Type 0
-      Standing true = IsInStep (requests_of ends w.pairs link.my.tag) their_past transfer.reassembly.deferral × Compares (λ number newest. number ≡ newest)
+      Standing true = IsInStep (requests_of ends w.pairs link.peer.tag) their_past transfer.reassembly.deferral × Compares (λ number newest. number ≡ newest)
       Standing false =
-          ((ends.sends link.my.tag).queues.queue.is_interleaved ≡ false) ⊎ (IsInStep (requests_of ends w.pairs link.my.tag) their_past transfer.reassembly.deferral × Compares (λ number newest. number ≢ newest))
+          ((ends.sends link.peer.tag).queues.queue.is_interleaved ≡ false) ⊎ (IsInStep (requests_of ends w.pairs link.peer.tag) their_past transfer.reassembly.deferral × Compares (λ number newest. number ≢ newest))
 
-      pub newest_or_not : IsInStep (requests_of ends w.pairs link.my.tag) their_past transfer.reassembly.deferral → Standing true ⊎ Standing false
+      pub newest_or_not : IsInStep (requests_of ends w.pairs link.peer.tag) their_past transfer.reassembly.deferral → Standing true ⊎ Standing false
       newest_or_not step = by_peers peers
         where
-          by_requests : (number : ℕ) → ((peer : Pair) (other : ℕ) → WasPerformed peer other o.effects → (peer ≡ link.peer) × (other ≡ number)) → (requests : List BegunReset) → (ends.sends link.my.tag).asking.requests ≡ requests
+          by_requests : (number : ℕ) → ((peer : Pair) (other : ℕ) → WasPerformed peer other o.effects → (peer ≡ link.peer) × (other ≡ number)) → (requests : List BegunReset) → (ends.sends link.peer.tag).asking.requests ≡ requests
               → Standing true ⊎ Standing false
           by_requests number only [] none = inl (step, λ other has newest earlier is. absurd (cc))
           by_requests number only (last ∷ before) some =
@@ -230,9 +221,8 @@ module _ (ends : Ends) (e : Endpoint) (past : List Effect) (d : Endpoint) (their
           by_peers : PeerTurns link their_past d input o transfer.reassembly.deferral left.reassembly.deferral → Standing true ⊎ Standing false
           by_peers (asks_nothing none same) = inl (step, λ number has. absurd (none_performed o.effects none link.peer number has))
           by_peers (defers_it number reset came due none accept perform kept is waits) = inl (step, λ other has. absurd (none link.peer other has))
-          by_peers (collides_anew collision none empty) = absurd (has_new_tag collision)
           by_peers (begins_anew begun opening linked' none empty) = inl (step, λ number has. absurd (none_performed o.effects none link.peer number has))
-          by_peers (performs_it number reset came due only has accept perform empty) = by_requests number only (ends.sends link.my.tag).asking.requests refl
+          by_peers (performs_it number reset came due only has accept perform empty) = by_requests number only (ends.sends link.peer.tag).asking.requests refl
 
       -- ---- after the turn
 
@@ -242,22 +232,22 @@ module _ (ends : Ends) (e : Endpoint) (past : List Effect) (d : Endpoint) (their
       module _ (new_same : (begun : Begun d o) → IsOpening (came_by input) → identity_in o.after.core ≡ Some (identity_of begun.my begun.held) → identity_of begun.my begun.held ≡ link → ⊥) (same : identity_in o.after.core ≡ identity_in d.core)
           (is_known : Bool) (stands : Standing is_known) (asking : Asking) (by : PerformedBy is_known input o direction asking) (got : ReceivingEnd) where
         abbrev After : Type 0
-        After = AreAnswered (asked_ends ends link.my.tag asking got) e past o.after (after_effects o.effects their_past)
+        After = AreAnswered (asked_ends ends link.peer.tag asking got) e past o.after (after_effects o.effects their_past)
 
         linked_after : identity_in o.after.core ≡ Some link
         linked_after = same ∙ linked
 
-        answered_by : AnswersRequests (requests_of (asked_ends ends link.my.tag asking got) w.pairs) (identity_in e.core) past (Some link) (after_effects o.effects their_past) left.reassembly.deferral → After
+        answered_by : AnswersRequests (requests_of (asked_ends ends link.peer.tag asking got) w.pairs) (identity_in e.core) past (Some link) (after_effects o.effects their_past) left.reassembly.deferral → After
         answered_by answers =
             record {
               pairs = w.pairs;
-              answers = subst (λ (t : Option Transfer). AnswersRequests (requests_of (asked_ends ends link.my.tag asking got) w.pairs) (identity_in e.core) past (identity_in o.after.core) (after_effects o.effects their_past) (waiting_deferral t)) (sym is_left)
-                  (subst (λ (l : Option AssociationIdentity). AnswersRequests (requests_of (asked_ends ends link.my.tag asking got) w.pairs) (identity_in e.core) past l (after_effects o.effects their_past) left.reassembly.deferral) (sym linked_after) answers);
+              answers = subst (λ (t : Option Transfer). AnswersRequests (requests_of (asked_ends ends link.peer.tag asking got) w.pairs) (identity_in e.core) past (identity_in o.after.core) (after_effects o.effects their_past) (waiting_deferral t)) (sym is_left)
+                  (subst (λ (l : Option AssociationIdentity). AnswersRequests (requests_of (asked_ends ends link.peer.tag asking got) w.pairs) (identity_in e.core) past l (after_effects o.effects their_past) left.reassembly.deferral) (sym linked_after) answers);
               unlinked = λ none. (let clash : ◌≡◌ {A = Option Transfer} None (Some left) = sym none ∙ is_left in absurd (cc));
             }
 
         -- Nothing was performed.
-        asking_same : has_reset o.effects ≡ false → asking ≡ (ends.sends link.my.tag).asking
+        asking_same : has_reset o.effects ≡ false → asking ≡ (ends.sends link.peer.tag).asking
         asking_same none = by.3 ∙ go by.0 by.2 ∙ asked_is
           where
             go : (is_reset : Bool) → (is_reset ≡ true → has_reset o.effects ≡ true) → performed_where is_known is_reset direction.asking ≡ direction.asking
@@ -268,11 +258,11 @@ module _ (ends : Ends) (e : Endpoint) (past : List Effect) (d : Endpoint) (their
                 by_known false = refl
             go true says = (let clash : true ≡ false = sym (says refl) ∙ none in absurd (cc))
 
-        unchanged : asking ≡ (ends.sends link.my.tag).asking → AnswersRequests (requests_of ends w.pairs) (identity_in e.core) past (Some link) (after_effects o.effects their_past) left.reassembly.deferral → After
+        unchanged : asking ≡ (ends.sends link.peer.tag).asking → AnswersRequests (requests_of ends w.pairs) (identity_in e.core) past (Some link) (after_effects o.effects their_past) left.reassembly.deferral → After
         unchanged is answers =
             answered_by
-            (same_requests (requests_of (asked_ends ends link.my.tag asking got) w.pairs) (requests_of ends w.pairs) (identity_in e.core) past (Some link) (after_effects o.effects their_past) left.reassembly.deferral
-            (same_asked ends w.pairs link.my.tag got asking is) answers)
+            (same_requests (requests_of (asked_ends ends link.peer.tag asking got) w.pairs) (requests_of ends w.pairs) (identity_in e.core) past (Some link) (after_effects o.effects their_past) left.reassembly.deferral
+            (same_asked ends w.pairs link.peer.tag got asking is) answers)
 
         none_reset : ((peer : Pair) (other : ℕ) → WasPerformed peer other o.effects → ⊥) → has_reset o.effects ≡ false
         none_reset none = go (has_reset o.effects) refl
@@ -283,7 +273,7 @@ module _ (ends : Ends) (e : Endpoint) (past : List Effect) (d : Endpoint) (their
 
         -- A request was performed, and it is known to be the newest, or messages don't interleave.
         performed_so : (number : ℕ) (reset : RequestedReset) → came_by input ≡ Some (reset_request number reset) → WasPerformed link.peer number o.effects
-            → asking ≡ performed_where is_known true (ends.sends link.my.tag).asking
+            → asking ≡ performed_where is_known true (ends.sends link.peer.tag).asking
         performed_so number reset came has = by.3 ∙ go by.0 by.1 ∙ ap (performed_where is_known true) asked_is
           where
             go : (is_reset : Bool) → (is_reset ≡ false → (has_reset o.effects ≡ false) ⊎ IsCalm (came_by input)) → performed_where is_known is_reset direction.asking ≡ performed_where is_known true direction.asking
@@ -300,26 +290,26 @@ module _ (ends : Ends) (e : Endpoint) (past : List Effect) (d : Endpoint) (their
             let found = handled number reset came in
             let one = due_so step number reset came due in
             let top : found.0 ≡ one.newest =
-            newest_where (requests_of ends w.pairs link.my.tag) their_past transfer.reassembly.deferral found.0 numbers_here found.1 few one (found.2 ∙ newest number has one.newest one.earlier one.is) in
-            let is : asking ≡ record (ends.sends link.my.tag).asking { is_performed = true } = performed_so number reset came has ∙ ap (λ (b : Bool). performed_where b true (ends.sends link.my.tag).asking) known in
+            newest_where (requests_of ends w.pairs link.peer.tag) their_past transfer.reassembly.deferral found.0 numbers_here found.1 few one (found.2 ∙ newest number has one.newest one.earlier one.is) in
+            let is : asking ≡ record (ends.sends link.peer.tag).asking { is_performed = true } = performed_so number reset came has ∙ ap (λ (b : Bool). performed_where b true (ends.sends link.peer.tag).asking) known in
             answered_by
-            (same_requests (requests_of (asked_ends ends link.my.tag asking got) w.pairs)
-            (set_at link.my.tag (record (requests_of ends w.pairs link.my.tag) { asking = record (ends.sends link.my.tag).asking { is_performed = true } }) (requests_of ends w.pairs))
+            (same_requests (requests_of (asked_ends ends link.peer.tag asking got) w.pairs)
+            (set_at link.peer.tag (record (requests_of ends w.pairs link.peer.tag) { asking = record (ends.sends link.peer.tag).asking { is_performed = true } }) (requests_of ends w.pairs))
             (identity_in e.core) past (Some link) (after_effects o.effects their_past) left.reassembly.deferral
-            (λ t. new_asked ends w.pairs link.my.tag got asking t ∙ ap (λ (a : Asking). set_at link.my.tag (record (requests_of ends w.pairs link.my.tag) { asking = a }) (requests_of ends w.pairs) t) is)
+            (λ t. new_asked ends w.pairs link.peer.tag got asking t ∙ ap (λ (a : Asking). set_at link.peer.tag (record (requests_of ends w.pairs link.peer.tag) { asking = a }) (requests_of ends w.pairs) t) is)
             (performs.performs_it (requests_of ends w.pairs) (identity_in e.core) past link o.effects their_past transfer.reassembly.deferral left.reassembly.deferral found.0 answers_here (no_holds same)
             (λ peer other h. (let one' = only peer other h in (one'.0, one'.1 ∙ sym found.2))) found.1 one.earlier (one.is ∙ ap (λ (b : BegunReset). b ∷ one.earlier) (sym top))
             (subst (λ (n : ℕ). WasPerformed link.peer n o.effects) (sym found.2) has) (accept ∙ ap (λ (n : ℕ). Some (next_number n)) (sym found.2)) perform empty))
         by_performing false known (inl kind) number reset came due only has accept perform empty =
             let found = handled number reset came in
-            unchanged (performed_so number reset came has ∙ ap (λ (b : Bool). performed_where b true (ends.sends link.my.tag).asking) known)
+            unchanged (performed_so number reset came has ∙ ap (λ (b : Bool). performed_where b true (ends.sends link.peer.tag).asking) known)
             (performs.performs_plain (requests_of ends w.pairs) (identity_in e.core) past link o.effects their_past transfer.reassembly.deferral left.reassembly.deferral found.0 answers_here (no_holds same)
             (λ peer other h. (let one = only peer other h in (one.0, one.1 ∙ sym found.2))) found.1 kind)
         by_performing false known (inr (step, other)) number reset came due only has accept perform empty =
             let found = handled number reset came in
             let one = due_so step number reset came due in
-            let behind = behind_where (requests_of ends w.pairs link.my.tag) their_past transfer.reassembly.deferral found.0 numbers_here found.1 few one (λ is. other number has one.newest one.earlier one.is (sym found.2 ∙ is)) in
-            unchanged (performed_so number reset came has ∙ ap (λ (b : Bool). performed_where b true (ends.sends link.my.tag).asking) known)
+            let behind = behind_where (requests_of ends w.pairs link.peer.tag) their_past transfer.reassembly.deferral found.0 numbers_here found.1 few one (λ is. other number has one.newest one.earlier one.is (sym found.2 ∙ is)) in
+            unchanged (performed_so number reset came has ∙ ap (λ (b : Bool). performed_where b true (ends.sends link.peer.tag).asking) known)
             (performs.performs_behind (requests_of ends w.pairs) (identity_in e.core) past link o.effects their_past transfer.reassembly.deferral left.reassembly.deferral found.0 answers_here (no_holds same)
             (λ peer other' h. (let one' = only peer other' h in (one'.0, one'.1 ∙ sym found.2))) found.1 one behind (accept ∙ ap (λ (n : ℕ). Some (next_number n)) (sym found.2)) perform empty)
 
@@ -330,10 +320,10 @@ module _ (ends : Ends) (e : Endpoint) (past : List Effect) (d : Endpoint) (their
             → (kept : DeferralModel) → left.reassembly.deferral ≡ Some kept → WaitsFor reset transfer.reassembly.deferral kept → After
         by_deferring b stands number reset came due none accept perform kept is waits = unchanged (asking_same (none_reset none)) (go b stands)
           where
-            found : (begun : BegunReset) × places.HasEntry begun (ends.sends link.my.tag).asking.requests × (begun.number ≡ number) × (begun.reset ≡ reset)
+            found : (begun : BegunReset) × places.HasEntry begun (ends.sends link.peer.tag).asking.requests × (begun.number ≡ number) × (begun.reset ≡ reset)
             found = handled number reset came
 
-            deferred : IsInStep (requests_of ends w.pairs link.my.tag) their_past transfer.reassembly.deferral → AnswersRequests (requests_of ends w.pairs) (identity_in e.core) past (Some link) (after_effects o.effects their_past) left.reassembly.deferral
+            deferred : IsInStep (requests_of ends w.pairs link.peer.tag) their_past transfer.reassembly.deferral → AnswersRequests (requests_of ends w.pairs) (identity_in e.core) past (Some link) (after_effects o.effects their_past) left.reassembly.deferral
             deferred step =
                 defers.defers_it (requests_of ends w.pairs) (identity_in e.core) past link o.effects their_past transfer.reassembly.deferral left.reassembly.deferral answers_here (no_holds same) none found.0 kept step found.1 few
                 (subst (IsDue their_past) (sym found.2) due) (accept ∙ ap (λ (n : ℕ). Some (next_number n)) (sym found.2)) (perform ∙ ap Some (sym found.2)) is
@@ -356,7 +346,6 @@ module _ (ends : Ends) (e : Endpoint) (past : List Effect) (d : Endpoint) (their
                 numbers.0 numbers.1 waits)
             by_peers (performs_it number reset came due only has accept perform empty) = by_performing is_known refl stands number reset came due only has accept perform empty
             by_peers (defers_it number reset came due none accept perform kept is waits) = by_deferring is_known stands number reset came due none accept perform kept is waits
-            by_peers (collides_anew collision none empty) = absurd (has_new_tag collision)
             by_peers (begins_anew begun opening there' none empty) = absurd (new_same begun opening there' (one_link there' linked_after))
               where
                 one_link : {found : Option AssociationIdentity} {one two : AssociationIdentity} → found ≡ Some one → found ≡ Some two → one ≡ two

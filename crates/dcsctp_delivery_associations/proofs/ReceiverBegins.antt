@@ -1,5 +1,5 @@
 -- A turn of the receiver in which an association begins.
-use Rattle.std.proofs.Common.{◌≡◌, ◌≢◌, ℕ, ◌<◌, ◌^◌, Option, Some, List, [], ◌∷◌, length, refl, sym, ◌∙◌, ap, arith, subst, inl, inr}
+use Rattle.std.proofs.Common.{false, ◌≡◌, ◌≢◌, ℕ, ◌<◌, ◌^◌, Option, Some, List, [], ◌∷◌, length, refl, sym, ◌∙◌, ap, arith, subst, inl, inr}
 use Rattle.std.specs.Prelude.{◌⊎◌}
 use Rattle.dcsctp_spec_lemmas.specs.types.declared.association.Pair.{Pair}
 use Rattle.dcsctp_spec_lemmas.specs.types.declared.options.Options.{Options}
@@ -24,10 +24,13 @@ use Rattle.dcsctp_delivery_directions.proofs.Directions.{direction_queues}
 use Rattle.dcsctp_delivery_turns.specs.Actions.{peer_tag, IsCall}
 use Rattle.dcsctp_delivery_turns.specs.Asking.{own_of, AsksFit}
 use Rattle.dcsctp_delivery_turns.specs.Runs.{OpensAssociation}
-use Rattle.dcsctp_delivery_associations.specs.Ends.{ReceivingEnd, joined, new_end, Ends, HadPeer, Awaits, Sender, NewTag, HadTag, Receiver, Between}
-use Rattle.dcsctp_delivery_associations.specs.Reads.{Reading, tag_or, with_tag}
+use Rattle.dcsctp_delivery_associations.specs.Ends.{SendingEnd, ReceivingEnd, joined, new_end, Ends, sender_key, HadPeer, Awaits, Sender, NewTag, HadTag, Receiver, awaiting, MetOrAlone, Between}
+use Rattle.dcsctp_delivery_associations.specs.Reads.{Tags, tags_of, Reading, tags_or, with_key}
 use Rattle.dcsctp_delivery_associations.proofs.Growing.{set_all}
-use Rattle.dcsctp_delivery_associations.proofs.SenderStays.{set_three}
+use Rattle.dcsctp_delivery_associations.proofs.Growing.{set_three}
+use Rattle.dcsctp_delivery_associations.proofs.Senders.{alone_later}
+use Rattle.dcsctp_delivery_associations.proofs.WhatIsRead.{all_of_later}
+use Rattle.dcsctp_delivery_turns.proofs.Runs.{senders_begin}
 use Rattle.dcsctp_delivery_associations.proofs.WhatIsLeft.{goes_left}
 use Rattle.dcsctp_delivery_associations.specs.Answered.{AreAnswered}
 use Rattle.dcsctp_delivery_associations.specs.Laws.{AreEnds}
@@ -42,27 +45,27 @@ begun_end options other first same =
 
 -- At the sender there is the matching association, or none yet.
 data Known (ends : Ends) (key : ℕ) (new : AssociationIdentity) : Type 0 where
-  is_crossed : ends.firsts new.my.tag ≡ new.peer.first_tsn → Known ends key new
-  is_awaited : Awaits (ends.sends new.my.tag) → new.my.tag ≢ key → Known ends key new
+  is_crossed : ends.firsts new.peer.tag ≡ new.peer.first_tsn → Known ends key new
+  is_awaited : Awaits (ends.sends new.peer.tag) → new.peer.tag ≢ key → Known ends key new
 
-known : (ends : Ends) (key : ℕ) (below : EndpointQueues) (queued : List Message) (past their_past : List Effect) (packets : List Emission) (new : AssociationIdentity) → Sender ends key below queued past packets → NewTag their_past past new → Known ends key new
-known ends key below queued past their_past packets new s is =
-    elim (decide new.my.tag key) [
+known : (ends : Ends) (key to : ℕ) (below : EndpointQueues) (queued : List Message) (past their_past : List Effect) (packets : List Emission) (new : AssociationIdentity) → Sender ends key to below queued past packets → NewTag their_past past new → Known ends key new
+known ends key to below queued past their_past packets new s is =
+    elim (decide new.peer.tag key) [
       | inl e ↦ is_crossed (of_had (subst (λ (t : ℕ). HadPeer past t (ends.firsts t)) (sym e) (s.current (λ zero. is.some (e ∙ zero)))))
-      | inr ne ↦ elim (s.begun new.my.tag is.some) [
+      | inr ne ↦ elim (s.begun new.peer.tag is.some) [
         | inl waits ↦ is_awaited waits ne
         | inr had ↦ is_crossed (of_had had)
       ]
     ]
   where
-    of_had : HadPeer past new.my.tag (ends.firsts new.my.tag) → ends.firsts new.my.tag ≡ new.peer.first_tsn
-    of_had had = sym had.first_is ∙ ap (λ (p : Pair). p.first_tsn) (is.match had.link had.held (inl had.tag_is)).0
+    of_had : HadPeer past new.peer.tag (ends.firsts new.peer.tag) → ends.firsts new.peer.tag ≡ new.peer.first_tsn
+    of_had had = sym had.first_is ∙ ap (λ (p : Pair). p.first_tsn) (is.match had.link had.held had.tag_is)
 
 module _ (options : Options) (ends : Ends) (e : Endpoint) (queued : List Message) (past : List Effect) (packets : List Emission) (d : Endpoint) (their_past : List Effect) (reading : Reading)
     (h : Between options ends e queued past packets d their_past reading) (few : length queued < 2 ^ 64) (same : SameOptions options d.options) (input : Input) (o : Outcome) (w : AreAnswered ends e past d their_past) (may : IsCall input) (turn : Turn d input o) where
   module _ (opens : OpensAssociation d input o) (is : NewTag their_past past (identity_of opens.begun.my opens.begun.held)) where
     abbrev tag : ℕ
-    tag = opens.begun.my.tag
+    tag = opens.begun.held.peer.tag
 
     abbrev first : ℕ
     first = opens.begun.held.peer.first_tsn
@@ -70,25 +73,46 @@ module _ (options : Options) (ends : Ends) (e : Endpoint) (queued : List Message
     abbrev got : ReceivingEnd
     got = record { tracker = opens.left.tracker; reassembly = opens.left.reassembly; read = [] }
 
+    new_held : HasEffect (holds (identity_of opens.begun.my opens.begun.held)) (after_effects o.effects their_past)
+    new_held =
+        subst (λ (l : List Effect). HasEffect (holds (identity_of opens.begun.my opens.begun.held)) (after_effects l their_past)) (sym opens.begun.noted)
+        (after_within opens.begun.later (holds (identity_of opens.begun.my opens.begun.held) ∷ their_past) (holds (identity_of opens.begun.my opens.begun.held)) (inl refl))
+
     had_new : HadTag (after_effects o.effects their_past) tag first
     had_new =
         record {
           link = identity_of opens.begun.my opens.begun.held;
-          held = subst (λ (l : List Effect). HasEffect (holds (identity_of opens.begun.my opens.begun.held)) (after_effects l their_past)) (sym opens.begun.noted)
-              (after_within opens.begun.later (holds (identity_of opens.begun.my opens.begun.held) ∷ their_past) (holds (identity_of opens.begun.my opens.begun.held)) (inl refl));
+          held = new_held;
           tag_is = refl;
           first_is = refl;
           some = is.some;
         }
 
-    -- The run continues to the end of the turn.
+    -- The run continues to the end of the turn, whoever sends.
+    opened_by : (sends : SendingEnd) → DirectionRun options first options.max_receiver_window_buffer_size (joined sends (new_end options first)) → DirectionRun options first options.max_receiver_window_buffer_size (joined sends got)
+    opened_by sends run =
+        opens.runs options first options.max_receiver_window_buffer_size (joined sends (new_end options first))
+        (subst (λ (g : ReceivingEnd). DirectionRun options first options.max_receiver_window_buffer_size (joined sends g)) (sym (begun_end options d.options first same)) run)
+
     opened : DirectionRun options first options.max_receiver_window_buffer_size (joined (ends.sends tag) (new_end options first)) → DirectionRun options first options.max_receiver_window_buffer_size (joined (ends.sends tag) got)
-    opened run =
-        opens.runs options first options.max_receiver_window_buffer_size (joined (ends.sends tag) (new_end options first))
-        (subst (λ (g : ReceivingEnd). DirectionRun options first options.max_receiver_window_buffer_size (joined (ends.sends tag) g)) (sym (begun_end options d.options first same)) run)
+    opened = opened_by (ends.sends tag)
+
+    -- It needs no sender yet.
+    later_alone : (firsts : ℕ → ℕ) → firsts tag ≡ first → ((t : ℕ) → t ≢ tag → firsts t ≡ ends.firsts t) → (t : ℕ)
+        → MetOrAlone options (record ends { sends = ends.sends; gets = set_at tag got ends.gets; firsts = firsts }) past (after_effects o.effects their_past) t
+    later_alone firsts here others t =
+        elim (decide t tag) [
+          | inl e' ↦ subst (MetOrAlone options (record ends { sends = ends.sends; gets = set_at tag got ends.gets; firsts = firsts }) past (after_effects o.effects their_past)) (sym e')
+              (inr (subst (λ (n : ℕ). DirectionRun options n options.max_receiver_window_buffer_size (joined (awaiting options) (set_at tag got ends.gets tag))) (sym here)
+              (subst (λ (g : ReceivingEnd). DirectionRun options first options.max_receiver_window_buffer_size (joined (awaiting options) g)) (sym (set_same tag got ends.gets))
+              (opened_by (awaiting options) (senders_begin options options first options.max_receiver_window_buffer_size (λ id. false))))))
+          | inr ne ↦
+              alone_later options ends (record ends { sends = ends.sends; gets = set_at tag got ends.gets; firsts = firsts }) past past their_past (after_effects o.effects their_past) (λ effect has. has) (after_within o.effects their_past) t
+              (set_other tag t got ends.gets ne) (others t ne) (h.alone t)
+        ]
 
     later_receiver : (firsts : ℕ → ℕ) → firsts tag ≡ first → ((t : ℕ) → t ≢ tag → firsts t ≡ ends.firsts t) → ends.gets tag ≡ new_end options (ends.firsts tag)
-        → Receiver options (record ends { sends = ends.sends; gets = set_at tag got ends.gets; firsts = firsts }) o.after (after_effects o.effects their_past) (record { reads = reading.reads; last = tag })
+        → Receiver options (record ends { sends = ends.sends; gets = set_at tag got ends.gets; firsts = firsts }) o.after (after_effects o.effects their_past) (record { reads = reading.reads; last = tags_of (identity_of opens.begun.my opens.begun.held) })
     later_receiver firsts here others fresh =
         record {
           fits = opens.fits;
@@ -97,18 +121,22 @@ module _ (options : Options) (ends : Ends) (e : Endpoint) (queued : List Message
               record {
                 link = identity_of opens.begun.my opens.begun.held;
                 linked = opens.linked;
+                held = new_held;
+                own_some = is.own_some;
                 had = subst (λ (n : ℕ). HadTag (after_effects o.effects their_past) tag n) (sym here) had_new;
                 tracker = ap (λ (g : ReceivingEnd). g.tracker) (set_same tag got ends.gets) ∙ ap (λ (t : Transfer). t.tracker) one;
                 reassembly = ap (λ (g : ReceivingEnd). g.reassembly) (set_same tag got ends.gets) ∙ ap (λ (t : Transfer). t.reassembly) one;
               }
               );
           last = λ link is'. own_tag link is';
-          left = goes_left d input o may turn ends.gets (set_at tag got ends.gets) reading.last tag opens.left opens.is h.receiver.left;
-          were_read = set_all (λ t g. with_tag t reading.reads ≡ g.read) tag got ends.gets (h.receiver.were_read tag ∙ ap (λ (g : ReceivingEnd). g.read) fresh) (λ t ne. h.receiver.were_read t);
+          left = goes_left d input o may turn ends.gets (set_at tag got ends.gets) reading.last.peer tag opens.left opens.is h.receiver.left;
+          were_read = set_all (λ t g. with_key t reading.reads ≡ g.read) tag got ends.gets (h.receiver.were_read tag ∙ ap (λ (g : ReceivingEnd). g.read) fresh) (λ t ne. h.receiver.were_read t);
           begun = λ t. elim (decide t tag) [
             | inl e' ↦ inr (subst (λ (n : ℕ). HadTag (after_effects o.effects their_past) n (firsts n)) (sym e') (subst (λ (n : ℕ). HadTag (after_effects o.effects their_past) tag n) (sym here) had_new))
             | inr ne ↦ other t ne (h.receiver.begun t)
           ];
+          last_of = inr (identity_of opens.begun.my opens.begun.held, new_held, refl);
+          reads_of = all_of_later o.effects their_past reading.reads h.receiver.reads_of;
         }
       where
         same_transfer : (found : Option Transfer) (one two : Transfer) → found ≡ Some one → found ≡ Some two → one ≡ two
@@ -117,15 +145,15 @@ module _ (options : Options) (ends : Ends) (e : Endpoint) (queued : List Message
         same_link : (found : Option AssociationIdentity) (one two : AssociationIdentity) → found ≡ Some one → found ≡ Some two → one ≡ two
         same_link found one two a b = cc
 
-        own_tag : (link : AssociationIdentity) → identity_in o.after.core ≡ Some link → tag ≡ link.my.tag
-        own_tag link there = (let same' : identity_of opens.begun.my opens.begun.held ≡ link = same_link (identity_in o.after.core) (identity_of opens.begun.my opens.begun.held) link opens.linked there in ap (λ (l : AssociationIdentity). l.my.tag) same')
+        own_tag : (link : AssociationIdentity) → identity_in o.after.core ≡ Some link → tags_of (identity_of opens.begun.my opens.begun.held) ≡ tags_of link
+        own_tag link there = (let same' : identity_of opens.begun.my opens.begun.held ≡ link = same_link (identity_in o.after.core) (identity_of opens.begun.my opens.begun.held) link opens.linked there in ap tags_of same')
 
         other : (t : ℕ) → t ≢ tag → (ends.gets t ≡ new_end options (ends.firsts t)) ⊎ HadTag their_past t (ends.firsts t)
             → (set_at tag got ends.gets t ≡ new_end options (firsts t)) ⊎ HadTag (after_effects o.effects their_past) t (firsts t)
         other t ne (inl new) = inl (set_other tag t got ends.gets ne ∙ new ∙ ap (new_end options) (sym (others t ne)))
         other t ne (inr had) = inr (subst (λ (n : ℕ). HadTag (after_effects o.effects their_past) t n) (sym (others t ne)) (tag_later o.effects their_past t (ends.firsts t) had))
 
-    crossed_opens : ends.firsts tag ≡ first → ends.gets tag ≡ new_end options (ends.firsts tag) → AreEnds ends.never_resets options e queued past packets o.after (after_effects o.effects their_past) (record { reads = reading.reads; last = tag })
+    crossed_opens : ends.firsts tag ≡ first → ends.gets tag ≡ new_end options (ends.firsts tag) → AreEnds ends.never_resets options e queued past packets o.after (after_effects o.effects their_past) (record { reads = reading.reads; last = tags_of (identity_of opens.begun.my opens.begun.held) })
     crossed_opens here fresh =
         let end : ends.gets tag ≡ new_end options first = fresh ∙ ap (new_end options) here in
         let start : DirectionRun options first options.max_receiver_window_buffer_size (joined (ends.sends tag) (new_end options first)) =
@@ -138,18 +166,20 @@ module _ (options : Options) (ends : Ends) (e : Endpoint) (queued : List Message
             runs = set_all (λ t g. DirectionRun options (ends.firsts t) options.max_receiver_window_buffer_size (joined (ends.sends t) g)) tag got ends.gets
                 (subst (λ (n : ℕ). DirectionRun options n options.max_receiver_window_buffer_size (joined (ends.sends tag) got)) (sym here) (opened start)) (λ t ne. h.runs t);
             small = h.small;
-            sender = sender_same ends (set_at tag got ends.gets) (peer_tag e.core) e.queues queued past packets h.sender;
+            sender = sender_same ends (set_at tag got ends.gets) (sender_key e.core) (peer_tag e.core) e.queues queued past packets h.sender;
             asks = h.asks;
             numbered = h.numbered;
             kept = h.kept;
             dropping = h.dropping;
             unbegun = h.unbegun;
             receiver = later_receiver ends.firsts here (λ t ne. refl) fresh;
+            mine = h.mine;
+            alone = later_alone ends.firsts here (λ t ne. refl);
           };
           answered = opens_answered ends e past d their_past w input o may turn opens is (set_at tag got ends.gets) ends.firsts here (λ t ne. refl) (inl here);
         }
 
-    awaited_opens : Awaits (ends.sends tag) → tag ≢ peer_tag e.core → ends.gets tag ≡ new_end options (ends.firsts tag) → AreEnds ends.never_resets options e queued past packets o.after (after_effects o.effects their_past) (record { reads = reading.reads; last = tag })
+    awaited_opens : Awaits (ends.sends tag) → tag ≢ sender_key e.core → ends.gets tag ≡ new_end options (ends.firsts tag) → AreEnds ends.never_resets options e queued past packets o.after (after_effects o.effects their_past) (record { reads = reading.reads; last = tags_of (identity_of opens.begun.my opens.begun.held) })
     awaited_opens waits apart fresh =
         let queues = direction_queues options (ends.firsts tag) options.max_receiver_window_buffer_size (joined (ends.sends tag) (ends.gets tag)) (h.runs tag) (h.small tag)
         (let short = h.sender.short tag in omega (arith, few, short)) in
@@ -173,29 +203,31 @@ module _ (options : Options) (ends : Ends) (e : Endpoint) (queued : List Message
           between = record {
             runs = set_three (λ t f s g. DirectionRun options f options.max_receiver_window_buffer_size (joined (ends.sends t) g)) tag first (ends.sends tag) got ends.firsts ends.sends ends.gets (opened start) (λ t ne. h.runs t);
             small = set_all (λ t f. f < 2 ^ 32) tag first ends.firsts is.small (λ t ne. h.small t);
-            sender = sender_first ends (set_at tag got ends.gets) tag first (peer_tag e.core) e.queues queued past packets h.sender apart waits;
-            asks = subst (λ (n : ℕ). AsksFit n (own_of e) (ends.sends (peer_tag e.core)).asking) (sym (set_other tag (peer_tag e.core) first ends.firsts (λ is'. apart (sym is')))) h.asks;
+            sender = sender_first ends (set_at tag got ends.gets) tag first (sender_key e.core) (peer_tag e.core) e.queues queued past packets h.sender apart waits;
+            asks = subst (λ (n : ℕ). AsksFit n (own_of e) (ends.sends (sender_key e.core)).asking) (sym (set_other tag (sender_key e.core) first ends.firsts (λ is'. apart (sym is')))) h.asks;
             numbered = h.numbered;
             kept = h.kept;
             dropping = h.dropping;
             unbegun = h.unbegun;
             receiver = later_receiver (set_at tag first ends.firsts) (set_same tag first ends.firsts) (λ t ne. set_other tag t first ends.firsts ne) fresh;
+            mine = h.mine;
+            alone = later_alone (set_at tag first ends.firsts) (set_same tag first ends.firsts) (λ t ne. set_other tag t first ends.firsts ne);
           };
           answered = opens_answered ends e past d their_past w input o may turn opens is (set_at tag got ends.gets) (set_at tag first ends.firsts) (set_same tag first ends.firsts) (λ t ne. set_other tag t first ends.firsts ne)
               (inr (waits.asking, apart));
         }
 
-    opens_last : AreEnds ends.never_resets options e queued past packets o.after (after_effects o.effects their_past) (record { reads = reading.reads; last = tag })
+    opens_last : AreEnds ends.never_resets options e queued past packets o.after (after_effects o.effects their_past) (record { reads = reading.reads; last = tags_of (identity_of opens.begun.my opens.begun.held) })
     opens_last =
         elim (h.receiver.begun tag) [
-          | inl fresh ↦ go fresh (known ends (peer_tag e.core) e.queues queued past their_past packets (identity_of opens.begun.my opens.begun.held) h.sender is)
-          | inr had ↦ absurd ((is.other had.link had.held).0 had.tag_is)
+          | inl fresh ↦ go fresh (known ends (sender_key e.core) (peer_tag e.core) e.queues queued past their_past packets (identity_of opens.begun.my opens.begun.held) h.sender is)
+          | inr had ↦ absurd (is.other had.link had.held had.tag_is)
         ]
       where
-        go : ends.gets tag ≡ new_end options (ends.firsts tag) → Known ends (peer_tag e.core) (identity_of opens.begun.my opens.begun.held) → AreEnds ends.never_resets options e queued past packets o.after (after_effects o.effects their_past) (record { reads = reading.reads; last = tag })
+        go : ends.gets tag ≡ new_end options (ends.firsts tag) → Known ends (sender_key e.core) (identity_of opens.begun.my opens.begun.held) → AreEnds ends.never_resets options e queued past packets o.after (after_effects o.effects their_past) (record { reads = reading.reads; last = tags_of (identity_of opens.begun.my opens.begun.held) })
         go fresh (is_crossed here) = crossed_opens here fresh
         go fresh (is_awaited waits apart) = awaited_opens waits apart fresh
 
-    pub opens_goes : AreEnds ends.never_resets options e queued past packets o.after (after_effects o.effects their_past) (record { reads = reading.reads; last = tag_or reading.last (identity_in o.after.core) })
+    pub opens_goes : AreEnds ends.never_resets options e queued past packets o.after (after_effects o.effects their_past) (record { reads = reading.reads; last = tags_or reading.last (identity_in o.after.core) })
     opens_goes =
-        subst (λ (n : ℕ). AreEnds ends.never_resets options e queued past packets o.after (after_effects o.effects their_past) (record { reads = reading.reads; last = n })) (sym (ap (tag_or reading.last) opens.linked)) opens_last
+        subst (λ (n : Tags). AreEnds ends.never_resets options e queued past packets o.after (after_effects o.effects their_past) (record { reads = reading.reads; last = n })) (sym (ap (tags_or reading.last) opens.linked)) opens_last

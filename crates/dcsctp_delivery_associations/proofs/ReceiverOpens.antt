@@ -15,12 +15,12 @@ use Rattle.dcsctp_spec_lemmas.specs.spec.queues.Transfer.{Transfer}
 use Rattle.dcsctp_delivery_sending.specs.Places.{set_at}
 use Rattle.dcsctp_delivery_sending.proofs.Places.{decide, set_same, set_other}
 use Rattle.dcsctp_delivery_directions.specs.Directions.{nothing_asked}
-use Rattle.dcsctp_delivery_turns.specs.Actions.{IsOpening, came_by, peer_tag, IsCall, IsCalm}
+use Rattle.dcsctp_delivery_turns.specs.Actions.{IsOpening, came_by, IsCall, IsCalm}
 use Rattle.dcsctp_delivery_turns.specs.PeerRequests.{NoneAsked}
 use Rattle.dcsctp_delivery_turns.specs.Runs.{OpensAssociation}
 use Rattle.dcsctp_delivery_turns.proofs.Holding.{holds_mean, ends_mean}
 use Rattle.dcsctp_delivery_turns.proofs.PeersTurns.{calm_asks_nothing}
-use Rattle.dcsctp_delivery_associations.specs.Ends.{ReceivingEnd, Ends, NewTag}
+use Rattle.dcsctp_delivery_associations.specs.Ends.{ReceivingEnd, Ends, sender_key, NewTag}
 use Rattle.dcsctp_delivery_associations.specs.Answered.{Requests, request_number_at, SenderHadPeer, AnswersRequests, requests_of, waiting_deferral, AreAnswered}
 use Rattle.dcsctp_delivery_associations.proofs.UnaskedPasts.{first_numbers}
 use Rattle.dcsctp_delivery_associations.proofs.AnsweringRests as answering
@@ -61,13 +61,13 @@ module _ (ends : Ends) (e : Endpoint) (past : List Effect) (d : Endpoint) (their
   -- ---- one begins
 
   module _ (opens : OpensAssociation d input o) (is : NewTag their_past past (identity_of opens.begun.my opens.begun.held)) (gets : ℕ → ReceivingEnd) (firsts : ℕ → ℕ)
-      (first_is : firsts opens.begun.my.tag ≡ opens.begun.held.peer.first_tsn) (others : (tag : ℕ) → tag ≢ opens.begun.my.tag → firsts tag ≡ ends.firsts tag)
-      (which : (ends.firsts opens.begun.my.tag ≡ opens.begun.held.peer.first_tsn) ⊎ (((ends.sends opens.begun.my.tag).asking ≡ nothing_asked) × (opens.begun.my.tag ≢ peer_tag e.core))) where
+      (first_is : firsts opens.begun.held.peer.tag ≡ opens.begun.held.peer.first_tsn) (others : (tag : ℕ) → tag ≢ opens.begun.held.peer.tag → firsts tag ≡ ends.firsts tag)
+      (which : (ends.firsts opens.begun.held.peer.tag ≡ opens.begun.held.peer.first_tsn) ⊎ (((ends.sends opens.begun.held.peer.tag).asking ≡ nothing_asked) × (opens.begun.held.peer.tag ≢ sender_key e.core))) where
     abbrev new : AssociationIdentity
     new = identity_of opens.begun.my opens.begun.held
 
     abbrev t : ℕ
-    t = opens.begun.my.tag
+    t = opens.begun.held.peer.tag
 
     noted : HasEffect (holds new) o.effects
     noted = subst (HasEffect (holds new)) (sym opens.begun.noted) (inl refl)
@@ -99,21 +99,21 @@ module _ (ends : Ends) (e : Endpoint) (past : List Effect) (d : Endpoint) (their
     not_there found there first = by_mine found there
       where
         of_held : SenderHadPeer past t (w.pairs t) → w.pairs t ≡ new.peer
-        of_held held = sym held.my_is ∙ (is.match held.link held.held (inl held.tag_is)).0
+        of_held held = sym held.my_is ∙ is.match held.link held.held held.tag_is
 
-        by_asked : ((link : AssociationIdentity) → identity_in e.core ≡ Some link → link.peer.tag ≢ t) → ((ends.sends t).asking ≡ nothing_asked) ⊎ SenderHadPeer past t (w.pairs t) → IsCrossedOrAwaited (requests_of ends w.pairs t) (identity_in e.core) new
+        by_asked : ((link : AssociationIdentity) → identity_in e.core ≡ Some link → link.my.tag ≢ t) → ((ends.sends t).asking ≡ nothing_asked) ⊎ SenderHadPeer past t (w.pairs t) → IsCrossedOrAwaited (requests_of ends w.pairs t) (identity_in e.core) new
         by_asked apart (inl none) = inr (none, apart)
         by_asked apart (inr held) = inl (first, of_held held)
 
         by_mine : (found : Option AssociationIdentity) → identity_in e.core ≡ found → IsCrossedOrAwaited (requests_of ends w.pairs t) (identity_in e.core) new
         by_mine None none = by_asked (λ link linked. (let clash : ◌≡◌ {A = Option AssociationIdentity} None (Some link) = sym none ∙ linked in absurd (cc))) (w.answers.asked_held t is.some)
         by_mine (Some mine) linked =
-            elim (decide mine.peer.tag t) [
+            elim (decide mine.my.tag t) [
               | inl at ↦ (
                   (let held = w.answers.mine_held mine linked in
-                  inl (first, subst (λ (n : ℕ). w.pairs n ≡ new.peer) at (held.1 ∙ sym held.0.my_is ∙ (is.match held.0.link held.0.held (inl (held.0.tag_is ∙ at))).0)))
+                  inl (first, subst (λ (n : ℕ). w.pairs n ≡ new.peer) at (held.1 ∙ sym held.0.my_is ∙ is.match held.0.link held.0.held (held.0.tag_is ∙ at))))
                   )
-              | inr ne ↦ by_asked (λ link linked'. (let one : mine ≡ link = one_link linked linked' in λ same. ne (ap (λ (l : AssociationIdentity). l.peer.tag) one ∙ same))) (w.answers.asked_held t is.some)
+              | inr ne ↦ by_asked (λ link linked'. (let one : mine ≡ link = one_link linked linked' in λ same. ne (ap (λ (l : AssociationIdentity). l.my.tag) one ∙ same))) (w.answers.asked_held t is.some)
             ]
           where
             one_link : {found : Option AssociationIdentity} {one two : AssociationIdentity} → found ≡ Some one → found ≡ Some two → one ≡ two
@@ -153,6 +153,6 @@ module _ (ends : Ends) (e : Endpoint) (past : List Effect) (d : Endpoint) (their
               (subst (λ (l : Option AssociationIdentity). AnswersRequests (requests_of opened (set_at t new.peer w.pairs)) (identity_in e.core) past l (after_effects o.effects their_past) opens.left.reassembly.deferral) (sym opens.linked)
               (same_requests (requests_of opened (set_at t new.peer w.pairs)) (set_at t fresh (requests_of ends w.pairs)) (identity_in e.core) past (Some new) (after_effects o.effects their_past) opens.left.reassembly.deferral same_opened
               (opens_anew (requests_of ends w.pairs) (identity_in e.core) past (identity_in d.core) o.effects their_past (waiting_deferral d.queues.transfer) opens.left.reassembly.deferral new w.answers is.some noted only (none_performed o.effects none_asked)
-              is.other (λ link has same. (is.match link has (inr same)).1) crossed accept numbers.1 opens.empty)));
+              is.other crossed accept numbers.1 opens.empty)));
           unlinked = λ gone. (let clash : ◌≡◌ {A = Option Transfer} None (Some opens.left) = sym gone ∙ opens.is in absurd (cc));
         }

@@ -27,12 +27,14 @@ use Rattle.dcsctp_spec_runs.specs.Past.{WasPerformed, HasEffect}
 use Rattle.dcsctp_spec_lemmas.specs.spec.association.Effect.{performs}
 use Rattle.dcsctp_delivery_turns.specs.Actions.{peer_tag, IsCall}
 use Rattle.dcsctp_delivery_turns.specs.Asking.{own_of, SomeFit}
-use Rattle.dcsctp_delivery_associations.specs.Ends.{ReceivingEnd, joined, new_end, Ends, HadTag, LeavesReady, Between}
-use Rattle.dcsctp_delivery_associations.specs.Reads.{Read, Reading, tag_or, reading_after, tagged_after, and_first, with_tag}
+use Rattle.dcsctp_delivery_associations.specs.Ends.{ReceivingEnd, joined, new_end, Ends, sender_key, HadTag, LeavesReady, awaiting, MetOrAlone, Between}
+use Rattle.dcsctp_delivery_associations.specs.Reads.{Tags, Read, Reading, tags_or, reading_after, tagged_after, and_first, with_key}
 use Rattle.dcsctp_delivery_associations.proofs.WhatIsLeft.{left_idle, left_taken}
-use Rattle.dcsctp_delivery_associations.proofs.WhatIsRead.{MayRead, reads_first, reads_none, may_read, first_own, first_other}
+use Rattle.dcsctp_delivery_associations.proofs.WhatIsRead.{all_of_first, all_of_later, of_link_later, MayRead, reads_first, reads_none, may_read, first_own, first_other}
 use Rattle.dcsctp_delivery_associations.proofs.Growing.{set_all}
 use Rattle.dcsctp_delivery_associations.specs.Laws.{AreEnds}
+use Rattle.dcsctp_theorem_association.proofs.Growth.{after_within}
+use Rattle.dcsctp_delivery_associations.proofs.Senders.{alone_later, met_later}
 use Rattle.dcsctp_delivery_associations.proofs.ReceiverStays.{tag_later, begun_later, sender_same}
 
 module _ (options : Options) (ends : Ends) (e : Endpoint) (queued : List Message) (past : List Effect) (packets : List Emission) (d : Endpoint) (their_past : List Effect) (reading : Reading)
@@ -43,17 +45,17 @@ module _ (options : Options) (ends : Ends) (e : Endpoint) (queued : List Message
 
   -- what is known after the turn, once this was read
   abbrev After : List Read → Type 0
-  After reads = AreEnds ends.never_resets options e queued past packets o.after (after_effects o.effects their_past) (record { reads = reads; last = tag_or reading.last (identity_in o.after.core) })
+  After reads = AreEnds ends.never_resets options e queued past packets o.after (after_effects o.effects their_past) (record { reads = reads; last = tags_or reading.last (identity_in o.after.core) })
 
   unread_goes : tagged_after reading.last d input reading.reads ≡ reading.reads → After reading.reads → Turned
   unread_goes unread goes = subst After (sym unread) goes
 
   -- Without an association the last one stays the last.
   still_last : identity_in o.after.core ≡ None → (reads : List Read) → AreEnds ends.never_resets options e queued past packets o.after (after_effects o.effects their_past) (record { reads = reads; last = reading.last }) → After reads
-  still_last unlinked reads = subst (λ (n : ℕ). AreEnds ends.never_resets options e queued past packets o.after (after_effects o.effects their_past) (record { reads = reads; last = n })) (sym (ap (tag_or reading.last) unlinked))
+  still_last unlinked reads = subst (λ (n : Tags). AreEnds ends.never_resets options e queued past packets o.after (after_effects o.effects their_past) (record { reads = reads; last = n })) (sym (ap (tags_or reading.last) unlinked))
 
   -- there is none after the turn
-  pub rests : o.after.queues.transfer ≡ None → SomeFit (own_of o.after) → identity_in o.after.core ≡ None → ((my : Pair) (number : ℕ) → WasPerformed my number o.effects → ⊥) → LeavesReady ends.gets reading.last o.after.left o.after.queues.transfer
+  pub rests : o.after.queues.transfer ≡ None → SomeFit (own_of o.after) → identity_in o.after.core ≡ None → ((my : Pair) (number : ℕ) → WasPerformed my number o.effects → ⊥) → LeavesReady ends.gets reading.last.peer o.after.left o.after.queues.transfer
       → After reading.reads
   rests none fits unlinked no_performs left =
       still_last unlinked reading.reads (record {
@@ -75,7 +77,11 @@ module _ (options : Options) (ends : Ends) (e : Endpoint) (queued : List Message
             last = λ link there. (let clash : ◌≡◌ {A = Option AssociationIdentity} None (Some link) = sym unlinked ∙ there in absurd (cc));
             were_read = h.receiver.were_read;
             begun = λ tag. begun_later options ends o.effects their_past tag (h.receiver.begun tag);
+            last_of = of_link_later o.effects their_past reading.last h.receiver.last_of;
+            reads_of = all_of_later o.effects their_past reading.reads h.receiver.reads_of;
           };
+          mine = h.mine;
+          alone = λ tag. alone_later options ends ends past past their_past (after_effects o.effects their_past) (λ effect has. has) (after_within o.effects their_past) tag refl refl (h.alone tag);
         };
         answered = rests_answered ends e past d their_past w input o may turn unlinked no_performs;
       })
@@ -84,28 +90,28 @@ module _ (options : Options) (ends : Ends) (e : Endpoint) (queued : List Message
 
   -- what can be taken without one
   abbrev IsLeft : List MessageContent → Type 0
-  IsLeft left = (left ≡ []) ⊎ ((ends.gets reading.last).reassembly.incoming.ready ≡ left)
+  IsLeft left = (left ≡ []) ⊎ ((ends.gets reading.last.peer).reassembly.incoming.ready ≡ left)
 
   module _ (nowhere : d.queues.transfer ≡ None) (gone : o.after.queues.transfer ≡ None) (fits : SomeFit (own_of o.after)) (unlinked : identity_in o.after.core ≡ None)
       (no_performs : (my : Pair) (number : ℕ) → WasPerformed my number o.effects → ⊥) where
     -- Nothing is read.
     unread_rests : tagged_after reading.last d input reading.reads ≡ reading.reads → IsLeft o.after.left → Turned
-    unread_rests unread left = unread_goes unread (rests gone fits unlinked no_performs (left_idle ends.gets reading.last o.after.left o.after.queues.transfer gone left))
+    unread_rests unread left = unread_goes unread (rests gone fits unlinked no_performs (left_idle ends.gets reading.last.peer o.after.left o.after.queues.transfer gone left))
 
     -- The first of what an association left is read.
-    left_read : (message : MessageContent) (messages : List MessageContent) → (ends.gets reading.last).reassembly.incoming.ready ≡ message ∷ messages → o.after.left ≡ messages → After (and_first reading.last (message ∷ messages) reading.reads)
+    left_read : (message : MessageContent) (messages : List MessageContent) → (ends.gets reading.last.peer).reassembly.incoming.ready ≡ message ∷ messages → o.after.left ≡ messages → After (and_first reading.last (message ∷ messages) reading.reads)
     left_read message messages ready left =
-        let tag : ℕ = reading.last in
+        let tag : ℕ = reading.last.peer in
         let got : ReceivingEnd = record { tracker = (ends.gets tag).tracker; reassembly = with_ready messages (ends.gets tag).reassembly; read = (ends.gets tag).read ++ message ∷ [] } in
         let rest = rests_answered ends e past d their_past w input o may turn unlinked no_performs in
-        still_last unlinked (and_first tag (message ∷ messages) reading.reads) (record {
+        still_last unlinked (and_first reading.last (message ∷ messages) reading.reads) (record {
           ends = record ends { gets = set_at tag got ends.gets };
           is = refl;
           between = record {
             runs = set_all (λ t g. DirectionRun options (ends.firsts t) options.max_receiver_window_buffer_size (joined (ends.sends t) g)) tag got ends.gets
                 (directions.goes_on (joined (ends.sends tag) (ends.gets tag)) (joined (ends.sends tag) got) (h.runs tag) (directions.takes message messages ready)) (λ t ne. h.runs t);
             small = h.small;
-            sender = sender_same ends (set_at tag got ends.gets) (peer_tag e.core) e.queues queued past packets h.sender;
+            sender = sender_same ends (set_at tag got ends.gets) (sender_key e.core) (peer_tag e.core) e.queues queued past packets h.sender;
             asks = h.asks;
             numbered = h.numbered;
             kept = h.kept;
@@ -116,13 +122,21 @@ module _ (options : Options) (ends : Ends) (e : Endpoint) (queued : List Message
               current = λ transfer there. (let clash : ◌≡◌ {A = Option Transfer} None (Some transfer) = sym gone ∙ there in absurd (cc));
               left = left_idle (set_at tag got ends.gets) tag o.after.left o.after.queues.transfer gone (inr (ap (λ (g : ReceivingEnd). g.reassembly.incoming.ready) (set_same tag got ends.gets) ∙ sym left));
               last = λ link there. (let clash : ◌≡◌ {A = Option AssociationIdentity} None (Some link) = sym unlinked ∙ there in absurd (cc));
-              were_read = set_all (λ t g. with_tag t (and_first tag (message ∷ messages) reading.reads) ≡ g.read) tag got ends.gets
-                  (first_own tag (message ∷ messages) reading.reads ∙ ap (λ (l : List MessageContent). l ++ message ∷ []) (h.receiver.were_read tag)) (λ t ne. first_other t tag (message ∷ messages) reading.reads ne ∙ h.receiver.were_read t);
+              were_read = set_all (λ t g. with_key t (and_first reading.last (message ∷ messages) reading.reads) ≡ g.read) tag got ends.gets
+                  (first_own reading.last (message ∷ messages) reading.reads ∙ ap (λ (l : List MessageContent). l ++ message ∷ []) (h.receiver.were_read tag)) (λ t ne. first_other t reading.last (message ∷ messages) reading.reads ne ∙ h.receiver.were_read t);
               begun = λ t. elim (decide t tag) [
                 | inl e' ↦ inr (subst (λ (n : ℕ). HadTag (after_effects o.effects their_past) n (ends.firsts n)) (sym e') (had (h.receiver.begun tag)))
                 | inr ne ↦ elim (begun_later options ends o.effects their_past t (h.receiver.begun t)) [ inl new' ↦ inl (set_other tag t got ends.gets ne ∙ new') | inr had' ↦ inr had' ]
               ];
+              last_of = of_link_later o.effects their_past reading.last h.receiver.last_of;
+              reads_of = all_of_later o.effects their_past (and_first reading.last (message ∷ messages) reading.reads)
+                  (all_of_first their_past reading.last (message ∷ messages) reading.reads h.receiver.last_of h.receiver.reads_of);
             };
+            mine = h.mine;
+            alone = λ t. elim (decide t tag) [
+              | inl e' ↦ subst (MetOrAlone options (record ends { gets = set_at tag got ends.gets }) past (after_effects o.effects their_past)) (sym e') (alone_here (h.alone tag))
+              | inr ne ↦ alone_later options ends (record ends { gets = set_at tag got ends.gets }) past past their_past (after_effects o.effects their_past) (λ effect has. has) (after_within o.effects their_past) t (set_other tag t got ends.gets ne) refl (h.alone t)
+            ];
           };
           answered = record {
             pairs = rest.pairs;
@@ -132,9 +146,18 @@ module _ (options : Options) (ends : Ends) (e : Endpoint) (queued : List Message
         })
       where
         -- Something was received under this tag.
-        had : (ends.gets reading.last ≡ new_end options (ends.firsts reading.last)) ⊎ HadTag their_past reading.last (ends.firsts reading.last) → HadTag (after_effects o.effects their_past) reading.last (ends.firsts reading.last)
+        had : (ends.gets reading.last.peer ≡ new_end options (ends.firsts reading.last.peer)) ⊎ HadTag their_past reading.last.peer (ends.firsts reading.last.peer) → HadTag (after_effects o.effects their_past) reading.last.peer (ends.firsts reading.last.peer)
         had (inl new') = (let none : ◌≡◌ {A = List MessageContent} (message ∷ messages) [] = sym ready ∙ ap (λ (g : ReceivingEnd). g.reassembly.incoming.ready) new' in absurd (cc))
-        had (inr had') = tag_later o.effects their_past reading.last (ends.firsts reading.last) had'
+        had (inr had') = tag_later o.effects their_past reading.last.peer (ends.firsts reading.last.peer) had'
+
+        -- It is read whether the sender is met or not.
+        alone_here : MetOrAlone options ends past their_past reading.last.peer
+            → MetOrAlone options (record ends { gets = set_at reading.last.peer (record { tracker = (ends.gets reading.last.peer).tracker; reassembly = with_ready messages (ends.gets reading.last.peer).reassembly; read = (ends.gets reading.last.peer).read ++ message ∷ [] }) ends.gets }) past (after_effects o.effects their_past) reading.last.peer
+        alone_here (inl met) = inl (met_later past past their_past (after_effects o.effects their_past) (λ effect has. has) (after_within o.effects their_past) reading.last.peer met)
+        alone_here (inr run) =
+            inr
+            (subst (λ (g : ReceivingEnd). DirectionRun options (ends.firsts reading.last.peer) options.max_receiver_window_buffer_size (joined (awaiting options) g)) (sym (set_same reading.last.peer (record { tracker = (ends.gets reading.last.peer).tracker; reassembly = with_ready messages (ends.gets reading.last.peer).reassembly; read = (ends.gets reading.last.peer).read ++ message ∷ [] }) ends.gets))
+            (directions.goes_on (joined (awaiting options) (ends.gets reading.last.peer)) (joined (awaiting options) (record { tracker = (ends.gets reading.last.peer).tracker; reassembly = with_ready messages (ends.gets reading.last.peer).reassembly; read = (ends.gets reading.last.peer).read ++ message ∷ [] })) run (directions.takes message messages ready)))
 
     takes_goes : (left : List MessageContent) → IsLeft left → o.after.left ≡ without_first_message left → and_first reading.last left reading.reads ≡ tagged_after reading.last d input reading.reads → Turned
     takes_goes [] is stays same' = unread_rests (sym same') (inl stays)
@@ -145,7 +168,7 @@ module _ (options : Options) (ends : Ends) (e : Endpoint) (queued : List Message
     idle_rests = go input (may_read input) refl
       where
         before : IsLeft d.left
-        before = subst (LeavesReady ends.gets reading.last d.left) nowhere h.receiver.left
+        before = subst (LeavesReady ends.gets reading.last.peer d.left) nowhere h.receiver.left
 
         stays : (i : Input) → i ≡ input → o.after.left ≡ left_once i d.left
         stays i is = left_taken d input o may turn nowhere gone ∙ ap (λ (x : Input). left_once x d.left) (sym is)

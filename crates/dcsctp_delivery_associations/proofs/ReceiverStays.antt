@@ -26,9 +26,9 @@ begun_later options ends effects past tag (inl new) = inl new
 begun_later options ends effects past tag (inr had) = inr (tag_later effects past tag (ends.firsts tag) had)
 
 -- The sender's ends are the same.
-pub sender_same : (ends : Ends) (gets : ℕ → ReceivingEnd) (key : ℕ) (below : EndpointQueues) (queued : List Message) (past : List Effect) (packets : List Emission) → Sender ends key below queued past packets
-    → Sender (record ends { gets = gets }) key below queued past packets
-sender_same ends gets key below queued past packets s =
+pub sender_same : (ends : Ends) (gets : ℕ → ReceivingEnd) (key to : ℕ) (below : EndpointQueues) (queued : List Message) (past : List Effect) (packets : List Emission) → Sender ends key to below queued past packets
+    → Sender (record ends { gets = gets }) key to below queued past packets
+sender_same ends gets key to below queued past packets s =
     record {
       queues_are = s.queues_are;
       long = s.long;
@@ -42,13 +42,17 @@ sender_same ends gets key below queued past packets s =
       kind = s.kind;
       kinds = s.kinds;
       begun = s.begun;
-      all_sent = of_more ends (record ends { gets = gets }) packets (λ tag emission some has. has) s.all_sent;
+      all_sent = of_more ends (record ends { gets = gets }) past past packets (λ effect has. has) (λ t emission both has. has) s.all_sent;
+      to_is = s.to_is;
+      went = s.went;
+      replaced = s.replaced;
+      known = s.known;
     }
 
 -- More is known of its requests under one tag.
-pub sender_asked : (ends : Ends) (tag : ℕ) (asking : Asking) (got : ReceivingEnd) (key : ℕ) (below : EndpointQueues) (queued : List Message) (past : List Effect) (packets : List Emission) → Sender ends key below queued past packets
-    → ((ends.sends tag).asking ≡ nothing_asked → asking ≡ nothing_asked) → Sender (asked_ends ends tag asking got) key below queued past packets
-sender_asked ends tag asking got key below queued past packets s still =
+pub sender_asked : (ends : Ends) (tag : ℕ) (asking : Asking) (got : ReceivingEnd) (key to : ℕ) (below : EndpointQueues) (queued : List Message) (past : List Effect) (packets : List Emission) → Sender ends key to below queued past packets
+    → ((ends.sends tag).asking ≡ nothing_asked → asking ≡ nothing_asked) → Sender (asked_ends ends tag asking got) key to below queued past packets
+sender_asked ends tag asking got key to below queued past packets s still =
     record {
       queues_are = s.queues_are;
       long = s.long;
@@ -65,7 +69,11 @@ sender_asked ends tag asking got key below queued past packets s still =
         | inl waits ↦ inl (still_awaits t waits)
         | inr had ↦ inr had
       ];
-      all_sent = of_more ends (asked_ends ends tag asking got) packets (λ t emission some has. has) s.all_sent;
+      all_sent = of_more ends (asked_ends ends tag asking got) past past packets (λ effect has. has) (λ t emission both has. has) s.all_sent;
+      to_is = s.to_is;
+      went = s.went;
+      replaced = s.replaced;
+      known = s.known;
     }
   where
     awaits : (t : ℕ) → (ends.sends t).asking ≡ nothing_asked → set_at tag asking (λ n. (ends.sends n).asking) t ≡ nothing_asked
@@ -79,9 +87,9 @@ sender_asked ends tag asking got key below queued past packets s still =
     still_awaits t waits = record { queued = waits.queued; sent = waits.sent; acknowledged = waits.acknowledged; transfer = waits.transfer; asking = awaits t waits.asking; begun = waits.begun }
 
 -- The sender has begun no association under this tag.
-pub sender_first : (ends : Ends) (gets : ℕ → ReceivingEnd) (tag first key : ℕ) (below : EndpointQueues) (queued : List Message) (past : List Effect) (packets : List Emission) → Sender ends key below queued past packets
-    → tag ≢ key → Awaits (ends.sends tag) → Sender (record ends { gets = gets; firsts = set_at tag first ends.firsts }) key below queued past packets
-sender_first ends gets tag first key below queued past packets s ne waits =
+pub sender_first : (ends : Ends) (gets : ℕ → ReceivingEnd) (tag first key to : ℕ) (below : EndpointQueues) (queued : List Message) (past : List Effect) (packets : List Emission) → Sender ends key to below queued past packets
+    → tag ≢ key → Awaits (ends.sends tag) → Sender (record ends { gets = gets; firsts = set_at tag first ends.firsts }) key to below queued past packets
+sender_first ends gets tag first key to below queued past packets s ne waits =
     record {
       queues_are = s.queues_are;
       long = s.long;
@@ -98,7 +106,11 @@ sender_first ends gets tag first key below queued past packets s ne waits =
         | inl e ↦ inl (subst (λ (n : ℕ). Awaits (ends.sends n)) (sym e) waits)
         | inr other ↦ before t other (s.begun t some)
       ];
-      all_sent = of_more ends (record ends { gets = gets; firsts = set_at tag first ends.firsts }) packets (λ t emission some has. has) s.all_sent;
+      all_sent = of_more ends (record ends { gets = gets; firsts = set_at tag first ends.firsts }) past past packets (λ effect has. has) (λ t emission both has. has) s.all_sent;
+      to_is = s.to_is;
+      went = s.went;
+      replaced = s.replaced;
+      known = s.known;
     }
   where
     before : (t : ℕ) → t ≢ tag → Awaits (ends.sends t) ⊎ HadPeer past t (ends.firsts t) → Awaits (ends.sends t) ⊎ HadPeer past t (set_at tag first ends.firsts t)

@@ -1,5 +1,5 @@
 -- Each turn of the receiver.
-use Rattle.std.proofs.Common.{◌≡◌, ◌≢◌, ℕ, Bool, true, false, ◌<◌, ◌-◌, ◌^◌, Option, None, Some, List, length, arith, refl, sym, ◌∙◌, ap, subst, inl, inr}
+use Rattle.std.proofs.Common.{[], ◌≡◌, ◌≢◌, ℕ, Bool, true, false, ◌<◌, ◌-◌, ◌^◌, Option, None, Some, List, length, arith, refl, sym, ◌∙◌, ap, subst, inl, inr}
 use Rattle.std.specs.Prelude.{◌⊎◌}
 use Rattle.dcsctp_spec_lemmas.specs.types.declared.options.Options.{Options}
 use Rattle.dcsctp_spec_lemmas.specs.types.Settings.{SameOptions}
@@ -25,7 +25,7 @@ use Rattle.dcsctp_delivery_associations.specs.Answered.{IsInStep, StandsSo, in_s
 use Rattle.dcsctp_delivery_associations.specs.Laws.{AsksLittle}
 use Rattle.dcsctp_delivery_associations.proofs.UnaskedPasts.{reset_none}
 use Rattle.dcsctp_delivery_associations.proofs.AnsweringRests.{none_performed}
-use Rattle.dcsctp_delivery_associations.proofs.ReceiverAnswers.{has_new_tag, asked_ends, Standing, performs_newest, newest_or_not, nothing_performed, goes_answered}
+use Rattle.dcsctp_delivery_associations.proofs.ReceiverAnswers.{asked_ends, Standing, performs_newest, newest_or_not, nothing_performed, goes_answered}
 use Rattle.dcsctp_spec_lemmas.specs.spec.Packet.{re_config}
 use Rattle.dcsctp_spec_runs.specs.Past.{HasEffect}
 use Rattle.dcsctp_spec_lemmas.specs.spec.Reconfiguration.{RequestedReset, ResetParameter}
@@ -36,13 +36,15 @@ use Rattle.dcsctp_delivery_turns.specs.Asking.{own_of, SomeFit}
 use Rattle.dcsctp_delivery_turns.specs.Sides.{WasSent, receiving}
 use Rattle.dcsctp_delivery_turns.specs.Runs.{ReceiverTurns, receiver_goes_on, receiver_ends, receiver_begins, IdleTurns, idle_stays, idle_begins}
 use Rattle.dcsctp_delivery_turns.proofs.Runs.{receivers_go_on, receivers_begin}
-use Rattle.dcsctp_delivery_associations.specs.Ends.{LeavesReady, ReceivingEnd, joined, new_end, Ends, NewTag, HadTag, IsCurrentEnd, Between}
-use Rattle.dcsctp_delivery_associations.specs.Reads.{Read, Reading, tag_or, reading_after, tagged_after, with_tag}
+use Rattle.dcsctp_delivery_associations.specs.Ends.{LeavesReady, SendingEnd, ReceivingEnd, joined, new_end, Ends, sender_key, HadBoth, NewTag, HadTag, IsCurrentEnd, awaiting, MetOrAlone, Between}
+use Rattle.dcsctp_delivery_associations.specs.Reads.{Tags, tags_of, Read, Reading, tags_or, reading_after, tagged_after, with_key}
 use Rattle.dcsctp_delivery_associations.proofs.WhatIsLeft.{goes_left, ends_left}
-use Rattle.dcsctp_delivery_associations.proofs.WhatIsRead.{reads_still, opening_still, own_read, other_read}
+use Rattle.dcsctp_delivery_associations.proofs.WhatIsRead.{all_of_after, all_of_later, reads_still, opening_still, own_read, other_read}
 use Rattle.dcsctp_delivery_associations.proofs.Growing.{set_all}
 use Rattle.dcsctp_delivery_associations.proofs.Own.{unlinked_some}
 use Rattle.dcsctp_delivery_associations.specs.Laws.{AreEnds}
+use Rattle.dcsctp_theorem_association.proofs.Growth.{after_within}
+use Rattle.dcsctp_delivery_associations.proofs.Senders.{alone_later, met_later}
 use Rattle.dcsctp_delivery_associations.proofs.ReceiverStays.{tag_later, begun_later, sender_asked}
 use Rattle.dcsctp_delivery_associations.proofs.ReceiverBegins.{opens_goes}
 use Rattle.dcsctp_delivery_associations.proofs.ReceiverRests.{rests, idle_rests}
@@ -50,30 +52,73 @@ use Rattle.dcsctp_delivery_associations.proofs.ReceiverRests.{rests, idle_rests}
 module _ (options : Options) (ends : Ends) (e : Endpoint) (queued : List Message) (past : List Effect) (packets : List Emission) (d : Endpoint) (their_past : List Effect) (reading : Reading)
     (h : Between options ends e queued past packets d their_past reading) (few : length queued < 2 ^ 64) (same : SameOptions options d.options) (input : Input) (o : Outcome)
     (new : (begun : Begun d o) → IsOpening (came_by input) → identity_in o.after.core ≡ Some (identity_of begun.my begun.held) → NewTag their_past past (identity_of begun.my begun.held)) (w : AreAnswered ends e past d their_past)
-    (little : AsksLittle packets) (new_tags : (link old : AssociationIdentity) → HasEffect (holds link) o.effects → HasEffect (holds old) their_past → old.my.tag ≢ link.my.tag) (may : IsCall input) (turn : Turn d input o) where
+    (little : AsksLittle packets) (new_tags : (link old : AssociationIdentity) → HasEffect (holds link) o.effects → HasEffect (holds old) their_past → old.peer.tag ≢ link.peer.tag) (may : IsCall input) (turn : Turn d input o) where
   -- what is to be shown of the turn
   abbrev pub Turned : Type 0
   Turned = AreEnds ends.never_resets options e queued past packets o.after (after_effects o.effects their_past) (reading_after d input o.after reading)
 
   unread_goes : tagged_after reading.last d input reading.reads ≡ reading.reads
-      → AreEnds ends.never_resets options e queued past packets o.after (after_effects o.effects their_past) (record { reads = reading.reads; last = tag_or reading.last (identity_in o.after.core) }) → Turned
+      → AreEnds ends.never_resets options e queued past packets o.after (after_effects o.effects their_past) (record { reads = reading.reads; last = tags_or reading.last (identity_in o.after.core) }) → Turned
   unread_goes unread goes =
-      subst (λ (l : List Read). AreEnds ends.never_resets options e queued past packets o.after (after_effects o.effects their_past) (record { reads = l; last = tag_or reading.last (identity_in o.after.core) })) (sym unread) goes
+      subst (λ (l : List Read). AreEnds ends.never_resets options e queued past packets o.after (after_effects o.effects their_past) (record { reads = l; last = tags_or reading.last (identity_in o.after.core) })) (sym unread) goes
 
   -- ---- an association continues
 
   module _ (transfer : Transfer) (there : d.queues.transfer ≡ Some transfer) (c : IsCurrentEnd ends d their_past transfer) where
+    -- the sender's end is of no account
+    abbrev alone_end : Transfer → ReceivingEnd
+    alone_end left = record { tracker = left.tracker; reassembly = left.reassembly; read = read_after d input (ends.gets c.link.peer.tag).read }
+
+    alone_run : (left : Transfer) → o.after.queues.transfer ≡ Some left → WasSent [] (came_by input) → DirectionRun options (ends.firsts c.link.peer.tag) options.max_receiver_window_buffer_size (joined (awaiting options) (ends.gets c.link.peer.tag))
+        → identity_in o.after.core ≡ identity_in d.core
+        → DirectionRun options (ends.firsts c.link.peer.tag) options.max_receiver_window_buffer_size (joined (awaiting options) (alone_end left))
+    alone_run left is none run same' =
+        go
+        (receivers_go_on false options (ends.firsts c.link.peer.tag) options.max_receiver_window_buffer_size (joined (awaiting options) (ends.gets c.link.peer.tag)) transfer d input o
+        (subst (λ (t : TrackerState). DirectionRun options (ends.firsts c.link.peer.tag) options.max_receiver_window_buffer_size (joined (awaiting options) (record { tracker = t; reassembly = transfer.reassembly; read = (ends.gets c.link.peer.tag).read }))) c.tracker
+        (subst (λ (r : ReassemblyState). DirectionRun options (ends.firsts c.link.peer.tag) options.max_receiver_window_buffer_size (joined (awaiting options) (record { tracker = (ends.gets c.link.peer.tag).tracker; reassembly = r; read = (ends.gets c.link.peer.tag).read }))) c.reassembly run))
+        there none (inl refl) h.receiver.fits (λ begun opening linked. (new begun opening linked).own_small) may turn)
+      where
+        one : (found : Option Transfer) (first second : Transfer) → found ≡ Some first → found ≡ Some second → first ≡ second
+        one found first second a b = cc
+
+        go : ReceiverTurns false options (ends.firsts c.link.peer.tag) options.max_receiver_window_buffer_size (joined (awaiting options) (ends.gets c.link.peer.tag)) transfer d input o
+            → DirectionRun options (ends.firsts c.link.peer.tag) options.max_receiver_window_buffer_size (joined (awaiting options) (alone_end left))
+        go (receiver_goes_on linked other there' fits asking by run') =
+            subst (λ (t : Transfer). DirectionRun options (ends.firsts c.link.peer.tag) options.max_receiver_window_buffer_size (joined (awaiting options) (alone_end t))) (one o.after.queues.transfer other left there' is)
+            (subst (λ (a : Asking). DirectionRun options (ends.firsts c.link.peer.tag) options.max_receiver_window_buffer_size (record (joined (awaiting options) (alone_end other)) { asking = a })) (by.3 ∙ unknown by.0) run')
+          where
+            unknown : (reset : Bool) → performed_where false reset nothing_asked ≡ nothing_asked
+            unknown true = refl
+            unknown false = refl
+        go (receiver_ends none' gone unread) = (let clash : ◌≡◌ {A = Option Transfer} None (Some left) = sym gone ∙ is in absurd (cc))
+        go (receiver_begins opens) =
+            absurd ((new opens.begun opens.opening opens.linked).other c.link c.held
+            (ap (λ (l : AssociationIdentity). l.peer.tag) (same_one (identity_in d.core) c.link (identity_of opens.begun.my opens.begun.held) c.linked (sym same' ∙ opens.linked))))
+          where
+            same_one : (found : Option AssociationIdentity) (first second : AssociationIdentity) → found ≡ Some first → found ≡ Some second → first ≡ second
+            same_one found first second a b = cc
+
+    alone_so : (left : Transfer) (asking : Asking) → o.after.queues.transfer ≡ Some left → identity_in o.after.core ≡ identity_in d.core → (HadBoth past c.link.peer.tag c.link.my.tag ⊎ WasSent [] (came_by input)) → MetOrAlone options ends past their_past c.link.peer.tag
+        → MetOrAlone options (asked_ends ends c.link.peer.tag asking (alone_end left)) past (after_effects o.effects their_past) c.link.peer.tag
+    alone_so left asking is same' (inl both) before = inl (record { link = c.link; held = after_within o.effects their_past (holds c.link) c.held; tag_is = refl; both = both })
+    alone_so left asking is same' (inr none) (inl met) = inl (met_later past past their_past (after_effects o.effects their_past) (λ effect has. has) (after_within o.effects their_past) c.link.peer.tag met)
+    alone_so left asking is same' (inr none) (inr run) =
+        inr
+        (subst (λ (g : ReceivingEnd). DirectionRun options (ends.firsts c.link.peer.tag) options.max_receiver_window_buffer_size (joined (awaiting options) g)) (sym (set_same c.link.peer.tag (alone_end left) ends.gets))
+        (alone_run left is none run same'))
+
     receives : identity_in o.after.core ≡ identity_in d.core → (left : Transfer) → o.after.queues.transfer ≡ Some left → SomeFit (own_of o.after) → (asking : Asking)
-        → ((ends.sends c.link.my.tag).asking ≡ nothing_asked → asking ≡ nothing_asked) → ((first : ℕ) (own : Option Own) → AsksFit first own (ends.sends c.link.my.tag).asking → AsksFit first own asking)
-        → AreAnswered (asked_ends ends c.link.my.tag asking (record { tracker = left.tracker; reassembly = left.reassembly; read = read_after d input (ends.gets c.link.my.tag).read })) e past o.after (after_effects o.effects their_past)
-        → DirectionRun options (ends.firsts c.link.my.tag) options.max_receiver_window_buffer_size
-        (record (receiving (joined (ends.sends c.link.my.tag) (ends.gets c.link.my.tag)) left (read_after d input (ends.gets c.link.my.tag).read)) { asking = asking })
+        → ((ends.sends c.link.peer.tag).asking ≡ nothing_asked → asking ≡ nothing_asked) → ((first : ℕ) (own : Option Own) → AsksFit first own (ends.sends c.link.peer.tag).asking → AsksFit first own asking)
+        → AreAnswered (asked_ends ends c.link.peer.tag asking (record { tracker = left.tracker; reassembly = left.reassembly; read = read_after d input (ends.gets c.link.peer.tag).read })) e past o.after (after_effects o.effects their_past)
+        → (HadBoth past c.link.peer.tag c.link.my.tag ⊎ WasSent [] (came_by input)) → DirectionRun options (ends.firsts c.link.peer.tag) options.max_receiver_window_buffer_size
+        (record (receiving (joined (ends.sends c.link.peer.tag) (ends.gets c.link.peer.tag)) left (read_after d input (ends.gets c.link.peer.tag).read)) { asking = asking })
         → Turned
-    receives linked left is fits asking still fit answered run =
-        let tag : ℕ = c.link.my.tag in
+    receives linked left is fits asking still fit answered met run =
+        let tag : ℕ = c.link.peer.tag in
         let got : ReceivingEnd = record { tracker = left.tracker; reassembly = left.reassembly; read = read_after d input (ends.gets tag).read } in
-        subst (λ (n : ℕ). AreEnds ends.never_resets options e queued past packets o.after (after_effects o.effects their_past) (record { reads = tagged_after n d input reading.reads; last = tag_or reading.last (identity_in o.after.core) })) (sym (h.receiver.last c.link c.linked))
-        (subst (λ (n : ℕ). AreEnds ends.never_resets options e queued past packets o.after (after_effects o.effects their_past) (record { reads = tagged_after c.link.my.tag d input reading.reads; last = n })) (sym (ap (tag_or reading.last) (linked ∙ c.linked)))
+        subst (λ (n : Tags). AreEnds ends.never_resets options e queued past packets o.after (after_effects o.effects their_past) (record { reads = tagged_after n d input reading.reads; last = tags_or reading.last (identity_in o.after.core) })) (sym (h.receiver.last c.link c.linked))
+        (subst (λ (n : Tags). AreEnds ends.never_resets options e queued past packets o.after (after_effects o.effects their_past) (record { reads = tagged_after (tags_of c.link) d input reading.reads; last = n })) (sym (ap (tags_or reading.last) (linked ∙ c.linked)))
         (record {
           ends = asked_ends ends tag asking got;
           is = refl;
@@ -88,12 +133,12 @@ module _ (options : Options) (ends : Ends) (e : Endpoint) (queued : List Message
                   (subst (λ (g : ReceivingEnd). DirectionRun options (ends.firsts t) options.max_receiver_window_buffer_size (joined (ends.sends t) g)) (sym (set_other tag t got ends.gets ne)) (h.runs t))
             ];
             small = h.small;
-            sender = sender_asked ends tag asking got (peer_tag e.core) e.queues queued past packets h.sender still;
-            asks = elim (decide (peer_tag e.core) tag) [
+            sender = sender_asked ends tag asking got (sender_key e.core) (peer_tag e.core) e.queues queued past packets h.sender still;
+            asks = elim (decide (sender_key e.core) tag) [
               | inl e' ↦
-                  subst (λ (x : Asking). AsksFit (ends.firsts (peer_tag e.core)) (own_of e) x) (sym (ap (set_at tag asking (λ n. (ends.sends n).asking)) e' ∙ set_same tag asking (λ n. (ends.sends n).asking)))
-                  (fit (ends.firsts (peer_tag e.core)) (own_of e) (subst (λ (n : ℕ). AsksFit (ends.firsts (peer_tag e.core)) (own_of e) (ends.sends n).asking) e' h.asks))
-              | inr ne ↦ subst (λ (x : Asking). AsksFit (ends.firsts (peer_tag e.core)) (own_of e) x) (sym (set_other tag (peer_tag e.core) asking (λ n. (ends.sends n).asking) ne)) h.asks
+                  subst (λ (x : Asking). AsksFit (ends.firsts (sender_key e.core)) (own_of e) x) (sym (ap (set_at tag asking (λ n. (ends.sends n).asking)) e' ∙ set_same tag asking (λ n. (ends.sends n).asking)))
+                  (fit (ends.firsts (sender_key e.core)) (own_of e) (subst (λ (n : ℕ). AsksFit (ends.firsts (sender_key e.core)) (own_of e) (ends.sends n).asking) e' h.asks))
+              | inr ne ↦ subst (λ (x : Asking). AsksFit (ends.firsts (sender_key e.core)) (own_of e) x) (sym (set_other tag (sender_key e.core) asking (λ n. (ends.sends n).asking) ne)) h.asks
             ];
             numbered = h.numbered;
             kept = h.kept;
@@ -106,21 +151,31 @@ module _ (options : Options) (ends : Ends) (e : Endpoint) (queued : List Message
                   record {
                     link = c.link;
                     linked = linked ∙ c.linked;
+                    held = after_within o.effects their_past (holds c.link) c.held;
+                    own_some = c.own_some;
                     had = tag_later o.effects their_past tag (ends.firsts tag) c.had;
                     tracker = ap (λ (g : ReceivingEnd). g.tracker) (set_same tag got ends.gets) ∙ ap (λ (t : Transfer). t.tracker) one;
                     reassembly = ap (λ (g : ReceivingEnd). g.reassembly) (set_same tag got ends.gets) ∙ ap (λ (t : Transfer). t.reassembly) one;
                   }
                   );
-              left = goes_left d input o may turn ends.gets (set_at tag got ends.gets) reading.last tag left is h.receiver.left;
-              last = λ link there'. ap (λ (l : AssociationIdentity). l.my.tag) (same_link (identity_in o.after.core) c.link link (linked ∙ c.linked) there');
-              were_read = set_all (λ t g. with_tag t (tagged_after tag d input reading.reads) ≡ g.read) tag got ends.gets
-                  (own_read tag d input transfer reading.reads there ∙ ap (read_after d input) (h.receiver.were_read tag))
-                  (λ t ne. other_read tag d input reading.reads t ne ∙ h.receiver.were_read t);
+              left = goes_left d input o may turn ends.gets (set_at tag got ends.gets) reading.last.peer tag left is h.receiver.left;
+              last = λ link there'. ap tags_of (same_link (identity_in o.after.core) c.link link (linked ∙ c.linked) there');
+              were_read = set_all (λ t g. with_key t (tagged_after (tags_of c.link) d input reading.reads) ≡ g.read) tag got ends.gets
+                  (own_read (tags_of c.link) d input transfer reading.reads there ∙ ap (read_after d input) (h.receiver.were_read tag))
+                  (λ t ne. other_read (tags_of c.link) d input reading.reads t ne ∙ h.receiver.were_read t);
               begun = λ t. elim (decide t tag) [
                 | inl e' ↦ inr (subst (λ (n : ℕ). HadTag (after_effects o.effects their_past) n (ends.firsts n)) (sym e') (tag_later o.effects their_past tag (ends.firsts tag) c.had))
                 | inr ne ↦ others t ne got (begun_later options ends o.effects their_past t (h.receiver.begun t))
               ];
+              last_of = inr (c.link, after_within o.effects their_past (holds c.link) c.held, refl);
+              reads_of = all_of_later o.effects their_past (tagged_after (tags_of c.link) d input reading.reads)
+                  (all_of_after their_past (tags_of c.link) d input reading.reads (inr (c.link, c.held, refl)) h.receiver.reads_of);
             };
+            mine = h.mine;
+            alone = λ t. elim (decide t tag) [
+              | inl e' ↦ subst (MetOrAlone options (asked_ends ends tag asking got) past (after_effects o.effects their_past)) (sym e') (alone_so left asking is linked met (h.alone tag))
+              | inr ne ↦ alone_later options ends (asked_ends ends tag asking got) past past their_past (after_effects o.effects their_past) (λ effect has. has) (after_within o.effects their_past) t (set_other tag t got ends.gets ne) refl (h.alone t)
+            ];
           };
           answered = answered;
         }))
@@ -131,34 +186,34 @@ module _ (options : Options) (ends : Ends) (e : Endpoint) (queued : List Message
         same_transfer : (found : Option Transfer) (one two : Transfer) → found ≡ Some one → found ≡ Some two → one ≡ two
         same_transfer found one two a b = cc
 
-        others : (t : ℕ) → t ≢ c.link.my.tag → (at : ReceivingEnd) → (ends.gets t ≡ new_end options (ends.firsts t)) ⊎ HadTag (after_effects o.effects their_past) t (ends.firsts t)
-            → (set_at c.link.my.tag at ends.gets t ≡ new_end options (ends.firsts t)) ⊎ HadTag (after_effects o.effects their_past) t (ends.firsts t)
-        others t ne at (inl new) = inl (set_other c.link.my.tag t at ends.gets ne ∙ new)
+        others : (t : ℕ) → t ≢ c.link.peer.tag → (at : ReceivingEnd) → (ends.gets t ≡ new_end options (ends.firsts t)) ⊎ HadTag (after_effects o.effects their_past) t (ends.firsts t)
+            → (set_at c.link.peer.tag at ends.gets t ≡ new_end options (ends.firsts t)) ⊎ HadTag (after_effects o.effects their_past) t (ends.firsts t)
+        others t ne at (inl new) = inl (set_other c.link.peer.tag t at ends.gets ne ∙ new)
         others t ne at (inr had) = inr had
 
-    now : DirectionRun options (ends.firsts c.link.my.tag) options.max_receiver_window_buffer_size (receiving (joined (ends.sends c.link.my.tag) (ends.gets c.link.my.tag)) transfer (ends.gets c.link.my.tag).read)
+    now : DirectionRun options (ends.firsts c.link.peer.tag) options.max_receiver_window_buffer_size (receiving (joined (ends.sends c.link.peer.tag) (ends.gets c.link.peer.tag)) transfer (ends.gets c.link.peer.tag).read)
     now =
-        subst (λ (t : TrackerState). DirectionRun options (ends.firsts c.link.my.tag) options.max_receiver_window_buffer_size (joined (ends.sends c.link.my.tag) (record { tracker = t; reassembly = transfer.reassembly; read = (ends.gets c.link.my.tag).read }))) c.tracker
-        (subst (λ (r : ReassemblyState). DirectionRun options (ends.firsts c.link.my.tag) options.max_receiver_window_buffer_size (joined (ends.sends c.link.my.tag) (record { tracker = (ends.gets c.link.my.tag).tracker; reassembly = r; read = (ends.gets c.link.my.tag).read }))) c.reassembly
-        (h.runs c.link.my.tag))
+        subst (λ (t : TrackerState). DirectionRun options (ends.firsts c.link.peer.tag) options.max_receiver_window_buffer_size (joined (ends.sends c.link.peer.tag) (record { tracker = t; reassembly = transfer.reassembly; read = (ends.gets c.link.peer.tag).read }))) c.tracker
+        (subst (λ (r : ReassemblyState). DirectionRun options (ends.firsts c.link.peer.tag) options.max_receiver_window_buffer_size (joined (ends.sends c.link.peer.tag) (record { tracker = (ends.gets c.link.peer.tag).tracker; reassembly = r; read = (ends.gets c.link.peer.tag).read }))) c.reassembly
+        (h.runs c.link.peer.tag))
 
     -- ---- what is known of the request that is handled
 
     direction : Direction
-    direction = joined (ends.sends c.link.my.tag) (ends.gets c.link.my.tag)
+    direction = joined (ends.sends c.link.peer.tag) (ends.gets c.link.peer.tag)
 
-    few_asked : length (ends.sends c.link.my.tag).asking.requests < 2 ^ 32 - 1
+    few_asked : length (ends.sends c.link.peer.tag).asking.requests < 2 ^ 32 - 1
     few_asked =
-        let sent = requests_are_sent options (ends.firsts c.link.my.tag) options.max_receiver_window_buffer_size (joined (ends.sends c.link.my.tag) (ends.gets c.link.my.tag)) (h.runs c.link.my.tag) in
-        let went = h.sender.few_requests c.link.my.tag in
-        let all = little c.link.my.tag in
+        let sent = requests_are_sent options (ends.firsts c.link.peer.tag) options.max_receiver_window_buffer_size (joined (ends.sends c.link.peer.tag) (ends.gets c.link.peer.tag)) (h.runs c.link.peer.tag) in
+        let went = h.sender.few_requests c.link.peer.tag in
+        let all = little c.link.peer.tag in
         omega (arith, sent, went, all)
 
     -- An association that begins is another one.
     new_same : (begun : Begun d o) → IsOpening (came_by input) → identity_in o.after.core ≡ Some (identity_of begun.my begun.held) → identity_of begun.my begun.held ≡ c.link → ⊥
     new_same begun opening linked same' =
         let held = (w.answers.theirs_held c.link c.linked).0 in
-        ((new begun opening linked).other held.link held.held).0 (held.tag_is ∙ ap (λ (l : AssociationIdentity). l.my.tag) (sym same'))
+        (new begun opening linked).other held.link held.held (held.tag_is ∙ ap (λ (l : AssociationIdentity). l.peer.tag) (sym same'))
 
     -- What is asked fits too once a request is performed.
     fits_performed : (known reset : Bool) (first : ℕ) (own : Option Own) (asking : Asking) → AsksFit first own asking → AsksFit first own (performed_where known reset asking)
@@ -171,56 +226,56 @@ module _ (options : Options) (ends : Ends) (e : Endpoint) (queued : List Message
         out_same None none = none
         out_same (Some number) one = record { one = one.one; earlier = one.earlier; is = one.is }
 
-    module _ (sent : WasSent (ends.sends c.link.my.tag).sent (came_by input)) (knows : KnowsPeerIn their_past d.core) where
+    module _ (sent : WasSent (ends.sends c.link.peer.tag).sent (came_by input)) (met : HadBoth past c.link.peer.tag c.link.my.tag ⊎ WasSent [] (came_by input)) (knows : KnowsPeerIn their_past d.core) where
       -- Where nothing was asked nothing is performed.
-      still_nothing : (is_known : Bool) (asking : Asking) → PerformedBy is_known input o (joined (ends.sends c.link.my.tag) (ends.gets c.link.my.tag)) asking → (left : Transfer) → o.after.queues.transfer ≡ Some left
-          → (ends.sends c.link.my.tag).asking ≡ nothing_asked → asking ≡ nothing_asked
+      still_nothing : (is_known : Bool) (asking : Asking) → PerformedBy is_known input o (joined (ends.sends c.link.peer.tag) (ends.gets c.link.peer.tag)) asking → (left : Transfer) → o.after.queues.transfer ≡ Some left
+          → (ends.sends c.link.peer.tag).asking ≡ nothing_asked → asking ≡ nothing_asked
       still_nothing is_known asking by left is none = by.3 ∙ go by.0 by.2
         where
-          go : (is_reset : Bool) → (is_reset ≡ true → has_reset o.effects ≡ true) → performed_where is_known is_reset (ends.sends c.link.my.tag).asking ≡ nothing_asked
+          go : (is_reset : Bool) → (is_reset ≡ true → has_reset o.effects ≡ true) → performed_where is_known is_reset (ends.sends c.link.peer.tag).asking ≡ nothing_asked
           go false says = by_known is_known
             where
-              by_known : (b : Bool) → performed_where b false (ends.sends c.link.my.tag).asking ≡ nothing_asked
+              by_known : (b : Bool) → performed_where b false (ends.sends c.link.peer.tag).asking ≡ nothing_asked
               by_known true = none
               by_known false = none
           go true says =
               absurd (nothing_performed ends e past d their_past w input o may turn new_tags c.link c.linked transfer left there is options.max_receiver_window_buffer_size options
-              (joined (ends.sends c.link.my.tag) (ends.gets c.link.my.tag)) (ends.firsts c.link.my.tag) (h.runs c.link.my.tag) refl sent few_asked knows (says refl) none)
+              (joined (ends.sends c.link.peer.tag) (ends.gets c.link.peer.tag)) (ends.firsts c.link.peer.tag) (h.runs c.link.peer.tag) refl sent few_asked knows (says refl) none)
 
       by_turn : (is_known : Bool)
           → ((left : Transfer) (is : o.after.queues.transfer ≡ Some left) → Standing ends e past d their_past w input o may turn new_tags c.link c.linked transfer left there is options.max_receiver_window_buffer_size options
-          (joined (ends.sends c.link.my.tag) (ends.gets c.link.my.tag)) (ends.firsts c.link.my.tag) (h.runs c.link.my.tag) refl sent few_asked knows is_known)
-          → ReceiverTurns is_known options (ends.firsts c.link.my.tag) options.max_receiver_window_buffer_size (joined (ends.sends c.link.my.tag) (ends.gets c.link.my.tag)) transfer d input o → Turned
+          (joined (ends.sends c.link.peer.tag) (ends.gets c.link.peer.tag)) (ends.firsts c.link.peer.tag) (h.runs c.link.peer.tag) refl sent few_asked knows is_known)
+          → ReceiverTurns is_known options (ends.firsts c.link.peer.tag) options.max_receiver_window_buffer_size (joined (ends.sends c.link.peer.tag) (ends.gets c.link.peer.tag)) transfer d input o → Turned
       by_turn is_known stands (receiver_goes_on linked left is fits asking by run) =
           receives linked left is fits asking (still_nothing is_known asking by left is)
-          (λ first own fit. subst (λ (a : Asking). AsksFit first own a) (sym by.3) (fits_performed is_known by.0 first own (ends.sends c.link.my.tag).asking fit))
+          (λ first own fit. subst (λ (a : Asking). AsksFit first own a) (sym by.3) (fits_performed is_known by.0 first own (ends.sends c.link.peer.tag).asking fit))
           (goes_answered ends e past d their_past w input o may turn new_tags c.link c.linked transfer left there is options.max_receiver_window_buffer_size options
-          (joined (ends.sends c.link.my.tag) (ends.gets c.link.my.tag)) (ends.firsts c.link.my.tag) (h.runs c.link.my.tag) refl sent few_asked knows new_same linked is_known (stands left is) asking by _) run
+          (joined (ends.sends c.link.peer.tag) (ends.gets c.link.peer.tag)) (ends.firsts c.link.peer.tag) (h.runs c.link.peer.tag) refl sent few_asked knows new_same linked is_known (stands left is) asking by _) met run
       by_turn is_known stands (receiver_ends none gone unread) =
           unread_goes (reads_still reading.last d input transfer reading.reads there unread)
           (rests options ends e queued past packets d their_past reading h input o w may turn gone (unlinked_some o.after none) none (none_performed o.effects (ends_ask_nothing d input o transfer may turn there gone))
-          (subst (λ (n : ℕ). LeavesReady ends.gets n o.after.left o.after.queues.transfer) (sym (h.receiver.last c.link c.linked)) (ends_left d input o may turn ends.gets reading.last c.link.my.tag transfer there gone c.reassembly h.receiver.left)))
+          (subst (λ (n : Tags). LeavesReady ends.gets n.peer o.after.left o.after.queues.transfer) (sym (h.receiver.last c.link c.linked)) (ends_left d input o may turn ends.gets reading.last.peer c.link.peer.tag transfer there gone c.reassembly h.receiver.left)))
       by_turn is_known stands (receiver_begins opens) =
           unread_goes (opening_still reading.last d input reading.reads opens.opening) (opens_goes options ends e queued past packets d their_past reading h few same input o w may turn opens (new opens.begun opens.opening opens.linked))
 
-      goes_known : (is_known : Bool) → KnowsRequest is_known (joined (ends.sends c.link.my.tag) (ends.gets c.link.my.tag)) transfer (came_by input) o.effects
-          → ReceiverTurns is_known options (ends.firsts c.link.my.tag) options.max_receiver_window_buffer_size (joined (ends.sends c.link.my.tag) (ends.gets c.link.my.tag)) transfer d input o
+      goes_known : (is_known : Bool) → KnowsRequest is_known (joined (ends.sends c.link.peer.tag) (ends.gets c.link.peer.tag)) transfer (came_by input) o.effects
+          → ReceiverTurns is_known options (ends.firsts c.link.peer.tag) options.max_receiver_window_buffer_size (joined (ends.sends c.link.peer.tag) (ends.gets c.link.peer.tag)) transfer d input o
       goes_known is_known newest =
-          receivers_go_on is_known options (ends.firsts c.link.my.tag) options.max_receiver_window_buffer_size (joined (ends.sends c.link.my.tag) (ends.gets c.link.my.tag)) transfer d input o now there sent newest h.receiver.fits
-          (λ begun opening linked. (new begun opening linked).own_small) (has_new_tag ends e past d their_past w input o may turn new_tags) may turn
+          receivers_go_on is_known options (ends.firsts c.link.peer.tag) options.max_receiver_window_buffer_size (joined (ends.sends c.link.peer.tag) (ends.gets c.link.peer.tag)) transfer d input o now there sent newest h.receiver.fits
+          (λ begun opening linked. (new begun opening linked).own_small) may turn
 
       -- If the receiver is in step, what is performed wants what the newest wants.
-      newest_so : IsInStep (requests_of ends w.pairs c.link.my.tag) their_past transfer.reassembly.deferral → PerformsNewest (joined (ends.sends c.link.my.tag) (ends.gets c.link.my.tag)) transfer (came_by input) o.effects
+      newest_so : IsInStep (requests_of ends w.pairs c.link.peer.tag) their_past transfer.reassembly.deferral → PerformsNewest (joined (ends.sends c.link.peer.tag) (ends.gets c.link.peer.tag)) transfer (came_by input) o.effects
       newest_so step done = by_left o.after.queues.transfer refl
         where
           by_left : (found : Option Transfer) → o.after.queues.transfer ≡ found → (parameters : List ResetParameter) (reset : RequestedReset) → came_by input ≡ Some (re_config parameters) → requested_in parameters ≡ Some reset
-              → IsNewest (joined (ends.sends c.link.my.tag) (ends.gets c.link.my.tag)) transfer reset
+              → IsNewest (joined (ends.sends c.link.peer.tag) (ends.gets c.link.peer.tag)) transfer reset
           by_left None gone = (let clash : true ≡ false = sym done ∙ reset_none o.effects (ends_ask_nothing d input o transfer may turn there gone) in absurd (cc))
           by_left (Some left) is =
               performs_newest ends e past d their_past w input o may turn new_tags c.link c.linked transfer left there is options.max_receiver_window_buffer_size options
-              (joined (ends.sends c.link.my.tag) (ends.gets c.link.my.tag)) (ends.firsts c.link.my.tag) (h.runs c.link.my.tag) refl sent few_asked knows step done
+              (joined (ends.sends c.link.peer.tag) (ends.gets c.link.peer.tag)) (ends.firsts c.link.peer.tag) (h.runs c.link.peer.tag) refl sent few_asked knows step done
 
-      turn_goes : StandsSo (requests_of ends w.pairs c.link.my.tag) their_past transfer.reassembly.deferral → Turned
+      turn_goes : StandsSo (requests_of ends w.pairs c.link.peer.tag) their_past transfer.reassembly.deferral → Turned
       turn_goes (plain kind some) = by_turn false (λ left is. inl kind) (goes_known false (inl kind))
       turn_goes (in_step step) = by_left o.after.queues.transfer refl
         where
@@ -229,7 +284,7 @@ module _ (options : Options) (ends : Ends) (e : Endpoint) (queued : List Message
               by_turn false (λ left is. (let clash : ◌≡◌ {A = Option Transfer} None (Some left) = sym gone ∙ is in absurd (cc))) (goes_known false (inr (newest_so step)))
           by_left (Some left) is =
               elim (newest_or_not ends e past d their_past w input o may turn new_tags c.link c.linked transfer left there is options.max_receiver_window_buffer_size options
-              (joined (ends.sends c.link.my.tag) (ends.gets c.link.my.tag)) (ends.firsts c.link.my.tag) (h.runs c.link.my.tag) refl sent few_asked knows step) [
+              (joined (ends.sends c.link.peer.tag) (ends.gets c.link.peer.tag)) (ends.firsts c.link.peer.tag) (h.runs c.link.peer.tag) refl sent few_asked knows step) [
                 | inl newest ↦ by_turn true (λ other there'. newest) (goes_known true (newest_so step))
                 | inr behind ↦ by_turn false (λ other there'. behind) (goes_known false (inr (newest_so step)))
               ]
@@ -244,14 +299,14 @@ module _ (options : Options) (ends : Ends) (e : Endpoint) (queued : List Message
 
   -- What is handled in an association was sent in it.
   abbrev pub Sent : Type 0
-  Sent = (transfer : Transfer) (link : AssociationIdentity) → d.queues.transfer ≡ Some transfer → identity_in d.core ≡ Some link → WasSent (ends.sends link.my.tag).sent (came_by input)
+  Sent = (transfer : Transfer) (link : AssociationIdentity) → d.queues.transfer ≡ Some transfer → identity_in d.core ≡ Some link → WasSent (ends.sends link.peer.tag).sent (came_by input) × (HadBoth past link.peer.tag link.my.tag ⊎ WasSent [] (came_by input))
 
   by_transfer : Sent → KnowsPeerIn their_past d.core → (found : Option Transfer) → d.queues.transfer ≡ found → Turned
   by_transfer sent knows None nowhere = idle_goes nowhere (receivers_begin d input o nowhere h.receiver.fits (λ begun opening linked. (new begun opening linked).own_small) may turn)
   by_transfer sent knows (Some transfer) there =
       let c = h.receiver.current transfer there in
-      turn_goes transfer there c (sent transfer c.link there c.linked) knows
-      (subst (λ (t : Option Transfer). StandsSo (requests_of ends w.pairs c.link.my.tag) their_past (waiting_deferral t)) there (w.answers.stands c.link c.linked))
+      turn_goes transfer there c (sent transfer c.link there c.linked).0 (sent transfer c.link there c.linked).1 knows
+      (subst (λ (t : Option Transfer). StandsSo (requests_of ends w.pairs c.link.peer.tag) their_past (waiting_deferral t)) there (w.answers.stands c.link c.linked))
 
   pub receiver_turns : KnowsPeerIn their_past d.core → Sent → Turned
   receiver_turns knows sent = by_transfer sent knows d.queues.transfer refl

@@ -15,11 +15,11 @@ use Rattle.dcsctp_spec_lemmas.specs.spec.endpoint.ResetOutcomes.{has_completed}
 use Rattle.dcsctp_delivery_sending.specs.Places.{set_at}
 use Rattle.dcsctp_delivery_sending.proofs.Places.{decide, set_same, set_other}
 use Rattle.dcsctp_delivery_directions.specs.Directions.{Asking, nothing_asked}
-use Rattle.dcsctp_delivery_turns.specs.Actions.{IsCall, peer_tag}
+use Rattle.dcsctp_delivery_turns.specs.Actions.{IsCall}
 use Rattle.dcsctp_delivery_turns.specs.Asking.{Own, own_with, own_in, own_of, AreNumbered, IsAsking, OutIs, AsksFit, AskingGrows}
 use Rattle.dcsctp_delivery_turns.specs.Runs.{EndsPerformed, RefusesNone, IsBetween, as_it_was, once_performed, once_refused, once_renewed}
 use Rattle.dcsctp_delivery_turns.proofs.Completing.{completes_own}
-use Rattle.dcsctp_delivery_associations.specs.Ends.{SendingEnd, ReceivingEnd, Ends, NewPeer}
+use Rattle.dcsctp_delivery_associations.specs.Ends.{SendingEnd, ReceivingEnd, Ends, sender_key, NewPeer}
 use Rattle.dcsctp_delivery_associations.specs.Answered.{Requests, request_number_at, AnswersRequests, requests_of, waiting_deferral, AreAnswered}
 use Rattle.dcsctp_delivery_associations.specs.Laws.{CompletesPerformed}
 use Rattle.dcsctp_delivery_associations.proofs.RequestNumbers.{same_place, newest_number}
@@ -76,17 +76,17 @@ newest_is first number found own asking newest earlier is outstanding fits reque
 -- ---- a request ends
 
 module _ (requests : ℕ → Requests) (link : AssociationIdentity) (past : List Effect) (theirs : Option AssociationIdentity) (their_past : List Effect) (waits : Option DeferralModel) (h : AnswersRequests requests (Some link) past theirs their_past waits)
-    (e : Endpoint) (input : Input) (o : Outcome) (linked : identity_in e.core ≡ Some link) (kind : (requests link.peer.tag).is_interleaved ≡ e.queues.queue.is_interleaved)
-    (fits : AsksFit (requests link.peer.tag).first (own_of e) (requests link.peer.tag).asking) (few : length (requests link.peer.tag).asking.requests < 2 ^ 32 - 1) (completes_so : CompletesPerformed their_past o)
+    (e : Endpoint) (input : Input) (o : Outcome) (linked : identity_in e.core ≡ Some link) (kind : (requests link.my.tag).is_interleaved ≡ e.queues.queue.is_interleaved)
+    (fits : AsksFit (requests link.my.tag).first (own_of e) (requests link.my.tag).asking) (few : length (requests link.my.tag).asking.requests < 2 ^ 32 - 1) (completes_so : CompletesPerformed their_past o)
     (may : IsCall input) (turn : Turn e input o) where
   abbrev r : Requests
-  r = requests link.peer.tag
+  r = requests link.my.tag
 
-  numbers : AreNumbered (requests link.peer.tag).first (requests link.peer.tag).asking.requests
-  numbers = (asks_so (requests link.peer.tag).first e.core e.outstanding (requests link.peer.tag).asking link linked fits).0
+  numbers : AreNumbered (requests link.my.tag).first (requests link.my.tag).asking.requests
+  numbers = (asks_so (requests link.my.tag).first e.core e.outstanding (requests link.my.tag).asking link linked fits).0
 
   -- The newest was performed if it ends so.
-  performed_newest : has_completed o.effects ≡ true → (newest : BegunReset) (earlier : List BegunReset) → (requests link.peer.tag).asking.requests ≡ newest ∷ earlier → WasPerformed link.my newest.number their_past
+  performed_newest : has_completed o.effects ≡ true → (newest : BegunReset) (earlier : List BegunReset) → (requests link.my.tag).asking.requests ≡ newest ∷ earlier → WasPerformed link.my newest.number their_past
   performed_newest done newest earlier is =
       let found = some_completed o.effects done in
       let own = completes_own e input o found.0 found.1 may turn found.2 in
@@ -103,15 +103,15 @@ module _ (requests : ℕ → Requests) (link : AssociationIdentity) (past : List
 
       too_many : {pair : Pair} → pair ≡ link.my → newest.number ≡ request_number_at pair.first_tsn (2 ^ 32 - 1) → ⊥
       too_many mine last =
-          let long : length (requests link.peer.tag).asking.requests ≡ suc (length earlier) = ap (λ (l : List BegunReset). length l) is in
-          let at : newest.number ≡ request_number_at (requests link.peer.tag).first (length earlier) = newest_number (requests link.peer.tag).first newest earlier (requests link.peer.tag).asking.requests is numbers in
-          let same : request_number_at (requests link.peer.tag).first (length earlier) ≡ request_number_at (requests link.peer.tag).first (2 ^ 32 - 1) =
+          let long : length (requests link.my.tag).asking.requests ≡ suc (length earlier) = ap (λ (l : List BegunReset). length l) is in
+          let at : newest.number ≡ request_number_at (requests link.my.tag).first (length earlier) = newest_number (requests link.my.tag).first newest earlier (requests link.my.tag).asking.requests is numbers in
+          let same : request_number_at (requests link.my.tag).first (length earlier) ≡ request_number_at (requests link.my.tag).first (2 ^ 32 - 1) =
           sym at ∙ last ∙ ap (λ (n : ℕ). request_number_at n (2 ^ 32 - 1)) (ap (λ (p : Pair). p.first_tsn) mine ∙ sym (h.mine_first link refl)) in
-          let place : length earlier ≡ 2 ^ 32 - 1 = same_place (requests link.peer.tag).first (length earlier) (2 ^ 32 - 1) same (omega (arith, few, long)) (omega arith) in
+          let place : length earlier ≡ 2 ^ 32 - 1 = same_place (requests link.my.tag).first (length earlier) (2 ^ 32 - 1) same (omega (arith, few, long)) (omega arith) in
           omega (arith, place, long, few)
 
   -- There is one, which has no end.
-  some_out : has_completed o.effects ≡ true → (newest : BegunReset) × (earlier : List BegunReset) × ((requests link.peer.tag).asking.requests ≡ newest ∷ earlier)
+  some_out : has_completed o.effects ≡ true → (newest : BegunReset) × (earlier : List BegunReset) × ((requests link.my.tag).asking.requests ≡ newest ∷ earlier)
   some_out done =
       let found = some_completed o.effects done in
       let own = completes_own e input o found.0 found.1 may turn found.2 in
@@ -119,13 +119,13 @@ module _ (requests : ℕ → Requests) (link : AssociationIdentity) (past : List
       let out : OutIs (Some found.1) own.own.again r.asking = subst (λ (n : Option ℕ). OutIs n own.own.again r.asking) own.outstanding kept.out in
       (record { number = found.1; reset = own.own.again }, out.earlier, out.is)
 
-  pub ends_performed : EndsPerformed e o (requests link.peer.tag).asking
+  pub ends_performed : EndsPerformed e o (requests link.my.tag).asking
   ends_performed done interleaved =
       let out = some_out done in
       newest_known requests link past theirs their_past waits h few (kind ∙ interleaved) out.0 out.1 out.2
       (subst (λ (n : ℕ). WasPerformed link.my n their_past) (newest_number r.first out.0 out.1 r.asking.requests out.2 numbers) (performed_newest done out.0 out.1 out.2))
 
-  pub may_go : RefusesNone e o → (between : Asking) → IsBetween o.effects (requests link.peer.tag).asking between → MayGo (requests link.peer.tag) their_past between
+  pub may_go : RefusesNone e o → (between : Asking) → IsBetween o.effects (requests link.my.tag).asking between → MayGo (requests link.my.tag) their_past between
   may_go none _ as_it_was = ends_so _ asked.as_it_was
   may_go none _ (once_performed done) =
       ends_so _ (asked.has_ended (λ interleaved newest earlier is. subst (λ (p : Pair). WasPerformed p newest.number their_past) (sym (h.mine_held link refl).1) (performed_newest done newest earlier is)))
@@ -165,51 +165,51 @@ set_end ends pairs key end new is tag = set_ends ends pairs key end ends.gets en
 
 -- ---- a turn in which the association continues or ends
 
-module _ (ends : Ends) (e : Endpoint) (past : List Effect) (d : Endpoint) (their_past : List Effect) (w : AreAnswered ends e past d their_past) (key_below : (ends.sends (peer_tag e.core)).queues ≡ e.queues)
+module _ (ends : Ends) (e : Endpoint) (past : List Effect) (d : Endpoint) (their_past : List Effect) (w : AreAnswered ends e past d their_past) (key_below : (ends.sends (sender_key e.core)).queues ≡ e.queues)
     (after : Endpoint) (happened : List Effect) (end : SendingEnd) (kind : end.queues.queue.is_interleaved ≡ e.queues.queue.is_interleaved) where
   abbrev all : ℕ → Requests
   all = requests_of ends w.pairs
 
   abbrev pub grown_to : Ends
-  grown_to = record ends { sends = set_at (peer_tag e.core) end ends.sends }
+  grown_to = record ends { sends = set_at (sender_key e.core) end ends.sends }
 
   -- with this begun
-  module _ (link : AssociationIdentity) (linked : identity_in e.core ≡ Some link) (some : link.peer.tag ≢ 0) (between asking : Asking) (is : end.asking ≡ asking) (few : length (ends.sends link.peer.tag).asking.requests < 2 ^ 32 - 1)
-      (may : MayGo (requests_of ends w.pairs link.peer.tag) their_past between) (more : MayBegin (ends.firsts link.peer.tag) between asking) where
-    key_is : peer_tag e.core ≡ link.peer.tag
+  module _ (link : AssociationIdentity) (linked : identity_in e.core ≡ Some link) (some : link.my.tag ≢ 0) (between asking : Asking) (is : end.asking ≡ asking) (few : length (ends.sends link.my.tag).asking.requests < 2 ^ 32 - 1)
+      (may : MayGo (requests_of ends w.pairs link.my.tag) their_past between) (more : MayBegin (ends.firsts link.my.tag) between asking) where
+    key_is : sender_key e.core ≡ link.my.tag
     key_is = link_tag e.core link linked
 
-    kind_is : end.queues.queue.is_interleaved ≡ (ends.sends link.peer.tag).queues.queue.is_interleaved
+    kind_is : end.queues.queue.is_interleaved ≡ (ends.sends link.my.tag).queues.queue.is_interleaved
     kind_is = kind ∙ sym (ap (λ (t : ℕ). (ends.sends t).queues.queue.is_interleaved) (sym key_is) ∙ ap (λ (b : EndpointQueues). b.queue.is_interleaved) key_below)
 
-    here : of_end (ends.firsts link.peer.tag) (w.pairs link.peer.tag) end ≡ record (requests_of ends w.pairs link.peer.tag) { asking = asking }
+    here : of_end (ends.firsts link.my.tag) (w.pairs link.my.tag) end ≡ record (requests_of ends w.pairs link.my.tag) { asking = asking }
     here =
-        ap (λ (a : Asking). record (of_end (ends.firsts link.peer.tag) (w.pairs link.peer.tag) end) { asking = a }) is
-        ∙ ap (λ (b : Bool). record (requests_of ends w.pairs link.peer.tag) { asking = asking; is_interleaved = b }) kind_is
+        ap (λ (a : Asking). record (of_end (ends.firsts link.my.tag) (w.pairs link.my.tag) end) { asking = a }) is
+        ∙ ap (λ (b : Bool). record (requests_of ends w.pairs link.my.tag) { asking = asking; is_interleaved = b }) kind_is
 
     answers_there : AnswersRequests (requests_of ends w.pairs) (Some link) past (identity_in d.core) their_past (waiting_deferral d.queues.transfer)
     answers_there = subst (λ (l : Option AssociationIdentity). AnswersRequests (requests_of ends w.pairs) l past (identity_in d.core) their_past (waiting_deferral d.queues.transfer)) linked w.answers
 
-    pub goes_answers : AnswersRequests (requests_of (record ends { sends = set_at (peer_tag e.core) end ends.sends }) w.pairs) (Some link) (after_effects happened past) (identity_in d.core) their_past (waiting_deferral d.queues.transfer)
+    pub goes_answers : AnswersRequests (requests_of (record ends { sends = set_at (sender_key e.core) end ends.sends }) w.pairs) (Some link) (after_effects happened past) (identity_in d.core) their_past (waiting_deferral d.queues.transfer)
     goes_answers =
         subst (λ (k : ℕ). AnswersRequests (requests_of (record ends { sends = set_at k end ends.sends }) w.pairs) (Some link) (after_effects happened past) (identity_in d.core) their_past (waiting_deferral d.queues.transfer)) (sym key_is)
-        (same_requests (requests_of (record ends { sends = set_at link.peer.tag end ends.sends }) w.pairs) (set_at link.peer.tag (record (requests_of ends w.pairs link.peer.tag) { asking = asking }) (requests_of ends w.pairs))
-        (Some link) (after_effects happened past) (identity_in d.core) their_past (waiting_deferral d.queues.transfer) (set_end ends w.pairs link.peer.tag end _ here)
+        (same_requests (requests_of (record ends { sends = set_at link.my.tag end ends.sends }) w.pairs) (set_at link.my.tag (record (requests_of ends w.pairs link.my.tag) { asking = asking }) (requests_of ends w.pairs))
+        (Some link) (after_effects happened past) (identity_in d.core) their_past (waiting_deferral d.queues.transfer) (set_end ends w.pairs link.my.tag end _ here)
         (asks_on (requests_of ends w.pairs) link past (identity_in d.core) their_past (waiting_deferral d.queues.transfer) answers_there few some between asking may more happened))
 
   -- The end of the tag 0 may be any.
   pub closes_answers : (mine : Option AssociationIdentity) (later : List Effect) (zero : SendingEnd)
-      → AnswersRequests (requests_of (record ends { sends = set_at (peer_tag e.core) end ends.sends }) w.pairs) mine later (identity_in d.core) their_past (waiting_deferral d.queues.transfer)
-      → AnswersRequests (requests_of (record ends { sends = set_at 0 zero (set_at (peer_tag e.core) end ends.sends) }) w.pairs) None later (identity_in d.core) their_past (waiting_deferral d.queues.transfer)
+      → AnswersRequests (requests_of (record ends { sends = set_at (sender_key e.core) end ends.sends }) w.pairs) mine later (identity_in d.core) their_past (waiting_deferral d.queues.transfer)
+      → AnswersRequests (requests_of (record ends { sends = set_at 0 zero (set_at (sender_key e.core) end ends.sends) }) w.pairs) None later (identity_in d.core) their_past (waiting_deferral d.queues.transfer)
   closes_answers mine later zero answers =
-      same_requests (requests_of (record ends { sends = set_at 0 zero (set_at (peer_tag e.core) end ends.sends) }) w.pairs)
-      (set_at 0 (of_end (ends.firsts 0) (w.pairs 0) zero) (requests_of (record ends { sends = set_at (peer_tag e.core) end ends.sends }) w.pairs)) None later (identity_in d.core) their_past (waiting_deferral d.queues.transfer)
-      (set_end (record ends { sends = set_at (peer_tag e.core) end ends.sends }) w.pairs 0 zero _ refl)
-      (closes_on (requests_of (record ends { sends = set_at (peer_tag e.core) end ends.sends }) w.pairs) mine later (identity_in d.core) their_past (waiting_deferral d.queues.transfer) answers (of_end (ends.firsts 0) (w.pairs 0) zero) later (λ effect has. has))
+      same_requests (requests_of (record ends { sends = set_at 0 zero (set_at (sender_key e.core) end ends.sends) }) w.pairs)
+      (set_at 0 (of_end (ends.firsts 0) (w.pairs 0) zero) (requests_of (record ends { sends = set_at (sender_key e.core) end ends.sends }) w.pairs)) None later (identity_in d.core) their_past (waiting_deferral d.queues.transfer)
+      (set_end (record ends { sends = set_at (sender_key e.core) end ends.sends }) w.pairs 0 zero _ refl)
+      (closes_on (requests_of (record ends { sends = set_at (sender_key e.core) end ends.sends }) w.pairs) mine later (identity_in d.core) their_past (waiting_deferral d.queues.transfer) answers (of_end (ends.firsts 0) (w.pairs 0) zero) later (λ effect has. has))
 
   -- So it is where there is no association.
   pub idle_answers : identity_in e.core ≡ None → (later : List Effect) → ((effect : Effect) → HasEffect effect past → HasEffect effect later)
-      → AnswersRequests (requests_of (record ends { sends = set_at (peer_tag e.core) end ends.sends }) w.pairs) None later (identity_in d.core) their_past (waiting_deferral d.queues.transfer)
+      → AnswersRequests (requests_of (record ends { sends = set_at (sender_key e.core) end ends.sends }) w.pairs) None later (identity_in d.core) their_past (waiting_deferral d.queues.transfer)
   idle_answers none later grows =
       subst (λ (k : ℕ). AnswersRequests (requests_of (record ends { sends = set_at k end ends.sends }) w.pairs) None later (identity_in d.core) their_past (waiting_deferral d.queues.transfer)) (sym (no_key e.core none))
       (same_requests (requests_of (record ends { sends = set_at 0 end ends.sends }) w.pairs) (set_at 0 (of_end (ends.firsts 0) (w.pairs 0) end) (requests_of ends w.pairs)) None later (identity_in d.core) their_past (waiting_deferral d.queues.transfer)
@@ -219,16 +219,16 @@ module _ (ends : Ends) (e : Endpoint) (past : List Effect) (d : Endpoint) (their
 -- ---- a turn in which an association begins
 
 pub begins_answers : (ends : Ends) (e : Endpoint) (past : List Effect) (d : Endpoint) (their_past : List Effect) (w : AreAnswered ends e past d their_past) (new : AssociationIdentity) → NewPeer past their_past new
-    → (ends.sends new.peer.tag).asking ≡ nothing_asked → (end : SendingEnd) (gets : ℕ → ReceivingEnd) (firsts : ℕ → ℕ) → firsts new.peer.tag ≡ new.my.first_tsn → ((tag : ℕ) → tag ≢ new.peer.tag → firsts tag ≡ ends.firsts tag)
-    → MayBegin new.my.first_tsn nothing_asked end.asking → ((other : AssociationIdentity) → identity_in d.core ≡ Some other → other.my.tag ≡ new.peer.tag → ends.firsts new.peer.tag ≡ new.my.first_tsn)
+    → (ends.sends new.my.tag).asking ≡ nothing_asked → (end : SendingEnd) (gets : ℕ → ReceivingEnd) (firsts : ℕ → ℕ) → firsts new.my.tag ≡ new.my.first_tsn → ((tag : ℕ) → tag ≢ new.my.tag → firsts tag ≡ ends.firsts tag)
+    → MayBegin new.my.first_tsn nothing_asked end.asking → ((other : AssociationIdentity) → identity_in d.core ≡ Some other → other.peer.tag ≡ new.my.tag → ends.firsts new.my.tag ≡ new.my.first_tsn)
     → (later : List Effect) → ((effect : Effect) → HasEffect effect past → HasEffect effect later) → HasEffect (holds new) later
-    → AnswersRequests (requests_of (record ends { sends = set_at new.peer.tag end ends.sends; gets = gets; firsts = firsts }) (set_at new.peer.tag new.my w.pairs)) (Some new) later (identity_in d.core) their_past (waiting_deferral d.queues.transfer)
+    → AnswersRequests (requests_of (record ends { sends = set_at new.my.tag end ends.sends; gets = gets; firsts = firsts }) (set_at new.my.tag new.my w.pairs)) (Some new) later (identity_in d.core) their_past (waiting_deferral d.queues.transfer)
 begins_answers ends e past d their_past w new is nothing end gets firsts first others begins crossed later grows held =
-    same_requests (requests_of (record ends { sends = set_at new.peer.tag end ends.sends; gets = gets; firsts = firsts }) (set_at new.peer.tag new.my w.pairs))
-    (set_at new.peer.tag (fresh_requests new end.queues.queue.is_interleaved end.asking) (requests_of ends w.pairs)) (Some new) later (identity_in d.core) their_past (waiting_deferral d.queues.transfer)
-    (set_ends ends w.pairs new.peer.tag end gets firsts (set_at new.peer.tag new.my w.pairs) (fresh_requests new end.queues.queue.is_interleaved end.asking) here
-    (λ tag ne. (others tag ne, set_other new.peer.tag tag new.my w.pairs ne)))
+    same_requests (requests_of (record ends { sends = set_at new.my.tag end ends.sends; gets = gets; firsts = firsts }) (set_at new.my.tag new.my w.pairs))
+    (set_at new.my.tag (fresh_requests new end.queues.queue.is_interleaved end.asking) (requests_of ends w.pairs)) (Some new) later (identity_in d.core) their_past (waiting_deferral d.queues.transfer)
+    (set_ends ends w.pairs new.my.tag end gets firsts (set_at new.my.tag new.my w.pairs) (fresh_requests new end.queues.queue.is_interleaved end.asking) here
+    (λ tag ne. (others tag ne, set_other new.my.tag tag new.my w.pairs ne)))
     (opens_on (requests_of ends w.pairs) (identity_in e.core) past (identity_in d.core) their_past (waiting_deferral d.queues.transfer) w.answers new is.some nothing is.match end.queues.queue.is_interleaved end.asking begins crossed later grows held)
   where
-    here : of_end (firsts new.peer.tag) (set_at new.peer.tag new.my w.pairs new.peer.tag) end ≡ fresh_requests new end.queues.queue.is_interleaved end.asking
-    here = ap (λ (n : ℕ). of_end n (set_at new.peer.tag new.my w.pairs new.peer.tag) end) first ∙ ap (λ (m : Pair). of_end new.my.first_tsn m end) (set_same new.peer.tag new.my w.pairs)
+    here : of_end (firsts new.my.tag) (set_at new.my.tag new.my w.pairs new.my.tag) end ≡ fresh_requests new end.queues.queue.is_interleaved end.asking
+    here = ap (λ (n : ℕ). of_end n (set_at new.my.tag new.my w.pairs new.my.tag) end) first ∙ ap (λ (m : Pair). of_end new.my.first_tsn m end) (set_same new.my.tag new.my w.pairs)

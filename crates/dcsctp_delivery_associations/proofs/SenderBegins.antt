@@ -31,41 +31,42 @@ use Rattle.dcsctp_delivery_turns.proofs.Beginnings.{begun_at_zero}
 use Rattle.dcsctp_delivery_turns.proofs.Runs.{senders_begin}
 use Rattle.dcsctp_delivery_turns.proofs.Unbegun.{unbegun_begins_at_zero, unbegun_begins_waiting}
 use Rattle.dcsctp_delivery_associations.proofs.Held.{never_held, none_held, some_held}
-use Rattle.dcsctp_delivery_associations.specs.Ends.{SendingEnd, ReceivingEnd, joined, new_end, Ends, HadPeer, HadKind, NeverHeld, KeepsThese, KeepsOnlyThese, BeginsAnew, Awaits, Sender, NewPeer, HadTag, IsCurrentEnd, Receiver, Between, IsOnlyTag}
+use Rattle.dcsctp_delivery_associations.specs.Ends.{SendingEnd, ReceivingEnd, joined, new_end, Ends, HadPeer, HadKind, HadBoth, sender_key, awaiting, MetOrAlone, NeverHeld, KeepsThese, KeepsOnlyThese, BeginsAnew, Awaits, Sender, NewPeer, HadTag, IsCurrentEnd, Receiver, Between, IsOnlyOwn}
 use Rattle.dcsctp_delivery_directions.proofs.RequestCounts.{requests_more_to, requests_are_sent}
 use Rattle.dcsctp_delivery_associations.specs.Answered.{AnswersRequests, requests_of, waiting_deferral, AreAnswered}
 use Rattle.dcsctp_delivery_associations.proofs.AskedOn.{MayBegin}
 use Rattle.dcsctp_delivery_associations.proofs.Counting.{addressed_requests}
 use Rattle.dcsctp_delivery_associations.proofs.SenderAnswers.{may_begin, begins_answers}
 use Rattle.dcsctp_delivery_associations.specs.Laws.{AreEnds, AsksLittle}
-use Rattle.dcsctp_delivery_associations.specs.Reads.{Reading, with_tag}
-use Rattle.dcsctp_delivery_associations.proofs.Growing.{set_all}
-use Rattle.dcsctp_delivery_associations.proofs.Senders.{link_tag, renewed_end, renewed_ends, renewed}
-use Rattle.dcsctp_delivery_associations.proofs.SenderStays.{set_three, receiver_same, all_wait_marked}
+use Rattle.dcsctp_delivery_associations.specs.Reads.{Reading, with_key}
+use Rattle.dcsctp_delivery_associations.proofs.Growing.{set_all, set_three}
+use Rattle.dcsctp_delivery_associations.proofs.AnsweringRests.{after_split}
+use Rattle.dcsctp_delivery_associations.proofs.Senders.{link_tag, link_peer, alone_later, renewed_end, renewed_ends, renewed}
+use Rattle.dcsctp_delivery_associations.proofs.SenderStays.{receiver_same, all_wait_marked}
 use Rattle.dcsctp_delivery_associations.proofs.WhatIsLeft.{ready_same}
 
 -- ---- an association begins
 
 -- At the receiver there is the matching association, or none yet.
 data Known (options : Options) (ends : Ends) (d : Endpoint) (new : AssociationIdentity) : Type 0 where
-  is_crossed : ends.firsts new.peer.tag ≡ new.my.first_tsn → Known options ends d new
-  is_fresh : ends.gets new.peer.tag ≡ new_end options (ends.firsts new.peer.tag) → ((transfer : Transfer) (link : AssociationIdentity) → d.queues.transfer ≡ Some transfer → identity_in d.core ≡ Some link → link.my.tag ≢ new.peer.tag) → Known options ends d new
+  is_crossed : ends.firsts new.my.tag ≡ new.my.first_tsn → Known options ends d new
+  is_fresh : ends.gets new.my.tag ≡ new_end options (ends.firsts new.my.tag) → ((transfer : Transfer) (link : AssociationIdentity) → d.queues.transfer ≡ Some transfer → identity_in d.core ≡ Some link → link.peer.tag ≢ new.my.tag) → Known options ends d new
 
-same_tag : (core : Option AssociationIdentity) (one two : AssociationIdentity) → core ≡ Some one → core ≡ Some two → one.my.tag ≡ two.my.tag
-same_tag core one two first second = (let same : one ≡ two = cc in ap (λ (l : AssociationIdentity). l.my.tag) same)
+same_tag : (core : Option AssociationIdentity) (one two : AssociationIdentity) → core ≡ Some one → core ≡ Some two → one.peer.tag ≡ two.peer.tag
+same_tag core one two first second = (let same : one ≡ two = cc in ap (λ (l : AssociationIdentity). l.peer.tag) same)
 
 module _ (options : Options) (ends : Ends) (d : Endpoint) (past their_past : List Effect) (reading : Reading) (r : Receiver options ends d their_past reading) (new : AssociationIdentity) (is : NewPeer past their_past new) where
-  of_had : HadTag their_past new.peer.tag (ends.firsts new.peer.tag) → ends.firsts new.peer.tag ≡ new.my.first_tsn
-  of_had had = sym had.first_is ∙ ap (λ (p : Pair). p.first_tsn) (is.match had.link had.held (inl had.tag_is)).0
+  of_had : HadTag their_past new.my.tag (ends.firsts new.my.tag) → ends.firsts new.my.tag ≡ new.my.first_tsn
+  of_had had = sym had.first_is ∙ ap (λ (p : Pair). p.first_tsn) (is.match had.link had.held had.tag_is)
 
-  by_begun : ((transfer : Transfer) (link : AssociationIdentity) → d.queues.transfer ≡ Some transfer → identity_in d.core ≡ Some link → link.my.tag ≢ new.peer.tag) → Known options ends d new
-  by_begun none = elim (r.begun new.peer.tag) [
+  by_begun : ((transfer : Transfer) (link : AssociationIdentity) → d.queues.transfer ≡ Some transfer → identity_in d.core ≡ Some link → link.peer.tag ≢ new.my.tag) → Known options ends d new
+  by_begun none = elim (r.begun new.my.tag) [
     | inl fresh ↦ is_fresh fresh none
     | inr had ↦ is_crossed (of_had had)
   ]
 
   with_current : (transfer : Transfer) → IsCurrentEnd ends d their_past transfer → Known options ends d new
-  with_current transfer c = elim (decide c.link.my.tag new.peer.tag) [
+  with_current transfer c = elim (decide c.link.peer.tag new.my.tag) [
     | inl e ↦ is_crossed (of_had (subst (λ (t : ℕ). HadTag their_past t (ends.firsts t)) e c.had))
     | inr ne ↦ by_begun (λ other link there linked same. ne (same_tag (identity_in d.core) c.link link c.linked linked ∙ same))
   ]
@@ -75,33 +76,37 @@ module _ (options : Options) (ends : Ends) (d : Endpoint) (past their_past : Lis
   known (Some transfer) there = with_current transfer (r.current transfer there)
 
 -- The receiver's end under this tag is new, and stays so.
-receiver_renewed : (options : Options) (ends : Ends) (sends : ℕ → SendingEnd) (d : Endpoint) (past : List Effect) (reading : Reading) (tag first : ℕ) → Receiver options ends d past reading
-    → ends.gets tag ≡ new_end options (ends.firsts tag) → ((transfer : Transfer) (link : AssociationIdentity) → d.queues.transfer ≡ Some transfer → identity_in d.core ≡ Some link → link.my.tag ≢ tag)
-    → Receiver options (record ends { sends = sends; gets = set_at tag (new_end options first) ends.gets; firsts = set_at tag first ends.firsts }) d past reading
-receiver_renewed options ends sends d past reading tag first r fresh apart =
+receiver_renewed : (options : Options) (ends : Ends) (sends : ℕ → SendingEnd) (latest : ℕ → ℕ) (former : ℕ → Option ℕ) (d : Endpoint) (past : List Effect) (reading : Reading) (tag first : ℕ) → Receiver options ends d past reading
+    → ends.gets tag ≡ new_end options (ends.firsts tag) → ((transfer : Transfer) (link : AssociationIdentity) → d.queues.transfer ≡ Some transfer → identity_in d.core ≡ Some link → link.peer.tag ≢ tag)
+    → Receiver options (record ends { sends = sends; gets = set_at tag (new_end options first) ends.gets; firsts = set_at tag first ends.firsts; latest = latest; former = former }) d past reading
+receiver_renewed options ends sends latest former d past reading tag first r fresh apart =
     record {
       fits = r.fits;
       current = λ transfer there. still transfer there (r.current transfer there);
       last = r.last;
-      left = ready_same ends.gets (set_at tag (new_end options first) ends.gets) reading.last d.left d.queues.transfer
+      left = ready_same ends.gets (set_at tag (new_end options first) ends.gets) reading.last.peer d.left d.queues.transfer
           (set_all (λ t g. g.reassembly.incoming.ready ≡ (ends.gets t).reassembly.incoming.ready) tag (new_end options first) ends.gets (sym (ap (λ (g : ReceivingEnd). g.reassembly.incoming.ready) fresh)) (λ t ne. refl)) r.left;
-      were_read = set_all (λ t g. with_tag t reading.reads ≡ g.read) tag (new_end options first) ends.gets (r.were_read tag ∙ ap (λ (g : ReceivingEnd). g.read) fresh) (λ t ne. r.were_read t);
+      were_read = set_all (λ t g. with_key t reading.reads ≡ g.read) tag (new_end options first) ends.gets (r.were_read tag ∙ ap (λ (g : ReceivingEnd). g.read) fresh) (λ t ne. r.were_read t);
       begun = λ t. elim (decide t tag) [
         | inl e ↦
             inl (subst (λ (n : ℕ). set_at tag (new_end options first) ends.gets n ≡ new_end options (set_at tag first ends.firsts n)) (sym e)
             (set_same tag (new_end options first) ends.gets ∙ ap (new_end options) (sym (set_same tag first ends.firsts))))
         | inr ne ↦ other t ne (r.begun t)
       ];
+      last_of = r.last_of;
+      reads_of = r.reads_of;
     }
   where
-    still : (transfer : Transfer) → d.queues.transfer ≡ Some transfer → IsCurrentEnd ends d past transfer → IsCurrentEnd (record ends { sends = sends; gets = set_at tag (new_end options first) ends.gets; firsts = set_at tag first ends.firsts }) d past transfer
+    still : (transfer : Transfer) → d.queues.transfer ≡ Some transfer → IsCurrentEnd ends d past transfer → IsCurrentEnd (record ends { sends = sends; gets = set_at tag (new_end options first) ends.gets; firsts = set_at tag first ends.firsts; latest = latest; former = former }) d past transfer
     still transfer there c =
-        let ne : c.link.my.tag ≢ tag = apart transfer c.link there c.linked in
-        let same = set_other tag c.link.my.tag (new_end options first) ends.gets ne in
+        let ne : c.link.peer.tag ≢ tag = apart transfer c.link there c.linked in
+        let same = set_other tag c.link.peer.tag (new_end options first) ends.gets ne in
         record {
           link = c.link;
           linked = c.linked;
-          had = subst (λ (n : ℕ). HadTag past c.link.my.tag n) (sym (set_other tag c.link.my.tag first ends.firsts ne)) c.had;
+          held = c.held;
+          own_some = c.own_some;
+          had = subst (λ (n : ℕ). HadTag past c.link.peer.tag n) (sym (set_other tag c.link.peer.tag first ends.firsts ne)) c.had;
           tracker = ap (λ (g : ReceivingEnd). g.tracker) same ∙ c.tracker;
           reassembly = ap (λ (g : ReceivingEnd). g.reassembly) same ∙ c.reassembly;
         }
@@ -112,12 +117,12 @@ receiver_renewed options ends sends d past reading tag first r fresh apart =
     other t ne (inr had) = inr (subst (λ (n : ℕ). HadTag past t n) (sym (set_other tag t first ends.firsts ne)) had)
 
 module _ (options : Options) (ends : Ends) (e : Endpoint) (queued : List Message) (past : List Effect) (packets : List Emission) (d : Endpoint) (their_past : List Effect) (reading : Reading)
-    (h : Between options ends e queued past packets d their_past reading) (input : Input) (o : Outcome) (w : AreAnswered ends e past d their_past) (little : AsksLittle (packets ++ packets_in o.events)) (begun : Begun e o) (follows : o.after.options.follow_rfc ≡ e.options.follow_rfc) (same_kind : o.after.queues.queue.is_interleaved ≡ begun.held.capabilities.message_interleaving) where
+    (h : Between options ends e queued past packets d their_past reading) (input : Input) (o : Outcome) (w : AreAnswered ends e past d their_past) (little : AsksLittle (packets ++ packets_in o.events)) (begun : Begun e o) (only_one : (each : AssociationIdentity) → HasEffect (holds each) o.effects → identity_in o.after.core ≡ Some each) (follows : o.after.options.follow_rfc ≡ e.options.follow_rfc) (same_kind : o.after.queues.queue.is_interleaved ≡ begun.held.capabilities.message_interleaving) where
   abbrev pub new : AssociationIdentity
   new = identity_of begun.my begun.held
 
   abbrev pub marks : List Message
-  marks = all_marked (length (ends.sends (peer_tag e.core)).queued) (ends.sends (peer_tag e.core)).queues.queue.streams (ends.sends (peer_tag e.core)).queued
+  marks = all_marked (length (ends.sends (sender_key e.core)).queued) (ends.sends (sender_key e.core)).queues.queue.streams (ends.sends (sender_key e.core)).queued
 
   abbrev pub Later : Type 0
   Later = (other : Options) (room : ℕ) (awaiting : Direction) (queued : List Message) (beginning : Beginning) → QueueWaits queued e.queues.queue → AllByRecursion Fits queued → DirectionRun other begun.my.first_tsn room awaiting → IsAwaited awaiting
@@ -127,7 +132,7 @@ module _ (options : Options) (ends : Ends) (e : Endpoint) (queued : List Message
   new_held : HasEffect (holds new) (after_effects o.effects past)
   new_held = subst (λ (l : List Effect). HasEffect (holds new) (after_effects l past)) (sym begun.noted) (after_within begun.later (holds new ∷ past) (holds new) (inl refl))
 
-  had_new : HadPeer (after_effects o.effects past) begun.held.peer.tag begun.my.first_tsn
+  had_new : HadPeer (after_effects o.effects past) begun.my.tag begun.my.first_tsn
   had_new =
       record {
         link = new;
@@ -136,9 +141,28 @@ module _ (options : Options) (ends : Ends) (e : Endpoint) (queued : List Message
         first_is = refl;
       }
 
+  had_both : HadBoth (after_effects o.effects past) begun.my.tag begun.held.peer.tag
+  had_both = record { link = new; held = new_held; tag_is = refl; peer_is = refl }
+
+  -- None began before, or it is the new one.
+  which : identity_in o.after.core ≡ Some new → (each : AssociationIdentity) → HasEffect (holds each) (after_effects o.effects past) → HasEffect (holds each) past ⊎ (each ≡ new)
+  which linked each has = elim (after_split (holds each) o.effects past has) [ inl here ↦ inr (one_link (only_one each here) linked) | inr old ↦ inl old ]
+    where
+      one_link : {found : Option AssociationIdentity} {one two : AssociationIdentity} → found ≡ Some one → found ≡ Some two → one ≡ two
+      one_link first second = cc
+
   -- Messages interleave as was negotiated.
-  kind_new : HadKind (after_effects o.effects past) begun.held.peer.tag o.after.queues.queue.is_interleaved
-  kind_new = record { link = new; held = new_held; tag_is = refl; kind_is = sym same_kind }
+  kind_new : NewPeer past their_past new → identity_in o.after.core ≡ Some new → HadKind (after_effects o.effects past) begun.my.tag o.after.queues.queue.is_interleaved
+  kind_new is linked =
+      record {
+        link = new;
+        held = new_held;
+        tag_is = refl;
+        kind_is = λ each has same. elim (which linked each has) [
+          | inl old ↦ absurd (is.other each old same)
+          | inr here ↦ ap (λ (l : AssociationIdentity). l.capabilities.message_interleaving) here ∙ sym same_kind
+        ];
+      }
 
   -- Do the numbers of each stream begin at 0, and does it begin with all that was queued?
   abbrev begins_anew : Beginning
@@ -151,7 +175,7 @@ module _ (options : Options) (ends : Ends) (e : Endpoint) (queued : List Message
       all_wait : (id : ℕ) (resets never : Bool) → ends.never_resets id ≡ resets → never_held past ≡ never → (resets && never) ≡ true → AllWaitOn id marks begun.queue.streams
       all_wait id true true is none is_so =
           let before = h.unbegun (none_held past none) in
-          let end : SendingEnd = ends.sends (peer_tag e.core) in
+          let end : SendingEnd = ends.sends (sender_key e.core) in
           all_wait_marked id (length end.queued) end.queues.queue.streams end.queued begun.queue.streams (unbegun_begins_waiting e o begun id end.queued before.zero (before.all id is))
       all_wait id true false is none is_so = absurd (cc)
       all_wait id false never is none is_so = absurd (cc)
@@ -162,7 +186,7 @@ module _ (options : Options) (ends : Ends) (e : Endpoint) (queued : List Message
       go false false is none is_so = absurd (cc)
 
   -- It is the first one, if it is the only one.
-  first_of_all : NewPeer past their_past new → IsOnlyTag (after_effects o.effects past) begun.held.peer.tag → never_held past ≡ true
+  first_of_all : NewPeer past their_past new → IsOnlyOwn (after_effects o.effects past) begun.my.tag → never_held past ≡ true
   first_of_all is only = go (never_held past) refl
     where
       go : (b : Bool) → never_held past ≡ b → never_held past ≡ true
@@ -170,23 +194,23 @@ module _ (options : Options) (ends : Ends) (e : Endpoint) (queued : List Message
       go false some = (let found = some_held past some in absurd (is.other found.0 found.1 (only found.0 (after_within o.effects past (holds found.0) found.1))))
 
   -- It keeps each stream then that the user never resets.
-  kept_anew : NewPeer past their_past new → (end : SendingEnd) → end.beginning ≡ begins_anew → (tag : ℕ) → tag ≢ 0 → IsOnlyTag (after_effects o.effects past) tag
-      → KeepsThese ends.never_resets (set_at begun.held.peer.tag end ends.sends tag).beginning
+  kept_anew : NewPeer past their_past new → (end : SendingEnd) → end.beginning ≡ begins_anew → (tag : ℕ) → tag ≢ 0 → IsOnlyOwn (after_effects o.effects past) tag
+      → KeepsThese ends.never_resets (set_at begun.my.tag end ends.sends tag).beginning
   kept_anew is end here =
-      set_all (λ tag s. tag ≢ 0 → IsOnlyTag (after_effects o.effects past) tag → KeepsThese ends.never_resets s.beginning) begun.held.peer.tag end ends.sends
+      set_all (λ tag s. tag ≢ 0 → IsOnlyOwn (after_effects o.effects past) tag → KeepsThese ends.never_resets s.beginning) begun.my.tag end ends.sends
       (λ some only id never. ap (λ (b : Beginning). b.keeps id) here ∙ ap (λ (b : Bool). b && never_held past) never ∙ first_of_all is only)
       (λ tag ne some only. absurd (ne (sym (only new new_held))))
 
-  dropping_anew : (end : SendingEnd) → end.beginning ≡ begins_anew → (tag : ℕ) → KeepsOnlyThese ends.never_resets (set_at begun.held.peer.tag end ends.sends tag).beginning
+  dropping_anew : (end : SendingEnd) → end.beginning ≡ begins_anew → (tag : ℕ) → KeepsOnlyThese ends.never_resets (set_at begun.my.tag end ends.sends tag).beginning
   dropping_anew end here =
-      set_all (λ tag s. KeepsOnlyThese ends.never_resets s.beginning) begun.held.peer.tag end ends.sends
+      set_all (λ tag s. KeepsOnlyThese ends.never_resets s.beginning) begun.my.tag end ends.sends
       (λ id resets. ap (λ (b : Beginning). b.keeps id) here ∙ ap (λ (b : Bool). b && never_held past) resets) (λ tag ne. h.dropping tag)
 
   -- So they do in the new association, if it is the only one or the sender follows the RFC, and in each other as before.
   numbers_anew : NewPeer past their_past new → (end : SendingEnd) → end.beginning ≡ begins_anew → (tag : ℕ) → tag ≢ 0 → BeginsAnew o.after (after_effects o.effects past) tag
-      → (set_at begun.held.peer.tag end ends.sends tag).beginning.from_zero ≡ true
+      → (set_at begun.my.tag end ends.sends tag).beginning.from_zero ≡ true
   numbers_anew is end here =
-      set_all (λ tag s. tag ≢ 0 → BeginsAnew o.after (after_effects o.effects past) tag → s.beginning.from_zero ≡ true) begun.held.peer.tag end ends.sends
+      set_all (λ tag s. tag ≢ 0 → BeginsAnew o.after (after_effects o.effects past) tag → s.beginning.from_zero ≡ true) begun.my.tag end ends.sends
       (λ some anew. ap (λ (b : Beginning). b.from_zero) here ∙ zero_so anew) (λ tag ne some anew. h.numbered tag some (other tag ne anew))
     where
       or_true : (b c : Bool) → (b ≡ true) ⊎ (c ≡ true) → (b || c) ≡ true
@@ -194,11 +218,11 @@ module _ (options : Options) (ends : Ends) (e : Endpoint) (queued : List Message
       or_true false c (inl is_so) = absurd (cc)
       or_true false c (inr is_so) = is_so
 
-      zero_so : BeginsAnew o.after (after_effects o.effects past) begun.held.peer.tag → begins_anew.from_zero ≡ true
+      zero_so : BeginsAnew o.after (after_effects o.effects past) begun.my.tag → begins_anew.from_zero ≡ true
       zero_so (inl anew) = or_true e.options.follow_rfc (never_held past) (inl (sym follows ∙ anew))
       zero_so (inr only) = or_true e.options.follow_rfc (never_held past) (inr (first_of_all is only))
 
-      other : (tag : ℕ) → tag ≢ begun.held.peer.tag → BeginsAnew o.after (after_effects o.effects past) tag → BeginsAnew e past tag
+      other : (tag : ℕ) → tag ≢ begun.my.tag → BeginsAnew o.after (after_effects o.effects past) tag → BeginsAnew e past tag
       other tag ne (inl anew) = inl (sym follows ∙ anew)
       other tag ne (inr only) = absurd (ne (sym (only new new_held)))
 
@@ -223,23 +247,36 @@ module _ (options : Options) (ends : Ends) (e : Endpoint) (queued : List Message
         unlinked = w.unlinked;
       }
 
-  sender_of : (later : Ends) → identity_in o.after.core ≡ Some new → Sender later begun.held.peer.tag o.after.queues queued (after_effects o.effects past) (packets ++ packets_in o.events)
-      → Sender later (peer_tag o.after.core) o.after.queues queued (after_effects o.effects past) (packets ++ packets_in o.events)
+  sender_of : (later : Ends) → identity_in o.after.core ≡ Some new → Sender later begun.my.tag begun.held.peer.tag o.after.queues queued (after_effects o.effects past) (packets ++ packets_in o.events)
+      → Sender later (sender_key o.after.core) (peer_tag o.after.core) o.after.queues queued (after_effects o.effects past) (packets ++ packets_in o.events)
   sender_of later linked sender =
-      subst (λ (k : ℕ). Sender later k o.after.queues queued (after_effects o.effects past) (packets ++ packets_in o.events)) (sym (link_tag o.after.core new linked)) sender
+      subst (λ (k : ℕ). Sender later k (peer_tag o.after.core) o.after.queues queued (after_effects o.effects past) (packets ++ packets_in o.events)) (sym (link_tag o.after.core new linked))
+      (subst (λ (n : ℕ). Sender later begun.my.tag n o.after.queues queued (after_effects o.effects past) (packets ++ packets_in o.events)) (sym (link_peer o.after.core new linked)) sender)
 
-  crossed_begins : NewPeer past their_past new → Awaits (ends.sends begun.held.peer.tag) → identity_in o.after.core ≡ Some new → AreAddressed begun.held.peer.tag (packets_in o.events)
-      → QueueWaits marks e.queues.queue → AllByRecursion Fits marks → Later → ends.firsts begun.held.peer.tag ≡ begun.my.first_tsn
+  -- The association is there after the turn.
+  mine_then : identity_in o.after.core ≡ Some new → (link : AssociationIdentity) → identity_in o.after.core ≡ Some link → HasEffect (holds link) (after_effects o.effects past)
+  mine_then linked link there = (let one : new ≡ link = cc in subst (λ (l : AssociationIdentity). HasEffect (holds l) (after_effects o.effects past)) one new_held)
+
+  -- Each association of its tag is this one.
+  which_is : NewPeer past their_past new → identity_in o.after.core ≡ Some new → (each : AssociationIdentity) → HasEffect (holds each) (after_effects o.effects past)
+      → HasEffect (holds each) past ⊎ ((each.my.tag ≢ 0) × (each.my.tag ≡ begun.my.tag) × (each.peer.tag ≡ begun.held.peer.tag))
+  which_is is linked each has = elim (which linked each has) [
+    | inl old ↦ inl old
+    | inr here ↦ inr (subst (λ (l : AssociationIdentity). (l.my.tag ≢ 0) × (l.my.tag ≡ begun.my.tag) × (l.peer.tag ≡ begun.held.peer.tag)) (sym here) (is.some, refl, refl))
+  ]
+
+  crossed_begins : NewPeer past their_past new → Awaits (ends.sends begun.my.tag) → identity_in o.after.core ≡ Some new → AreAddressed begun.held.peer.tag (packets_in o.events)
+      → QueueWaits marks e.queues.queue → AllByRecursion Fits marks → Later → ends.firsts begun.my.tag ≡ begun.my.first_tsn
       → AreEnds ends.never_resets options o.after queued (after_effects o.effects past) (packets ++ packets_in o.events) d their_past reading
   crossed_begins is waits linked addressed shown fit later same =
-      let to : ℕ = begun.held.peer.tag in
+      let to : ℕ = begun.my.tag in
       let ps : List Emission = packets_in o.events in
       let start : DirectionRun options begun.my.first_tsn options.max_receiver_window_buffer_size (joined (ends.sends to) (ends.gets to)) =
       subst (λ (n : ℕ). DirectionRun options n options.max_receiver_window_buffer_size (joined (ends.sends to) (ends.gets to))) same (h.runs to) in
       let run = later options options.max_receiver_window_buffer_size (joined (ends.sends to) (ends.gets to)) marks begins_anew shown fit start
       (record { queued = waits.queued; sent = waits.sent; acknowledged = waits.acknowledged; transfer = waits.transfer; asking = waits.asking }) begins_so in
-      let end : SendingEnd = renewed_end ends (peer_tag e.core) e.queues queued past packets h.sender o.effects to o.after.queues run.0 ps run.1 begins_anew ends.gets ends.firsts in
-      let ends' : Ends = renewed_ends ends (peer_tag e.core) e.queues queued past packets h.sender o.effects to o.after.queues run.0 ps run.1 begins_anew ends.gets ends.firsts in
+      let end : SendingEnd = renewed_end ends (sender_key e.core) (peer_tag e.core) e.queues queued past packets h.sender o.effects to begun.held.peer.tag o.after.queues run.0 ps run.1 begins_anew ends.gets ends.firsts in
+      let ends' : Ends = renewed_ends ends (sender_key e.core) (peer_tag e.core) e.queues queued past packets h.sender o.effects to begun.held.peer.tag o.after.queues run.0 ps run.1 begins_anew ends.gets ends.firsts in
       record {
         ends = ends';
         is = refl;
@@ -248,8 +285,9 @@ module _ (options : Options) (ends : Ends) (e : Endpoint) (queued : List Message
               (subst (λ (n : ℕ). DirectionRun options n options.max_receiver_window_buffer_size (joined end (ends.gets to))) (sym same) run.4) (λ tag ne. h.runs tag);
           small = h.small;
           sender = sender_of ends' linked
-              (renewed ends (peer_tag e.core) e.queues queued past packets h.sender o.effects to o.after.queues run.0 ps run.1 begins_anew ends.gets ends.firsts (inr waits)
-              (λ some. subst (λ (n : ℕ). HadPeer (after_effects o.effects past) to n) (sym same) had_new) (λ tag ne. refl) addressed (λ some. kind_new));
+              (renewed ends (sender_key e.core) (peer_tag e.core) e.queues queued past packets h.sender o.effects to begun.held.peer.tag o.after.queues run.0 ps run.1 begins_anew ends.gets ends.firsts (inr waits)
+              (λ some. subst (λ (n : ℕ). HadPeer (after_effects o.effects past) to n) (sym same) had_new) (λ tag ne. refl) addressed (λ some. kind_new is linked) (inr had_both) is.other (which_is is linked));
+          mine = mine_then linked;
           asks = subst (λ (k : ℕ). AsksFit (ends.firsts k) (own_of o.after) (set_at to end ends.sends k).asking) (sym (link_tag o.after.core new linked))
               (subst (λ (s : SendingEnd). AsksFit (ends.firsts to) (own_of o.after) s.asking) (sym (set_same to end ends.sends))
               (subst (λ (n : ℕ). AsksFit n (own_of o.after) run.1) (sym same) run.3));
@@ -257,28 +295,33 @@ module _ (options : Options) (ends : Ends) (e : Endpoint) (queued : List Message
           kept = kept_anew is end refl;
           dropping = dropping_anew end refl;
           unbegun = λ never. absurd (never new new_held);
-          receiver = receiver_same options ends ends'.sends d their_past reading h.receiver;
+          receiver = receiver_same options ends ends'.sends ends'.latest ends'.former d their_past reading h.receiver;
+          alone = λ tag. alone_later options ends ends' past (after_effects o.effects past) their_past their_past (after_within o.effects past) (λ effect has. has) tag refl refl (h.alone tag);
         };
         answered = answered_by ends' linked (set_at to begun.my w.pairs)
             (begins_answers ends e past d their_past w new is waits.asking end ends.gets ends.firsts same (λ tag ne. refl)
             (begins_little addressed options options.max_receiver_window_buffer_size run.0 run.1 (record (joined (ends.sends to) (ends.gets to)) { beginning = begins_anew }) run.2 run.3 linked run.4) (λ other there tag. same) (after_effects o.effects past) (after_within o.effects past) new_held);
       }
 
-  fresh_begins : NewPeer past their_past new → Awaits (ends.sends begun.held.peer.tag) → identity_in o.after.core ≡ Some new → AreAddressed begun.held.peer.tag (packets_in o.events)
-      → QueueWaits marks e.queues.queue → AllByRecursion Fits marks → Later → ends.gets begun.held.peer.tag ≡ new_end options (ends.firsts begun.held.peer.tag)
-      → ((transfer : Transfer) (link : AssociationIdentity) → d.queues.transfer ≡ Some transfer → identity_in d.core ≡ Some link → link.my.tag ≢ begun.held.peer.tag)
+  fresh_begins : NewPeer past their_past new → Awaits (ends.sends begun.my.tag) → identity_in o.after.core ≡ Some new → AreAddressed begun.held.peer.tag (packets_in o.events)
+      → QueueWaits marks e.queues.queue → AllByRecursion Fits marks → Later → ends.gets begun.my.tag ≡ new_end options (ends.firsts begun.my.tag)
+      → ((transfer : Transfer) (link : AssociationIdentity) → d.queues.transfer ≡ Some transfer → identity_in d.core ≡ Some link → link.peer.tag ≢ begun.my.tag)
       → AreEnds ends.never_resets options o.after queued (after_effects o.effects past) (packets ++ packets_in o.events) d their_past reading
   fresh_begins is waits linked addressed shown fit later fresh apart =
-      let to : ℕ = begun.held.peer.tag in
+      let to : ℕ = begun.my.tag in
       let first : ℕ = begun.my.first_tsn in
       let ps : List Emission = packets_in o.events in
       let gets : ℕ → ReceivingEnd = set_at to (new_end options first) ends.gets in
       let firsts : ℕ → ℕ = set_at to first ends.firsts in
+      let new_alone : DirectionRun options (firsts to) options.max_receiver_window_buffer_size (joined (awaiting options) (gets to)) =
+      subst (λ (n : ℕ). DirectionRun options n options.max_receiver_window_buffer_size (joined (awaiting options) (gets to))) (sym (set_same to first ends.firsts))
+      (subst (λ (g : ReceivingEnd). DirectionRun options first options.max_receiver_window_buffer_size (joined (awaiting options) g)) (sym (set_same to (new_end options first) ends.gets))
+      (senders_begin options options first options.max_receiver_window_buffer_size (λ id. false))) in
       let run = later options options.max_receiver_window_buffer_size
       (new_direction options first options.max_receiver_window_buffer_size [] (record { queue = empty_queue options; transfer = None }) 0 [] (record { from_zero = true; keeps = λ id. false })) marks begins_anew shown fit (senders_begin options options first options.max_receiver_window_buffer_size (λ id. false))
       (record { queued = refl; sent = refl; acknowledged = refl; transfer = refl; asking = refl }) begins_so in
-      let end : SendingEnd = renewed_end ends (peer_tag e.core) e.queues queued past packets h.sender o.effects to o.after.queues run.0 ps run.1 begins_anew gets firsts in
-      let ends' : Ends = renewed_ends ends (peer_tag e.core) e.queues queued past packets h.sender o.effects to o.after.queues run.0 ps run.1 begins_anew gets firsts in
+      let end : SendingEnd = renewed_end ends (sender_key e.core) (peer_tag e.core) e.queues queued past packets h.sender o.effects to begun.held.peer.tag o.after.queues run.0 ps run.1 begins_anew gets firsts in
+      let ends' : Ends = renewed_ends ends (sender_key e.core) (peer_tag e.core) e.queues queued past packets h.sender o.effects to begun.held.peer.tag o.after.queues run.0 ps run.1 begins_anew gets firsts in
       record {
         ends = ends';
         is = refl;
@@ -286,8 +329,9 @@ module _ (options : Options) (ends : Ends) (e : Endpoint) (queued : List Message
           runs = set_three (λ tag f s g. DirectionRun options f options.max_receiver_window_buffer_size (joined s g)) to first end (new_end options first) ends.firsts ends.sends ends.gets run.4 (λ tag ne. h.runs tag);
           small = set_all (λ tag f. f < 2 ^ 32) to first ends.firsts is.small (λ tag ne. h.small tag);
           sender = sender_of ends' linked
-              (renewed ends (peer_tag e.core) e.queues queued past packets h.sender o.effects to o.after.queues run.0 ps run.1 begins_anew gets firsts (inr waits)
-              (λ some. subst (λ (n : ℕ). HadPeer (after_effects o.effects past) to n) (sym (set_same to first ends.firsts)) had_new) (λ tag ne. set_other to tag first ends.firsts ne) addressed (λ some. kind_new));
+              (renewed ends (sender_key e.core) (peer_tag e.core) e.queues queued past packets h.sender o.effects to begun.held.peer.tag o.after.queues run.0 ps run.1 begins_anew gets firsts (inr waits)
+              (λ some. subst (λ (n : ℕ). HadPeer (after_effects o.effects past) to n) (sym (set_same to first ends.firsts)) had_new) (λ tag ne. set_other to tag first ends.firsts ne) addressed (λ some. kind_new is linked) (inr had_both) is.other (which_is is linked));
+          mine = mine_then linked;
           asks = subst (λ (k : ℕ). AsksFit (firsts k) (own_of o.after) (set_at to end ends.sends k).asking) (sym (link_tag o.after.core new linked))
               (subst (λ (s : SendingEnd). AsksFit (firsts to) (own_of o.after) s.asking) (sym (set_same to end ends.sends))
               (subst (λ (n : ℕ). AsksFit n (own_of o.after) run.1) (sym (set_same to first ends.firsts)) run.3));
@@ -295,7 +339,12 @@ module _ (options : Options) (ends : Ends) (e : Endpoint) (queued : List Message
           kept = kept_anew is end refl;
           dropping = dropping_anew end refl;
           unbegun = λ never. absurd (never new new_held);
-          receiver = receiver_renewed options ends ends'.sends d their_past reading to first h.receiver fresh apart;
+          receiver = receiver_renewed options ends ends'.sends ends'.latest ends'.former d their_past reading to first h.receiver fresh apart;
+          alone = λ tag. elim (decide tag to) [
+            | inl e' ↦ subst (MetOrAlone options ends' (after_effects o.effects past) their_past) (sym e') (inr new_alone)
+            | inr ne ↦ alone_later options ends ends' past (after_effects o.effects past) their_past their_past (after_within o.effects past) (λ effect has. has) tag (set_other to tag (new_end options first) ends.gets ne)
+                (set_other to tag first ends.firsts ne) (h.alone tag)
+          ];
         };
         answered = answered_by ends' linked (set_at to begun.my w.pairs)
             (begins_answers ends e past d their_past w new is waits.asking end gets firsts (set_same to first ends.firsts) (λ tag ne. set_other to tag first ends.firsts ne)
@@ -303,27 +352,27 @@ module _ (options : Options) (ends : Ends) (e : Endpoint) (queued : List Message
             (λ other there tag. absurd (nowhere d.queues.transfer refl other there tag)) (after_effects o.effects past) (after_within o.effects past) new_held);
       }
     where
-      nowhere : (found : Option Transfer) → d.queues.transfer ≡ found → (other : AssociationIdentity) → identity_in d.core ≡ Some other → other.my.tag ≡ begun.held.peer.tag → ⊥
+      nowhere : (found : Option Transfer) → d.queues.transfer ≡ found → (other : AssociationIdentity) → identity_in d.core ≡ Some other → other.peer.tag ≡ begun.my.tag → ⊥
       nowhere None none other there tag = (let clash : ◌≡◌ {A = Option AssociationIdentity} None (Some other) = sym (w.unlinked none) ∙ there in absurd (cc))
       nowhere (Some transfer) some other there tag = apart transfer other some there tag
 
   pub begins : NewPeer past their_past new → identity_in o.after.core ≡ Some new → AreAddressed begun.held.peer.tag (packets_in o.events)
-      → QueueWaits (ends.sends (peer_tag e.core)).queued e.queues.queue → AllByRecursion Fits (ends.sends (peer_tag e.core)).queued → Later
+      → QueueWaits (ends.sends (sender_key e.core)).queued e.queues.queue → AllByRecursion Fits (ends.sends (sender_key e.core)).queued → Later
       → AreEnds ends.never_resets options o.after queued (after_effects o.effects past) (packets ++ packets_in o.events) d their_past reading
   begins is linked addressed shown fit later =
-      elim (h.sender.begun begun.held.peer.tag is.some) [
+      elim (h.sender.begun begun.my.tag is.some) [
         | inl waits ↦ go waits (known options ends d past their_past reading h.receiver new is d.queues.transfer refl)
         | inr had ↦ absurd (is.other had.link had.held had.tag_is)
       ]
     where
       holds_marks : QueueWaits marks e.queues.queue
       holds_marks =
-          subst (λ (b : EndpointQueues). QueueWaits (all_marked (length (ends.sends (peer_tag e.core)).queued) b.queue.streams (ends.sends (peer_tag e.core)).queued) e.queues.queue) (sym h.sender.queues_are)
-          (all_marked_keep (length (ends.sends (peer_tag e.core)).queued) (ends.sends (peer_tag e.core)).queued e.queues.queue shown)
+          subst (λ (b : EndpointQueues). QueueWaits (all_marked (length (ends.sends (sender_key e.core)).queued) b.queue.streams (ends.sends (sender_key e.core)).queued) e.queues.queue) (sym h.sender.queues_are)
+          (all_marked_keep (length (ends.sends (sender_key e.core)).queued) (ends.sends (sender_key e.core)).queued e.queues.queue shown)
 
       fit_marks : AllByRecursion Fits marks
-      fit_marks = all_marked_fit (length (ends.sends (peer_tag e.core)).queued) (ends.sends (peer_tag e.core)).queues.queue.streams (ends.sends (peer_tag e.core)).queued fit
+      fit_marks = all_marked_fit (length (ends.sends (sender_key e.core)).queued) (ends.sends (sender_key e.core)).queues.queue.streams (ends.sends (sender_key e.core)).queued fit
 
-      go : Awaits (ends.sends begun.held.peer.tag) → Known options ends d new → AreEnds ends.never_resets options o.after queued (after_effects o.effects past) (packets ++ packets_in o.events) d their_past reading
+      go : Awaits (ends.sends begun.my.tag) → Known options ends d new → AreEnds ends.never_resets options o.after queued (after_effects o.effects past) (packets ++ packets_in o.events) d their_past reading
       go waits (is_crossed same) = crossed_begins is waits linked addressed holds_marks fit_marks later same
       go waits (is_fresh fresh apart) = fresh_begins is waits linked addressed holds_marks fit_marks later fresh apart

@@ -23,69 +23,69 @@ abbrev pub fresh_requests : AssociationIdentity → Bool → Asking → Requests
 fresh_requests new is_interleaved asking = record { my = new.my; first = new.my.first_tsn; asking = asking; is_interleaved = is_interleaved }
 
 module _ (requests : ℕ → Requests) (mine : Option AssociationIdentity) (past : List Effect) (theirs : Option AssociationIdentity) (their_past : List Effect) (waits : Option DeferralModel) (h : AnswersRequests requests mine past theirs their_past waits) (new : AssociationIdentity)
-    (some : new.peer.tag ≢ 0) (nothing : (requests new.peer.tag).asking ≡ nothing_asked)
-    (match : (other : AssociationIdentity) → HasEffect (holds other) their_past → (other.my.tag ≡ new.peer.tag) ⊎ (other.peer.tag ≡ new.my.tag) → (other.peer ≡ new.my) × (other.my.tag ≡ new.peer.tag)) where
+    (some : new.my.tag ≢ 0) (nothing : (requests new.my.tag).asking ≡ nothing_asked)
+    (match : (other : AssociationIdentity) → HasEffect (holds other) their_past → other.peer.tag ≡ new.my.tag → other.peer ≡ new.my) where
   -- None of its requests was performed yet.
-  joined_here : (tag : ℕ) → WasJoined their_past tag (requests tag).my → (requests tag).my ≡ new.my → tag ≡ new.peer.tag
+  joined_here : (tag : ℕ) → WasJoined their_past tag (requests tag).my → (requests tag).my ≡ new.my → tag ≡ new.my.tag
   joined_here tag joined same =
-      sym joined.tag_is ∙ (match joined.link joined.held (inr (ap (λ (p : Pair). p.tag) (joined.my_is ∙ same)))).1
+      sym joined.tag_is ∙ ap (λ (p : Pair). p.tag) (joined.my_is ∙ same)
 
-  is_mine : WasJoined their_past new.peer.tag (requests new.peer.tag).my → (requests new.peer.tag).my ≡ new.my
-  is_mine joined = sym joined.my_is ∙ (match joined.link joined.held (inl joined.tag_is)).0
+  is_mine : WasJoined their_past new.my.tag (requests new.my.tag).my → (requests new.my.tag).my ≡ new.my
+  is_mine joined = sym joined.my_is ∙ match joined.link joined.held joined.tag_is
 
   none_performed : (number : ℕ) → WasPerformed new.my number their_past → ⊥
   none_performed number has =
       let found = h.joined new.my number has in
-      let at : found.0 ≡ new.peer.tag = joined_here found.0 found.1 found.2 in
-      let joined : WasJoined their_past new.peer.tag (requests new.peer.tag).my = subst (λ (t : ℕ). WasJoined their_past t (requests t).my) at found.1 in
-      let placed = h.performed new.peer.tag joined number (subst (λ (p : Pair). WasPerformed p number their_past) (sym (is_mine joined)) has) in
+      let at : found.0 ≡ new.my.tag = joined_here found.0 found.1 found.2 in
+      let joined : WasJoined their_past new.my.tag (requests new.my.tag).my = subst (λ (t : ℕ). WasJoined their_past t (requests t).my) at found.1 in
+      let placed = h.performed new.my.tag joined number (subst (λ (p : Pair). WasPerformed p number their_past) (sym (is_mine joined)) has) in
       let below = placed.below in
-      let empty : length (requests new.peer.tag).asking.requests ≡ 0 = ap (λ (a : Asking). length a.requests) nothing in
+      let empty : length (requests new.my.tag).asking.requests ≡ 0 = ap (λ (a : Asking). length a.requests) nothing in
       absurd (omega (arith, below, empty))
 
   module _ (is_interleaved : Bool) (asking : Asking) (begins : MayBegin new.my.first_tsn nothing_asked asking)
-      (first_same : (other : AssociationIdentity) → theirs ≡ Some other → other.my.tag ≡ new.peer.tag → (requests new.peer.tag).first ≡ new.my.first_tsn) (later : List Effect) (grows : (effect : Effect) → HasEffect effect past → HasEffect effect later) (held : HasEffect (holds new) later) where
+      (first_same : (other : AssociationIdentity) → theirs ≡ Some other → other.peer.tag ≡ new.my.tag → (requests new.my.tag).first ≡ new.my.first_tsn) (later : List Effect) (grows : (effect : Effect) → HasEffect effect past → HasEffect effect later) (held : HasEffect (holds new) later) where
     abbrev before : Requests
     before = fresh_requests new is_interleaved nothing_asked
 
     abbrev pub opened : ℕ → Requests
-    opened = set_at new.peer.tag (fresh_requests new is_interleaved asking) requests
+    opened = set_at new.my.tag (fresh_requests new is_interleaved asking) requests
 
     few : length before.asking.requests < 2 ^ 32 - 1
     few = omega arith
 
     asked_opened : (tag : ℕ) → tag ≢ 0 → ((opened tag).asking ≡ nothing_asked) ⊎ AreAsked (opened tag) their_past
     asked_opened =
-        set_requests (λ t n. t ≢ 0 → (n.asking ≡ nothing_asked) ⊎ AreAsked n their_past) new.peer.tag (fresh_requests new is_interleaved asking) requests
+        set_requests (λ t n. t ≢ 0 → (n.asking ≡ nothing_asked) ⊎ AreAsked n their_past) new.my.tag (fresh_requests new is_interleaved asking) requests
         (λ z. inr (asked_on before their_past (inl refl) few nothing_asked asking as_it_was begins)) (λ t ne z. h.asked t z)
 
     held_opened : (tag : ℕ) → tag ≢ 0 → ((opened tag).asking ≡ nothing_asked) ⊎ SenderHadPeer later tag (opened tag).my
     held_opened =
-        set_requests (λ t n. t ≢ 0 → (n.asking ≡ nothing_asked) ⊎ SenderHadPeer later t n.my) new.peer.tag (fresh_requests new is_interleaved asking) requests
+        set_requests (λ t n. t ≢ 0 → (n.asking ≡ nothing_asked) ⊎ SenderHadPeer later t n.my) new.my.tag (fresh_requests new is_interleaved asking) requests
         (λ z. inr (record { link = new; held = held; tag_is = refl; my_is = refl; some = some })) (λ t ne z. still_held past later grows (requests t) t (h.asked_held t z))
 
     performed_opened : (tag : ℕ) → WasJoined their_past tag (opened tag).my → WerePerformed (opened tag) their_past
     performed_opened =
-        set_requests (λ t n. WasJoined their_past t n.my → WerePerformed n their_past) new.peer.tag (fresh_requests new is_interleaved asking) requests
+        set_requests (λ t n. WasJoined their_past t n.my → WerePerformed n their_past) new.my.tag (fresh_requests new is_interleaved asking) requests
         (λ joined number has. absurd (none_performed number has)) (λ t ne. h.performed t)
 
-    here_is : (opened new.peer.tag).my ≡ new.my
-    here_is = ap (λ (n : Requests). n.my) (set_same new.peer.tag (fresh_requests new is_interleaved asking) requests)
+    here_is : (opened new.my.tag).my ≡ new.my
+    here_is = ap (λ (n : Requests). n.my) (set_same new.my.tag (fresh_requests new is_interleaved asking) requests)
 
-    there_is : (tag : ℕ) → tag ≢ new.peer.tag → (opened tag).my ≡ (requests tag).my
-    there_is tag ne = ap (λ (n : Requests). n.my) (set_other new.peer.tag tag (fresh_requests new is_interleaved asking) requests ne)
+    there_is : (tag : ℕ) → tag ≢ new.my.tag → (opened tag).my ≡ (requests tag).my
+    there_is tag ne = ap (λ (n : Requests). n.my) (set_other new.my.tag tag (fresh_requests new is_interleaved asking) requests ne)
 
-    joined_there : (tag : ℕ) → tag ≢ new.peer.tag → WasJoined their_past tag (opened tag).my → WasJoined their_past tag (requests tag).my
+    joined_there : (tag : ℕ) → tag ≢ new.my.tag → WasJoined their_past tag (opened tag).my → WasJoined their_past tag (requests tag).my
     joined_there tag ne joined = subst (WasJoined their_past tag) (there_is tag ne) joined
 
-    mine_only : (tag : ℕ) → tag ≢ new.peer.tag → WasJoined their_past tag (opened tag).my → new.my ≢ (opened tag).my
+    mine_only : (tag : ℕ) → tag ≢ new.my.tag → WasJoined their_past tag (opened tag).my → new.my ≢ (opened tag).my
     mine_only tag ne joined same = ne (joined_here tag (joined_there tag ne joined) (sym (there_is tag ne) ∙ sym same))
 
     apart_opened : (one two : ℕ) → one ≢ two → WasJoined their_past one (opened one).my → WasJoined their_past two (opened two).my → (opened one).my ≢ (opened two).my
     apart_opened one two ne first second same =
-        elim (decide one new.peer.tag) [
+        elim (decide one new.my.tag) [
           | inl e ↦ mine_only two (λ is. ne (e ∙ sym is)) second (sym (ap (λ (t : ℕ). (opened t).my) e ∙ here_is) ∙ same)
-          | inr other ↦ elim (decide two new.peer.tag) [
+          | inr other ↦ elim (decide two new.my.tag) [
             | inl e ↦ mine_only one other first (sym (ap (λ (t : ℕ). (opened t).my) e ∙ here_is) ∙ sym same)
             | inr also ↦ h.apart one two ne (joined_there one other first) (joined_there two also second) (sym (there_is one other) ∙ same ∙ there_is two also)
           ]
@@ -94,21 +94,21 @@ module _ (requests : ℕ → Requests) (mine : Option AssociationIdentity) (past
     joined_opened : (my : Pair) (number : ℕ) → WasPerformed my number their_past → (tag : ℕ) × WasJoined their_past tag (opened tag).my × ((opened tag).my ≡ my)
     joined_opened my number has =
         let found = h.joined my number has in
-        elim (decide found.0 new.peer.tag) [
+        elim (decide found.0 new.my.tag) [
           | inl e ↦ absurd (none_performed number (subst (λ (p : Pair). WasPerformed p number their_past) (sym found.2 ∙ here e found.1) has))
           | inr ne ↦ (found.0, subst (WasJoined their_past found.0) (sym (there_is found.0 ne)) found.1, there_is found.0 ne ∙ found.2)
         ]
       where
-        here : {tag : ℕ} → tag ≡ new.peer.tag → WasJoined their_past tag (requests tag).my → (requests tag).my ≡ new.my
-        here e joined = sym joined.my_is ∙ (match joined.link joined.held (inl (joined.tag_is ∙ e))).0
+        here : {tag : ℕ} → tag ≡ new.my.tag → WasJoined their_past tag (requests tag).my → (requests tag).my ≡ new.my
+        here e joined = sym joined.my_is ∙ match joined.link joined.held (joined.tag_is ∙ e)
 
-    theirs_opened : (other : AssociationIdentity) → theirs ≡ Some other → WasJoined their_past other.my.tag other.peer × ((opened other.my.tag).my ≡ other.peer)
+    theirs_opened : (other : AssociationIdentity) → theirs ≡ Some other → WasJoined their_past other.peer.tag other.peer × ((opened other.peer.tag).my ≡ other.peer)
     theirs_opened other is =
         let found = h.theirs_held other is in (
           found.0,
-          elim (decide other.my.tag new.peer.tag) [
-            | inl e ↦ ap (λ (t : ℕ). (opened t).my) e ∙ here_is ∙ sym (match found.0.link found.0.held (inl (found.0.tag_is ∙ e))).0 ∙ found.0.my_is
-            | inr ne ↦ there_is other.my.tag ne ∙ found.1
+          elim (decide other.peer.tag new.my.tag) [
+            | inl e ↦ ap (λ (t : ℕ). (opened t).my) e ∙ here_is ∙ sym (match found.0.link found.0.held (found.0.tag_is ∙ e)) ∙ found.0.my_is
+            | inr ne ↦ there_is other.peer.tag ne ∙ found.1
           ],
         )
 
@@ -120,21 +120,21 @@ module _ (requests : ℕ → Requests) (mine : Option AssociationIdentity) (past
     stands_before n none first (in_step (unaccepted newest earlier place is below want accept perform wait un)) = (let empty : n.asking.requests ≡ [] = ap (λ (a : Asking). a.requests) none in absurd (cc))
     stands_before n none first (in_step (in_progress newest earlier place is below want accept perform own un)) = (let empty : n.asking.requests ≡ [] = ap (λ (a : Asking). a.requests) none in absurd (cc))
 
-    stands_opened : (other : AssociationIdentity) → theirs ≡ Some other → StandsSo (opened other.my.tag) their_past waits
+    stands_opened : (other : AssociationIdentity) → theirs ≡ Some other → StandsSo (opened other.peer.tag) their_past waits
     stands_opened other is =
-        elim (decide other.my.tag new.peer.tag) [
+        elim (decide other.peer.tag new.my.tag) [
           | inl e ↦
               subst (λ (t : ℕ). StandsSo (opened t) their_past waits) (sym e)
-              (subst (λ (n : Requests). StandsSo n their_past waits) (sym (set_same new.peer.tag (fresh_requests new is_interleaved asking) requests))
+              (subst (λ (n : Requests). StandsSo n their_past waits) (sym (set_same new.my.tag (fresh_requests new is_interleaved asking) requests))
               (stands_on before their_past (inl refl) few waits nothing_asked asking as_it_was begins (λ interleaved newest earlier none. absurd (cc))
-              (stands_before (requests new.peer.tag) nothing (first_same other is e) (subst (λ (t : ℕ). StandsSo (requests t) their_past waits) e (h.stands other is)))))
-          | inr ne ↦ subst (λ (n : Requests). StandsSo n their_past waits) (sym (set_other new.peer.tag other.my.tag (fresh_requests new is_interleaved asking) requests ne)) (h.stands other is)
+              (stands_before (requests new.my.tag) nothing (first_same other is e) (subst (λ (t : ℕ). StandsSo (requests t) their_past waits) e (h.stands other is)))))
+          | inr ne ↦ subst (λ (n : Requests). StandsSo n their_past waits) (sym (set_other new.my.tag other.peer.tag (fresh_requests new is_interleaved asking) requests ne)) (h.stands other is)
         ]
 
-    mine_apart_opened : (link : AssociationIdentity) → Some new ≡ Some link → (tag : ℕ) → link.peer.tag ≢ tag → WasJoined their_past tag (opened tag).my → link.my ≢ (opened tag).my
+    mine_apart_opened : (link : AssociationIdentity) → Some new ≡ Some link → (tag : ℕ) → link.my.tag ≢ tag → WasJoined their_past tag (opened tag).my → link.my ≢ (opened tag).my
     mine_apart_opened link is tag ne joined same =
         let one : new ≡ link = cc in
-        mine_only tag (λ e. ne (sym (ap (λ (l : AssociationIdentity). l.peer.tag) one) ∙ sym e)) joined (ap (λ (l : AssociationIdentity). l.my) one ∙ same)
+        mine_only tag (λ e. ne (sym (ap (λ (l : AssociationIdentity). l.my.tag) one) ∙ sym e)) joined (ap (λ (l : AssociationIdentity). l.my) one ∙ same)
 
     pub opens_on : AnswersRequests opened (Some new) later theirs their_past waits
     opens_on =
@@ -145,8 +145,8 @@ module _ (requests : ℕ → Requests) (mine : Option AssociationIdentity) (past
           apart = apart_opened;
           mine_apart = mine_apart_opened;
           joined = joined_opened;
-          mine_held = λ link is. subst (λ (l : AssociationIdentity). SenderHadPeer later l.peer.tag l.my × ((opened l.peer.tag).my ≡ l.my)) (some_link is) (record { link = new; held = held; tag_is = refl; my_is = refl; some = some }, here_is);
-          mine_first = λ link is. subst (λ (l : AssociationIdentity). (opened l.peer.tag).first ≡ l.my.first_tsn) (some_link is) (ap (λ (n : Requests). n.first) (set_same new.peer.tag (fresh_requests new is_interleaved asking) requests));
+          mine_held = λ link is. subst (λ (l : AssociationIdentity). SenderHadPeer later l.my.tag l.my × ((opened l.my.tag).my ≡ l.my)) (some_link is) (record { link = new; held = held; tag_is = refl; my_is = refl; some = some }, here_is);
+          mine_first = λ link is. subst (λ (l : AssociationIdentity). (opened l.my.tag).first ≡ l.my.first_tsn) (some_link is) (ap (λ (n : Requests). n.first) (set_same new.my.tag (fresh_requests new is_interleaved asking) requests));
           theirs_held = theirs_opened;
           stands = stands_opened;
         }
@@ -188,6 +188,6 @@ module _ (requests : ℕ → Requests) (mine : Option AssociationIdentity) (past
             );
         mine_held = λ link is. absurd (cc);
         mine_first = λ link is. absurd (cc);
-        theirs_held = λ other is. ((h.theirs_held other is).0, ap (λ (n : Requests). n.my) (there_is' other.my.tag (h.theirs_held other is).0.some) ∙ (h.theirs_held other is).1);
-        stands = λ other is. subst (λ (n : Requests). StandsSo n their_past waits) (sym (there_is' other.my.tag (h.theirs_held other is).0.some)) (h.stands other is);
+        theirs_held = λ other is. ((h.theirs_held other is).0, ap (λ (n : Requests). n.my) (there_is' other.peer.tag (h.theirs_held other is).0.some) ∙ (h.theirs_held other is).1);
+        stands = λ other is. subst (λ (n : Requests). StandsSo n their_past waits) (sym (there_is' other.peer.tag (h.theirs_held other is).0.some)) (h.stands other is);
       }

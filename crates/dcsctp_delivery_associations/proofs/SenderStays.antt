@@ -1,5 +1,5 @@
 -- A turn of the sender in which its association continues, or ends.
-use Rattle.std.proofs.Common.{◌≡◌, ◌≢◌, ℕ, Bool, true, false, None, List, [], ◌++◌, length, refl, sym, ◌∙◌, ap, subst, inl, inr}
+use Rattle.std.proofs.Common.{◌≡◌, ◌≢◌, ℕ, Bool, true, false, Option, None, Some, List, [], ◌++◌, length, refl, sym, ◌∙◌, ap, subst, inl, inr}
 use Rattle.std.specs.List.{AllByRecursion}
 use Rattle.std.proofs.lemmas.List.{append-nil}
 use Rattle.dcsctp_spec_lemmas.specs.types.declared.options.Options.{Options}
@@ -9,7 +9,8 @@ use Rattle.dcsctp_spec_lemmas.specs.spec.endpoint.Outcome.{Outcome}
 use Rattle.dcsctp_spec_lemmas.specs.spec.Packet.{Emission}
 use Rattle.dcsctp_spec_lemmas.specs.spec.endpoint.Turn.{Input}
 use Rattle.dcsctp_spec_runs.specs.World.{after_effects}
-use Rattle.dcsctp_spec_lemmas.specs.spec.association.Effect.{Effect, holds, identity_in}
+use Rattle.dcsctp_spec_lemmas.specs.spec.association.Effect.{AssociationIdentity, Effect, holds, identity_in}
+use Rattle.dcsctp_spec_runs.specs.Past.{HasEffect}
 use Rattle.dcsctp_spec_lemmas.specs.spec.queues.Transfer.{EndpointQueues}
 use Rattle.dcsctp_theorem_association.proofs.Growth.{after_within}
 use Rattle.dcsctp_delivery_sending.specs.Places.{set_at}
@@ -26,38 +27,27 @@ use Rattle.dcsctp_delivery_turns.specs.Asking.{own_of, AsksFit}
 use Rattle.dcsctp_delivery_turns.specs.Addressed.{AreAddressed}
 use Rattle.dcsctp_delivery_turns.specs.Runs.{sender_at}
 use Rattle.dcsctp_delivery_turns.proofs.Runs.{begins_anew}
-use Rattle.dcsctp_delivery_associations.specs.Ends.{SendingEnd, ReceivingEnd, joined, new_end, Ends, IsUnbegun, NeverHeld, KeepsThese, KeepsOnlyThese, BeginsAnew, Sender, Receiver, Between, IsOnlyTag}
+use Rattle.dcsctp_delivery_associations.specs.Ends.{SendingEnd, ReceivingEnd, joined, new_end, Ends, IsUnbegun, NeverHeld, KeepsThese, KeepsOnlyThese, BeginsAnew, sender_key, Sender, Receiver, Between, IsOnlyOwn}
 use Rattle.dcsctp_delivery_associations.specs.Answered.{AreAnswered}
 use Rattle.dcsctp_delivery_associations.specs.Laws.{AreEnds}
 use Rattle.dcsctp_delivery_associations.specs.Reads.{Reading}
 use Rattle.dcsctp_delivery_associations.proofs.Growing.{set_all, input_adds}
 use Rattle.dcsctp_delivery_associations.proofs.Own.{unlinked_fit}
-use Rattle.dcsctp_delivery_associations.proofs.Senders.{same_key, no_key, grown_end, grown_ends, grown, marked_queue, renewed_end, renewed_ends, renewed}
-
--- three tables
-pub set_three : {A : Type 0} {B : Type 0} {C : Type 0} (P : ℕ → A → B → C → Type 0) (k : ℕ) (u : A) (v : B) (w : C) (f : ℕ → A) (g : ℕ → B) (h : ℕ → C) → P k u v w → ((t : ℕ) → t ≢ k → P t (f t) (g t) (h t))
-    → (t : ℕ) → P t (set_at k u f t) (set_at k v g t) (set_at k w h t)
-set_three P k u v w f g h here others t =
-    elim (decide t k) [
-      | inl e ↦
-          subst (λ (n : ℕ). P n (set_at k u f n) (set_at k v g n) (set_at k w h n)) (sym e)
-          (subst (λ (x : _). P k x (set_at k v g k) (set_at k w h k)) (sym (set_same k u f))
-          (subst (λ (x : _). P k u x (set_at k w h k)) (sym (set_same k v g)) (subst (P k u v) (sym (set_same k w h)) here)))
-      | inr ne ↦
-          subst (λ (x : _). P t x (set_at k v g t) (set_at k w h t)) (sym (set_other k t u f ne))
-          (subst (λ (x : _). P t (f t) x (set_at k w h t)) (sym (set_other k t v g ne)) (subst (P t (f t) (g t)) (sym (set_other k t w h ne)) (others t ne)))
-    ]
+use Rattle.dcsctp_delivery_associations.proofs.Senders.{same_key, same_peer, no_key, no_peer, alone_later, grown_end, grown_ends, grown, marked_queue, renewed_end, renewed_ends, renewed}
 
 -- The receiver's ends are the same.
-pub receiver_same : (options : Options) (ends : Ends) (sends : ℕ → SendingEnd) (d : Endpoint) (past : List Effect) (reading : Reading) → Receiver options ends d past reading → Receiver options (record ends { sends = sends }) d past reading
-receiver_same options ends sends d past reading r =
+pub receiver_same : (options : Options) (ends : Ends) (sends : ℕ → SendingEnd) (latest : ℕ → ℕ) (former : ℕ → Option ℕ) (d : Endpoint) (past : List Effect) (reading : Reading) → Receiver options ends d past reading
+    → Receiver options (record ends { sends = sends; latest = latest; former = former }) d past reading
+receiver_same options ends sends latest former d past reading r =
     record {
       fits = r.fits;
-      current = λ transfer is. (let c = r.current transfer is in record { link = c.link; linked = c.linked; had = c.had; tracker = c.tracker; reassembly = c.reassembly });
+      current = λ transfer is. (let c = r.current transfer is in record { link = c.link; linked = c.linked; held = c.held; own_some = c.own_some; had = c.had; tracker = c.tracker; reassembly = c.reassembly });
       left = r.left;
       last = r.last;
       were_read = r.were_read;
       begun = r.begun;
+      last_of = r.last_of;
+      reads_of = r.reads_of;
     }
 
 -- What waits does so, whichever messages are marked.
@@ -82,24 +72,24 @@ module _ (options : Options) (ends : Ends) (e : Endpoint) (queued : List Message
   anew_before follows tag (inl anew) = inl (sym follows ∙ anew)
   anew_before follows tag (inr only) = inr (λ link held. only link (after_within o.effects past (holds link) held))
 
-  only_before : (tag : ℕ) → IsOnlyTag (after_effects o.effects past) tag → IsOnlyTag past tag
+  only_before : (tag : ℕ) → IsOnlyOwn (after_effects o.effects past) tag → IsOnlyOwn past tag
   only_before tag only link held = only link (after_within o.effects past (holds link) held)
 
   -- what is to be shown of the turn
   abbrev pub Turned : Type 0
   Turned = AreEnds ends.never_resets options o.after (queued_after e input queued) (after_effects o.effects past) (packets ++ packets_in o.events) d their_past reading
 
-  pub goes_on : o.after.options.follow_rfc ≡ e.options.follow_rfc → (NeverHeld (after_effects o.effects past) → IsUnbegun ends.never_resets (queued_after e input (ends.sends (peer_tag e.core)).queued) o.after) → identity_in o.after.core ≡ identity_in e.core → o.after.queues.queue.is_interleaved ≡ e.queues.queue.is_interleaved → AreAddressed (peer_tag e.core) (packets_in o.events) → (acknowledged : ℕ) (asking : Asking) → AsksFit (ends.firsts (peer_tag e.core)) (own_of o.after) asking
-      → AreAnswered (grown_ends ends (peer_tag e.core) e.queues queued past packets h.sender o.effects more o.after.queues acknowledged (packets_in o.events) asking) o.after (after_effects o.effects past) d their_past
-      → DirectionRun options (ends.firsts (peer_tag e.core)) options.max_receiver_window_buffer_size
-      (sender_at (joined (ends.sends (peer_tag e.core)) (ends.gets (peer_tag e.core))) (queued_after e input (ends.sends (peer_tag e.core)).queued) o.after.queues acknowledged ((ends.sends (peer_tag e.core)).sent ++ packets_in o.events) asking)
+  pub goes_on : ((each : AssociationIdentity) → HasEffect (holds each) (after_effects o.effects past) → HasEffect (holds each) past) → o.after.options.follow_rfc ≡ e.options.follow_rfc → (NeverHeld (after_effects o.effects past) → IsUnbegun ends.never_resets (queued_after e input (ends.sends (sender_key e.core)).queued) o.after) → identity_in o.after.core ≡ identity_in e.core → o.after.queues.queue.is_interleaved ≡ e.queues.queue.is_interleaved → AreAddressed (peer_tag e.core) (packets_in o.events) → (acknowledged : ℕ) (asking : Asking) → AsksFit (ends.firsts (sender_key e.core)) (own_of o.after) asking
+      → AreAnswered (grown_ends ends (sender_key e.core) (peer_tag e.core) e.queues queued past packets h.sender o.effects more o.after.queues acknowledged (packets_in o.events) asking) o.after (after_effects o.effects past) d their_past
+      → DirectionRun options (ends.firsts (sender_key e.core)) options.max_receiver_window_buffer_size
+      (sender_at (joined (ends.sends (sender_key e.core)) (ends.gets (sender_key e.core))) (queued_after e input (ends.sends (sender_key e.core)).queued) o.after.queues acknowledged ((ends.sends (sender_key e.core)).sent ++ packets_in o.events) asking)
       → Turned
-  goes_on follows unbegun linked kind addressed acknowledged asking fits answered run =
-      let key : ℕ = peer_tag e.core in
-      let end : SendingEnd = grown_end ends key e.queues queued past packets h.sender o.effects more o.after.queues acknowledged (packets_in o.events) asking in
-      let later : Ends = grown_ends ends key e.queues queued past packets h.sender o.effects more o.after.queues acknowledged (packets_in o.events) asking in
-      let sender : Sender later key o.after.queues (more ++ queued) (after_effects o.effects past) (packets ++ packets_in o.events) =
-      grown ends key e.queues queued past packets h.sender o.effects more o.after.queues acknowledged (packets_in o.events) asking addressed kind in
+  goes_on none_began follows unbegun linked kind addressed acknowledged asking fits answered run =
+      let key : ℕ = sender_key e.core in
+      let end : SendingEnd = grown_end ends key (peer_tag e.core) e.queues queued past packets h.sender o.effects more o.after.queues acknowledged (packets_in o.events) asking in
+      let later : Ends = grown_ends ends key (peer_tag e.core) e.queues queued past packets h.sender o.effects more o.after.queues acknowledged (packets_in o.events) asking in
+      let sender : Sender later key (peer_tag e.core) o.after.queues (more ++ queued) (after_effects o.effects past) (packets ++ packets_in o.events) =
+      grown ends key (peer_tag e.core) e.queues queued past packets h.sender o.effects more o.after.queues acknowledged (packets_in o.events) asking addressed kind none_began in
       record {
         ends = later;
         is = refl;
@@ -108,47 +98,52 @@ module _ (options : Options) (ends : Ends) (e : Endpoint) (queued : List Message
               (subst (λ (l : List Message). DirectionRun options (ends.firsts key) options.max_receiver_window_buffer_size (joined (record end { queued = l }) (ends.gets key))) (input_adds e input (ends.sends key).queued) run)
               (λ tag ne. h.runs tag);
           small = h.small;
-          sender = subst (λ (l : List Message). Sender later (peer_tag o.after.core) o.after.queues l (after_effects o.effects past) (packets ++ packets_in o.events)) (sym (input_adds e input queued))
-              (subst (λ (k : ℕ). Sender later k o.after.queues (more ++ queued) (after_effects o.effects past) (packets ++ packets_in o.events)) (sym (same_key o.after.core e.core linked)) sender);
+          sender = subst (λ (l : List Message). Sender later (sender_key o.after.core) (peer_tag o.after.core) o.after.queues l (after_effects o.effects past) (packets ++ packets_in o.events)) (sym (input_adds e input queued))
+              (subst (λ (k : ℕ). Sender later k (peer_tag o.after.core) o.after.queues (more ++ queued) (after_effects o.effects past) (packets ++ packets_in o.events)) (sym (same_key o.after.core e.core linked))
+              (subst (λ (n : ℕ). Sender later key n o.after.queues (more ++ queued) (after_effects o.effects past) (packets ++ packets_in o.events)) (sym (same_peer o.after.core e.core linked)) sender));
+          mine = λ link there. after_within o.effects past (holds link) (h.mine link (sym linked ∙ there));
           asks = subst (λ (k : ℕ). AsksFit (ends.firsts k) (own_of o.after) (set_at key end ends.sends k).asking) (sym (same_key o.after.core e.core linked))
               (subst (λ (s : SendingEnd). AsksFit (ends.firsts key) (own_of o.after) s.asking) (sym (set_same key end ends.sends)) fits);
           numbered = set_all (λ tag s. tag ≢ 0 → BeginsAnew o.after (after_effects o.effects past) tag → s.beginning.from_zero ≡ true) key end ends.sends (λ some anew. h.numbered key some (anew_before follows key anew))
               (λ tag ne some anew. h.numbered tag some (anew_before follows tag anew));
-          kept = set_all (λ tag s. tag ≢ 0 → IsOnlyTag (after_effects o.effects past) tag → KeepsThese ends.never_resets s.beginning) key end ends.sends
+          kept = set_all (λ tag s. tag ≢ 0 → IsOnlyOwn (after_effects o.effects past) tag → KeepsThese ends.never_resets s.beginning) key end ends.sends
               (λ some only. h.kept key some (only_before key only)) (λ tag ne some only. h.kept tag some (only_before tag only));
           dropping = set_all (λ tag s. KeepsOnlyThese ends.never_resets s.beginning) key end ends.sends (h.dropping key) (λ tag ne. h.dropping tag);
           unbegun = λ never.
               subst (λ (k : ℕ). IsUnbegun ends.never_resets (set_at key end ends.sends k).queued o.after) (sym (same_key o.after.core e.core linked))
               (subst (λ (s : SendingEnd). IsUnbegun ends.never_resets s.queued o.after) (sym (set_same key end ends.sends))
               (subst (λ (l : List Message). IsUnbegun ends.never_resets l o.after) (input_adds e input (ends.sends key).queued) (unbegun never)));
-          receiver = receiver_same options ends later.sends d their_past reading h.receiver;
+          receiver = receiver_same options ends later.sends later.latest later.former d their_past reading h.receiver;
+          alone = λ tag. alone_later options ends later past (after_effects o.effects past) their_past their_past (after_within o.effects past) (λ effect has. has) tag refl refl (h.alone tag);
         };
         answered = answered;
       }
 
   -- the ends once it has ended
-  abbrev pub ended_ends : (last : EndpointQueues) → ℕ → Asking → AreAddressed (peer_tag e.core) (packets_in o.events) → last.queue.is_interleaved ≡ e.queues.queue.is_interleaved → Ends
-  ended_ends last acknowledged asking addressed kind =
-      renewed_ends (grown_ends ends (peer_tag e.core) e.queues queued past packets h.sender o.effects more last acknowledged (packets_in o.events) asking) (peer_tag e.core) last (more ++ queued) (after_effects o.effects past)
-      (packets ++ packets_in o.events) (grown ends (peer_tag e.core) e.queues queued past packets h.sender o.effects more last acknowledged (packets_in o.events) asking addressed kind) [] 0 o.after.queues 0 [] nothing_asked (record { from_zero = false; keeps = λ id. false }) ends.gets ends.firsts
+  abbrev pub ended_ends : ((each : AssociationIdentity) → HasEffect (holds each) (after_effects o.effects past) → HasEffect (holds each) past) → (last : EndpointQueues) → ℕ → Asking → AreAddressed (peer_tag e.core) (packets_in o.events)
+      → last.queue.is_interleaved ≡ e.queues.queue.is_interleaved → Ends
+  ended_ends none_began last acknowledged asking addressed kind =
+      renewed_ends (grown_ends ends (sender_key e.core) (peer_tag e.core) e.queues queued past packets h.sender o.effects more last acknowledged (packets_in o.events) asking) (sender_key e.core) (peer_tag e.core) last (more ++ queued) (after_effects o.effects past)
+      (packets ++ packets_in o.events) (grown ends (sender_key e.core) (peer_tag e.core) e.queues queued past packets h.sender o.effects more last acknowledged (packets_in o.events) asking addressed kind none_began) [] 0 0 o.after.queues 0 [] nothing_asked (record { from_zero = false; keeps = λ id. false }) ends.gets ends.firsts
 
-  pub ended : o.after.options.follow_rfc ≡ e.options.follow_rfc → (NeverHeld (after_effects o.effects past) → IsUnbegun ends.never_resets (queued_after e input (ends.sends (peer_tag e.core)).queued) o.after) → identity_in o.after.core ≡ None → (addressed : AreAddressed (peer_tag e.core) (packets_in o.events)) → (last : EndpointQueues) → (kind : last.queue.is_interleaved ≡ e.queues.queue.is_interleaved) → o.after.queues ≡ record last { transfer = None }
-      → QueueWaits (queued_after e input (ends.sends (peer_tag e.core)).queued) last.queue → AllByRecursion Fits (queued_after e input (ends.sends (peer_tag e.core)).queued) → (acknowledged : ℕ) (asking : Asking)
-      → AreAnswered (ended_ends last acknowledged asking addressed kind) o.after (after_effects o.effects past) d their_past
-      → DirectionRun options (ends.firsts (peer_tag e.core)) options.max_receiver_window_buffer_size
-      (sender_at (joined (ends.sends (peer_tag e.core)) (ends.gets (peer_tag e.core))) (queued_after e input (ends.sends (peer_tag e.core)).queued) last acknowledged ((ends.sends (peer_tag e.core)).sent ++ packets_in o.events) asking)
+  pub ended : (none_began : (each : AssociationIdentity) → HasEffect (holds each) (after_effects o.effects past) → HasEffect (holds each) past) → o.after.options.follow_rfc ≡ e.options.follow_rfc → (NeverHeld (after_effects o.effects past) → IsUnbegun ends.never_resets (queued_after e input (ends.sends (sender_key e.core)).queued) o.after) → identity_in o.after.core ≡ None → (addressed : AreAddressed (peer_tag e.core) (packets_in o.events)) → (last : EndpointQueues) → (kind : last.queue.is_interleaved ≡ e.queues.queue.is_interleaved) → o.after.queues ≡ record last { transfer = None }
+      → QueueWaits (queued_after e input (ends.sends (sender_key e.core)).queued) last.queue → AllByRecursion Fits (queued_after e input (ends.sends (sender_key e.core)).queued) → (acknowledged : ℕ) (asking : Asking)
+      → AreAnswered (ended_ends none_began last acknowledged asking addressed kind) o.after (after_effects o.effects past) d their_past
+      → DirectionRun options (ends.firsts (sender_key e.core)) options.max_receiver_window_buffer_size
+      (sender_at (joined (ends.sends (sender_key e.core)) (ends.gets (sender_key e.core))) (queued_after e input (ends.sends (sender_key e.core)).queued) last acknowledged ((ends.sends (sender_key e.core)).sent ++ packets_in o.events) asking)
       → Turned
-  ended follows unbegun none addressed last kind is shown fit acknowledged asking answered run =
-      let key : ℕ = peer_tag e.core in
+  ended none_began follows unbegun none addressed last kind is shown fit acknowledged asking answered run =
+      let key : ℕ = sender_key e.core in
       let ps : List Emission = packets_in o.events in
-      let end : SendingEnd = grown_end ends key e.queues queued past packets h.sender o.effects more last acknowledged ps asking in
-      let middle : Ends = grown_ends ends key e.queues queued past packets h.sender o.effects more last acknowledged ps asking in
-      let first : Sender middle key last (more ++ queued) (after_effects o.effects past) (packets ++ ps) = grown ends key e.queues queued past packets h.sender o.effects more last acknowledged ps asking addressed kind in
-      let marked : List Message = marked_queue middle key last (more ++ queued) (after_effects o.effects past) (packets ++ ps) first [] 0 o.after.queues 0 [] nothing_asked (record { from_zero = false; keeps = λ id. false }) ends.gets ends.firsts in
-      let later : Ends = renewed_ends middle key last (more ++ queued) (after_effects o.effects past) (packets ++ ps) first [] 0 o.after.queues 0 [] nothing_asked (record { from_zero = false; keeps = λ id. false }) ends.gets ends.firsts in
-      let new : SendingEnd = renewed_end middle key last (more ++ queued) (after_effects o.effects past) (packets ++ ps) first [] 0 o.after.queues 0 [] nothing_asked (record { from_zero = false; keeps = λ id. false }) ends.gets ends.firsts in
-      let second : Sender later 0 o.after.queues (more ++ queued) (after_effects o.effects past) ((packets ++ ps) ++ []) =
-      renewed middle key last (more ++ queued) (after_effects o.effects past) (packets ++ ps) first [] 0 o.after.queues 0 [] nothing_asked (record { from_zero = false; keeps = λ id. false }) ends.gets ends.firsts (inl refl) (λ some. absurd (some refl)) (λ tag ne. refl) tt (λ some. absurd (some refl)) in
+      let end : SendingEnd = grown_end ends key (peer_tag e.core) e.queues queued past packets h.sender o.effects more last acknowledged ps asking in
+      let middle : Ends = grown_ends ends key (peer_tag e.core) e.queues queued past packets h.sender o.effects more last acknowledged ps asking in
+      let first : Sender middle key (peer_tag e.core) last (more ++ queued) (after_effects o.effects past) (packets ++ ps) = grown ends key (peer_tag e.core) e.queues queued past packets h.sender o.effects more last acknowledged ps asking addressed kind none_began in
+      let marked : List Message = marked_queue middle key (peer_tag e.core) last (more ++ queued) (after_effects o.effects past) (packets ++ ps) first [] 0 0 o.after.queues 0 [] nothing_asked (record { from_zero = false; keeps = λ id. false }) ends.gets ends.firsts in
+      let later : Ends = renewed_ends middle key (peer_tag e.core) last (more ++ queued) (after_effects o.effects past) (packets ++ ps) first [] 0 0 o.after.queues 0 [] nothing_asked (record { from_zero = false; keeps = λ id. false }) ends.gets ends.firsts in
+      let new : SendingEnd = renewed_end middle key (peer_tag e.core) last (more ++ queued) (after_effects o.effects past) (packets ++ ps) first [] 0 0 o.after.queues 0 [] nothing_asked (record { from_zero = false; keeps = λ id. false }) ends.gets ends.firsts in
+      let second : Sender later 0 0 o.after.queues (more ++ queued) (after_effects o.effects past) ((packets ++ ps) ++ []) =
+      renewed middle key (peer_tag e.core) last (more ++ queued) (after_effects o.effects past) (packets ++ ps) first [] 0 0 o.after.queues 0 [] nothing_asked (record { from_zero = false; keeps = λ id. false }) ends.gets ends.firsts (inl refl) (λ some. absurd (some refl)) (λ tag ne. refl) tt (λ some. absurd (some refl)) (inl refl)
+      (λ each has. (first.known each has).0) (λ each has. inl has) in
       let adds : queued_after e input (ends.sends key).queued ≡ end.queued = input_adds e input (ends.sends key).queued in
       let shown' : QueueWaits end.queued last.queue = subst (λ (l : List Message). QueueWaits l last.queue) adds shown in
       let fit' : AllByRecursion Fits end.queued = subst (λ (l : List Message). AllByRecursion Fits l) adds fit in
@@ -169,15 +164,17 @@ module _ (options : Options) (ends : Ends) (e : Endpoint) (queued : List Message
               (λ tag ne. set_all (λ tag s. DirectionRun options (ends.firsts tag) options.max_receiver_window_buffer_size (joined s (ends.gets tag))) key end ends.sends
               (subst (λ (l : List Message). DirectionRun options (ends.firsts key) options.max_receiver_window_buffer_size (joined (record end { queued = l }) (ends.gets key))) adds run) (λ tag ne. h.runs tag) tag);
           small = h.small;
-          sender = subst (λ (l : List Message). Sender later (peer_tag o.after.core) o.after.queues l (after_effects o.effects past) (packets ++ ps)) (sym (input_adds e input queued))
-              (subst (λ (k : ℕ). Sender later k o.after.queues (more ++ queued) (after_effects o.effects past) (packets ++ ps)) (sym (no_key o.after.core none))
-              (subst (λ (l : List Emission). Sender later 0 o.after.queues (more ++ queued) (after_effects o.effects past) l) (append-nil (packets ++ ps)) second));
-          asks = unlinked_fit o.after (ends.firsts (peer_tag o.after.core)) (later.sends (peer_tag o.after.core)).asking none;
+          sender = subst (λ (l : List Message). Sender later (sender_key o.after.core) (peer_tag o.after.core) o.after.queues l (after_effects o.effects past) (packets ++ ps)) (sym (input_adds e input queued))
+              (subst (λ (k : ℕ). Sender later k (peer_tag o.after.core) o.after.queues (more ++ queued) (after_effects o.effects past) (packets ++ ps)) (sym (no_key o.after.core none))
+              (subst (λ (n : ℕ). Sender later 0 n o.after.queues (more ++ queued) (after_effects o.effects past) (packets ++ ps)) (sym (no_peer o.after.core none))
+              (subst (λ (l : List Emission). Sender later 0 0 o.after.queues (more ++ queued) (after_effects o.effects past) l) (append-nil (packets ++ ps)) second)));
+          mine = λ link there. (let clash : ◌≡◌ {A = Option AssociationIdentity} None (Some link) = sym none ∙ there in absurd (cc));
+          asks = unlinked_fit o.after (ends.firsts (sender_key o.after.core)) (later.sends (sender_key o.after.core)).asking none;
           numbered = set_all (λ tag s. tag ≢ 0 → BeginsAnew o.after (after_effects o.effects past) tag → s.beginning.from_zero ≡ true) 0 new middle.sends (λ some anew. absurd (some refl))
               (λ tag ne. set_all (λ t s. t ≢ 0 → BeginsAnew o.after (after_effects o.effects past) t → s.beginning.from_zero ≡ true) key end ends.sends (λ some anew. h.numbered key some (anew_before follows key anew))
               (λ t ne' some anew. h.numbered t some (anew_before follows t anew)) tag);
-          kept = set_all (λ tag s. tag ≢ 0 → IsOnlyTag (after_effects o.effects past) tag → KeepsThese ends.never_resets s.beginning) 0 new middle.sends (λ some only. absurd (some refl))
-              (λ tag ne. set_all (λ t s. t ≢ 0 → IsOnlyTag (after_effects o.effects past) t → KeepsThese ends.never_resets s.beginning) key end ends.sends
+          kept = set_all (λ tag s. tag ≢ 0 → IsOnlyOwn (after_effects o.effects past) tag → KeepsThese ends.never_resets s.beginning) 0 new middle.sends (λ some only. absurd (some refl))
+              (λ tag ne. set_all (λ t s. t ≢ 0 → IsOnlyOwn (after_effects o.effects past) t → KeepsThese ends.never_resets s.beginning) key end ends.sends
               (λ some only. h.kept key some (only_before key only)) (λ t ne' some only. h.kept t some (only_before t only)) tag);
           dropping = set_all (λ tag s. KeepsOnlyThese ends.never_resets s.beginning) 0 new middle.sends (λ id resets. refl)
               (λ tag ne. set_all (λ t s. KeepsOnlyThese ends.never_resets s.beginning) key end ends.sends (h.dropping key) (λ t ne'. h.dropping t) tag);
@@ -187,7 +184,8 @@ module _ (options : Options) (ends : Ends) (e : Endpoint) (queued : List Message
               (subst (λ (s : SendingEnd). IsUnbegun ends.never_resets (all_marked (length s.queued) s.queues.queue.streams s.queued) o.after) (sym (set_same key end ends.sends))
               (unbegun_marked ends.never_resets (length end.queued) last.queue.streams end.queued o.after
               (subst (λ (l : List Message). IsUnbegun ends.never_resets l o.after) adds (unbegun never)))));
-          receiver = receiver_same options ends later.sends d their_past reading h.receiver;
+          receiver = receiver_same options ends later.sends later.latest later.former d their_past reading h.receiver;
+          alone = λ tag. alone_later options ends later past (after_effects o.effects past) their_past their_past (after_within o.effects past) (λ effect has. has) tag refl refl (h.alone tag);
         };
         answered = answered;
       }

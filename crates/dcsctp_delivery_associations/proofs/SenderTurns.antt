@@ -1,6 +1,6 @@
 -- Each turn of the sender.
-use Rattle.std.proofs.Common.{Bool, true, false, None, Some, ◌≡◌, ◌≢◌, ◌<◌, ◌-◌, ◌^◌, ℕ, Option, List, [], ◌∷◌, ◌++◌, length, refl, sym, ◌∙◌, ap, arith, subst, inl, Bool, false}
-use Rattle.std.specs.Prelude.{◌==◌, ◌||◌}
+use Rattle.std.proofs.Common.{Bool, true, false, None, Some, ◌≡◌, ◌≢◌, ◌<◌, ◌-◌, ◌^◌, ℕ, Option, List, [], ◌∷◌, ◌++◌, length, refl, sym, ◌∙◌, ap, arith, subst, inl, inr, Bool, false}
+use Rattle.std.specs.Prelude.{◌==◌, ◌||◌, ◌⊎◌}
 use Rattle.std.specs.List.{AllByRecursion}
 use Rattle.std.proofs.lemmas.Bool.{eq-eqb}
 use Rattle.std.proofs.lemmas.List.{length-append}
@@ -25,16 +25,16 @@ use Rattle.dcsctp_delivery_directions.proofs.RequestCounts.{requests_more, reque
 use Rattle.dcsctp_delivery_turns.specs.Actions.{IsOpening, came_by, peer_tag, queued_after, resets_stream, Begun, IsCall}
 use Rattle.dcsctp_delivery_turns.specs.Addressed.{AreAddressed}
 use Rattle.dcsctp_delivery_turns.specs.Asking.{own_in, own_of, AsksFit, AskingGrows}
-use Rattle.dcsctp_delivery_turns.specs.Runs.{sender_at, IsBetween, EndsPerformed, RefusesNone, HasNewTag, SenderTurns, run_goes_on, run_ends, run_begins, MayDrop}
+use Rattle.dcsctp_delivery_turns.specs.Runs.{sender_at, IsBetween, EndsPerformed, RefusesNone, SenderTurns, run_goes_on, run_ends, run_begins, run_outlasts, MayDrop}
 use Rattle.dcsctp_delivery_turns.proofs.Completing.{completes_own}
 use Rattle.dcsctp_delivery_turns.proofs.ResetInputs.{named_by}
 use Rattle.dcsctp_delivery_turns.proofs.Runs.{senders_go_on}
 use Rattle.dcsctp_delivery_turns.specs.Unbegun.{UnbegunTurns, stays_unbegun, begins_first}
 use Rattle.dcsctp_delivery_turns.proofs.Unbegun.{stays_at_zero}
 use Rattle.dcsctp_spec_runs.specs.Past.{HasEffect}
-use Rattle.dcsctp_delivery_associations.specs.Ends.{SendingEnd, joined, Ends, IsUnbegun, NeverHeld, NewPeer, Between}
+use Rattle.dcsctp_delivery_associations.specs.Ends.{SendingEnd, joined, Ends, sender_key, GoesOnWith, IsUnbegun, NeverHeld, NewPeer, Between}
 use Rattle.dcsctp_delivery_associations.specs.Answered.{AnswersRequests, requests_of, waiting_deferral, AreAnswered}
-use Rattle.dcsctp_delivery_associations.specs.Laws.{CompletesPerformed, NewOwnTags, AsksLittle, AreEnds, ResetsAs}
+use Rattle.dcsctp_delivery_associations.specs.Laws.{CompletesPerformed, AsksLittle, AreEnds, ResetsAs}
 use Rattle.dcsctp_delivery_associations.specs.Reads.{Reading}
 use Rattle.dcsctp_delivery_associations.proofs.AskedOn as asked
 use Rattle.dcsctp_delivery_associations.proofs.AskedOn.{MayBegin}
@@ -45,6 +45,10 @@ use Rattle.dcsctp_delivery_associations.proofs.SenderAnswers.{some_completed, en
 use Rattle.dcsctp_delivery_associations.proofs.Senders.{link_tag, grown_end, grown_ends}
 use Rattle.dcsctp_delivery_associations.proofs.SenderStays.{goes_on, ended_ends, ended}
 use Rattle.dcsctp_delivery_associations.proofs.SenderBegins.{begins}
+use Rattle.dcsctp_delivery_associations.proofs.SenderOutlasts.{outlasts_goes_on}
+use Rattle.dcsctp_delivery_associations.proofs.AnsweringRests.{after_split}
+use Rattle.dcsctp_delivery_turns.proofs.Holding.{holds_mean}
+use Rattle.dcsctp_delivery_turns.proofs.Outlasts.{other_begun}
 
 no_message : (l : List Message) → length l ≡ 0 → l ≡ []
 no_message [] none = refl
@@ -57,35 +61,28 @@ queues_none more queued same = no_message more (let long = length-append more qu
 -- ---- each turn
 
 module _ (options : Options) (ends : Ends) (e : Endpoint) (queued : List Message) (past : List Effect) (packets : List Emission) (d : Endpoint) (their_past : List Effect) (reading : Reading)
-    (h : Between options ends e queued past packets d their_past reading) (input : Input) (o : Outcome) (new : (begun : Begun e o) → IsOpening (came_by input) → identity_in o.after.core ≡ Some (identity_of begun.my begun.held) → NewPeer past their_past (identity_of begun.my begun.held))
-    (w : AreAnswered ends e past d their_past) (little : AsksLittle (packets ++ packets_in o.events)) (own_new : NewOwnTags past o) where
-  -- No association begins under the own tag of the one before.
-  has_new_tag : HasNewTag e input o
-  has_new_tag collision =
-      let had = (w.answers.mine_held collision.old collision.was).0 in
-      own_new collision.opened.link had.link (subst (HasEffect (holds collision.opened.link)) (sym collision.opened.noted) (inl refl)) had.held
-      (ap (λ (p : Pair). p.tag) had.my_is ∙ sym collision.tag)
-
+    (h : Between options ends e queued past packets d their_past reading) (input : Input) (o : Outcome) (new : (begun : Begun e o) → IsOpening (came_by input) → identity_in o.after.core ≡ Some (identity_of begun.my begun.held) → NewPeer past their_past (identity_of begun.my begun.held) ⊎ GoesOnWith past e input o)
+    (w : AreAnswered ends e past d their_past) (little : AsksLittle (packets ++ packets_in o.events)) where
   abbrev key : ℕ
-  key = peer_tag e.core
+  key = sender_key e.core
 
   -- the direction of the current association
   abbrev now : Direction
-  now = joined (ends.sends (peer_tag e.core)) (ends.gets (peer_tag e.core))
+  now = joined (ends.sends (sender_key e.core)) (ends.gets (sender_key e.core))
 
   -- What was begun is little,
-  few_now : length (ends.sends (peer_tag e.core)).asking.requests < 2 ^ 32 - 1
+  few_now : length (ends.sends (sender_key e.core)).asking.requests < 2 ^ 32 - 1
   few_now =
       let sent = requests_are_sent options (ends.firsts key) options.max_receiver_window_buffer_size now (h.runs key) in
       let went = h.sender.few_requests key in
-      let all = requests_more_to key packets (packets_in o.events) in
-      let few = little key in
+      let all = requests_more_to (ends.latest key) packets (packets_in o.events) in
+      let few = little (ends.latest key) in
       omega (arith, sent, went, all, few)
 
   -- and so is what is begun in this turn.
   few_then : AreAddressed (peer_tag e.core) (packets_in o.events) → (below : EndpointQueues) (acknowledged : ℕ) (asking : Asking)
-      → DirectionRun options (ends.firsts (peer_tag e.core)) options.max_receiver_window_buffer_size
-      (sender_at (joined (ends.sends (peer_tag e.core)) (ends.gets (peer_tag e.core))) (queued_after e input (ends.sends (peer_tag e.core)).queued) below acknowledged ((ends.sends (peer_tag e.core)).sent ++ packets_in o.events) asking)
+      → DirectionRun options (ends.firsts (sender_key e.core)) options.max_receiver_window_buffer_size
+      (sender_at (joined (ends.sends (sender_key e.core)) (ends.gets (sender_key e.core))) (queued_after e input (ends.sends (sender_key e.core)).queued) below acknowledged ((ends.sends (sender_key e.core)).sent ++ packets_in o.events) asking)
       → length asking.requests < 2 ^ 32 - 1
   few_then addressed below acknowledged asking run =
       let sent =
@@ -93,86 +90,86 @@ module _ (options : Options) (ends : Ends) (e : Endpoint) (queued : List Message
       (sender_at now (queued_after e input (ends.sends key).queued) below acknowledged ((ends.sends key).sent ++ packets_in o.events) asking) run in
       let more = requests_more (ends.sends key).sent (packets_in o.events) in
       let went = h.sender.few_requests key in
-      let goes = addressed_requests key (packets_in o.events) addressed in
-      let all = requests_more_to key packets (packets_in o.events) in
-      let few = little key in
+      let goes = addressed_requests (ends.latest key) (packets_in o.events) (subst (λ (n : ℕ). AreAddressed n (packets_in o.events)) (sym h.sender.to_is) addressed) in
+      let all = requests_more_to (ends.latest key) packets (packets_in o.events) in
+      let few = little (ends.latest key) in
       omega (arith, sent, more, went, goes, all, few)
 
   -- ---- in an association
 
   module _ (link : AssociationIdentity) (linked : identity_in e.core ≡ Some link) (may : IsCall input) (turn : Turn e input o) (completes_so : CompletesPerformed their_past o) where
-    key_is : peer_tag e.core ≡ link.peer.tag
+    key_is : sender_key e.core ≡ link.my.tag
     key_is = link_tag e.core link linked
 
     answers : AnswersRequests (requests_of ends w.pairs) (Some link) past (identity_in d.core) their_past (waiting_deferral d.queues.transfer)
     answers = subst (λ (l : Option AssociationIdentity). AnswersRequests (requests_of ends w.pairs) l past (identity_in d.core) their_past (waiting_deferral d.queues.transfer)) linked w.answers
 
-    some : link.peer.tag ≢ 0
+    some : link.my.tag ≢ 0
     some = (answers.mine_held link refl).0.some
 
-    kind : (ends.sends link.peer.tag).queues.queue.is_interleaved ≡ e.queues.queue.is_interleaved
+    kind : (ends.sends link.my.tag).queues.queue.is_interleaved ≡ e.queues.queue.is_interleaved
     kind = sym (ap (λ (t : ℕ). (ends.sends t).queues.queue.is_interleaved) key_is) ∙ ap (λ (b : EndpointQueues). b.queue.is_interleaved) h.sender.queues_are
 
-    fits : AsksFit (ends.firsts link.peer.tag) (own_of e) (ends.sends link.peer.tag).asking
+    fits : AsksFit (ends.firsts link.my.tag) (own_of e) (ends.sends link.my.tag).asking
     fits = subst (λ (t : ℕ). AsksFit (ends.firsts t) (own_of e) (ends.sends t).asking) key_is h.asks
 
-    few : length (ends.sends link.peer.tag).asking.requests < 2 ^ 32 - 1
+    few : length (ends.sends link.my.tag).asking.requests < 2 ^ 32 - 1
     few = subst (λ (t : ℕ). length (ends.sends t).asking.requests < 2 ^ 32 - 1) key_is few_now
 
-    performed : EndsPerformed e o (ends.sends (peer_tag e.core)).asking
+    performed : EndsPerformed e o (ends.sends (sender_key e.core)).asking
     performed =
         subst (λ (t : ℕ). EndsPerformed e o (ends.sends t).asking) (sym key_is)
         (ends_performed (requests_of ends w.pairs) link past (identity_in d.core) their_past (waiting_deferral d.queues.transfer) answers e input o linked kind fits few completes_so may turn)
 
-    may_be : RefusesNone e o → (between : Asking) → IsBetween o.effects (ends.sends (peer_tag e.core)).asking between → MayGo (requests_of ends w.pairs link.peer.tag) their_past between
+    may_be : RefusesNone e o → (between : Asking) → IsBetween o.effects (ends.sends (sender_key e.core)).asking between → MayGo (requests_of ends w.pairs link.my.tag) their_past between
     may_be refuses between is =
         may_go (requests_of ends w.pairs) link past (identity_in d.core) their_past (waiting_deferral d.queues.transfer) answers e input o linked kind fits few completes_so may turn refuses between
         (subst (λ (t : ℕ). IsBetween o.effects (ends.sends t).asking between) key_is is)
 
-    begins_so : (core : Core) (request : Option OutstandingRequest) (between asking : Asking) → identity_in core ≡ Some link → AskingGrows between asking → AsksFit (ends.firsts (peer_tag e.core)) (own_in core request) asking
-        → length asking.requests < 2 ^ 32 - 1 → MayBegin (ends.firsts link.peer.tag) between asking
+    begins_so : (core : Core) (request : Option OutstandingRequest) (between asking : Asking) → identity_in core ≡ Some link → AskingGrows between asking → AsksFit (ends.firsts (sender_key e.core)) (own_in core request) asking
+        → length asking.requests < 2 ^ 32 - 1 → MayBegin (ends.firsts link.my.tag) between asking
     begins_so core request between asking there grows fit little' =
-        may_begin (ends.firsts link.peer.tag) core request between asking link there grows (subst (λ (t : ℕ). AsksFit (ends.firsts t) (own_in core request) asking) key_is fit) little'
+        may_begin (ends.firsts link.my.tag) core request between asking link there grows (subst (λ (t : ℕ). AsksFit (ends.firsts t) (own_in core request) asking) key_is fit) little'
 
     -- what becomes of the requests by this end of the turn
-    goes : (after : Endpoint) (end : SendingEnd) → end.queues.queue.is_interleaved ≡ e.queues.queue.is_interleaved → (between : Asking) → MayGo (requests_of ends w.pairs link.peer.tag) their_past between
-        → MayBegin (ends.firsts link.peer.tag) between end.asking
-        → AnswersRequests (requests_of (record ends { sends = set_at (peer_tag e.core) end ends.sends }) w.pairs) (Some link) (after_effects o.effects past) (identity_in d.core) their_past (waiting_deferral d.queues.transfer)
+    goes : (after : Endpoint) (end : SendingEnd) → end.queues.queue.is_interleaved ≡ e.queues.queue.is_interleaved → (between : Asking) → MayGo (requests_of ends w.pairs link.my.tag) their_past between
+        → MayBegin (ends.firsts link.my.tag) between end.asking
+        → AnswersRequests (requests_of (record ends { sends = set_at (sender_key e.core) end ends.sends }) w.pairs) (Some link) (after_effects o.effects past) (identity_in d.core) their_past (waiting_deferral d.queues.transfer)
     goes after end same between ended_so begun_so = goes_answers ends e past d their_past w h.sender.queues_are after o.effects end same link linked some between end.asking refl few ended_so begun_so
 
   -- ---- in any turn
 
   -- Without an association no request ends.
-  idle_performed : identity_in e.core ≡ None → IsCall input → Turn e input o → EndsPerformed e o (ends.sends (peer_tag e.core)).asking
+  idle_performed : identity_in e.core ≡ None → IsCall input → Turn e input o → EndsPerformed e o (ends.sends (sender_key e.core)).asking
   idle_performed none may turn done interleaved =
       let found = some_completed o.effects done in
       let own = completes_own e input o found.0 found.1 may turn found.2 in
       let clash : ◌≡◌ {A = Option AssociationIdentity} None (Some own.link) = sym none ∙ own.linked in
       absurd (cc)
 
-  performed_by : (found : Option AssociationIdentity) → identity_in e.core ≡ found → IsCall input → Turn e input o → CompletesPerformed their_past o → EndsPerformed e o (ends.sends (peer_tag e.core)).asking
+  performed_by : (found : Option AssociationIdentity) → identity_in e.core ≡ found → IsCall input → Turn e input o → CompletesPerformed their_past o → EndsPerformed e o (ends.sends (sender_key e.core)).asking
   performed_by None none may turn completes_so = idle_performed none may turn
   performed_by (Some link) linked may turn completes_so = performed link linked may turn completes_so
 
   -- the end of the sender after the turn, with this below
   abbrev grown_to : EndpointQueues → ℕ → Asking → SendingEnd
-  grown_to below acknowledged asking = grown_end ends (peer_tag e.core) e.queues queued past packets h.sender o.effects (queued_after e input []) below acknowledged (packets_in o.events) asking
+  grown_to below acknowledged asking = grown_end ends (sender_key e.core) (peer_tag e.core) e.queues queued past packets h.sender o.effects (queued_after e input []) below acknowledged (packets_in o.events) asking
 
   goes_answered : (found : Option AssociationIdentity) → identity_in e.core ≡ found → IsCall input → Turn e input o → RefusesNone e o → CompletesPerformed their_past o → identity_in o.after.core ≡ identity_in e.core
       → AreAddressed (peer_tag e.core) (packets_in o.events) → o.after.queues.queue.is_interleaved ≡ e.queues.queue.is_interleaved → (acknowledged : ℕ) (between asking : Asking)
-      → IsBetween o.effects (ends.sends (peer_tag e.core)).asking between → AskingGrows between asking → AsksFit (ends.firsts (peer_tag e.core)) (own_of o.after) asking → length asking.requests < 2 ^ 32 - 1
-      → AreAnswered (grown_ends ends (peer_tag e.core) e.queues queued past packets h.sender o.effects (queued_after e input []) o.after.queues acknowledged (packets_in o.events) asking) o.after (after_effects o.effects past) d their_past
+      → IsBetween o.effects (ends.sends (sender_key e.core)).asking between → AskingGrows between asking → AsksFit (ends.firsts (sender_key e.core)) (own_of o.after) asking → length asking.requests < 2 ^ 32 - 1
+      → AreAnswered (grown_ends ends (sender_key e.core) (peer_tag e.core) e.queues queued past packets h.sender o.effects (queued_after e input []) o.after.queues acknowledged (packets_in o.events) asking) o.after (after_effects o.effects past) d their_past
   goes_answered None none may turn refuses completes_so linked addressed kind' acknowledged between asking is grows fit little' =
       record {
         pairs = w.pairs;
-        answers = subst (λ (l : Option AssociationIdentity). AnswersRequests (requests_of (record ends { sends = set_at (peer_tag e.core) (grown_to o.after.queues acknowledged asking) ends.sends }) w.pairs) l (after_effects o.effects past) (identity_in d.core) their_past (waiting_deferral d.queues.transfer))
+        answers = subst (λ (l : Option AssociationIdentity). AnswersRequests (requests_of (record ends { sends = set_at (sender_key e.core) (grown_to o.after.queues acknowledged asking) ends.sends }) w.pairs) l (after_effects o.effects past) (identity_in d.core) their_past (waiting_deferral d.queues.transfer))
             (sym (linked ∙ none)) (idle_answers ends e past d their_past w h.sender.queues_are o.after o.effects (grown_to o.after.queues acknowledged asking) kind' none (after_effects o.effects past) (after_within o.effects past));
         unlinked = w.unlinked;
       }
   goes_answered (Some link) there may turn refuses completes_so linked addressed kind' acknowledged between asking is grows fit little' =
       record {
         pairs = w.pairs;
-        answers = subst (λ (l : Option AssociationIdentity). AnswersRequests (requests_of (record ends { sends = set_at (peer_tag e.core) (grown_to o.after.queues acknowledged asking) ends.sends }) w.pairs) l (after_effects o.effects past) (identity_in d.core) their_past (waiting_deferral d.queues.transfer))
+        answers = subst (λ (l : Option AssociationIdentity). AnswersRequests (requests_of (record ends { sends = set_at (sender_key e.core) (grown_to o.after.queues acknowledged asking) ends.sends }) w.pairs) l (after_effects o.effects past) (identity_in d.core) their_past (waiting_deferral d.queues.transfer))
             (sym (linked ∙ there))
             (goes link there may turn completes_so o.after (grown_to o.after.queues acknowledged asking) kind' between (may_be link there may turn completes_so refuses between is)
             (begins_so link there may turn completes_so o.after.core o.after.outstanding between asking (linked ∙ there) grows fit little'));
@@ -180,32 +177,32 @@ module _ (options : Options) (ends : Ends) (e : Endpoint) (queued : List Message
       }
 
   -- the ends once the association has ended
-  abbrev over : (last : EndpointQueues) → ℕ → Asking → AreAddressed (peer_tag e.core) (packets_in o.events) → last.queue.is_interleaved ≡ e.queues.queue.is_interleaved → Ends
-  over last acknowledged asking addressed kind = ended_ends options ends e queued past packets d their_past reading h input o last acknowledged asking addressed kind
+  abbrev over : ((each : AssociationIdentity) → HasEffect (holds each) (after_effects o.effects past) → HasEffect (holds each) past) → (last : EndpointQueues) → ℕ → Asking → AreAddressed (peer_tag e.core) (packets_in o.events) → last.queue.is_interleaved ≡ e.queues.queue.is_interleaved → Ends
+  over none_began last acknowledged asking addressed kind = ended_ends options ends e queued past packets d their_past reading h input o none_began last acknowledged asking addressed kind
 
-  ends_answered : (found : Option AssociationIdentity) → identity_in e.core ≡ found → IsCall input → Turn e input o → CompletesPerformed their_past o → identity_in o.after.core ≡ None
+  ends_answered : (found : Option AssociationIdentity) → identity_in e.core ≡ found → IsCall input → Turn e input o → CompletesPerformed their_past o → identity_in o.after.core ≡ None → (none_began : (each : AssociationIdentity) → HasEffect (holds each) (after_effects o.effects past) → HasEffect (holds each) past)
       → (addressed : AreAddressed (peer_tag e.core) (packets_in o.events)) (last : EndpointQueues) → (kind : last.queue.is_interleaved ≡ e.queues.queue.is_interleaved) → (acknowledged : ℕ) (asking : Asking)
-      → AskingGrows (ends.sends (peer_tag e.core)).asking asking → AsksFit (ends.firsts (peer_tag e.core)) (own_of e) asking → length asking.requests < 2 ^ 32 - 1
-      → AreAnswered (over last acknowledged asking addressed kind) o.after (after_effects o.effects past) d their_past
-  ends_answered None there may turn completes_so none addressed last kind' acknowledged asking grows fit little' =
+      → AskingGrows (ends.sends (sender_key e.core)).asking asking → AsksFit (ends.firsts (sender_key e.core)) (own_of e) asking → length asking.requests < 2 ^ 32 - 1
+      → AreAnswered (over none_began last acknowledged asking addressed kind) o.after (after_effects o.effects past) d their_past
+  ends_answered None there may turn completes_so none none_began addressed last kind' acknowledged asking grows fit little' =
       record {
         pairs = w.pairs;
-        answers = subst (λ (l : Option AssociationIdentity). AnswersRequests (requests_of (over last acknowledged asking addressed kind') w.pairs) l (after_effects o.effects past) (identity_in d.core) their_past (waiting_deferral d.queues.transfer)) (sym none)
+        answers = subst (λ (l : Option AssociationIdentity). AnswersRequests (requests_of (over none_began last acknowledged asking addressed kind') w.pairs) l (after_effects o.effects past) (identity_in d.core) their_past (waiting_deferral d.queues.transfer)) (sym none)
             (closes_answers ends e past d their_past w h.sender.queues_are o.after o.effects (grown_to last acknowledged asking) kind' None (after_effects o.effects past) _
             (idle_answers ends e past d their_past w h.sender.queues_are o.after o.effects (grown_to last acknowledged asking) kind' there (after_effects o.effects past) (after_within o.effects past)));
         unlinked = w.unlinked;
       }
-  ends_answered (Some link) there may turn completes_so none addressed last kind' acknowledged asking grows fit little' =
+  ends_answered (Some link) there may turn completes_so none none_began addressed last kind' acknowledged asking grows fit little' =
       record {
         pairs = w.pairs;
-        answers = subst (λ (l : Option AssociationIdentity). AnswersRequests (requests_of (over last acknowledged asking addressed kind') w.pairs) l (after_effects o.effects past) (identity_in d.core) their_past (waiting_deferral d.queues.transfer)) (sym none)
+        answers = subst (λ (l : Option AssociationIdentity). AnswersRequests (requests_of (over none_began last acknowledged asking addressed kind') w.pairs) l (after_effects o.effects past) (identity_in d.core) their_past (waiting_deferral d.queues.transfer)) (sym none)
             (closes_answers ends e past d their_past w h.sender.queues_are o.after o.effects (grown_to last acknowledged asking) kind' (Some link) (after_effects o.effects past) _
-            (goes link there may turn completes_so o.after (grown_to last acknowledged asking) kind' (ends.sends link.peer.tag).asking as_it_was_asked
-            (begins_so link there may turn completes_so e.core e.outstanding (ends.sends link.peer.tag).asking asking there (subst (λ (t : ℕ). AskingGrows (ends.sends t).asking asking) (link_tag e.core link there) grows) fit little')));
+            (goes link there may turn completes_so o.after (grown_to last acknowledged asking) kind' (ends.sends link.my.tag).asking as_it_was_asked
+            (begins_so link there may turn completes_so e.core e.outstanding (ends.sends link.my.tag).asking asking there (subst (λ (t : ℕ). AskingGrows (ends.sends t).asking asking) (link_tag e.core link there) grows) fit little')));
         unlinked = w.unlinked;
       }
     where
-      as_it_was_asked : MayGo (requests_of ends w.pairs link.peer.tag) their_past (ends.sends link.peer.tag).asking
+      as_it_was_asked : MayGo (requests_of ends w.pairs link.my.tag) their_past (ends.sends link.my.tag).asking
       as_it_was_asked = ends_so _ asked.as_it_was
 
   -- Few messages were queued at this end,
@@ -243,23 +240,53 @@ module _ (options : Options) (ends : Ends) (e : Endpoint) (queued : List Message
           absurd (never (identity_of begun.my begun.held) (subst (λ (l : List Effect). HasEffect (holds (identity_of begun.my begun.held)) (after_effects l past)) (sym begun.noted)
           (after_within begun.later (holds (identity_of begun.my begun.held) ∷ past) (holds (identity_of begun.my begun.held)) (inl refl))))
 
+  -- Where the association continues none begins.
+  none_then : IsCall input → Turn e input o → ((link : AssociationIdentity) → identity_in e.core ≡ Some link → HasEffect (holds link) past) × (identity_in o.after.core ≡ identity_in e.core)
+      → (each : AssociationIdentity) → HasEffect (holds each) (after_effects o.effects past) → HasEffect (holds each) past
+  none_then may turn (mine, linked) each has =
+      elim (after_split (holds each) o.effects past has) [ inl here ↦ mine each (sym linked ∙ holds_mean e input o each may turn here) | inr before ↦ before ]
+
+  none_ended : IsCall input → Turn e input o → identity_in o.after.core ≡ None → (each : AssociationIdentity) → HasEffect (holds each) (after_effects o.effects past) → HasEffect (holds each) past
+  none_ended may turn none each has =
+      elim (after_split (holds each) o.effects past has) [
+        | inl here ↦ (let clash : ◌≡◌ {A = Option AssociationIdentity} None (Some each) = sym none ∙ holds_mean e input o each may turn here in absurd (cc))
+        | inr before ↦ before
+      ]
+
+  -- Another one takes its place.
+  replaces : o.after.options.follow_rfc ≡ e.options.follow_rfc → IsCall input → Turn e input o → GoesOnWith past e input o
+      → AreEnds ends.never_resets options o.after (queued_after e input queued) (after_effects o.effects past) (packets ++ packets_in o.events) d their_past reading
+  replaces follows may turn goes =
+      subst (λ (l : List Message). AreEnds ends.never_resets options o.after l (after_effects o.effects past) (packets ++ packets_in o.events) d their_past reading) (sym (goes.adds queued))
+      (outlasts_goes_on options ends e queued past packets d their_past reading h input o w little goes (λ each has. holds_mean e input o each may turn has) follows)
+
   by_turn : length (queued_after e input queued) < 2 ^ 64 → o.after.options.follow_rfc ≡ e.options.follow_rfc → ResetsAs ends.never_resets input → IsCall input → Turn e input o → RefusesNone e o → CompletesPerformed their_past o
-      → SenderTurns options (ends.firsts (peer_tag e.core)) options.max_receiver_window_buffer_size (joined (ends.sends (peer_tag e.core)) (ends.gets (peer_tag e.core))) e input o
+      → SenderTurns options (ends.firsts (sender_key e.core)) options.max_receiver_window_buffer_size (joined (ends.sends (sender_key e.core)) (ends.gets (sender_key e.core))) e input o
       → AreEnds ends.never_resets options o.after (queued_after e input queued) (after_effects o.effects past) (packets ++ packets_in o.events) d their_past reading
   by_turn few follows resets may turn refuses completes_so (run_goes_on linked addressed kind' acknowledged between asking is grows fit run) =
-      goes_on options ends e queued past packets d their_past reading h input o follows (unbegun_after few resets may turn) linked kind' addressed acknowledged asking fit
+      goes_on options ends e queued past packets d their_past reading h input o (none_then may turn (h.mine, linked)) follows (unbegun_after few resets may turn) linked kind' addressed acknowledged asking fit
       (goes_answered (identity_in e.core) refl may turn refuses completes_so linked addressed kind' acknowledged between asking is grows fit (few_then addressed o.after.queues acknowledged asking run)) run
   by_turn few follows resets may turn refuses completes_so (run_ends none addressed last kind' acknowledged asking grows fit run is shown fit') =
-      ended options ends e queued past packets d their_past reading h input o follows (unbegun_after few resets may turn) none addressed last kind' is shown fit' acknowledged asking
-      (ends_answered (identity_in e.core) refl may turn completes_so none addressed last kind' acknowledged asking grows fit (few_then addressed last acknowledged asking run)) run
+      let none_began = none_ended may turn none in
+      ended options ends e queued past packets d their_past reading h input o none_began follows (unbegun_after few resets may turn) none addressed last kind' is shown fit' acknowledged asking
+      (ends_answered (identity_in e.core) refl may turn completes_so none none_began addressed last kind' acknowledged asking grows fit (few_then addressed last acknowledged asking run)) run
   by_turn few follows resets may turn refuses completes_so (run_begins begun opening linked addressed kind' same shown fit later) =
-      let none : queued_after e input [] ≡ [] = queues_none (queued_after e input []) (ends.sends (peer_tag e.core)).queued (sym (input_adds e input (ends.sends (peer_tag e.core)).queued) ∙ same) in
+      let none : queued_after e input [] ≡ [] = queues_none (queued_after e input []) (ends.sends (sender_key e.core)).queued (sym (input_adds e input (ends.sends (sender_key e.core)).queued) ∙ same) in
       let stays : queued_after e input queued ≡ queued = input_adds e input queued ∙ ap (λ (l : List Message). l ++ queued) none in
-      subst (λ (l : List Message). AreEnds ends.never_resets options o.after l (after_effects o.effects past) (packets ++ packets_in o.events) d their_past reading) (sym stays)
-      (begins options ends e queued past packets d their_past reading h input o w little begun follows kind' (new begun opening linked) linked addressed shown fit later)
+      elim (new begun opening linked) [
+        | inl is ↦
+            subst (λ (l : List Message). AreEnds ends.never_resets options o.after l (after_effects o.effects past) (packets ++ packets_in o.events) d their_past reading) (sym stays)
+            (begins options ends e queued past packets d their_past reading h input o w little begun (λ each has. holds_mean e input o each may turn has) follows kind' is linked addressed shown fit later)
+        | inr goes ↦ replaces follows may turn goes
+      ]
+  by_turn few follows resets may turn refuses completes_so (run_outlasts collision same later) =
+      elim (new (other_begun e input o collision) collision.opened.opening collision.opened.linked) [
+        | inl is ↦ absurd (is.other collision.old (h.mine collision.old collision.was) (sym collision.tag))
+        | inr goes ↦ replaces follows may turn goes
+      ]
 
   -- The sender doesn't keep the streams that its user resets.
-  may_drop : ResetsAs ends.never_resets input → MayDrop input (ends.sends (peer_tag e.core)).beginning
+  may_drop : ResetsAs ends.never_resets input → MayDrop input (ends.sends (sender_key e.core)).beginning
   may_drop resets ids is = among_dropped ids (λ id named. h.dropping key id (resets_some id (named_by input ids id is ∙ named) (ends.never_resets id) refl))
     where
       resets_some : (id : ℕ) → resets_stream id input ≡ true → (b : Bool) → ends.never_resets id ≡ b → ends.never_resets id ≡ false
@@ -274,10 +301,27 @@ module _ (options : Options) (ends : Ends) (e : Endpoint) (queued : List Message
       among_dropped [] each = tt
       among_dropped (id ∷ some) each = (each id (rw (eq-eqb id id refl) refl), among_dropped some (λ other named. each other (rw named (or_true (id == other)))))
 
+  -- The first TSN of one that begins has 32 bits.
+  small_so : (begun : Begun e o) → IsOpening (came_by input) → identity_in o.after.core ≡ Some (identity_of begun.my begun.held) → begun.my.first_tsn < 2 ^ 32
+  small_so begun opening linked =
+      elim (new begun opening linked) [
+        | inl is ↦ is.small
+        | inr goes ↦
+            (let had = h.sender.current (λ zero. (h.sender.known goes.collision.old (h.mine goes.collision.old goes.collision.was)).0 (sym (link_tag e.core goes.collision.old goes.collision.was) ∙ zero)) in
+            let one : had.link ≡ goes.collision.old = goes.only had.link had.held (had.tag_is ∙ link_tag e.core goes.collision.old goes.collision.was ∙ ap (λ (p : Pair). p.tag) goes.my) in
+            let link : goes.collision.opened.link ≡ identity_of begun.my begun.held = one_link goes.collision.opened.linked linked in
+            let first : ends.firsts (sender_key e.core) ≡ begun.my.first_tsn = sym had.first_is ∙ ap (λ (l : AssociationIdentity). l.my.first_tsn) one ∙ ap (λ (p : Pair). p.first_tsn) goes.my
+            ∙ ap (λ (l : AssociationIdentity). l.my.first_tsn) link in
+            subst (λ (n : ℕ). n < 2 ^ 32) first (h.small (sender_key e.core)))
+      ]
+    where
+      one_link : {found : Option AssociationIdentity} {one two : AssociationIdentity} → found ≡ Some one → found ≡ Some two → one ≡ two
+      one_link first second = cc
+
   pub sender_turns : length (queued_after e input queued) < 2 ^ 64 → RefusesNone e o → ResetsAs ends.never_resets input → CompletesPerformed their_past o → o.after.options.follow_rfc ≡ e.options.follow_rfc → IsCall input → Turn e input o
       → AreEnds ends.never_resets options o.after (queued_after e input queued) (after_effects o.effects past) (packets ++ packets_in o.events) d their_past reading
   sender_turns few refuses resets completes_so follows may turn =
       by_turn few follows resets may turn refuses completes_so
       (senders_go_on options (ends.firsts key) options.max_receiver_window_buffer_size now e input o (h.runs key) (h.small key) h.sender.queues_are h.asks
-      (performed_by (identity_in e.core) refl may turn completes_so) refuses (may_drop resets) (λ begun opening linked. (new begun opening linked).small) has_new_tag
+      (performed_by (identity_in e.core) refl may turn completes_so) refuses (may_drop resets) (λ begun opening linked. small_so begun opening linked)
       (few_queued few) may turn)

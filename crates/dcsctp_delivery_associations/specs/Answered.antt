@@ -32,19 +32,19 @@ abbrev pub WantFrom : ℕ → RequestedReset → List BegunReset → Type 0
 WantFrom place reset [] = Unit {0}
 WantFrom place reset (begun ∷ earlier) = (place ≤ length earlier → begun.reset ≡ reset) × WantFrom place reset earlier
 
--- The sender had it: its peer has this tag.
+-- The sender had it, under this tag of its own.
 pub record SenderHadPeer (past : List Effect) (tag : ℕ) (my : Pair) : Type 0 where
   pub link : AssociationIdentity
   pub held : HasEffect (holds link) past
-  pub tag_is : link.peer.tag ≡ tag
+  pub tag_is : link.my.tag ≡ tag
   pub my_is : link.my ≡ my
   pub some : tag ≢ 0
 
--- The receiver had it, under this tag.
+-- The receiver had it: its peer has this tag.
 pub record WasJoined (their_past : List Effect) (tag : ℕ) (my : Pair) : Type 0 where
   pub link : AssociationIdentity
   pub held : HasEffect (holds link) their_past
-  pub tag_is : link.my.tag ≡ tag
+  pub tag_is : link.peer.tag ≡ tag
   pub my_is : link.peer ≡ my
   pub some : tag ≢ 0
 
@@ -92,19 +92,19 @@ pub data StandsSo (requests : Requests) (their_past : List Effect) (waits : Opti
 
 -- ---- all of them
 
--- The requests of each tag of the receiver. `mine` is the sender's association, `theirs` the receiver's, in which this waits.
+-- The requests of each tag of the sender. `mine` is the sender's association, `theirs` the receiver's, in which this waits.
 pub record AnswersRequests (requests : ℕ → Requests) (mine : Option AssociationIdentity) (past : List Effect) (theirs : Option AssociationIdentity) (their_past : List Effect) (waits : Option DeferralModel) : Type 0 where
   pub asked : (tag : ℕ) → tag ≢ 0 → ((requests tag).asking ≡ nothing_asked) ⊎ AreAsked (requests tag) their_past
   pub asked_held : (tag : ℕ) → tag ≢ 0 → ((requests tag).asking ≡ nothing_asked) ⊎ SenderHadPeer past tag (requests tag).my
   pub performed : (tag : ℕ) → WasJoined their_past tag (requests tag).my → WerePerformed (requests tag) their_past
   -- A pair of the sender is of one tag.
   pub apart : (one two : ℕ) → one ≢ two → WasJoined their_past one (requests one).my → WasJoined their_past two (requests two).my → (requests one).my ≢ (requests two).my
-  pub mine_apart : (link : AssociationIdentity) → mine ≡ Some link → (tag : ℕ) → link.peer.tag ≢ tag → WasJoined their_past tag (requests tag).my → link.my ≢ (requests tag).my
+  pub mine_apart : (link : AssociationIdentity) → mine ≡ Some link → (tag : ℕ) → link.my.tag ≢ tag → WasJoined their_past tag (requests tag).my → link.my ≢ (requests tag).my
   pub joined : (my : Pair) (number : ℕ) → WasPerformed my number their_past → (tag : ℕ) × WasJoined their_past tag (requests tag).my × ((requests tag).my ≡ my)
-  pub mine_held : (link : AssociationIdentity) → mine ≡ Some link → SenderHadPeer past link.peer.tag link.my × ((requests link.peer.tag).my ≡ link.my)
-  pub mine_first : (link : AssociationIdentity) → mine ≡ Some link → (requests link.peer.tag).first ≡ link.my.first_tsn
-  pub theirs_held : (link : AssociationIdentity) → theirs ≡ Some link → WasJoined their_past link.my.tag link.peer × ((requests link.my.tag).my ≡ link.peer)
-  pub stands : (link : AssociationIdentity) → theirs ≡ Some link → StandsSo (requests link.my.tag) their_past waits
+  pub mine_held : (link : AssociationIdentity) → mine ≡ Some link → SenderHadPeer past link.my.tag link.my × ((requests link.my.tag).my ≡ link.my)
+  pub mine_first : (link : AssociationIdentity) → mine ≡ Some link → (requests link.my.tag).first ≡ link.my.first_tsn
+  pub theirs_held : (link : AssociationIdentity) → theirs ≡ Some link → WasJoined their_past link.peer.tag link.peer × ((requests link.peer.tag).my ≡ link.peer)
+  pub stands : (link : AssociationIdentity) → theirs ≡ Some link → StandsSo (requests link.peer.tag) their_past waits
 
 -- those of both ends
 abbrev pub requests_of : Ends → (ℕ → Pair) → ℕ → Requests

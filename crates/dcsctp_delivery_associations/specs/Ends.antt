@@ -1,14 +1,20 @@
 -- All associations of two sockets, in the direction from one to the other: for each verification
--- tag of the receiver, what the sender has sent to it and what the receiver has received under it.
--- A tag serves one association.
-use Rattle.std.specs.Prelude.{◌≡◌, ◌≢◌, ◌<◌, ◌≤◌, ◌^◌, ◌⊎◌, ℕ, Bool, true, false, Option, None, Some, List, [], ◌∷◌, length}
+-- tag of the sender, what it has sent under it and what the receiver has received from it. Of the
+-- sender's associations two have one tag where both ends began at the same time (RFC 9260, section
+-- 5.2.4, action B): what is sent in the one goes on in the other.
+use Rattle.std.specs.Prelude.{◌≡◌, ◌≢◌, ◌<◌, ◌≤◌, ◌+◌, ◌^◌, ◌⊎◌, ℕ, Bool, true, false, Option, None, Some, List, [], ◌∷◌, length}
 use Rattle.dcsctp_spec_lemmas.specs.types.declared.options.Options.{Options}
-use Rattle.dcsctp_spec_lemmas.specs.spec.endpoint.Endpoint.{Endpoint}
+use Rattle.dcsctp_spec_lemmas.specs.spec.endpoint.Endpoint.{Endpoint, Core, closed, cookie_wait, cookie_echoed, open_in}
 use Rattle.dcsctp_spec_lemmas.specs.spec.Packet.{Emission}
+use Rattle.dcsctp_spec_lemmas.specs.spec.Reconfiguration.{RequestedReset}
+use Rattle.dcsctp_spec_lemmas.specs.spec.endpoint.Event.{packets_in}
+use Rattle.dcsctp_spec_lemmas.specs.spec.endpoint.Outcome.{Outcome}
+use Rattle.dcsctp_spec_lemmas.specs.spec.endpoint.Turn.{Input}
 use Rattle.dcsctp_spec_runs.specs.Past.{HasEffect}
 use Rattle.dcsctp_spec_lemmas.specs.spec.association.Effect.{AssociationIdentity, Effect, holds, identity_in}
 use Rattle.dcsctp_spec_lemmas.specs.types.queues.Messages.{MessageContent}
 use Rattle.dcsctp_spec_lemmas.specs.spec.queues.Reassembly.{ReassemblyState, new_reassembly}
+use Rattle.dcsctp_spec_lemmas.specs.spec.queues.SendQueue.{empty_queue}
 use Rattle.dcsctp_spec_lemmas.specs.spec.queues.Tracker.{TrackerState, new_tracker}
 use Rattle.dcsctp_spec_lemmas.specs.spec.queues.Transfer.{Transfer, EndpointQueues, part_overhead}
 use Rattle.dcsctp_delivery_sending.specs.Places as places
@@ -21,9 +27,9 @@ use Rattle.dcsctp_delivery_sending.specs.Marking.{WaitsNoLonger, FindsMarked, Is
 use Rattle.dcsctp_delivery_directions.specs.Directions.{Direction, Beginning, BeginsAs, Asking, nothing_asked, DirectionRun}
 use Rattle.dcsctp_delivery_directions.specs.Requests.{requests_in, requests_to}
 use Rattle.dcsctp_delivery_turns.specs.Asking.{own_of, AsksFit, SomeFit}
-use Rattle.dcsctp_delivery_turns.specs.Actions.{NoEnd, peer_tag}
+use Rattle.dcsctp_delivery_turns.specs.Actions.{NoEnd, came_by, peer_tag, queued_after, inside, MakesPackets, Collides, kept_inside}
 use Rattle.dcsctp_delivery_turns.specs.Unbegun.{IsAtZero}
-use Rattle.dcsctp_delivery_associations.specs.Reads.{Reading, with_tag}
+use Rattle.dcsctp_delivery_associations.specs.Reads.{Reading, tags_of, with_key, AreOfLink, AllOfLinks}
 
 -- ---- the two ends of a direction
 
@@ -58,11 +64,13 @@ joined sends gets =
 abbrev pub new_end : Options → ℕ → ReceivingEnd
 new_end options first = record { tracker = new_tracker options first; reassembly = new_reassembly options.max_receiver_window_buffer_size (part_overhead options); read = [] }
 
--- for each tag of the receiver both ends, and the first TSN of the sender
+-- For each tag of the sender both ends, and its first TSN; the tag of its peer, and that of the peer before.
 pub record Ends : Type 0 where
   pub sends : ℕ → SendingEnd
   pub gets : ℕ → ReceivingEnd
   pub firsts : ℕ → ℕ
+  pub latest : ℕ → ℕ
+  pub former : ℕ → Option ℕ
   -- Which streams does the user of the sender never reset?
   pub never_resets : ℕ → Bool
 
@@ -71,23 +79,53 @@ EndsRun options ends = (tag : ℕ) → DirectionRun options (ends.firsts tag) op
 
 -- ---- the sender
 
+-- our own tag, 0 if there is no peer
+abbrev pub sender_key : Core → ℕ
+sender_key closed = 0
+sender_key (cookie_wait my) = 0
+sender_key (cookie_echoed my held cookie) = my.tag
+sender_key (open_in phase my held) = my.tag
+
 -- Each message of the one end that no longer waits there is marked as spent in the other list.
 abbrev pub MarksLeft : SendingEnd → List Message → Type 0
 MarksLeft sends queued = (place : ℕ) → place < length sends.queued → WaitsNoLonger place sends.queues.queue.streams → IsMarked place queued
 
--- The sender had an association with this tag of the peer, which began with this TSN.
+-- The sender had an association with this tag of its own, which began with this TSN.
 pub record HadPeer (past : List Effect) (tag first : ℕ) : Type 0 where
   pub link : AssociationIdentity
   pub held : HasEffect (holds link) past
-  pub tag_is : link.peer.tag ≡ tag
+  pub tag_is : link.my.tag ≡ tag
   pub first_is : link.my.first_tsn ≡ first
 
--- It had one with this tag in which messages interleave, or don't.
+-- It had one with this tag, and in each such messages interleave, or don't.
 pub record HadKind (past : List Effect) (tag : ℕ) (is_interleaved : Bool) : Type 0 where
   pub link : AssociationIdentity
   pub held : HasEffect (holds link) past
-  pub tag_is : link.peer.tag ≡ tag
-  pub kind_is : link.capabilities.message_interleaving ≡ is_interleaved
+  pub tag_is : link.my.tag ≡ tag
+  pub kind_is : (each : AssociationIdentity) → HasEffect (holds each) past → each.my.tag ≡ tag → each.capabilities.message_interleaving ≡ is_interleaved
+
+-- It had one with this tag whose peer has that tag.
+pub record HadBoth (past : List Effect) (tag peer : ℕ) : Type 0 where
+  pub link : AssociationIdentity
+  pub held : HasEffect (holds link) past
+  pub tag_is : link.my.tag ≡ tag
+  pub peer_is : link.peer.tag ≡ peer
+
+-- The one association was held when the other began.
+abbrev pub IsBefore : AssociationIdentity → AssociationIdentity → List Effect → Type 0
+IsBefore old link [] = ⊥
+IsBefore old link (effect ∷ earlier) = ((holds link ≡ effect) × HasEffect (holds old) earlier) ⊎ IsBefore old link earlier
+
+-- Under this tag of the sender the association with the one peer took the place of that with the other.
+pub record WasReplaced (past : List Effect) (tag former latest : ℕ) : Type 0 where
+  pub old : AssociationIdentity
+  pub link : AssociationIdentity
+  pub before : IsBefore old link past
+  pub old_is : old.my.tag ≡ tag
+  pub link_is : link.my.tag ≡ tag
+  pub former_is : old.peer.tag ≡ former
+  pub latest_is : link.peer.tag ≡ latest
+  pub other : former ≢ latest
 
 -- The sender had no association yet, and has numbered no message. All that was queued on a stream waits, unless that is reset.
 pub record IsUnbegun (never_resets : ℕ → Bool) (queued : List Message) (e : Endpoint) : Type 0 where
@@ -103,10 +141,14 @@ NeverHeld past = (link : AssociationIdentity) → HasEffect (holds link) past �
 abbrev pub IsOnlyTag : List Effect → ℕ → Type 0
 IsOnlyTag past tag = (link : AssociationIdentity) → HasEffect (holds link) past → link.peer.tag ≡ tag
 
--- The numbers of each stream begin at 0 in the association with this tag of the peer: the sender follows the RFC (RFC 9260,
--- section 6.5), or it had no other.
+-- Each has this tag of its own.
+abbrev pub IsOnlyOwn : List Effect → ℕ → Type 0
+IsOnlyOwn past tag = (link : AssociationIdentity) → HasEffect (holds link) past → link.my.tag ≡ tag
+
+-- The numbers of each stream begin at 0 under this tag of the sender: it follows the RFC (RFC 9260, section 6.5), or it had no
+-- other.
 abbrev pub BeginsAnew : Endpoint → List Effect → ℕ → Type 0
-BeginsAnew e past tag = (e.options.follow_rfc ≡ true) ⊎ IsOnlyTag past tag
+BeginsAnew e past tag = (e.options.follow_rfc ≡ true) ⊎ IsOnlyOwn past tag
 
 -- A sender that begins so keeps these streams,
 abbrev pub KeepsThese : (ℕ → Bool) → Beginning → Type 0
@@ -125,45 +167,75 @@ pub record Awaits (sends : SendingEnd) : Type 0 where
   pub asking : sends.asking ≡ nothing_asked
   pub begun : BeginsAs sends.beginning sends.queued sends.queues.queue
 
--- Packets with data are of the association of their tag. No data is ever handled under the tag 0.
-abbrev pub IsOfEnds : Ends → Emission → Type 0
-IsOfEnds ends emission = NoData emission.packet.contents ⊎ (NoEnd emission.packet.contents × ((emission.packet.tag ≡ 0) ⊎ places.HasEntry emission (ends.sends emission.packet.tag).sent))
+-- The packet was sent in an association whose peer has its tag.
+pub record IsOfEnd (ends : Ends) (past : List Effect) (emission : Emission) : Type 0 where
+  pub tag : ℕ
+  pub both : HadBoth past tag emission.packet.tag
+  pub has : places.HasEntry emission (ends.sends tag).sent
 
-abbrev pub AreOfEnds : Ends → List Emission → Type 0
-AreOfEnds ends [] = Unit {0}
-AreOfEnds ends (emission ∷ emissions) = IsOfEnds ends emission × AreOfEnds ends emissions
+-- So is each packet with data. No data is ever handled under the tag 0.
+abbrev pub IsOfEnds : Ends → List Effect → Emission → Type 0
+IsOfEnds ends past emission = NoData emission.packet.contents ⊎ (NoEnd emission.packet.contents × ((emission.packet.tag ≡ 0) ⊎ IsOfEnd ends past emission))
 
--- The sender, whose peer has the tag `key` now, with these queues, these messages queued, this past, and these packets sent. Without an association its end is that of the tag 0.
-pub record Sender (ends : Ends) (key : ℕ) (sender_queues : EndpointQueues) (queued : List Message) (past : List Effect) (packets : List Emission) : Type 0 where
+abbrev pub AreOfEnds : Ends → List Effect → List Emission → Type 0
+AreOfEnds ends past [] = Unit {0}
+AreOfEnds ends past (emission ∷ emissions) = IsOfEnds ends past emission × AreOfEnds ends past emissions
+
+-- how many chunks of data went to the peer before, if there was one
+abbrev pub chunks_before : Option ℕ → List Emission → ℕ
+chunks_before None packets = 0
+chunks_before (Some tag) packets = chunks_to tag packets
+
+-- The sender, whose own tag is `key` now and whose peer's is `to`, with these queues, these messages queued, this past, and these
+-- packets sent. Without an association its end is that of the tag 0.
+pub record Sender (ends : Ends) (key to : ℕ) (sender_queues : EndpointQueues) (queued : List Message) (past : List Effect) (packets : List Emission) : Type 0 where
   pub queues_are : (ends.sends key).queues ≡ sender_queues
   pub long : length (ends.sends key).queued ≡ length queued
   pub marks : (tag place : ℕ) (mark : Message) → at_place place (ends.sends tag).queued ≡ Some mark → FindsMarked mark queued place
   pub short : (tag : ℕ) → length (ends.sends tag).queued ≤ length queued
-  pub few : (tag : ℕ) → chunks_in (ends.sends tag).sent ≤ chunks_to tag packets
-  pub few_requests : (tag : ℕ) → requests_in (ends.sends tag).sent ≤ requests_to tag packets
+  pub few : (tag : ℕ) → chunks_in (ends.sends tag).sent ≤ chunks_before (ends.former tag) packets + chunks_to (ends.latest tag) packets
+  pub few_requests : (tag : ℕ) → requests_in (ends.sends tag).sent ≤ requests_to (ends.latest tag) packets
   pub last : (tag : ℕ) → tag ≢ key → MarksLeft (ends.sends tag) (ends.sends key).queued
   pub pairs : (one other : ℕ) → one ≢ other → MarksLeft (ends.sends one) (ends.sends other).queued ⊎ MarksLeft (ends.sends other) (ends.sends one).queued
   pub current : key ≢ 0 → HadPeer past key (ends.firsts key)
   pub kind : key ≢ 0 → HadKind past key sender_queues.queue.is_interleaved
   pub begun : (tag : ℕ) → tag ≢ 0 → Awaits (ends.sends tag) ⊎ HadPeer past tag (ends.firsts tag)
   pub kinds : (tag : ℕ) → tag ≢ 0 → Awaits (ends.sends tag) ⊎ HadKind past tag (ends.sends tag).queues.queue.is_interleaved
-  pub all_sent : AreOfEnds ends packets
+  pub all_sent : AreOfEnds ends past packets
+  -- Data goes to the peer of each tag, and went to the one before.
+  pub to_is : ends.latest key ≡ to
+  pub went : (to ≡ 0) ⊎ HadBoth past key to
+  pub replaced : (tag former : ℕ) → ends.former tag ≡ Some former → WasReplaced past tag former (ends.latest tag)
+  pub known : (link : AssociationIdentity) → HasEffect (holds link) past → (link.my.tag ≢ 0) × ((link.peer.tag ≡ ends.latest link.my.tag) ⊎ (ends.former link.my.tag ≡ Some link.peer.tag))
 
--- What must hold of an association that begins at the sender: its peer's tag is a new one, and what the receiver had under one of
--- its tags is the matching one.
+-- What must hold of an association that begins at the sender: its own tag is a new one, and the receiver's of this tag have its
+-- pair.
 pub record NewPeer (past their_past : List Effect) (link : AssociationIdentity) : Type 0 where
-  pub some : link.peer.tag ≢ 0
+  pub some : link.my.tag ≢ 0
+  pub some_peer : link.peer.tag ≢ 0
   pub small : link.my.first_tsn < 2 ^ 32
-  pub other : (old : AssociationIdentity) → HasEffect (holds old) past → old.peer.tag ≢ link.peer.tag
-  pub match : (theirs : AssociationIdentity) → HasEffect (holds theirs) their_past → (theirs.my.tag ≡ link.peer.tag) ⊎ (theirs.peer.tag ≡ link.my.tag) → (theirs.peer ≡ link.my) × (theirs.my.tag ≡ link.peer.tag)
+  pub other : (old : AssociationIdentity) → HasEffect (holds old) past → old.my.tag ≢ link.my.tag
+  pub match : (theirs : AssociationIdentity) → HasEffect (holds theirs) their_past → theirs.peer.tag ≡ link.my.tag → theirs.peer ≡ link.my
+
+-- Or both ends began at the same time, and it goes on with what was sent in the only one of this own tag, which is there: with the
+-- same own pair, another peer's tag, and messages that interleave as they did.
+pub record GoesOnWith (past : List Effect) (e : Endpoint) (input : Input) (o : Outcome) : Type 0 where
+  pub collision : Collides (came_by input) e o
+  pub adds : (queued : List Message) → queued_after e input queued ≡ queued
+  pub again : RequestedReset
+  pub makes : MakesPackets (came_by input) collision.opened.link.peer.tag (kept_inside collision again) (packets_in o.events) (inside o.after)
+  pub my : collision.old.my ≡ collision.opened.link.my
+  pub other : collision.old.peer.tag ≢ collision.opened.link.peer.tag
+  pub alike : collision.old.capabilities.message_interleaving ≡ collision.opened.link.capabilities.message_interleaving
+  pub only : (each : AssociationIdentity) → HasEffect (holds each) past → each.my.tag ≡ collision.opened.link.my.tag → each ≡ collision.old
 
 -- ---- the receiver
 
--- The receiver had an association with this own tag, whose peer began with this TSN.
+-- The receiver had an association whose peer has this tag, and began with this TSN.
 pub record HadTag (past : List Effect) (tag first : ℕ) : Type 0 where
   pub link : AssociationIdentity
   pub held : HasEffect (holds link) past
-  pub tag_is : link.my.tag ≡ tag
+  pub tag_is : link.peer.tag ≡ tag
   pub first_is : link.peer.first_tsn ≡ first
   pub some : tag ≢ 0
 
@@ -171,12 +243,14 @@ pub record HadTag (past : List Effect) (tag first : ℕ) : Type 0 where
 pub record IsCurrentEnd (ends : Ends) (e : Endpoint) (past : List Effect) (transfer : Transfer) : Type 0 where
   pub link : AssociationIdentity
   pub linked : identity_in e.core ≡ Some link
-  pub had : HadTag past link.my.tag (ends.firsts link.my.tag)
-  pub tracker : (ends.gets link.my.tag).tracker ≡ transfer.tracker
-  pub reassembly : (ends.gets link.my.tag).reassembly ≡ transfer.reassembly
+  pub held : HasEffect (holds link) past
+  pub own_some : link.my.tag ≢ 0
+  pub had : HadTag past link.peer.tag (ends.firsts link.peer.tag)
+  pub tracker : (ends.gets link.peer.tag).tracker ≡ transfer.tracker
+  pub reassembly : (ends.gets link.peer.tag).reassembly ≡ transfer.reassembly
 
--- What can be taken without an association was received in the last one, which had this tag, and in an association nothing is
--- left of the last one.
+-- What can be taken without an association was received in the last one, whose peer had this tag, and in an association nothing
+-- is left of the last one.
 abbrev pub LeavesReady : (ℕ → ReceivingEnd) → ℕ → List MessageContent → Option Transfer → Type 0
 LeavesReady gets last left None = (left ≡ []) ⊎ ((gets last).reassembly.incoming.ready ≡ left)
 LeavesReady gets last left (Some transfer) = left ≡ []
@@ -184,29 +258,58 @@ LeavesReady gets last left (Some transfer) = left ≡ []
 pub record Receiver (options : Options) (ends : Ends) (e : Endpoint) (past : List Effect) (reading : Reading) : Type 0 where
   pub fits : SomeFit (own_of e)
   pub current : (transfer : Transfer) → e.queues.transfer ≡ Some transfer → IsCurrentEnd ends e past transfer
-  pub left : LeavesReady ends.gets reading.last e.left e.queues.transfer
-  pub last : (link : AssociationIdentity) → identity_in e.core ≡ Some link → reading.last ≡ link.my.tag
-  pub were_read : (tag : ℕ) → with_tag tag reading.reads ≡ (ends.gets tag).read
+  pub left : LeavesReady ends.gets reading.last.peer e.left e.queues.transfer
+  pub last : (link : AssociationIdentity) → identity_in e.core ≡ Some link → reading.last ≡ tags_of link
+  pub were_read : (tag : ℕ) → with_key tag reading.reads ≡ (ends.gets tag).read
   pub begun : (tag : ℕ) → (ends.gets tag ≡ new_end options (ends.firsts tag)) ⊎ HadTag past tag (ends.firsts tag)
+  pub last_of : AreOfLink past reading.last
+  pub reads_of : AllOfLinks past reading.reads
 
--- What must hold of an association that begins at the receiver: both tags are new ones, and what the sender had under one of them
--- is the matching one.
+-- What must hold of an association that begins at the receiver: its peer's tag is a new one, and the sender's of this tag have the
+-- peer's pair.
 pub record NewTag (past their_past : List Effect) (link : AssociationIdentity) : Type 0 where
-  pub some : link.my.tag ≢ 0
+  pub some : link.peer.tag ≢ 0
+  pub own_some : link.my.tag ≢ 0
   pub small : link.peer.first_tsn < 2 ^ 32
   pub own_small : link.my.first_tsn < 2 ^ 32
-  pub other : (old : AssociationIdentity) → HasEffect (holds old) past → (old.my.tag ≢ link.my.tag) × (old.peer.tag ≢ link.peer.tag)
-  pub match : (theirs : AssociationIdentity) → HasEffect (holds theirs) their_past → (theirs.peer.tag ≡ link.my.tag) ⊎ (theirs.my.tag ≡ link.peer.tag) → (theirs.my ≡ link.peer) × (theirs.peer.tag ≡ link.my.tag)
+  pub other : (old : AssociationIdentity) → HasEffect (holds old) past → old.peer.tag ≢ link.peer.tag
+  pub match : (theirs : AssociationIdentity) → HasEffect (holds theirs) their_past → theirs.my.tag ≡ link.peer.tag → theirs.my ≡ link.peer
 
 -- ---- both
+
+-- The receiver had an association whose peer has this tag, and the sender the one that crosses it.
+pub record IsMet (past their_past : List Effect) (tag : ℕ) : Type 0 where
+  pub link : AssociationIdentity
+  pub held : HasEffect (holds link) their_past
+  pub tag_is : link.peer.tag ≡ tag
+  pub both : HadBoth past tag link.my.tag
+
+-- a sender that hasn't begun
+abbrev pub awaiting : Options → SendingEnd
+awaiting options =
+    record {
+      queued = [];
+      queues = record { queue = empty_queue options; transfer = None };
+      acknowledged = 0;
+      sent = [];
+      asking = nothing_asked;
+      beginning = record { from_zero = true; keeps = λ id. false };
+    }
+
+-- What was received from a tag whose associations don't cross needs no sender.
+abbrev pub MetOrAlone : Options → Ends → List Effect → List Effect → ℕ → Type 0
+MetOrAlone options ends past their_past tag =
+    IsMet past their_past tag ⊎ DirectionRun options (ends.firsts tag) options.max_receiver_window_buffer_size (joined (awaiting options) (ends.gets tag))
 
 pub record Between (options : Options) (ends : Ends) (e : Endpoint) (queued : List Message) (past : List Effect) (packets : List Emission) (other : Endpoint) (their_past : List Effect) (reading : Reading) : Type 0 where
   pub runs : EndsRun options ends
   pub small : (tag : ℕ) → ends.firsts tag < 2 ^ 32
-  pub sender : Sender ends (peer_tag e.core) e.queues queued past packets
-  pub asks : AsksFit (ends.firsts (peer_tag e.core)) (own_of e) (ends.sends (peer_tag e.core)).asking
+  pub sender : Sender ends (sender_key e.core) (peer_tag e.core) e.queues queued past packets
+  pub mine : (link : AssociationIdentity) → identity_in e.core ≡ Some link → HasEffect (holds link) past
+  pub asks : AsksFit (ends.firsts (sender_key e.core)) (own_of e) (ends.sends (sender_key e.core)).asking
   pub numbered : (tag : ℕ) → tag ≢ 0 → BeginsAnew e past tag → (ends.sends tag).beginning.from_zero ≡ true
-  pub kept : (tag : ℕ) → tag ≢ 0 → IsOnlyTag past tag → KeepsThese ends.never_resets (ends.sends tag).beginning
+  pub kept : (tag : ℕ) → tag ≢ 0 → IsOnlyOwn past tag → KeepsThese ends.never_resets (ends.sends tag).beginning
   pub dropping : (tag : ℕ) → KeepsOnlyThese ends.never_resets (ends.sends tag).beginning
-  pub unbegun : NeverHeld past → IsUnbegun ends.never_resets (ends.sends (peer_tag e.core)).queued e
+  pub unbegun : NeverHeld past → IsUnbegun ends.never_resets (ends.sends (sender_key e.core)).queued e
   pub receiver : Receiver options ends other their_past reading
+  pub alone : (tag : ℕ) → MetOrAlone options ends past their_past tag

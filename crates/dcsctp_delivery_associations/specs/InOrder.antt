@@ -1,6 +1,6 @@
 -- What a user reads in one association comes in the order in which it was queued, stream by stream,
 -- and without gaps where nothing may be left out (RFC 9260, section 6.6).
-use Rattle.std.specs.Prelude.{◌≡◌, ◌⊎◌, ◌<◌, ◌^◌, ℕ, true, List, length}
+use Rattle.std.specs.Prelude.{◌≡◌, ◌⊎◌, ◌<◌, ◌+◌, ◌^◌, ℕ, true, List, length}
 use Rattle.dcsctp_spec_lemmas.specs.types.declared.options.Options.{Options}
 use Rattle.dcsctp_spec_lemmas.specs.spec.endpoint.Endpoint.{Endpoint}
 use Rattle.dcsctp_spec_lemmas.specs.spec.Packet.{Emission}
@@ -13,40 +13,44 @@ use Rattle.dcsctp_delivery_directions.specs.Requests.{requests_to}
 use Rattle.dcsctp_delivery_order.specs.PlainDirections.{FewOnEachStream}
 use Rattle.dcsctp_delivery_order.specs.Delivered.{DeliveredInOrder, DeliveredWithoutGaps}
 use Rattle.dcsctp_delivery_order.specs.Streams.{DeliveredByStream}
-use Rattle.dcsctp_delivery_associations.specs.Ends.{Ends, IsOnlyTag, BeginsAnew, Between}
-use Rattle.dcsctp_delivery_associations.specs.Reads.{Reading, with_tag}
+use Rattle.dcsctp_delivery_associations.specs.Ends.{Ends, IsOnlyOwn, BeginsAnew, chunks_before, Between}
+use Rattle.dcsctp_delivery_associations.specs.Reads.{Reading, with_key}
 
 -- In the association of the sender whose peer has this tag messages interleave (RFC 8260).
 abbrev pub Interleaves : List Effect → ℕ → Type 0
 Interleaves past tag = (link : AssociationIdentity) → HasEffect (holds link) past → link.peer.tag ≡ tag → link.capabilities.message_interleaving ≡ true
 
+-- So they do in one with this tag of the sender, and so in each such.
+abbrev pub InterleavesUnder : List Effect → ℕ → Type 0
+InterleavesUnder past tag = (link : AssociationIdentity) × HasEffect (holds link) past × (link.my.tag ≡ tag) × (link.capabilities.message_interleaving ≡ true)
+
 -- Where messages interleave this holds if the numbers of each stream begin at 0, across resets of streams.
 abbrev pub EndsDeliverInOrder : Type 0
 EndsDeliverInOrder =
     (options : Options) (ends : Ends) (e : Endpoint) (queued : List Message) (past : List Effect) (packets : List Emission) (other : Endpoint) (their_past : List Effect) (reading : Reading)
-    → Between options ends e queued past packets other their_past reading → length queued < 2 ^ 64 → ((tag : ℕ) → chunks_to tag packets < 2 ^ 30)
-    → (tag : ℕ) → BeginsAnew e past tag → Interleaves past tag → DeliveredInOrder queued (with_tag tag reading.reads)
+    → Between options ends e queued past packets other their_past reading → length queued < 2 ^ 64 → ((tag : ℕ) → chunks_before (ends.former tag) packets + chunks_to (ends.latest tag) packets < 2 ^ 30)
+    → (tag : ℕ) → BeginsAnew e past tag → InterleavesUnder past tag → DeliveredInOrder queued (with_key tag reading.reads)
 
 -- Also where they don't it holds, if besides no message may be abandoned, or few ordered ones were queued on each stream; and no
 -- request to reset streams was sent there.
 abbrev pub EndsDeliverDataInOrder : Type 0
 EndsDeliverDataInOrder =
     (options : Options) (ends : Ends) (e : Endpoint) (queued : List Message) (past : List Effect) (packets : List Emission) (other : Endpoint) (their_past : List Effect) (reading : Reading)
-    → Between options ends e queued past packets other their_past reading → length queued < 2 ^ 64 → ((tag : ℕ) → chunks_to tag packets < 2 ^ 30) → options.max_receiver_window_buffer_size < 2 ^ 32
-    → AreUnlimited queued ⊎ FewOnEachStream queued → (tag : ℕ) → BeginsAnew e past tag → requests_to tag packets ≡ 0 → DeliveredInOrder queued (with_tag tag reading.reads)
+    → Between options ends e queued past packets other their_past reading → length queued < 2 ^ 64 → ((tag : ℕ) → chunks_before (ends.former tag) packets + chunks_to (ends.latest tag) packets < 2 ^ 30) → options.max_receiver_window_buffer_size < 2 ^ 32
+    → AreUnlimited queued ⊎ FewOnEachStream queued → (tag : ℕ) → BeginsAnew e past tag → requests_to (ends.latest tag) packets ≡ 0 → DeliveredInOrder queued (with_key tag reading.reads)
 
 -- Where messages interleave, and the association is the only one, what was read of a stream's ordered messages is a prefix of what
 -- was queued, if the stream is never reset, and no message on it may be abandoned.
 abbrev pub EndsDeliverByStream : Type 0
 EndsDeliverByStream =
     (options : Options) (ends : Ends) (e : Endpoint) (queued : List Message) (past : List Effect) (packets : List Emission) (other : Endpoint) (their_past : List Effect) (reading : Reading)
-    → Between options ends e queued past packets other their_past reading → length queued < 2 ^ 64 → ((tag : ℕ) → chunks_to tag packets < 2 ^ 30)
-    → (tag : ℕ) → IsOnlyTag past tag → Interleaves past tag → DeliveredByStream ends.never_resets queued (with_tag tag reading.reads)
+    → Between options ends e queued past packets other their_past reading → length queued < 2 ^ 64 → ((tag : ℕ) → chunks_before (ends.former tag) packets + chunks_to (ends.latest tag) packets < 2 ^ 30)
+    → (tag : ℕ) → IsOnlyOwn past tag → InterleavesUnder past tag → DeliveredByStream ends.never_resets queued (with_key tag reading.reads)
 
 -- Also where they don't it is so of each stream, if no message may be abandoned, no stream is reset, and the association is the
 -- only one.
 abbrev pub EndsDeliverWithoutGaps : Type 0
 EndsDeliverWithoutGaps =
     (options : Options) (ends : Ends) (e : Endpoint) (queued : List Message) (past : List Effect) (packets : List Emission) (other : Endpoint) (their_past : List Effect) (reading : Reading)
-    → Between options ends e queued past packets other their_past reading → length queued < 2 ^ 64 → ((tag : ℕ) → chunks_to tag packets < 2 ^ 30) → options.max_receiver_window_buffer_size < 2 ^ 32
-    → AreUnlimited queued → ((id : ℕ) → ends.never_resets id ≡ true) → (tag : ℕ) → IsOnlyTag past tag → DeliveredWithoutGaps queued (with_tag tag reading.reads)
+    → Between options ends e queued past packets other their_past reading → length queued < 2 ^ 64 → ((tag : ℕ) → chunks_before (ends.former tag) packets + chunks_to (ends.latest tag) packets < 2 ^ 30) → options.max_receiver_window_buffer_size < 2 ^ 32
+    → AreUnlimited queued → ((id : ℕ) → ends.never_resets id ≡ true) → (tag : ℕ) → IsOnlyOwn past tag → DeliveredWithoutGaps queued (with_key tag reading.reads)

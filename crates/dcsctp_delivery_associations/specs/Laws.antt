@@ -1,6 +1,6 @@
 -- What is known of all associations of two sockets, in the direction from one to the other, turn by
 -- turn, with interleaving or without.
-use Rattle.std.specs.Prelude.{◌≡◌, ◌≢◌, ◌⊎◌, ◌<◌, ◌-◌, ◌^◌, Bool, true, false, Some, List, [], ◌++◌, length, ℕ}
+use Rattle.std.specs.Prelude.{◌≡◌, ◌≢◌, ◌⊎◌, ◌<◌, ◌+◌, ◌-◌, ◌^◌, Bool, true, false, Some, List, [], ◌++◌, length, ℕ}
 use Rattle.dcsctp_spec_lemmas.specs.types.declared.options.Options.{Options}
 use Rattle.dcsctp_spec_lemmas.specs.types.Settings.{SameOptions}
 use Rattle.dcsctp_spec_lemmas.specs.spec.endpoint.Endpoint.{Endpoint, fresh_endpoint}
@@ -23,7 +23,7 @@ use Rattle.dcsctp_spec_lemmas.specs.spec.association.Effect.{holds, completes, p
 use Rattle.dcsctp_delivery_directions.specs.Requests.{requests_to}
 use Rattle.dcsctp_delivery_associations.specs.Answered.{request_number_at, AreAnswered}
 use Rattle.dcsctp_delivery_turns.specs.Sides.{WasSent}
-use Rattle.dcsctp_delivery_associations.specs.Ends.{Ends, NewPeer, NewTag, Between}
+use Rattle.dcsctp_delivery_associations.specs.Ends.{Ends, NewPeer, GoesOnWith, NewTag, chunks_before, HadBoth, Between}
 use Rattle.dcsctp_delivery_associations.specs.Reads.{Reading, nothing_read, reading_after, messages_of}
 
 -- A request of ours that ends as performed was performed by the peer, or it is the 2^32nd of its association.
@@ -49,33 +49,33 @@ pub record AreEnds (never_resets : ℕ → Bool) (options : Options) (e : Endpoi
 abbrev pub EndsBegin : Type 0
 EndsBegin = (never_resets : ℕ → Bool) (mine options : Options) → AreEnds never_resets options (fresh_endpoint mine) [] [] [] (fresh_endpoint options) [] nothing_read
 
--- Each association that is recorded has another own tag than those before.
-abbrev pub NewOwnTags : List Effect → Outcome → Type 0
-NewOwnTags past o = (link old : AssociationIdentity) → HasEffect (holds link) o.effects → HasEffect (holds old) past → old.my.tag ≢ link.my.tag
+-- Each association that is recorded has another peer's tag than those before.
+abbrev pub NewPeerTags : List Effect → Outcome → Type 0
+NewPeerTags past o = (link old : AssociationIdentity) → HasEffect (holds link) o.effects → HasEffect (holds old) past → old.peer.tag ≢ link.peer.tag
 
--- A turn of the sender leaves them, with `follow_rfc` as it is, if an association that begins is of a new tag and of the matching one at the receiver, few
--- requests to reset streams went to each tag, with interleaving none fails, and one that ends as performed was performed by the
+-- A turn of the sender leaves them, with `follow_rfc` as it is, if an association that begins is of a new tag, or goes on with the one
+-- that is there, few requests to reset streams went to each tag, with interleaving none fails, and one that ends as performed was performed by the
 -- receiver.
 abbrev pub SendersTurn : Type 0
 SendersTurn =
     (options : Options) (ends : Ends) (e : Endpoint) (queued : List Message) (past : List Effect) (packets : List Emission) (other : Endpoint) (their_past : List Effect) (reading : Reading) (input : Input) (o : Outcome)
-    → Between options ends e queued past packets other their_past reading → AreAnswered ends e past other their_past → ((begun : Begun e o) → IsOpening (came_by input) → identity_in o.after.core ≡ Some (identity_of begun.my begun.held) → NewPeer past their_past (identity_of begun.my begun.held)) → NewOwnTags past o → length (queued_after e input queued) < 2 ^ 64 → AsksLittle (packets ++ packets_in o.events)
+    → Between options ends e queued past packets other their_past reading → AreAnswered ends e past other their_past → ((begun : Begun e o) → IsOpening (came_by input) → identity_in o.after.core ≡ Some (identity_of begun.my begun.held) → NewPeer past their_past (identity_of begun.my begun.held) ⊎ GoesOnWith past e input o) → length (queued_after e input queued) < 2 ^ 64 → AsksLittle (packets ++ packets_in o.events)
     → RefusesNone e o → ResetsAs ends.never_resets input → CompletesPerformed their_past o → o.after.options.follow_rfc ≡ e.options.follow_rfc → IsCall input → Turn e input o → AreEnds ends.never_resets options o.after (queued_after e input queued) (after_effects o.effects past) (packets ++ packets_in o.events) other their_past reading
 
--- So does one of the receiver, if what is handled in its association was sent in it, each association that is recorded has a new
--- tag, and few requests went to each tag.
+-- So does one of the receiver, if what is handled in its association was sent in it, the peer of each association that is recorded
+-- has a new tag, and few requests went to each tag.
 abbrev pub ReceiversTurn : Type 0
 ReceiversTurn =
     (options : Options) (ends : Ends) (e : Endpoint) (queued : List Message) (past : List Effect) (packets : List Emission) (other : Endpoint) (their_past : List Effect) (reading : Reading) (input : Input) (o : Outcome)
     → Between options ends e queued past packets other their_past reading → AreAnswered ends e past other their_past → length queued < 2 ^ 64 → AsksLittle packets → SameOptions options other.options → KnowsPeerIn their_past other.core
-    → NewOwnTags their_past o → ((begun : Begun other o) → IsOpening (came_by input) → identity_in o.after.core ≡ Some (identity_of begun.my begun.held) → NewTag their_past past (identity_of begun.my begun.held))
-    → ((transfer : Transfer) (link : AssociationIdentity) → other.queues.transfer ≡ Some transfer → identity_in other.core ≡ Some link → WasSent (ends.sends link.my.tag).sent (came_by input)) → IsCall input → Turn other input o
+    → NewPeerTags their_past o → ((begun : Begun other o) → IsOpening (came_by input) → identity_in o.after.core ≡ Some (identity_of begun.my begun.held) → NewTag their_past past (identity_of begun.my begun.held))
+    → ((transfer : Transfer) (link : AssociationIdentity) → other.queues.transfer ≡ Some transfer → identity_in other.core ≡ Some link → WasSent (ends.sends link.peer.tag).sent (came_by input) × (HadBoth past link.peer.tag link.my.tag ⊎ WasSent [] (came_by input))) → IsCall input → Turn other input o
     → AreEnds ends.never_resets options e queued past packets o.after (after_effects o.effects their_past) (reading_after other input o.after reading)
 
 -- Each message that was read, in any association or after it, was queued, and none twice, if fewer than 2^30 chunks of data
--- went to each tag: none assigned 2^31 TSNs.
+-- went to the peers of each tag: none assigned 2^31 TSNs.
 abbrev pub EndsDeliver : Type 0
 EndsDeliver =
     (options : Options) (ends : Ends) (e : Endpoint) (queued : List Message) (past : List Effect) (packets : List Emission) (other : Endpoint) (their_past : List Effect) (reading : Reading)
-    → Between options ends e queued past packets other their_past reading → length queued < 2 ^ 64 → ((tag : ℕ) → chunks_to tag packets < 2 ^ 30)
+    → Between options ends e queued past packets other their_past reading → length queued < 2 ^ 64 → ((tag : ℕ) → chunks_before (ends.former tag) packets + chunks_to (ends.latest tag) packets < 2 ^ 30)
     → Delivered queued (messages_of reading.reads)

@@ -17,3 +17,4 @@ pub mod Marking
 pub mod ChunkCounts
 pub mod Requests
 pub mod RequestCounts
+pub mod Awaited

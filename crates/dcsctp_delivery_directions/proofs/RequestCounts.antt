@@ -1,5 +1,5 @@
 -- No fewer requests to reset streams were sent than were begun.
-use Rattle.std.proofs.Common.{◌≡◌, ℕ, ◌≤◌, ◌+◌, List, [], ◌∷◌, ◌++◌, length, map, refl, ◌∙◌, ap, arith}
+use Rattle.std.proofs.Common.{◌≡◌, ℕ, ◌≤◌, ◌+◌, List, [], ◌∷◌, ◌++◌, length, map, refl, sym, ◌∙◌, ap, arith, subst, inl, inr}
 use Rattle.std.specs.Prelude.{Bool, Option, None, Some}
 use Rattle.dcsctp_spec.specs.types.declared.options.Options.{Options}
 use Rattle.dcsctp_spec.specs.endpoint.Endpoint.{Endpoint}
@@ -10,9 +10,9 @@ use Rattle.dcsctp_spec.specs.association.Choices.{plain_contents}
 use Rattle.dcsctp_spec.specs.endpoint.BegunResets.{BegunReset, request_contents}
 use Rattle.dcsctp_spec.specs.endpoint.FlushOutcomes.{FillingEvent, filling_event, Answer, answer_contents, filled, goes_out, asked, next_draft, flush_of}
 use Rattle.dcsctp_delivery_sending.specs.Flushes.{NoRequests, NoContent, NoData, reset_begun_by}
-use Rattle.dcsctp_delivery_directions.specs.Directions.{Asking, asking_with, Direction, DirectionStep, queues, sets, prepares, commits, rolls_back, resends, resends_nothing, speaks, asks_again, renews, turns_aside, tracks, defers, flushes, acknowledges, loses, receives, forwards, receives_interleaved, forwards_interleaved, performs, performs_earlier, resets, takes, DirectionRun, begins, goes_on, starts}
-use Rattle.dcsctp_delivery_directions.specs.Requests.{one_if_asked, is_request, requests_among, requests_in, requests_to}
-use Rattle.dcsctp_delivery_directions.proofs.Requests.{packets_apart, told_then, told_alone}
+use Rattle.dcsctp_delivery_directions.specs.Directions.{Asking, nothing_asked, asking_with, all_ended, Direction, DirectionStep, queues, sets, prepares, commits, rolls_back, resends, resends_nothing, speaks, asks_again, renews, turns_aside, tracks, defers, flushes, acknowledges, loses, receives, forwards, receives_interleaved, forwards_interleaved, performs, performs_earlier, resets, takes, DirectionRun, begins, goes_on, starts}
+use Rattle.dcsctp_delivery_directions.specs.Requests.{IsOfBegun, one_if_asked, is_request, requests_among, requests_in, requests_to}
+use Rattle.dcsctp_delivery_directions.proofs.Requests.{packets_apart, told_then, told_alone, AreOfBegun, SentOfBegun, all_of_begun}
 
 -- ---- lists
 
@@ -140,3 +140,68 @@ requests_are_sent options first size _ (begins direction b) =
     (let asked : length direction.asking.requests ≡ 0 = ap (λ (a : Asking). length a.requests) b.asking in omega (arith, asked))
 requests_are_sent options first size _ (goes_on old direction run step) = stepped old direction (requests_are_sent options first size old run) step
 requests_are_sent options first size _ (starts old queued below beginning run awaited fit waits none numbered) = requests_are_sent options first size old run
+
+-- ---- none was begun
+
+none_begun : (content : Content) → IsOfBegun [] content → is_request content ≡ 0
+none_begun (re_config parameters) (inl nothing) = none_asked parameters nothing
+none_begun (re_config parameters) (inr (begun, has, same)) = absurd has
+none_begun (plain chunk) is = refl
+none_begun (init a) is = refl
+none_begun (init_ack a b) is = refl
+none_begun (cookie_echo a) is = refl
+none_begun cookie_ack is = refl
+none_begun (abort a b) is = refl
+none_begun (shutdown a) is = refl
+none_begun shutdown_ack is = refl
+none_begun (shutdown_complete a) is = refl
+
+none_among : (contents : List Content) → AreOfBegun [] contents → requests_among contents ≡ 0
+none_among [] are = refl
+none_among (content ∷ contents) are = (let one = none_begun content are.0 in let rest = none_among contents are.1 in omega (arith, one, rest))
+
+none_in : (packets : List Emission) → SentOfBegun [] packets → requests_in packets ≡ 0
+none_in [] are = refl
+none_in (packet ∷ packets) are = (let one = none_among packet.packet.contents are.0 in let rest = none_in packets are.1 in omega (arith, one, rest))
+
+-- Where no request was begun none was sent.
+pub unasked_sends_none : (options : Options) (first size : ℕ) (direction : Direction) → DirectionRun options first size direction → direction.asking.requests ≡ [] → requests_in direction.sent ≡ 0
+unasked_sends_none options first size direction run none =
+    none_in direction.sent (subst (λ (l : List BegunReset). SentOfBegun l direction.sent) none (all_of_begun options first size direction run))
+
+-- ---- where no request was begun
+
+with_unasked : (begun : Option BegunReset) (asking : Asking) → (asking.requests ≡ [] → asking ≡ nothing_asked) → (asking_with begun asking).requests ≡ [] → asking_with begun asking ≡ nothing_asked
+with_unasked None asking before none = before none
+with_unasked (Some begun) asking before none = absurd (cc)
+
+step_unasked : (old new : Direction) → (old.asking.requests ≡ [] → old.asking ≡ nothing_asked) → DirectionStep old new → new.asking.requests ≡ [] → new.asking ≡ nothing_asked
+step_unasked old _ before (queues now sending fit some) none = before none
+step_unasked old _ before (sets setting fit) none = before none
+step_unasked old _ before (prepares ids small dropped) none = before none
+step_unasked old _ before (commits so) none = ap all_ended (before none)
+step_unasked old _ before (rolls_back kind) none = ap all_ended (before none)
+step_unasked old _ before (flushes e draft answers same no_data allowed) none = with_unasked (reset_begun_by answers) old.asking before none
+step_unasked old _ before (resends now room transfer left tsns chunks emission there does are contents) none = before none
+step_unasked old _ before (resends_nothing now room transfer left tsns there does) none = before none
+step_unasked old _ before (speaks emission no_data) none = before none
+step_unasked old _ before (asks_again emission begun was contents) none = before none
+step_unasked old _ before (renews emission newest earlier number is out contents) none = absurd (cc)
+step_unasked old _ before (turns_aside transfer new there same) none = before none
+step_unasked old _ before (acknowledges now sack transfer new there valid does) none = before none
+step_unasked old _ before (loses now transfer there) none = before none
+step_unasked old _ before (receives emission chunk theirs new was holds some tracker reassembly does) none = before none
+step_unasked old _ before (forwards emission tsn streams theirs new was holds tracker reassembly does) none = before none
+step_unasked old _ before (receives_interleaved emission chunk theirs new was holds some tracker reassembly does) none = before none
+step_unasked old _ before (forwards_interleaved emission tsn streams theirs new was holds tracker reassembly does) none = before none
+step_unasked old _ before (tracks new cumulative ranges) none = before none
+step_unasked old _ before (defers last_tsn streams some) none = before none
+step_unasked old _ before (performs newest earlier new is once reached own ends) none = (let clash : ◌≡◌ {A = List BegunReset} [] (newest ∷ earlier) = sym none ∙ is in absurd (cc))
+step_unasked old _ before (performs_earlier newest earlier new is once reached own ends) none = before none
+step_unasked old _ before (resets streams new kind some ends) none = before none
+step_unasked old _ before (takes message messages ready) none = before none
+
+pub nothing_was_asked : (options : Options) (first size : ℕ) (direction : Direction) → DirectionRun options first size direction → direction.asking.requests ≡ [] → direction.asking ≡ nothing_asked
+nothing_was_asked options first size direction (begins _ start) none = start.asking
+nothing_was_asked options first size _ (goes_on old new run step) none = step_unasked old new (nothing_was_asked options first size old run) step none
+nothing_was_asked options first size _ (starts old queued below beginning run waits fit shown flight begins_so) none = waits.asking

@@ -211,7 +211,7 @@ module _ (kinds : Capabilities) where
       let made : MadeIs (inside o.after) (packets_in o.events) =
       makes_is came opened.link.peer.tag (λ queued. queued) (λ read. read) (kept_inside collision again) (inside o.after) (packets_in o.events)
       (record {
-        left = (let same = collision.kept_is.4 in subst (λ (t : Transfer). TransferIs kinds (Some t)) (sym same) left);
+        left = (let same = collision.kept_is.2 in subst (λ (t : Transfer). TransferIs kinds (Some t)) (sym same) left);
         asks = record { first = opened.link.my.first_tsn; asking = nothing_asked; fits = nothing_fits opened.link.my.first_tsn again start.1 };
       }) makes in
       record {

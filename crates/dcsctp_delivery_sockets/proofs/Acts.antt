@@ -1,5 +1,5 @@
 -- What two sockets do one after another.
-use Rattle.std.proofs.Common.{◌≡◌, ℕ, ◌<◌, ◌≤◌, ◌^◌, List, [], ◌∷◌, ◌++◌, length, refl, sym, ◌∙◌, ap, arith, subst, append_assoc, Bool}
+use Rattle.std.proofs.Common.{◌≡◌, ℕ, ◌<◌, ◌≤◌, ◌^◌, List, [], ◌∷◌, ◌++◌, length, refl, sym, ◌∙◌, ap, arith, subst, append_assoc, Bool, inr}
 use Rattle.std.specs.List.{AllByRecursion}
 use Rattle.std.proofs.lemmas.List.{append-nil, length-append}
 use Rattle.dcsctp_spec_lemmas.specs.wire.Content.{PacketContent}
@@ -62,8 +62,8 @@ module _ (never_resets : ℕ → Bool) (options : Options) (d : Endpoint) (their
       let first : AreEnds never_resets options t.outcome.after (queued_after e t.input queued) (after_effects t.outcome.effects past) (packets ++ packets_in t.outcome.events) d their_past reading =
       (subst (λ (n : ℕ → Bool). AreEnds n options t.outcome.after (queued_after e t.input queued) (after_effects t.outcome.effects past) (packets ++ packets_in t.outcome.events) d their_past reading) h.is
       (sender_turns options h.ends e queued past packets d their_past reading h.between t.input t.outcome new.1 h.answered
-      (asks_little (packets ++ packets_in t.outcome.events) (packets_in (events_of turns)) all) new.5 (omega (arith, few, grows)) new.2 (λ id never. resets.0 id (sym (ap (λ (n : ℕ → Bool). n id) h.is) ∙ never)) new.3 new.4 new.0 taken.0)) in
-      let rest = senders_act turns t.outcome.after (queued_after e t.input queued) (after_effects t.outcome.effects past) (packets ++ packets_in t.outcome.events) first taken.1 resets.1 new.6 few all in
+      (asks_little (packets ++ packets_in t.outcome.events) (packets_in (events_of turns)) all) (omega (arith, few, grows)) new.2 (λ id never. resets.0 id (sym (ap (λ (n : ℕ → Bool). n id) h.is) ∙ never)) new.3 new.4 new.0 taken.0)) in
+      let rest = senders_act turns t.outcome.after (queued_after e t.input queued) (after_effects t.outcome.effects past) (packets ++ packets_in t.outcome.events) first taken.1 resets.1 new.5 few all in
       subst (λ (l : List Effect). AreEnds never_resets options (after_all t.outcome.after turns) (queued_through t.outcome.after turns (queued_after e t.input queued)) l (packets ++ packets_in (t.outcome.events ++ events_of turns)) d their_past reading)
       (sym (after_effects-append t.outcome.effects (effects_of turns) past))
       (subst (λ (l : List Emission). AreEnds never_resets options (after_all t.outcome.after turns) (queued_through t.outcome.after turns (queued_after e t.input queued)) (after_effects (effects_of turns) (after_effects t.outcome.effects past)) l d their_past reading)
@@ -95,8 +95,8 @@ module _ (never_resets : ℕ → Bool) (options : Options) (e : Endpoint) (queue
   receivers_act (t ∷ turns) d their_past reading h none taken may new =
       let first : AreEnds never_resets options e queued past packets t.outcome.after (after_effects t.outcome.effects their_past) (reading_after d t.input t.outcome.after reading) =
       (subst (λ (n : ℕ → Bool). AreEnds n options e queued past packets t.outcome.after (after_effects t.outcome.effects their_past) (reading_after d t.input t.outcome.after reading)) h.is
-      (receiver_turns options h.ends e queued past packets d their_past reading h.between few new.0 t.input t.outcome new.1 h.answered little new.3 may.0 taken.0 new.2
-      (λ transfer link there linked. none_sent (h.ends.sends link.my.tag).sent t.input none.0))) in
+      (receiver_turns options h.ends e queued past packets d their_past reading h.between few new.0 t.input t.outcome new.1 h.answered little new.3.0 may.0 taken.0 new.2
+      (λ transfer link there linked. (none_sent (h.ends.sends link.peer.tag).sent t.input none.0, inr (none_sent [] t.input none.0))))) in
       let rest = receivers_act turns t.outcome.after (after_effects t.outcome.effects their_past) (reading_after d t.input t.outcome.after reading) first none.1 taken.1 may.1 new.4 in
       subst (λ (l : List Effect). AreEnds never_resets options e queued past packets (after_all t.outcome.after turns) l (reading_through t.outcome.after turns (reading_after d t.input t.outcome.after reading)))
       (sym (after_effects-append t.outcome.effects (effects_of turns) their_past)) rest

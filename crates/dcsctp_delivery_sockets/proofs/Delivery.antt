@@ -1,6 +1,6 @@
 -- Over an honest run in which each tag serves one association, what a user reads is what its peer's
 -- user sent.
-use Rattle.std.proofs.Common.{◌≡◌, ℕ, zero, suc, List, [], ◌∷◌, ◌++◌, refl, sym, ◌∙◌, ap, subst, inl, inr, Bool, true, not, ◌<◌, ◌^◌, false}
+use Rattle.std.proofs.Common.{◌≡◌, ℕ, zero, suc, List, [], ◌∷◌, ◌++◌, refl, sym, ◌∙◌, ap, subst, inl, inr, Bool, true, not, ◌<◌, ◌^◌, false, ◌+◌, arith}
 use Rattle.std.specs.Prelude.{◌⊎◌, Option, None, Some}
 use Rattle.std.specs.List.{slice_get}
 use Rattle.std.proofs.lemmas.List.{append-nil}
@@ -27,26 +27,26 @@ use Rattle.dcsctp_theorem_sockets.proofs.SocketsAgree.{Joined, joined}
 use Rattle.dcsctp_theorem_sockets.proofs.SocketsAlone.{MoveLaws, of_moves}
 use Rattle.dcsctp_delivery_sending.specs.Places as places
 use Rattle.dcsctp_delivery_directions.specs.Directions.{Delivered}
-use Rattle.dcsctp_delivery_associations.specs.Reads.{nothing_read, messages_of}
+use Rattle.dcsctp_delivery_associations.specs.Reads.{nothing_read, messages_of, with_key}
 use Rattle.dcsctp_delivery_sockets.specs.Echoes.{GoesToMaker}
 use Rattle.dcsctp_delivery_sockets.specs.Ordered.{AllowsOrder, IsDeliveredInOrder, read_under, AllowsNoGaps, IsDeliveredWithoutGaps, IsReliable, IsDeliveredByStream, AllowsDataOrder}
 use Rattle.dcsctp_delivery_sockets.specs.UserMessages.{messages_sent_in, sendings_in, read_of, IsDelivered}
-use Rattle.dcsctp_delivery_sockets.specs.Delivery.{FitsStep, AreInMemory, MatchByTags, SendsLittle, TurnsAllowDelivery, Delivers, SocketsDeliver}
+use Rattle.dcsctp_delivery_sockets.specs.Delivery.{FitsStep, AreInMemory, MatchByTags, SendsLittle, TurnsAllowDelivery, Delivers, SocketsDeliver, IsOfNewTags}
 use Rattle.dcsctp_delivery_associations.proofs.Delivers.{ends_begin, ends_deliver}
 use Rattle.dcsctp_delivery_sockets.specs.Acts.{ResetsIn}
 use Rattle.dcsctp_delivery_turns.specs.Actions.{resets_streams, resets_stream}
 use Rattle.std.specs.List.{AllByRecursion}
 use Rattle.std.specs.Prelude.{not, ◌&&◌}
-use Rattle.dcsctp_delivery_order.specs.Delivered.{DeliveredInOrder}
-use Rattle.dcsctp_delivery_associations.specs.InOrder.{Interleaves}
-use Rattle.dcsctp_delivery_associations.specs.Ends.{BeginsAnew, IsOnlyTag}
+use Rattle.dcsctp_delivery_order.specs.Delivered.{DeliveredInOrder, DeliveredWithoutGaps}
+use Rattle.dcsctp_delivery_associations.specs.InOrder.{Interleaves, InterleavesUnder}
+use Rattle.dcsctp_delivery_associations.specs.Ends.{BeginsAnew, IsOnlyTag, HadBoth, IsBefore, WasReplaced, chunks_before, IsOnlyOwn}
 use Rattle.dcsctp_spec_lemmas.specs.spec.endpoint.MessageOutcomes.{Sending}
 use Rattle.dcsctp_spec_lemmas.specs.spec.endpoint.Turn.{Input, arrival, refusal, packet_begins, chunk_input, packet_ends, act_input, user_sets, user_sends, user_resets, user_takes, timer_expires, time_passes, restores}
 use Rattle.dcsctp_delivery_order.specs.PlainDirections.{FewOnEachStream}
 use Rattle.dcsctp_delivery_sending.specs.Losing.{AreUnlimited}
 use Rattle.dcsctp_delivery_sockets.specs.Ordered.{SetsNoLimits, SendsFew}
 use Rattle.dcsctp_delivery_sockets.proofs.FewSent.{few_queued_on}
-use Rattle.dcsctp_delivery_associations.proofs.InOrder.{ends_deliver_in_order, ends_deliver_data_in_order, ends_deliver_by_stream, ends_deliver_without_gaps}
+use Rattle.dcsctp_delivery_associations.proofs.InOrder.{ends_deliver_in_order, ends_deliver_data_in_order, ends_deliver_by_stream, ends_deliver_without_gaps, nothing_in_order, nothing_before, nothing_by_stream}
 use Rattle.dcsctp_delivery_sockets.proofs.Calls.{AreCalls, call_without, call_is, input_is}
 use Rattle.dcsctp_delivery_sockets.proofs.Echoes.{echoes_go_to_makers}
 use Rattle.dcsctp_delivery_sockets.proofs.KnownPeers.{IsMove}
@@ -55,6 +55,13 @@ use Rattle.dcsctp_delivery_sockets.proofs.Performed.{BothPerformed, both_perform
 use Rattle.dcsctp_delivery_sockets.proofs.Known.{same_rules_after, own_turn, IsOwn, GoodPacket, SideKnown, BothKnown, both_front}
 use Rattle.dcsctp_delivery_sockets.proofs.Stands.{Stand, queued_of, packets_of, reading_of, queued_same, sender_more, receiver_calls, receiver_handles, few_queued}
 use Rattle.dcsctp_delivery_sockets.proofs.UserMessages.{is_without_gaps, is_by_stream, SaysSame, are_unlimited, are_unlimited_on, nothing_same, turns_same, turns_read, is_delivered, is_in_order, SaysSame, is_without_gaps}
+use Rattle.dcsctp_spec_lemmas.specs.spec.association.Effect.{AssociationIdentity, Effect, holds}
+use Rattle.dcsctp_spec_runs.specs.Past.{HasEffect, Each}
+use Rattle.dcsctp_delivery_associations.proofs.Tagged.{PeersDiffer, ReadUnder, nothing_under, under_key, read_under_key}
+use Rattle.dcsctp_delivery_sending.specs.ChunkCounts.{chunks_to}
+use Rattle.dcsctp_delivery_directions.specs.Requests.{requests_to}
+use Rattle.dcsctp_delivery_order.specs.Streams.{DeliveredByStream}
+use Rattle.dcsctp_spec_lemmas.specs.types.queues.Messages.{MessageContent}
 
 -- ---- a packet that is delivered
 
@@ -237,13 +244,46 @@ both_known law options run are runs honest fresh allows =
 
 -- ---- what was read
 
-module _ (never_resets : ℕ → Bool) (mine theirs : Options) (turns others : List Transition) (little : SendsLittle mine turns) (h : Stand never_resets mine theirs turns others) (window : theirs.max_receiver_window_buffer_size < 2 ^ 32) where
+-- No two associations of a side have peers of one tag.
+peers_differ : (past : List Effect) → Each IsOfNewTags past → PeersDiffer past
+peers_differ [] each one two has has' same = absurd has
+peers_differ (effect ∷ earlier) each one two (inl is) (inl is') same = cc
+peers_differ (effect ∷ earlier) each one two (inl is) (inr has') same = absurd ((subst (λ (x : Effect). IsOfNewTags x earlier) (sym is) each.0 two has').1 (sym same))
+peers_differ (effect ∷ earlier) each one two (inr has) (inl is') same = absurd ((subst (λ (x : Effect). IsOfNewTags x earlier) (sym is') each.0 one has).1 same)
+peers_differ (effect ∷ earlier) each one two (inr has) (inr has') same = peers_differ earlier each.1 one two has has' same
+
+before_held : (one other : AssociationIdentity) (past : List Effect) → IsBefore one other past → HasEffect (holds one) past × HasEffect (holds other) past
+before_held one other [] before = absurd before
+before_held one other (effect ∷ earlier) (inl here) = (inr here.1, inl here.0)
+before_held one other (effect ∷ earlier) (inr before) = (let both = before_held one other earlier before in (inr both.0, inr both.1))
+
+-- None took the place of another.
+none_replaced : (past : List Effect) → Each IsOfNewTags past → (tag former latest : ℕ) → WasReplaced past tag former latest → ⊥
+none_replaced past each tag former latest was = go past each was.before
+  where
+    go : (past : List Effect) → Each IsOfNewTags past → IsBefore was.old was.link past → ⊥
+    go [] each before = before
+    go (effect ∷ earlier) each (inl here) = (subst (λ (x : Effect). IsOfNewTags x earlier) (sym here.0) each.0 was.old here.1).0 (was.old_is ∙ sym was.link_is)
+    go (effect ∷ earlier) each (inr before) = go earlier each.1 before
+
+module _ (never_resets : ℕ → Bool) (mine theirs : Options) (turns others : List Transition) (little : SendsLittle mine turns) (h : Stand never_resets mine theirs turns others) (window : theirs.max_receiver_window_buffer_size < 2 ^ 32)
+    (each : Each IsOfNewTags (noted_past turns)) (their_each : Each IsOfNewTags (noted_past others)) where
+  few_went : (tag : ℕ) → chunks_before (h.ends.former tag) (packets_of turns) + chunks_to (h.ends.latest tag) (packets_of turns) < 2 ^ 30
+  few_went tag = go (h.ends.former tag) refl
+    where
+      go : (former : Option ℕ) → h.ends.former tag ≡ former → chunks_before (h.ends.former tag) (packets_of turns) + chunks_to (h.ends.latest tag) (packets_of turns) < 2 ^ 30
+      go None none =
+          let nothing : chunks_before (h.ends.former tag) (packets_of turns) ≡ 0 = ap (λ (f : Option ℕ). chunks_before f (packets_of turns)) none in
+          let few = little.chunks (h.ends.latest tag) in
+          omega (arith, nothing, few)
+      go (Some former) is = absurd (none_replaced (noted_past turns) each tag former (h.ends.latest tag) (h.between.sender.replaced tag former is))
+
   one_way : IsDelivered (messages_sent_in (fresh_endpoint mine) turns) (read_of (fresh_endpoint theirs) others)
   one_way =
       let same = queued_same mine turns in
       let all : Delivered (queued_of mine turns) (messages_of (reading_of theirs others).reads) =
       ends_deliver theirs h.ends (endpoint_after mine turns) (queued_of mine turns) (noted_past turns) (packets_of turns) (endpoint_after theirs others) (noted_past others) (reading_of theirs others) h.between
-      (few_queued mine turns little) little.chunks in
+      (few_queued mine turns little) few_went in
       subst (IsDelivered (messages_sent_in (fresh_endpoint mine) turns)) (turns_read (fresh_endpoint theirs) others nothing_read)
       (is_delivered (queued_of mine turns) (messages_sent_in (fresh_endpoint mine) turns) (messages_of (reading_of theirs others).reads) same all)
 
@@ -258,26 +298,67 @@ module _ (never_resets : ℕ → Bool) (mine theirs : Options) (turns others : L
   unambiguous_so (inl unlimited) = inl (are_unlimited (queued_of mine turns) sent_all sent_same unlimited)
   unambiguous_so (inr few) = inr (few_queued_on (queued_of mine turns) sent_all sent_same few)
 
-  by_order : (tag : ℕ) → BeginsAnew (endpoint_after mine turns) (noted_past turns) tag → Interleaves (noted_past turns) tag ⊎ AllowsDataOrder mine turns tag
-      → DeliveredInOrder (queued_of mine turns) (read_under tag theirs others)
-  by_order tag anew (inl interleaves) =
-      ends_deliver_in_order theirs h.ends (endpoint_after mine turns) (queued_of mine turns) (noted_past turns) (packets_of turns) (endpoint_after theirs others) (noted_past others) (reading_of theirs others) h.between
-      (few_queued mine turns little) little.chunks tag anew interleaves
-  by_order tag anew (inr sends) =
-      ends_deliver_data_in_order theirs h.ends (endpoint_after mine turns) (queued_of mine turns) (noted_past turns) (packets_of turns) (endpoint_after theirs others) (noted_past others) (reading_of theirs others) h.between
-      (few_queued mine turns little) little.chunks window (unambiguous_so sends.unambiguous) tag anew sends.no_requests
+  -- ---- in one association
+
+  module _ (tag key : ℕ) (both : HadBoth (noted_past turns) key tag) where
+    -- Where the peer of the only association has the tag, that is of this key.
+    only_own : IsOnlyTag (noted_past turns) tag → IsOnlyOwn (noted_past turns) key
+    only_own only link has =
+        ap (λ (l : AssociationIdentity). l.my.tag) (peers_differ (noted_past turns) each link both.link has both.held (only link has ∙ sym both.peer_is)) ∙ both.tag_is
+
+    interleaves_so : Interleaves (noted_past turns) tag → InterleavesUnder (noted_past turns) key
+    interleaves_so interleaves = (both.link, both.held, both.tag_is, interleaves both.link both.held both.peer_is)
+
+    -- Data goes to it.
+    latest_is : h.ends.latest key ≡ tag
+    latest_is =
+        elim (h.between.sender.known both.link both.held).1 [
+          | inl is ↦ ap h.ends.latest (sym both.tag_is) ∙ sym is ∙ both.peer_is
+          | inr is ↦ absurd (none_replaced (noted_past turns) each both.link.my.tag both.link.peer.tag (h.ends.latest both.link.my.tag) (h.between.sender.replaced both.link.my.tag both.link.peer.tag is))
+        ]
+
+    by_order : BeginsAnew (endpoint_after mine turns) (noted_past turns) key → Interleaves (noted_past turns) tag ⊎ AllowsDataOrder mine turns tag
+        → DeliveredInOrder (queued_of mine turns) (with_key key (reading_of theirs others).reads)
+    by_order anew (inl interleaves) =
+        ends_deliver_in_order theirs h.ends (endpoint_after mine turns) (queued_of mine turns) (noted_past turns) (packets_of turns) (endpoint_after theirs others) (noted_past others) (reading_of theirs others) h.between
+        (few_queued mine turns little) few_went key anew (interleaves_so interleaves)
+    by_order anew (inr sends) =
+        ends_deliver_data_in_order theirs h.ends (endpoint_after mine turns) (queued_of mine turns) (noted_past turns) (packets_of turns) (endpoint_after theirs others) (noted_past others) (reading_of theirs others) h.between
+        (few_queued mine turns little) few_went window (unambiguous_so sends.unambiguous) key anew (ap (λ (n : ℕ). requests_to n (packets_of turns)) latest_is ∙ sends.no_requests)
+
+    order_of : (endpoint_after mine turns).options.follow_rfc ≡ mine.follow_rfc → AllowsOrder mine turns tag → DeliveredInOrder (queued_of mine turns) (with_key key (reading_of theirs others).reads)
+    order_of rules allows = by_order (elim allows.starts_at_zero [ inl follows ↦ inl (rules ∙ follows) | inr only ↦ inr (only_own only) ]) allows.numbering
+
+    gaps_of : ((stream : ℕ) → resets_none turns stream ≡ true → never_resets stream ≡ true) → AllowsNoGaps mine turns tag → DeliveredWithoutGaps (queued_of mine turns) (with_key key (reading_of theirs others).reads)
+    gaps_of never leaves =
+        ends_deliver_without_gaps theirs h.ends (endpoint_after mine turns) (queued_of mine turns) (noted_past turns) (packets_of turns) (endpoint_after theirs others) (noted_past others) (reading_of theirs others) h.between
+        (few_queued mine turns little) few_went window (are_unlimited (queued_of mine turns) sent_all sent_same leaves.unlimited)
+        (λ stream. ap (λ (n : ℕ → Bool). n stream) h.is ∙ never stream (none_reset stream turns (none_of_all stream turns leaves.never_resets))) key (only_own leaves.only_association)
+
+    streams_of : IsOnlyTag (noted_past turns) tag → Interleaves (noted_past turns) tag → DeliveredByStream h.ends.never_resets (queued_of mine turns) (with_key key (reading_of theirs others).reads)
+    streams_of only interleaves =
+        ends_deliver_by_stream theirs h.ends (endpoint_after mine turns) (queued_of mine turns) (noted_past turns) (packets_of turns) (endpoint_after theirs others) (noted_past others) (reading_of theirs others) h.between
+        (few_queued mine turns little) few_went key (only_own only) (interleaves_so interleaves)
+
+  -- What was read under a tag was read of one key of the sender, or nothing was.
+  by_key : (P : List MessageContent → Type 0) (tag : ℕ) → P [] → ((key : ℕ) → HadBoth (noted_past turns) key tag → P (with_key key (reading_of theirs others).reads)) → P (read_under tag theirs others)
+  by_key P tag nothing under =
+      go (read_under_key theirs h.ends (endpoint_after mine turns) (queued_of mine turns) (noted_past turns) (packets_of turns) (endpoint_after theirs others) (noted_past others) (reading_of theirs others) h.between
+      (peers_differ (noted_past turns) each) (peers_differ (noted_past others) their_each) tag)
+    where
+      go : ReadUnder (noted_past turns) (noted_past others) (reading_of theirs others) tag → P (read_under tag theirs others)
+      go (nothing_under none) = subst P (sym none) nothing
+      go (under_key key same both their_link held own) = subst P (sym same) (under key both)
 
   one_in_order : (endpoint_after mine turns).options.follow_rfc ≡ mine.follow_rfc → (tag : ℕ) → AllowsOrder mine turns tag → IsDeliveredInOrder sent_all (read_under tag theirs others)
   one_in_order rules tag allows =
       is_in_order (queued_of mine turns) sent_all (read_under tag theirs others) sent_same
-      (by_order tag (elim allows.starts_at_zero [ inl follows ↦ inl (rules ∙ follows) | inr only ↦ inr only ]) allows.numbering)
+      (by_key (DeliveredInOrder (queued_of mine turns)) tag (nothing_in_order (queued_of mine turns) [] refl) (λ key both. order_of tag key both rules allows))
 
   one_without_gaps : ((stream : ℕ) → resets_none turns stream ≡ true → never_resets stream ≡ true) → (tag : ℕ) → AllowsNoGaps mine turns tag → IsDeliveredWithoutGaps sent_all (read_under tag theirs others)
   one_without_gaps never tag leaves =
       is_without_gaps (queued_of mine turns) sent_all (read_under tag theirs others) sent_same
-      (ends_deliver_without_gaps theirs h.ends (endpoint_after mine turns) (queued_of mine turns) (noted_past turns) (packets_of turns) (endpoint_after theirs others) (noted_past others) (reading_of theirs others) h.between
-      (few_queued mine turns little) little.chunks window (are_unlimited (queued_of mine turns) sent_all sent_same leaves.unlimited)
-      (λ stream. ap (λ (n : ℕ → Bool). n stream) h.is ∙ never stream (none_reset stream turns (none_of_all stream turns leaves.never_resets))) tag leaves.only_association)
+      (by_key (DeliveredWithoutGaps (queued_of mine turns)) tag (nothing_before (queued_of mine turns) [] refl) (λ key both. gaps_of tag key both never leaves))
 
   one_by_stream : ((stream : ℕ) → resets_none turns stream ≡ true → never_resets stream ≡ true) → (tag : ℕ) → IsOnlyTag (noted_past turns) tag → Interleaves (noted_past turns) tag
       → IsDeliveredByStream (IsReliable mine turns) sent_all (read_under tag theirs others)
@@ -287,8 +368,7 @@ module _ (never_resets : ℕ → Bool) (mine theirs : Options) (turns others : L
         ap (λ (n : ℕ → Bool). n stream) h.is ∙ never stream (none_reset stream turns reliable.never_resets),
         are_unlimited_on stream (queued_of mine turns) sent_all sent_same reliable.unlimited,
       ))
-      (ends_deliver_by_stream theirs h.ends (endpoint_after mine turns) (queued_of mine turns) (noted_past turns) (packets_of turns) (endpoint_after theirs others) (noted_past others) (reading_of theirs others) h.between
-      (few_queued mine turns little) little.chunks tag only interleaves)
+      (by_key (DeliveredByStream h.ends.never_resets (queued_of mine turns)) tag (nothing_by_stream h.ends.never_resets (queued_of mine turns) [] refl) (λ key both. streams_of tag key both only interleaves))
 
 pub sockets_deliver : DeliveryLaws → SocketsDeliver
 sockets_deliver law options run are in_memory runs honest fresh allows side =
@@ -306,15 +386,15 @@ sockets_deliver law options run are in_memory runs honest fresh allows side =
     both_deliver : BothStand (both_resets_none turns) options turns → (s : Side) → Delivers options turns s
     both_deliver h sides.A =
         record {
-          once = one_way (resets_none turns.b) options.b options.a turns.b turns.a (allows.little sides.B) h.to_a (window sides.A);
-          in_order = one_in_order (resets_none turns.b) options.b options.a turns.b turns.a (allows.little sides.B) h.to_a (window sides.A) (same_rules_after (resets_none turns.b) options.b turns.b known.b);
-          no_gaps = one_without_gaps (resets_none turns.b) options.b options.a turns.b turns.a (allows.little sides.B) h.to_a (window sides.A) (λ stream is. is);
-          by_stream = one_by_stream (resets_none turns.b) options.b options.a turns.b turns.a (allows.little sides.B) h.to_a (window sides.A) (λ stream is. is);
+          once = one_way (resets_none turns.b) options.b options.a turns.b turns.a (allows.little sides.B) h.to_a (window sides.A) known.b.tags known.a.tags;
+          in_order = one_in_order (resets_none turns.b) options.b options.a turns.b turns.a (allows.little sides.B) h.to_a (window sides.A) known.b.tags known.a.tags (same_rules_after (resets_none turns.b) options.b turns.b known.b);
+          no_gaps = one_without_gaps (resets_none turns.b) options.b options.a turns.b turns.a (allows.little sides.B) h.to_a (window sides.A) known.b.tags known.a.tags (λ stream is. is);
+          by_stream = one_by_stream (resets_none turns.b) options.b options.a turns.b turns.a (allows.little sides.B) h.to_a (window sides.A) known.b.tags known.a.tags (λ stream is. is);
         }
     both_deliver h sides.B =
         record {
-          once = one_way (resets_none turns.a) options.a options.b turns.a turns.b (allows.little sides.A) h.to_b (window sides.B);
-          in_order = one_in_order (resets_none turns.a) options.a options.b turns.a turns.b (allows.little sides.A) h.to_b (window sides.B) (same_rules_after (resets_none turns.a) options.a turns.a known.a);
-          no_gaps = one_without_gaps (resets_none turns.a) options.a options.b turns.a turns.b (allows.little sides.A) h.to_b (window sides.B) (λ stream is. is);
-          by_stream = one_by_stream (resets_none turns.a) options.a options.b turns.a turns.b (allows.little sides.A) h.to_b (window sides.B) (λ stream is. is);
+          once = one_way (resets_none turns.a) options.a options.b turns.a turns.b (allows.little sides.A) h.to_b (window sides.B) known.a.tags known.b.tags;
+          in_order = one_in_order (resets_none turns.a) options.a options.b turns.a turns.b (allows.little sides.A) h.to_b (window sides.B) known.a.tags known.b.tags (same_rules_after (resets_none turns.a) options.a turns.a known.a);
+          no_gaps = one_without_gaps (resets_none turns.a) options.a options.b turns.a turns.b (allows.little sides.A) h.to_b (window sides.B) known.a.tags known.b.tags (λ stream is. is);
+          by_stream = one_by_stream (resets_none turns.a) options.a options.b turns.a turns.b (allows.little sides.A) h.to_b (window sides.B) known.a.tags known.b.tags (λ stream is. is);
         }

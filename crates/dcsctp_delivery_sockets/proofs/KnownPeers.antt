@@ -1,6 +1,6 @@
 -- What a socket recorded gives the numbers of its peer's requests, turn by turn.
 use Rattle.std.proofs.Common.{◌≡◌, ◌==◌, ℕ, Bool, true, false, Some, List, [], ◌∷◌, ◌++◌, refl, sym, ◌∙◌, ap, subst}
-use Rattle.std.specs.Prelude.{if◌then◌else◌}
+use Rattle.std.specs.Prelude.{if◌then◌else◌, Option, None}
 use Rattle.std.proofs.lemmas.Bool.Decides.{Decides-eqb}
 use Rattle.dcsctp_spec_lemmas.specs.wire.declared.reconfiguration.ReconfigurationResponseResult.{ReconfigurationResponseResult}
 use Rattle.dcsctp_spec_lemmas.specs.wire.declared.reconfiguration.ReconfigurationResponseResult.TheVariants.{InProgress}
@@ -15,9 +15,9 @@ use Rattle.dcsctp_spec_lemmas.specs.spec.Reconfiguration.{due, ResetParameter, o
 use Rattle.dcsctp_spec_lemmas.specs.types.Settings.{SameOptions}
 use Rattle.dcsctp_spec_runs.specs.World.{SideState, after_effects, ControlTurn, acted, worked, resumed, SideRun, side_after}
 use Rattle.dcsctp_spec_lemmas.specs.spec.association.Acts.{Act, connect, t1_expires, shut_down, step_of_shutdown, shutdown_repeats, abort_with, hands_over, flushes, request_again, request_renewed, act_change, chunk_change}
-use Rattle.dcsctp_spec_lemmas.specs.spec.association.Choices.{Choices, nothing_to_send, idle_choices}
-use Rattle.dcsctp_spec_lemmas.specs.spec.association.Effect.{Effect, performs, noted, Change}
-use Rattle.dcsctp_spec_lemmas.specs.spec.association.FlushChanges.{next_number}
+use Rattle.dcsctp_spec_lemmas.specs.spec.association.Choices.{Choices, idle_choices, Filling, nothing_to_send}
+use Rattle.dcsctp_spec_lemmas.specs.spec.association.Effect.{Effect, performs, noted, Change, connects, identity_of}
+use Rattle.dcsctp_spec_lemmas.specs.spec.association.FlushChanges.{next_number, reset_to_begin, flushed_with}
 use Rattle.dcsctp_spec_lemmas.specs.spec.association.ResetChanges.{again, next, astray, request_place, RequestOutcome, repeated, outgoing_by, reset_sent}
 use Rattle.dcsctp_spec_lemmas.specs.spec.association.ResetChanges as resets
 use Rattle.dcsctp_spec_runs.proofs.DeliveryLemmas.{longest_connects, chunk_same}
@@ -84,20 +84,29 @@ module _ (options : Options) (steps : List (List Change)) (run : SideRun options
       number_known my held side.past in_progress
       (subst (λ (effects : List Effect). Each InPlace (after_effects effects side.past)) (is (idle_choices my)) (effects_in_place options ((change ∷ []) ∷ steps) ((turn, tt), run)))
 
+-- Where nothing is to be sent no request begins.
+idle_held : (own : Option ℕ) (tag : ℕ) (held : Held) (filling : Filling) → (flushed_with tag held [] filling (reset_to_begin own None)).held ≡ held
+idle_held None tag held filling = refl
+idle_held (Some number) tag held filling = refl
+
+idle_effects : (own : Option ℕ) (tag : ℕ) (held : Held) → (flushed_with tag held [] nothing_to_send (reset_to_begin own None)).effects ≡ []
+idle_effects None tag held = refl
+idle_effects (Some number) tag held = refl
+
 module _ (options : Options) (steps : List (List Change)) (run : SideRun options steps) where
-  -- By the RFC none is handled before the COOKIE ACK. So that comes first, and nothing is sent then.
+  -- By the RFC none is handled before the COOKIE ACK. So that comes first.
   echoed_performs : (my : Pair) (held : Held) (cookie : List ℕ) → (side_after options steps).core ≡ cookie_echoed my held cookie
       → held.peer_result ≡ InProgress → number_to_perform (noted (side_after options steps).past) ≡ Some held.peer_last
   echoed_performs my held cookie at in_progress =
-      let silent : Choices = record (idle_choices my) { filling = record nothing_to_send { is_allowed = false } } in
-      let ack : Change = cookie_ack_change (cookie_echoed my held cookie) silent in
+      let ack : Change = cookie_ack_change (cookie_echoed my held cookie) (idle_choices my) in
       let turn : ControlTurn options (side_after options steps).core ack =
-      worked 0 cookie_ack silent (ap (λ (c : Core). chunk_change options c 0 cookie_ack silent) (sym at)) in
-      performs_known options ((ack ∷ []) ∷ steps) ((turn, tt), run) (open_in established my held) my held refl (λ choices. refl) in_progress
+      worked 0 cookie_ack (idle_choices my) (ap (λ (c : Core). chunk_change options c 0 cookie_ack (idle_choices my)) (sym at)) in
+      subst (λ (effects : List Effect). number_to_perform (noted (after_effects effects (connects (identity_of my held) ∷ (side_after options steps).past))) ≡ Some held.peer_last) (idle_effects held.own_outstanding held.peer.tag held)
+      (performs_known options ((ack ∷ []) ∷ steps) ((turn, tt), run) (open_in established my held) my held (ap (open_in established my) (idle_held held.own_outstanding held.peer.tag held (idle_choices my).filling)) (λ choices. refl) in_progress)
 
   known_by : (my : Pair) (held : Held) → LeavesHeld (side_after options steps).past my held
       → (held.peer_result ≡ InProgress → number_to_perform (noted (side_after options steps).past) ≡ Some held.peer_last) → KnowsPeer (noted (side_after options steps).past) held
-  known_by my held leaves known = record { accepts = number_to_accept-noted (side_after options steps).past ∙ leaves.peer_next; performs = known }
+  known_by my held leaves performs_it = record { accepts = number_to_accept-noted (side_after options steps).past ∙ leaves.peer_next; performs = performs_it }
 
   knows_peer : (core : Core) → (side_after options steps).core ≡ core → LeavesCore (side_after options steps).past core → KnowsPeerIn (noted (side_after options steps).past) core
   knows_peer closed at leaves = tt

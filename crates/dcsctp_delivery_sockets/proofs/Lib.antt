@@ -11,3 +11,5 @@ pub mod Known
 pub mod Stands
 pub mod FewSent
 pub mod Delivery
+pub mod Replaced
+pub mod Connected

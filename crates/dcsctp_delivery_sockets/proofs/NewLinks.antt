@@ -130,12 +130,12 @@ not_zero n some zero = absurd (omega arith)
 
 -- ---- its tags are new
 
--- Each association that was recorded has another own tag than those before.
-new_noted : (effects past : List Effect) → Each IsOfNewTags (after_effects effects past) → (link old : AssociationIdentity) → HasEffect (holds link) effects → HasEffect (holds old) past → old.my.tag ≢ link.my.tag
+-- Each association that was recorded has another peer's tag than those before.
+new_noted : (effects past : List Effect) → Each IsOfNewTags (after_effects effects past) → (link old : AssociationIdentity) → HasEffect (holds link) effects → HasEffect (holds old) past → old.peer.tag ≢ link.peer.tag
 new_noted [] past each link old has before = absurd has
 new_noted (effect ∷ effects) past each link old (inl is) before =
     let rule : IsOfNewTags (holds link) past = subst (λ (x : Effect). IsOfNewTags x past) (sym is) (each_earlier IsOfNewTags effects (effect ∷ past) each).0 in
-    (rule old before).0
+    (rule old before).1
 new_noted (effect ∷ effects) past each link old (inr has) before = new_noted effects (effect ∷ past) each link old has (inr before)
 
 pub matched_earlier : (mine theirs effects more : List Effect) → MatchByTags (after_effects effects mine) (after_effects more theirs) → MatchByTags mine theirs
@@ -171,21 +171,23 @@ module _ (e : Endpoint) (o : Outcome) (begun : Begun e o) (rest past their_past 
   unfolding begun_link its_fits is_new was_noted
   new_peer =
       record {
-        some = not_zero begun_link.peer.tag its_fits.peer.tag_is_not_zero;
+        some = not_zero begun_link.my.tag its_fits.my.tag_is_not_zero;
+        some_peer = not_zero begun_link.peer.tag its_fits.peer.tag_is_not_zero;
         small = its_fits.my.first_tsn;
-        other = λ old has. (is_new old has).1;
-        match = λ theirs has same. (let both = matched begun_link theirs was_noted has (elim same [ inl e ↦ inr (sym e) | inr e ↦ inl (sym e) ]) in (sym both.0, ap (λ (p : Pair). p.tag) (sym both.1)));
+        other = λ old has. (is_new old has).0;
+        match = λ theirs has same. sym (matched begun_link theirs was_noted has (inl (sym same))).0;
       }
 
   pub new_tag : NewTag past their_past (identity_of begun.my begun.held)
   unfolding begun_link its_fits is_new was_noted
   new_tag =
       record {
-        some = not_zero begun_link.my.tag its_fits.my.tag_is_not_zero;
+        some = not_zero begun_link.peer.tag its_fits.peer.tag_is_not_zero;
+        own_some = not_zero begun_link.my.tag its_fits.my.tag_is_not_zero;
         small = its_fits.peer.first_tsn;
         own_small = its_fits.my.first_tsn;
-        other = is_new;
-        match = λ theirs has same. (let both = matched begun_link theirs was_noted has (elim same [ inl e ↦ inl (sym e) | inr e ↦ inr (sym e) ]) in (sym both.1, ap (λ (p : Pair). p.tag) (sym both.0)));
+        other = λ old has. (is_new old has).1;
+        match = λ theirs has same. sym (matched begun_link theirs was_noted has (inr (sym same))).1;
       }
 
 -- ---- over the turns of an act
@@ -210,11 +212,10 @@ new_peers their_past (t ∷ turns) past e calls unrefused along opens each match
     let split = after_first t.outcome.effects (effects_of turns) past in
     let later : AllPerformed (after_effects (effects_of turns) (after_effects t.outcome.effects past)) their_past = subst (λ (p : List Effect). AllPerformed p their_past) split performed in (
       calls.0,
-      (λ begun opening linked. new_peer e t.outcome begun (effects_of turns) past their_past (opens.0 opening) linked each matched),
+      (λ begun opening linked. inl (new_peer e t.outcome begun (effects_of turns) past their_past (opens.0 opening) linked each matched)),
       unrefused.0,
       (λ my number has. later my number (after_within (effects_of turns) (after_effects t.outcome.effects past) (completes my number) (among_after (completes my number) t.outcome.effects past has))),
       same_rules e t.outcome along.0,
-      new_noted t.outcome.effects past (each_earlier IsOfNewTags (effects_of turns) (after_effects t.outcome.effects past) (subst (Each IsOfNewTags) split each)),
       new_peers their_past turns (after_effects t.outcome.effects past) t.outcome.after calls.1 unrefused.1 along.1 opens.1 (subst (Each IsOfNewTags) split each)
           (subst (λ (p : List Effect). MatchByTags p their_past) split matched) later,
     )
@@ -228,7 +229,10 @@ new_tags options past (t ∷ turns) their_past e ran along opens each matched =
       ran.same,
       (λ begun opening linked. new_tag e t.outcome begun (effects_of turns) their_past past (opens.0 opening) linked each matched),
       ran_knows options e their_past ran,
-      new_noted t.outcome.effects their_past (each_earlier IsOfNewTags (effects_of turns) (after_effects t.outcome.effects their_past) later),
+      (
+        new_noted t.outcome.effects their_past (each_earlier IsOfNewTags (effects_of turns) (after_effects t.outcome.effects their_past) later),
+        λ link held linked. inl (λ other has same. (let both = matched link other (after_within (effects_of (t ∷ turns)) their_past (holds link) held) has (inl (sym same)) in ap (λ (p : Pair). p.tag) (sym both.1))),
+      ),
       new_tags options past turns (after_effects t.outcome.effects their_past) t.outcome.after (next_run options e their_past t ran along.0) along.1 opens.1 later
           (subst (λ (p : List Effect). MatchByTags p past) split matched),
     )

@@ -1,18 +1,18 @@
 -- The turns of a packet that the sender sent leave what is known of all associations.
-use Rattle.std.proofs.Common.{◌≡◌, ℕ, Bool, true, false, ◌<◌, ◌^◌, Some, List, [], ◌∷◌, length, refl, sym, ◌∙◌, ap, subst, inl, inr}
-use Rattle.std.specs.Prelude.{◌⊎◌}
+use Rattle.std.proofs.Common.{◌≡◌, ℕ, Bool, true, false, ◌<◌, ◌^◌, Some, List, [], ◌∷◌, length, refl, sym, ◌∙◌, ap, subst, inl, inr, ◌≢◌}
+use Rattle.std.specs.Prelude.{◌⊎◌, Option, None, ◌&&◌}
 use Rattle.dcsctp_spec_lemmas.specs.types.declared.options.Options.{Options}
 use Rattle.dcsctp_spec_lemmas.specs.spec.Admission.{Admission, all_chunks, shutdown_acks_alone, refused, admits, is_echo_in_front, shutdown_acks_in}
 use Rattle.dcsctp_spec_lemmas.specs.spec.endpoint.MessageOutcomes.{awaits_opening}
 use Rattle.dcsctp_spec_lemmas.specs.spec.association.Acts.{shut_down}
 use Rattle.dcsctp_spec_lemmas.specs.spec.endpoint.CallTurns.{packet_tail, asked_again, Transition, IsTurn, Turns, AfterChunk, ChunkTurns, WholeTurns, AdmittedTurns, after_all, effects_of}
-use Rattle.dcsctp_spec_lemmas.specs.spec.endpoint.Endpoint.{Endpoint, Core, closed, cookie_wait, cookie_echoed, open_in, established, shutdown_pending, shutdown_sent, shutdown_received, shutdown_ack_sent, own_tag}
+use Rattle.dcsctp_spec_lemmas.specs.spec.endpoint.Endpoint.{Endpoint, Core, closed, cookie_wait, cookie_echoed, open_in, established, shutdown_pending, shutdown_sent, shutdown_received, shutdown_ack_sent, own_tag, is_cookie_echoed}
 use Rattle.dcsctp_spec_lemmas.specs.spec.endpoint.Following.{Following, next_chunk, packet_end, dropped_rest}
-use Rattle.dcsctp_spec_lemmas.specs.spec.endpoint.Outcome.{Outcome}
+use Rattle.dcsctp_spec_lemmas.specs.spec.endpoint.Outcome.{Outcome, still}
 use Rattle.dcsctp_spec_lemmas.specs.spec.Packet.{Content, init, init_ack, cookie_echo, cookie_ack, re_config, abort, shutdown, shutdown_ack, shutdown_complete, plain, Emission}
-use Rattle.dcsctp_spec_lemmas.specs.spec.endpoint.Turn.{act_input, Input, refusal, packet_begins, chunk_input, packet_ends, has_data_chunk, BeginTurn}
+use Rattle.dcsctp_spec_lemmas.specs.spec.endpoint.Turn.{act_input, Input, refusal, packet_begins, chunk_input, packet_ends, has_data_chunk, BeginTurn, comes_early, needs_connection}
 use Rattle.dcsctp_spec_runs.specs.World.{after_effects}
-use Rattle.dcsctp_spec_lemmas.specs.spec.association.Effect.{AssociationIdentity, Effect, identity_in}
+use Rattle.dcsctp_spec_lemmas.specs.spec.association.Effect.{AssociationIdentity, Effect, identity_in, holds}
 use Rattle.dcsctp_spec_lemmas.specs.spec.queues.Transfer.{Transfer}
 use Rattle.dcsctp_theorem_association.proofs.Growth.{after_effects-append}
 use Rattle.dcsctp_delivery_sending.specs.Log.{Message}
@@ -20,15 +20,17 @@ use Rattle.dcsctp_delivery_sending.specs.Places as places
 use Rattle.dcsctp_delivery_sending.specs.Flushes.{NoData}
 use Rattle.dcsctp_delivery_turns.specs.Actions.{IsOpening, came_by, IsCall}
 use Rattle.dcsctp_delivery_turns.specs.Sides.{WasSent}
-use Rattle.dcsctp_delivery_associations.specs.Ends.{Ends, IsOfEnds}
+use Rattle.dcsctp_delivery_associations.specs.Ends.{Ends, IsOfEnds, HadBoth}
 use Rattle.dcsctp_delivery_associations.specs.Laws.{AsksLittle, AreEnds}
-use Rattle.dcsctp_delivery_associations.specs.Reads.{Reading, reading_after}
+use Rattle.dcsctp_delivery_associations.specs.Reads.{Reading, reading_after, Tags, tags_of, tags_or}
 use Rattle.dcsctp_delivery_sockets.specs.Echoes.{AllMayFollow, ContentsGo, GoesToMaker}
-use Rattle.dcsctp_delivery_sockets.specs.Packets.{reading_through, AreNewTags}
+use Rattle.dcsctp_delivery_sockets.specs.Packets.{reading_through, AreNewTags, IsCrossed}
 use Rattle.dcsctp_delivery_turns.proofs.Tags.{echoes_own}
 use Rattle.dcsctp_delivery_turns.proofs.Addressed.{addressed_tags_are_own}
 use Rattle.dcsctp_delivery_associations.proofs.ReceiverTurns.{receiver_turns}
-use Rattle.dcsctp_delivery_sockets.proofs.Packets.{of_ends, TagIs, MayHandle, was_sent, tag_stays, not_opening, own_is, init_ack_tag}
+use Rattle.dcsctp_delivery_sockets.proofs.Packets.{of_ends, TagIs, MayHandle, was_sent, tag_stays, not_opening, own_is, init_ack_tag, unsent}
+use Rattle.dcsctp_spec_runs.specs.Past.{HasEffect}
+use Rattle.dcsctp_spec_lemmas.proofs.EarlyLemmas.{content_where}
 
 pub begin_core : (e : Endpoint) (core : Core) (has : Bool) (o : Outcome) → BeginTurn e core has o → o.after.core ≡ e.core
 begin_core e closed has o turn = ap (λ (x : Outcome). x.after.core) turn
@@ -71,25 +73,59 @@ module _ (never_resets : ℕ → Bool) (options : Options) (e : Endpoint) (queue
 
   one_turn : (d : Endpoint) (their_past : List Effect) (reading : Reading) (input : Input) (t : Transition) → (h : Have d their_past reading) → IsTurn d input t
       → AreNewTags options their_past past d (t ∷ [])
-      → ((transfer : Transfer) (link : AssociationIdentity) → d.queues.transfer ≡ Some transfer → identity_in d.core ≡ Some link → WasSent (h.ends.sends link.my.tag).sent (came_by input)) → IsCall input
+      → ((transfer : Transfer) (link : AssociationIdentity) → d.queues.transfer ≡ Some transfer → identity_in d.core ≡ Some link → WasSent (h.ends.sends link.peer.tag).sent (came_by input) × (HadBoth past link.peer.tag link.my.tag ⊎ WasSent [] (came_by input))) → IsCall input
       → Have t.outcome.after (after_effects t.outcome.effects their_past) (reading_after d t.input t.outcome.after reading)
   one_turn d their_past reading input t h turn new sent may =
       subst (λ (i : Input). Have t.outcome.after (after_effects t.outcome.effects their_past) (reading_after d i t.outcome.after reading)) (sym turn.is)
       (subst (λ (n : ℕ → Bool). AreEnds n options e queued past packets t.outcome.after (after_effects t.outcome.effects their_past) (reading_after d input t.outcome.after reading)) h.is
       (receiver_turns options h.ends e queued past packets d their_past reading h.between few new.0 input t.outcome (λ begun opening linked. new.1 begun (subst (λ (i : Input). IsOpening (came_by i)) (sym turn.is) opening) linked)
-      h.answered little new.3 may turn.comes new.2 sent))
+      h.answered little new.3.0 may turn.comes new.2 sent))
+
+  -- A chunk that is dropped changes nothing.
+  drops : (d : Endpoint) (their_past : List Effect) (reading : Reading) (tag : ℕ) (content : Content) (t : Transition) (link : AssociationIdentity) → Have d their_past reading → IsTurn d (chunk_input tag content) t → identity_in d.core ≡ Some link
+      → reading.last ≡ tags_of link → t.outcome ≡ still d → Have t.outcome.after (after_effects t.outcome.effects their_past) (reading_after d t.input t.outcome.after reading)
+  drops d their_past reading tag content t link h turn linked last dropped =
+      subst (λ (i : Input). Have t.outcome.after (after_effects t.outcome.effects their_past) (reading_after d i t.outcome.after reading)) (sym turn.is)
+      (subst (λ (x : Outcome). Have x.after (after_effects x.effects their_past) (reading_after d (chunk_input tag content) x.after reading)) (sym dropped)
+      (subst (λ (l : Tags). Have d their_past (record { reads = reading.reads; last = l })) (last ∙ sym (ap (tags_or reading.last) linked)) h))
 
   chunk_turn : (d : Endpoint) (their_past : List Effect) (reading : Reading) (tag : ℕ) (content : Content) (t : Transition) → Have d their_past reading → IsTurn d (chunk_input tag content) t
       → AreNewTags options their_past past d (t ∷ []) → MayHandle emission d content
       → Have t.outcome.after (after_effects t.outcome.effects their_past) (reading_after d t.input t.outcome.after reading)
-  chunk_turn d their_past reading tag content t h turn new may =
-      one_turn d their_past reading (chunk_input tag content) t h turn new
-      (λ transfer link there linked.
-      (let c = h.between.receiver.current transfer there in
-      was_sent h.ends emission (of_ends h.ends emission packets h.between.sender.all_sent has) d link linked (λ zero. c.had.some (own_link c.link link c.linked linked ∙ zero)) content may)) tt
+  chunk_turn d their_past reading tag content t h turn new may = by_transfer d.queues.transfer refl
     where
-      own_link : (one two : AssociationIdentity) → identity_in d.core ≡ Some one → identity_in d.core ≡ Some two → one.my.tag ≡ two.my.tag
-      own_link one two first second = (let same' : one ≡ two = cc in ap (λ (l : AssociationIdentity). l.my.tag) same')
+      own_link : (one two : AssociationIdentity) → identity_in d.core ≡ Some one → identity_in d.core ≡ Some two → one ≡ two
+      own_link one two first second = cc
+
+      same_transfer : (one two : Transfer) → d.queues.transfer ≡ Some one → d.queues.transfer ≡ Some two → one ≡ two
+      same_transfer one two first second = cc
+
+      goes : ((transfer : Transfer) (link : AssociationIdentity) → d.queues.transfer ≡ Some transfer → identity_in d.core ≡ Some link
+          → WasSent (h.ends.sends link.peer.tag).sent (Some content) × (HadBoth past link.peer.tag link.my.tag ⊎ WasSent [] (Some content)))
+          → Have t.outcome.after (after_effects t.outcome.effects their_past) (reading_after d t.input t.outcome.after reading)
+      goes sent = one_turn d their_past reading (chunk_input tag content) t h turn new sent tt
+
+      by_link : (transfer : Transfer) → d.queues.transfer ≡ Some transfer → (link : AssociationIdentity) → HasEffect (holds link) their_past → identity_in d.core ≡ Some link → link.my.tag ≢ 0
+          → IsCrossed past link ⊎ ((d.options.follow_rfc ≡ true) × (is_cookie_echoed d.core ≡ true)) → Have t.outcome.after (after_effects t.outcome.effects their_past) (reading_after d t.input t.outcome.after reading)
+      by_link transfer there link held linked some (inl crosses) =
+          goes (λ other link' there' linked'. subst (λ (l : AssociationIdentity). WasSent (h.ends.sends l.peer.tag).sent (Some content) × (HadBoth past l.peer.tag l.my.tag ⊎ WasSent [] (Some content))) (own_link link link' linked linked')
+          (was_sent h.ends past emission (of_ends h.ends past emission packets h.between.sender.all_sent has) d link linked some crosses content may))
+      by_link transfer there link held linked some (inr (follows, echoed)) =
+          content_where d tag content t.outcome (λ early dropped. drops d their_past reading tag content t link h turn linked (h.between.receiver.last link linked) dropped)
+          (λ late handled. goes (λ other link' there' linked'. (unsent (h.ends.sends link'.peer.tag).sent content (needs_none late), inr (unsent [] content (needs_none late))))) turn.comes
+        where
+          and_true : (a b : Bool) → (a && b) ≡ false → b ≡ true → a ≡ false
+          and_true false b none is = refl
+          and_true true b none is = absurd (let clash : true ≡ false = sym is ∙ none in cc)
+
+          needs_none : comes_early d content ≡ false → needs_connection content ≡ false
+          needs_none late = and_true (needs_connection content) (d.options.follow_rfc && is_cookie_echoed d.core) late (ap (λ (b : Bool). b && is_cookie_echoed d.core) follows ∙ echoed)
+
+      by_transfer : (found : Option Transfer) → d.queues.transfer ≡ found → Have t.outcome.after (after_effects t.outcome.effects their_past) (reading_after d t.input t.outcome.after reading)
+      by_transfer None nowhere = goes (λ transfer link there linked. (let clash : ◌≡◌ {A = Option Transfer} None (Some transfer) = sym nowhere ∙ there in absurd (cc)))
+      by_transfer (Some transfer) there =
+          let c = h.between.receiver.current transfer there in
+          by_link transfer there c.link c.held c.linked c.own_some (new.3.1 c.link c.held c.linked)
 
   -- what comes after the chunks of a packet, or nothing
   IsTail : List Input → Type 0
@@ -98,7 +134,7 @@ module _ (never_resets : ℕ → Bool) (options : Options) (e : Endpoint) (queue
   end_goes : (d : Endpoint) (their_past : List Effect) (reading : Reading) (t : Transition) (turns : List Transition) → Have d their_past reading → AreNewTags options their_past past d (t ∷ turns) → IsTurn d packet_ends t
       → Have t.outcome.after (after_effects t.outcome.effects their_past) (reading_after d t.input t.outcome.after reading)
   end_goes d their_past reading t turns h new turn =
-      one_turn d their_past reading packet_ends t h turn (new.0, new.1, new.2, new.3, tt) (λ transfer link there linked. tt) tt
+      one_turn d their_past reading packet_ends t h turn (new.0, new.1, new.2, new.3, tt) (λ transfer link there linked. (tt, inr tt)) tt
 
   ends_go : (asks : Bool) (d : Endpoint) (their_past : List Effect) (reading : Reading) (turns : List Transition) → Have d their_past reading → AreNewTags options their_past past d turns
       → Turns d (packet_ends ∷ asked_again asks) turns → Leave d their_past reading turns
@@ -110,7 +146,7 @@ module _ (never_resets : ℕ → Bool) (options : Options) (e : Endpoint) (queue
       then_others d their_past reading t (u ∷ [])
       (then_others t.outcome.after (after_effects t.outcome.effects their_past) (reading_after d t.input t.outcome.after reading) u []
       (one_turn t.outcome.after (after_effects t.outcome.effects their_past) (reading_after d t.input t.outcome.after reading) (act_input shut_down) u
-      (end_goes d their_past reading t (u ∷ []) h new taken.0) taken.1.0 (new.4.0, new.4.1, new.4.2, new.4.3, tt) (λ transfer link there linked. tt) tt))
+      (end_goes d their_past reading t (u ∷ []) h new taken.0) taken.1.0 (new.4.0, new.4.1, new.4.2, new.4.3, tt) (λ transfer link there linked. (tt, inr tt)) tt))
   ends_go true d their_past reading (t ∷ u ∷ other ∷ turns) h new taken = absurd taken.1.1
 
   tail_goes : (d : Endpoint) (their_past : List Effect) (reading : Reading) (tail : List Input) (turns : List Transition) → Have d their_past reading → AreNewTags options their_past past d turns → IsTail tail → Turns d tail turns
@@ -209,10 +245,10 @@ module _ (never_resets : ℕ → Bool) (options : Options) (e : Endpoint) (queue
   unfolding IsTail
   whole_goes d their_past reading [] h new go admitted taken = absurd taken
   whole_goes d their_past reading (begun ∷ turns) h new go admitted taken =
-      let first = one_turn d their_past reading (packet_begins emission.packet.contents) begun h taken.0 (new.0, new.1, new.2, new.3, tt) (λ transfer link there linked. tt) tt in
-      then_others d their_past reading begun turns (by_data first first.ends (of_ends first.ends emission packets first.between.sender.all_sent has))
+      let first = one_turn d their_past reading (packet_begins emission.packet.contents) begun h taken.0 (new.0, new.1, new.2, new.3, tt) (λ transfer link there linked. (tt, inr tt)) tt in
+      then_others d their_past reading begun turns (by_data first first.ends (of_ends first.ends past emission packets first.between.sender.all_sent has))
     where
-      by_data : Have begun.outcome.after (after_effects begun.outcome.effects their_past) (reading_after d begun.input begun.outcome.after reading) → (table : Ends) → IsOfEnds table emission
+      by_data : Have begun.outcome.after (after_effects begun.outcome.effects their_past) (reading_after d begun.input begun.outcome.after reading) → (table : Ends) → IsOfEnds table past emission
           → Leave begun.outcome.after (after_effects begun.outcome.effects their_past) (reading_after d begun.input begun.outcome.after reading) turns
       by_data first table (inl none) =
           chunks_go emission.packet.contents begun.outcome.after (after_effects begun.outcome.effects their_past) (reading_after d begun.input begun.outcome.after reading) emission.packet.tag (packet_tail begun.outcome.after) turns first new.4 (inr (awaits_opening begun.outcome.after begun.outcome.after.core, refl)) (inl none) taken.1
@@ -224,7 +260,7 @@ module _ (never_resets : ℕ → Bool) (options : Options) (e : Endpoint) (queue
       → Leave d their_past reading turns
   refused_go d their_past reading text [] h new taken = absurd taken
   refused_go d their_past reading text (t ∷ []) h new taken =
-      then_others d their_past reading t [] (one_turn d their_past reading (refusal text) t h taken.0 (new.0, new.1, new.2, new.3, tt) (λ transfer link there linked. tt) tt)
+      then_others d their_past reading t [] (one_turn d their_past reading (refusal text) t h taken.0 (new.0, new.1, new.2, new.3, tt) (λ transfer link there linked. (tt, inr tt)) tt)
   refused_go d their_past reading text (t ∷ other ∷ turns) h new taken = absurd taken.1
 
   pub packet_goes : (d : Endpoint) (their_past : List Effect) (reading : Reading) (turns : List Transition) → Have d their_past reading → AreNewTags options their_past past d turns

@@ -8,25 +8,26 @@ use Rattle.dcsctp_spec_lemmas.specs.spec.endpoint.Endpoint.{Endpoint, Core, clos
 use Rattle.dcsctp_spec_lemmas.specs.spec.endpoint.Outcome.{Outcome, quiet, fits}
 use Rattle.dcsctp_spec_lemmas.specs.spec.Packet.{Introduction, Content, init, init_ack, cookie_echo, cookie_ack, re_config, abort, shutdown, shutdown_ack, shutdown_complete, unknown, heartbeat, heartbeat_ack, unworked, plain, Emission}
 use Rattle.dcsctp_spec_lemmas.specs.spec.Reconfiguration.{ResetParameter}
-use Rattle.dcsctp_spec_lemmas.specs.spec.association.Effect.{AssociationIdentity, identity_of, identity_in}
+use Rattle.dcsctp_spec_lemmas.specs.spec.association.Effect.{AssociationIdentity, identity_of, identity_in, Effect, holds}
 use Rattle.dcsctp_spec_lemmas.specs.spec.endpoint.FlushOutcomes.{Answer, flush_answered}
 use Rattle.dcsctp_spec_lemmas.specs.spec.endpoint.HandshakeOutcomes.{echo_emission, EchoAnswers, awaits_cookie_ack, InitAckAnswers, init_ack_by, InitAckTurn}
-use Rattle.dcsctp_spec_lemmas.specs.spec.endpoint.Turn.{Input, Turn}
+use Rattle.dcsctp_spec_lemmas.specs.spec.endpoint.Turn.{Input, Turn, needs_connection}
 use Rattle.dcsctp_delivery_sending.specs.Places as places
 use Rattle.dcsctp_delivery_sending.specs.Flushes.{NoRequests, NoContent, NoData}
 use Rattle.dcsctp_delivery_turns.specs.Actions.{came_by, IsOpening, Becomes, goes_on, pauses, works_resets, renews, ends, begins, collides, IsCall}
 use Rattle.dcsctp_delivery_turns.specs.Sides.{WasIn, WasAsked, WasSent}
-use Rattle.dcsctp_delivery_associations.specs.Ends.{Ends, IsOfEnds, AreOfEnds}
+use Rattle.dcsctp_delivery_associations.specs.Ends.{Ends, IsOfEnds, AreOfEnds, IsOfEnd, HadBoth, WasReplaced}
 use Rattle.dcsctp_delivery_sockets.specs.Echoes.{MayFollow}
 use Rattle.dcsctp_delivery_turns.proofs.Tags.{flush_link}
 use Rattle.dcsctp_delivery_turns.proofs.Turns.{turns_are_actions}
+use Rattle.dcsctp_delivery_sockets.specs.Packets.{IsCrossed}
 
 -- ---- what was sent
 
-pub of_ends : (table : Ends) (emission : Emission) (packets : List Emission) → AreOfEnds table packets → places.HasEntry emission packets → IsOfEnds table emission
-of_ends table emission [] are has = absurd has
-of_ends table emission (p ∷ packets) are (inl e) = subst (IsOfEnds table) (sym e) are.0
-of_ends table emission (p ∷ packets) are (inr h) = of_ends table emission packets are.1 h
+pub of_ends : (table : Ends) (past : List Effect) (emission : Emission) (packets : List Emission) → AreOfEnds table past packets → places.HasEntry emission packets → IsOfEnds table past emission
+of_ends table past emission [] are has = absurd has
+of_ends table past emission (p ∷ packets) are (inl e) = subst (IsOfEnds table past) (sym e) are.0
+of_ends table past emission (p ∷ packets) are (inr h) = of_ends table past emission packets are.1 h
 
 no_content : (content : Content) (contents : List Content) → NoData contents → places.HasEntry content contents → NoContent content
 no_content content [] none has = absurd has
@@ -41,57 +42,103 @@ TagIs tag e = (link : AssociationIdentity) → identity_in e.core ≡ Some link 
 abbrev pub MayHandle : Emission → Endpoint → Content → Type 0
 MayHandle emission e content = NoContent content ⊎ (places.HasEntry content emission.packet.contents × TagIs emission.packet.tag e)
 
-module _ (table : Ends) (emission : Emission) (is : IsOfEnds table emission) (e : Endpoint) (link : AssociationIdentity) (linked : identity_in e.core ≡ Some link) (some : link.my.tag ≢ 0) where
-  was_in : (chunk : ChunkContent) → (NoContent (plain (unworked chunk)) → ⊥) → MayHandle emission e (plain (unworked chunk)) → WasIn (table.sends link.my.tag).sent chunk
+-- It is none of those that need a connection.
+pub unsent : (sent : List Emission) (content : Content) → needs_connection content ≡ false → WasSent sent (Some content)
+unsent sent (plain (unworked (data_chunk chunk))) none = absurd (cc)
+unsent sent (plain (unworked (forward_tsn_chunk tsn streams))) none = absurd (cc)
+unsent sent (plain (unworked (i_data_chunk chunk))) none = absurd (cc)
+unsent sent (plain (unworked (i_forward_tsn_chunk tsn streams))) none = absurd (cc)
+unsent sent (re_config parameters) none = absurd (cc)
+unsent sent (plain (unworked (init_chunk c))) none = tt
+unsent sent (plain (unworked (init_ack_chunk c))) none = tt
+unsent sent (plain (unworked (sack_chunk c))) none = tt
+unsent sent (plain (unworked (heartbeat_chunk c))) none = tt
+unsent sent (plain (unworked (heartbeat_ack_chunk c))) none = tt
+unsent sent (plain (unworked (abort_chunk t c))) none = tt
+unsent sent (plain (unworked (shutdown_chunk c))) none = tt
+unsent sent (plain (unworked shutdown_ack_chunk)) none = tt
+unsent sent (plain (unworked (error_chunk c))) none = tt
+unsent sent (plain (unworked (cookie_echo_chunk c))) none = tt
+unsent sent (plain (unworked cookie_ack_chunk)) none = tt
+unsent sent (plain (unworked (shutdown_complete_chunk c))) none = tt
+unsent sent (plain (unworked (re_config_chunk c))) none = tt
+unsent sent (plain (unworked (unknown_chunk t f v))) none = tt
+unsent sent (plain (unknown t f v)) none = tt
+unsent sent (plain (heartbeat c)) none = tt
+unsent sent (plain (heartbeat_ack c)) none = tt
+unsent sent (init c) none = tt
+unsent sent (init_ack c k) none = tt
+unsent sent (cookie_echo c) none = tt
+unsent sent cookie_ack none = tt
+unsent sent (abort t c) none = tt
+unsent sent (shutdown c) none = tt
+unsent sent shutdown_ack none = tt
+unsent sent (shutdown_complete t) none = tt
+
+module _ (table : Ends) (past : List Effect) (emission : Emission) (is : IsOfEnds table past emission) (e : Endpoint) (link : AssociationIdentity) (linked : identity_in e.core ≡ Some link) (some : link.my.tag ≢ 0) (crosses : IsCrossed past link) where
+  -- What was sent in the association that crosses it, or needs no sender.
+  abbrev pub Sent : Option Content → Type 0
+  Sent came = WasSent (table.sends link.peer.tag).sent came × (HadBoth past link.peer.tag link.my.tag ⊎ WasSent [] came)
+
+  -- the end that has the packet
+  the_end : TagIs emission.packet.tag e → (end : IsOfEnd table past emission) → places.HasEntry emission (table.sends link.peer.tag).sent × HadBoth past link.peer.tag link.my.tag
+  the_end tag end =
+      let own : link.my.tag ≡ emission.packet.tag = tag link linked in
+      let same : end.tag ≡ link.peer.tag = sym end.both.tag_is ∙ crosses end.both.link end.both.held (end.both.peer_is ∙ sym own) in (
+        subst (λ (t : ℕ). places.HasEntry emission (table.sends t).sent) same end.has,
+        subst (λ (t : ℕ). HadBoth past t link.my.tag) same (subst (HadBoth past end.tag) (sym own) end.both),
+      )
+
+  was_in : (chunk : ChunkContent) → (NoContent (plain (unworked chunk)) → ⊥) → MayHandle emission e (plain (unworked chunk)) → WasIn (table.sends link.peer.tag).sent chunk × HadBoth past link.peer.tag link.my.tag
   was_in chunk bears (inl none) = absurd (bears none)
   was_in chunk bears (inr (has, tag)) = go is
     where
-      go : IsOfEnds table emission → WasIn (table.sends link.my.tag).sent chunk
+      go : IsOfEnds table past emission → WasIn (table.sends link.peer.tag).sent chunk × HadBoth past link.peer.tag link.my.tag
       go (inl none) = absurd (bears (no_content (plain (unworked chunk)) emission.packet.contents none has))
       go (inr (free, inl zero)) = absurd (some (tag link linked ∙ zero))
-      go (inr (free, inr was)) = record { emission = emission; was = subst (λ (t : ℕ). places.HasEntry emission (table.sends t).sent) (sym (tag link linked)) was; holds = has }
+      go (inr (free, inr end)) = (let found = the_end tag end in (record { emission = emission; was = found.0; holds = has }, found.1))
 
   -- So was what asks for a reset of streams.
-  was_asked : (parameters : List ResetParameter) → MayHandle emission e (re_config parameters) → NoRequests parameters ⊎ WasAsked (table.sends link.my.tag).sent parameters
-  was_asked parameters (inl none) = inl none
+  was_asked : (parameters : List ResetParameter) → MayHandle emission e (re_config parameters) → Sent (Some (re_config parameters))
+  was_asked parameters (inl none) = (inl none, inr (inl none))
   was_asked parameters (inr (has, tag)) = go is
     where
-      go : IsOfEnds table emission → NoRequests parameters ⊎ WasAsked (table.sends link.my.tag).sent parameters
-      go (inl none) = inl (no_content (re_config parameters) emission.packet.contents none has)
+      go : IsOfEnds table past emission → Sent (Some (re_config parameters))
+      go (inl none) = (let free = no_content (re_config parameters) emission.packet.contents none has in (inl free, inr (inl free)))
       go (inr (free, inl zero)) = absurd (some (tag link linked ∙ zero))
-      go (inr (free, inr was)) = inr (record { emission = emission; was = subst (λ (t : ℕ). places.HasEntry emission (table.sends t).sent) (sym (tag link linked)) was; holds = has })
+      go (inr (free, inr end)) = (let found = the_end tag end in (inr (record { emission = emission; was = found.0; holds = has }), inl found.1))
 
-  pub was_sent : (content : Content) → MayHandle emission e content → WasSent (table.sends link.my.tag).sent (Some content)
-  was_sent (plain (unworked (data_chunk chunk))) may = was_in (data_chunk chunk) (λ none. none) may
-  was_sent (plain (unworked (forward_tsn_chunk tsn streams))) may = was_in (forward_tsn_chunk tsn streams) (λ none. none) may
-  was_sent (plain (unworked (i_data_chunk chunk))) may = was_in (i_data_chunk chunk) (λ none. none) may
-  was_sent (plain (unworked (i_forward_tsn_chunk tsn streams))) may = was_in (i_forward_tsn_chunk tsn streams) (λ none. none) may
-  was_sent (plain (unworked (init_chunk c))) may = tt
-  was_sent (plain (unworked (init_ack_chunk c))) may = tt
-  was_sent (plain (unworked (sack_chunk c))) may = tt
-  was_sent (plain (unworked (heartbeat_chunk c))) may = tt
-  was_sent (plain (unworked (heartbeat_ack_chunk c))) may = tt
-  was_sent (plain (unworked (abort_chunk t c))) may = tt
-  was_sent (plain (unworked (shutdown_chunk c))) may = tt
-  was_sent (plain (unworked shutdown_ack_chunk)) may = tt
-  was_sent (plain (unworked (error_chunk c))) may = tt
-  was_sent (plain (unworked (cookie_echo_chunk c))) may = tt
-  was_sent (plain (unworked cookie_ack_chunk)) may = tt
-  was_sent (plain (unworked (shutdown_complete_chunk c))) may = tt
-  was_sent (plain (unworked (re_config_chunk c))) may = tt
-  was_sent (plain (unworked (unknown_chunk t f v))) may = tt
-  was_sent (plain (unknown t f v)) may = tt
-  was_sent (plain (heartbeat c)) may = tt
-  was_sent (plain (heartbeat_ack c)) may = tt
-  was_sent (init c) may = tt
-  was_sent (init_ack c k) may = tt
-  was_sent (cookie_echo c) may = tt
-  was_sent cookie_ack may = tt
+  pub was_sent : (content : Content) → MayHandle emission e content → Sent (Some content)
+  was_sent (plain (unworked (data_chunk chunk))) may = (let found = was_in (data_chunk chunk) (λ none. none) may in (found.0, inl found.1))
+  was_sent (plain (unworked (forward_tsn_chunk tsn streams))) may = (let found = was_in (forward_tsn_chunk tsn streams) (λ none. none) may in (found.0, inl found.1))
+  was_sent (plain (unworked (i_data_chunk chunk))) may = (let found = was_in (i_data_chunk chunk) (λ none. none) may in (found.0, inl found.1))
+  was_sent (plain (unworked (i_forward_tsn_chunk tsn streams))) may = (let found = was_in (i_forward_tsn_chunk tsn streams) (λ none. none) may in (found.0, inl found.1))
   was_sent (re_config parameters) may = was_asked parameters may
-  was_sent (abort t c) may = tt
-  was_sent (shutdown c) may = tt
-  was_sent shutdown_ack may = tt
-  was_sent (shutdown_complete t) may = tt
+  was_sent (plain (unworked (init_chunk c))) may = (tt, inr tt)
+  was_sent (plain (unworked (init_ack_chunk c))) may = (tt, inr tt)
+  was_sent (plain (unworked (sack_chunk c))) may = (tt, inr tt)
+  was_sent (plain (unworked (heartbeat_chunk c))) may = (tt, inr tt)
+  was_sent (plain (unworked (heartbeat_ack_chunk c))) may = (tt, inr tt)
+  was_sent (plain (unworked (abort_chunk t c))) may = (tt, inr tt)
+  was_sent (plain (unworked (shutdown_chunk c))) may = (tt, inr tt)
+  was_sent (plain (unworked shutdown_ack_chunk)) may = (tt, inr tt)
+  was_sent (plain (unworked (error_chunk c))) may = (tt, inr tt)
+  was_sent (plain (unworked (cookie_echo_chunk c))) may = (tt, inr tt)
+  was_sent (plain (unworked cookie_ack_chunk)) may = (tt, inr tt)
+  was_sent (plain (unworked (shutdown_complete_chunk c))) may = (tt, inr tt)
+  was_sent (plain (unworked (re_config_chunk c))) may = (tt, inr tt)
+  was_sent (plain (unworked (unknown_chunk t f v))) may = (tt, inr tt)
+  was_sent (plain (unknown t f v)) may = (tt, inr tt)
+  was_sent (plain (heartbeat c)) may = (tt, inr tt)
+  was_sent (plain (heartbeat_ack c)) may = (tt, inr tt)
+  was_sent (init c) may = (tt, inr tt)
+  was_sent (init_ack c k) may = (tt, inr tt)
+  was_sent (cookie_echo c) may = (tt, inr tt)
+  was_sent cookie_ack may = (tt, inr tt)
+  was_sent (abort t c) may = (tt, inr tt)
+  was_sent (shutdown c) may = (tt, inr tt)
+  was_sent shutdown_ack may = (tt, inr tt)
+  was_sent (shutdown_complete t) may = (tt, inr tt)
 
 -- ---- the tag of the association, chunk by chunk
 

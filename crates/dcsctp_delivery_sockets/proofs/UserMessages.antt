@@ -15,7 +15,7 @@ use Rattle.dcsctp_delivery_sending.proofs.Places.{at_cases}
 use Rattle.dcsctp_delivery_receiving.specs.Ready.{WereQueued}
 use Rattle.dcsctp_delivery_directions.specs.Directions.{Delivered}
 use Rattle.dcsctp_delivery_turns.specs.Actions.{queued_where, queued_together, queued_after}
-use Rattle.dcsctp_delivery_associations.specs.Reads.{Read, Reading, messages_of, and_first, tagged_after, reading_after}
+use Rattle.dcsctp_delivery_associations.specs.Reads.{Read, Reading, messages_of, and_first, tagged_after, reading_after, Tags}
 use Rattle.dcsctp_delivery_sockets.specs.Acts.{queued_through}
 use Rattle.dcsctp_delivery_sockets.specs.Packets.{reading_through}
 use Rattle.dcsctp_delivery_order.specs.Delivered.{DeliveredInOrder, DeliveredWithoutGaps}
@@ -121,11 +121,11 @@ messages_more : (reads : List Read) (read : Read) → messages_of (reads ++ read
 messages_more [] read = refl
 messages_more (r ∷ reads) read = ap (λ (l : List MessageContent). r.message ∷ l) (messages_more reads read)
 
-first_messages : (tag : ℕ) (ready : List MessageContent) (reads : List Read) → messages_of (and_first tag ready reads) ≡ messages_of reads ++ first_readable ready
+first_messages : (tag : Tags) (ready : List MessageContent) (reads : List Read) → messages_of (and_first tag ready reads) ≡ messages_of reads ++ first_readable ready
 first_messages tag [] reads = sym (append-nil (messages_of reads))
-first_messages tag (message ∷ ready) reads = messages_more reads (record { tag = tag; message = message })
+first_messages tag (message ∷ ready) reads = messages_more reads (record { tags = tag; message = message })
 
-input_read : (tag : ℕ) (e : Endpoint) (input : Input) (reads : List Read) → messages_of (tagged_after tag e input reads) ≡ messages_of reads ++ read_in e input
+input_read : (tag : Tags) (e : Endpoint) (input : Input) (reads : List Read) → messages_of (tagged_after tag e input reads) ≡ messages_of reads ++ read_in e input
 input_read tag e user_takes reads = first_messages tag (ready_where e.left e.queues.transfer) reads
 input_read tag e (user_sends sendings) reads = sym (append-nil (messages_of reads))
 input_read tag e arrival reads = sym (append-nil (messages_of reads))

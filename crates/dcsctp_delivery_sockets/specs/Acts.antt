@@ -1,5 +1,5 @@
 -- What two sockets do one after another, and all their associations.
-use Rattle.std.specs.Prelude.{◌≡◌, ◌<◌, ◌^◌, ℕ, Bool, Some, List, [], ◌∷◌, ◌++◌, length}
+use Rattle.std.specs.Prelude.{◌≡◌, ◌⊎◌, ◌<◌, ◌^◌, ℕ, Bool, Some, List, [], ◌∷◌, ◌++◌, length}
 use Rattle.std.specs.List.{AllByRecursion}
 use Rattle.dcsctp_spec_lemmas.specs.wire.Content.{PacketContent}
 use Rattle.dcsctp_spec_lemmas.specs.wire.Format.{IsPacket}
@@ -18,9 +18,9 @@ use Rattle.dcsctp_delivery_sending.specs.Log.{Message}
 use Rattle.dcsctp_delivery_sending.specs.Places as places
 use Rattle.dcsctp_delivery_turns.specs.Actions.{came_by, queued_after, IsOpening, Begun, IsCall}
 use Rattle.dcsctp_delivery_associations.specs.Answered.{AreAnswered}
-use Rattle.dcsctp_delivery_associations.specs.Ends.{Ends, NewPeer, Between}
+use Rattle.dcsctp_delivery_associations.specs.Ends.{Ends, NewPeer, GoesOnWith, Between}
 use Rattle.dcsctp_delivery_turns.specs.Runs.{RefusesNone}
-use Rattle.dcsctp_delivery_associations.specs.Laws.{CompletesPerformed, NewOwnTags, AsksLittle, ResetsAs, AreEnds}
+use Rattle.dcsctp_delivery_associations.specs.Laws.{CompletesPerformed, AsksLittle, ResetsAs, AreEnds}
 use Rattle.dcsctp_delivery_associations.specs.Reads.{Reading}
 use Rattle.dcsctp_delivery_sockets.specs.Echoes.{GoesToMaker}
 use Rattle.dcsctp_delivery_sockets.specs.Packets.{reading_through, AreNewTags}
@@ -35,18 +35,17 @@ abbrev pub AreTurns : Endpoint → List Transition → Type 0
 AreTurns e [] = Unit {0}
 AreTurns e (turn ∷ turns) = Turn e turn.input turn.outcome × AreTurns turn.outcome.after turns
 
--- Each input is a call, a timer or a chunk; and an association that begins has a peer of a new tag, and the matching one at the other side.
+-- Each input is a call, a timer or a chunk; and an association that begins has a new own tag, or goes on with the one that is there.
 -- With interleaving no own request to reset streams fails. Each that ends as performed was performed at the other side, or it is the
--- 2^32nd of its association. `follow_rfc` stays. Each association that is recorded has a new own tag.
+-- 2^32nd of its association. `follow_rfc` stays.
 abbrev pub AreNewPeers : List Effect → List Effect → Endpoint → List Transition → Type 0
 AreNewPeers past their_past e [] = Unit {0}
 AreNewPeers past their_past e (turn ∷ turns) =
     IsCall turn.input
-    × ((begun : Begun e turn.outcome) → IsOpening (came_by turn.input) → identity_in turn.outcome.after.core ≡ Some (identity_of begun.my begun.held) → NewPeer past their_past (identity_of begun.my begun.held))
+    × ((begun : Begun e turn.outcome) → IsOpening (came_by turn.input) → identity_in turn.outcome.after.core ≡ Some (identity_of begun.my begun.held) → NewPeer past their_past (identity_of begun.my begun.held) ⊎ GoesOnWith past e turn.input turn.outcome)
     × RefusesNone e turn.outcome
     × CompletesPerformed their_past turn.outcome
     × (turn.outcome.after.options.follow_rfc ≡ e.options.follow_rfc)
-    × NewOwnTags past turn.outcome
     × AreNewPeers (after_effects turn.outcome.effects past) their_past turn.outcome.after turns
 
 -- The user resets no stream by this turn, if it never does.

@@ -1,21 +1,22 @@
 -- A packet that a sender sent, handled by the receiver: what is handled in an association was sent
 -- in it.
-use Rattle.std.specs.Prelude.{◌<◌, ◌^◌, List, [], ◌∷◌, length, ◌≡◌, Some}
+use Rattle.std.specs.Prelude.{◌<◌, ◌^◌, List, [], ◌∷◌, length, ◌≡◌, ◌⊎◌, Some, true}
 use Rattle.dcsctp_spec_lemmas.specs.types.declared.options.Options.{Options}
 use Rattle.dcsctp_spec_lemmas.specs.types.Settings.{SameOptions}
 use Rattle.dcsctp_spec_lemmas.specs.spec.Admission.{admits}
 use Rattle.dcsctp_spec_lemmas.specs.spec.endpoint.CallTurns.{Transition, AdmittedTurns, after_all, effects_of}
-use Rattle.dcsctp_spec_lemmas.specs.spec.endpoint.Endpoint.{Endpoint}
+use Rattle.dcsctp_spec_lemmas.specs.spec.endpoint.Endpoint.{Endpoint, is_cookie_echoed}
+use Rattle.dcsctp_spec_runs.specs.Past.{HasEffect}
 use Rattle.dcsctp_spec_lemmas.specs.spec.Packet.{Emission}
 use Rattle.dcsctp_spec_runs.specs.World.{after_effects}
-use Rattle.dcsctp_spec_lemmas.specs.spec.association.Effect.{Effect, identity_of, identity_in}
+use Rattle.dcsctp_spec_lemmas.specs.spec.association.Effect.{AssociationIdentity, Effect, holds, identity_of, identity_in}
 use Rattle.dcsctp_delivery_sending.specs.Log.{Message}
 use Rattle.dcsctp_delivery_sending.specs.Places as places
 use Rattle.dcsctp_delivery_turns.specs.Actions.{came_by, IsOpening, Begun}
 use Rattle.dcsctp_delivery_turns.specs.PeerRequests.{KnowsPeerIn}
 use Rattle.dcsctp_delivery_associations.specs.Answered.{AreAnswered}
 use Rattle.dcsctp_delivery_associations.specs.Ends.{Ends, NewTag, Between}
-use Rattle.dcsctp_delivery_associations.specs.Laws.{NewOwnTags, AsksLittle, AreEnds}
+use Rattle.dcsctp_delivery_associations.specs.Laws.{NewPeerTags, AsksLittle, AreEnds}
 use Rattle.dcsctp_delivery_associations.specs.Reads.{Reading, reading_after}
 use Rattle.dcsctp_delivery_sockets.specs.Echoes.{GoesToMaker}
 
@@ -24,13 +25,22 @@ abbrev pub reading_through : Endpoint → List Transition → Reading → Readin
 reading_through e [] reading = reading
 reading_through e (turn ∷ turns) reading = reading_through turn.outcome.after turns (reading_after e turn.input turn.outcome.after reading)
 
--- Each turn starts with these options, and an association that begins in it has new tags, and the matching ones at the other
--- side. The past knows the peer's requests, and each association that is recorded has a new own tag.
+-- Each association of the sender whose peer has this own tag crosses it.
+abbrev pub IsCrossed : List Effect → AssociationIdentity → Type 0
+IsCrossed past link = (other : AssociationIdentity) → HasEffect (holds other) past → other.peer.tag ≡ link.my.tag → other.my.tag ≡ link.peer.tag
+
+-- The association that is there is crossed so, or its COOKIE ACK is awaited as by the RFC.
+abbrev pub CrossesOrWaits : List Effect → List Effect → Endpoint → Type 0
+CrossesOrWaits their_past past e =
+    (link : AssociationIdentity) → HasEffect (holds link) their_past → identity_in e.core ≡ Some link → IsCrossed past link ⊎ ((e.options.follow_rfc ≡ true) × (is_cookie_echoed e.core ≡ true))
+
+-- Each turn starts with these options, and an association that begins in it has a peer of a new tag, and the one that is there is
+-- crossed, or waits. The past knows the peer's requests, and each association that is recorded has a peer of a new tag.
 abbrev pub AreNewTags : Options → List Effect → List Effect → Endpoint → List Transition → Type 0
 AreNewTags options their_past past e [] = Unit {0}
 AreNewTags options their_past past e (turn ∷ turns) =
     SameOptions options e.options × ((begun : Begun e turn.outcome) → IsOpening (came_by turn.input) → identity_in turn.outcome.after.core ≡ Some (identity_of begun.my begun.held) → NewTag their_past past (identity_of begun.my begun.held))
-    × KnowsPeerIn their_past e.core × NewOwnTags their_past turn.outcome
+    × KnowsPeerIn their_past e.core × (NewPeerTags their_past turn.outcome × CrossesOrWaits their_past past e)
     × AreNewTags options (after_effects turn.outcome.effects their_past) past turn.outcome.after turns
 
 -- The chunks of a packet that the sender sent leave what is known of all associations.

@@ -13,7 +13,7 @@ use Rattle.dcsctp_spec_lemmas.specs.spec.Cookie.{Cookie}
 use Rattle.dcsctp_spec_lemmas.specs.spec.endpoint.Event.{Event, packets_in, connected, connection_restarted, aborted}
 use Rattle.dcsctp_spec_lemmas.specs.spec.queues.SendQueue.{queue_restarted, numbered_for}
 use Rattle.dcsctp_spec_lemmas.specs.spec.Packet.{Introduction, Content, cookie_echo, shutdown_ack, Emission}
-use Rattle.dcsctp_spec_lemmas.specs.spec.endpoint.Endpoint.{Endpoint, Core, closed, cookie_wait, cookie_echoed, open_in, established, shutdown_pending, shutdown_sent, shutdown_received, shutdown_ack_sent, may_answer, with_secret, secret_with}
+use Rattle.dcsctp_spec_lemmas.specs.spec.endpoint.Endpoint.{Endpoint, Core, closed, cookie_wait, cookie_echoed, open_in, established, shutdown_pending, shutdown_sent, shutdown_received, shutdown_ack_sent, may_answer, with_secret, secret_with, OutstandingRequest}
 use Rattle.dcsctp_spec_lemmas.specs.spec.endpoint.Outcome.{Outcome, quiet, emits, fits, to_peer}
 use Rattle.dcsctp_spec_lemmas.specs.spec.endpoint.FlushOutcomes.{Answer, draft_to, flush_of, flush_answered}
 use Rattle.dcsctp_spec_lemmas.specs.spec.endpoint.EndOutcomes.{abort_outcome, aborting_outcome, abort_to, end_of}
@@ -27,7 +27,7 @@ use Rattle.std.proofs.lemmas.Bool.{eqb-true}
 use Rattle.dcsctp_delivery_turns.specs.Tags.{IsPeerTag}
 use Rattle.dcsctp_spec_lemmas.specs.spec.association.Effect.{identity_of, identity_in}
 use Rattle.dcsctp_delivery_turns.specs.Actions.{IsOpening, IsCalm, Inside, inside, goes_on, ends, begins, collides}
-use Rattle.dcsctp_delivery_turns.specs.Asking.{Own, own_in, own_of}
+use Rattle.dcsctp_delivery_turns.specs.Asking.{Own, own_with, own_in, own_of}
 use Rattle.dcsctp_spec_lemmas.specs.spec.queues.Transfer.{Transfer, EndpointQueues, transfer_kept}
 use Rattle.dcsctp_spec_lemmas.specs.spec.endpoint.ReconfigurationOutcomes.{reset_again}
 use Rattle.dcsctp_spec_lemmas.proofs.OneAnswerLemmas.{init_by}
@@ -47,6 +47,27 @@ pub second_holds : (a b c : Bool) → ((a && b) && c) ≡ true → b ≡ true
 second_holds true true c is = refl
 second_holds true false c is = absurd (cc)
 second_holds false b c is = absurd (cc)
+
+third_holds : (a b c d f : Bool) → ((a && b) && ((c && d) && f)) ≡ true → c ≡ true
+third_holds true true true d f is = refl
+third_holds true true false d f is = absurd (cc)
+third_holds true false c d f is = absurd (cc)
+third_holds false b c d f is = absurd (cc)
+
+own_next_is : (core : Core) (request : Option OutstandingRequest) (mine : Pair) (held : Held) (echoed : List ℕ) (own : Own) → core ≡ cookie_echoed mine held echoed → own_in core request ≡ Some own → own.next ≡ held.own_next
+own_next_is core request mine held echoed own is there =
+    let same : Some (own_with held request) ≡ Some own = sym (ap (λ (c : Core). own_in c request) is) ∙ there in
+    ap (λ (o : Option Own). next_in o) (sym same)
+  where
+    next_in : Option Own → ℕ
+    next_in None = 0
+    next_in (Some own) = own.next
+
+-- Where what was sent goes to another peer no request to reset streams was begun.
+pub unasked_by : (e : Endpoint) (mine : Pair) (held : Held) (echoed : List ℕ) (cookie : Cookie) (transfer : Transfer) → e.core ≡ cookie_echoed mine held echoed → outlasts e mine held cookie transfer ≡ true
+    → (own : Own) → own_of e ≡ Some own → own.next ≡ mine.first_tsn
+unasked_by e mine held echoed cookie transfer is lasts own there =
+    own_next_is e.core e.outstanding mine held echoed own is there ∙ eqb-true held.own_next mine.first_tsn (third_holds e.options.follow_rfc _ _ _ _ lasts)
 
 -- What waits to be sent is kept, or starts again.
 pub kept_or_anew : (b : Bool) (e : Endpoint) (cookie : Cookie)
@@ -169,9 +190,9 @@ module _ (came : Option Content) (calm : IsCalm came) (to : ℕ) where
 
   -- What was sent in the one association goes on in the other.
   other_goes : IsOpening came → (e : Endpoint) (mine : Pair) (held : Held) (echoed : List ℕ) (cookie : Cookie) (tie : ℕ) (transfer : Transfer) (answers : List Answer) → e.core ≡ cookie_echoed mine held echoed → e.queues.transfer ≡ Some transfer
-      → mine.tag ≡ cookie.maker.tag → EstablishAnswers e cookie (queues_by true e cookie transfer) tie answers
+      → outlasts e mine held cookie transfer ≡ true → EstablishAnswers e cookie (queues_by true e cookie transfer) tie answers
       → Goes came to e (establish_by (flush_answered answers) e cookie (queues_by true e cookie transfer) tie (connected ∷ []))
-  other_goes opening e mine held echoed cookie tie transfer answers same there tag allowed =
+  other_goes opening e mine held echoed cookie tie transfer answers same there lasts allowed =
       let queues : EndpointQueues = queues_by true e cookie transfer in
       let after : Held = held_by_cookie e.options cookie in
       let window : ℕ = window_by_cookie e.options cookie in
@@ -185,11 +206,12 @@ module _ (came : Option Content) (calm : IsCalm came) (to : ℕ) where
         };
         old = identity_of mine held;
         was = ap identity_in same;
-        tag = sym tag;
+        tag = sym (eqb-true mine.tag cookie.maker.tag (second_holds e.options.follow_rfc _ _ lasts));
+        unasked = unasked_by e mine held echoed cookie transfer same lasts;
         transfer = transfer;
         there = there;
         kept = transfer_kept e.moment e.options cookie.addressee.first_tsn window transfer;
-        kept_is = (e.moment, e.options, cookie.addressee.first_tsn, window, refl);
+        kept_is = (e.moment, window, refl);
       }) (λ queued. refl) (λ read. refl) (reset_again None)
       (flushed came cookie.addressee.tag (established_by e cookie queues tie) (cookie_ack_emission after cookie) answers refl refl (tt, tt) tt (tt, tt) allowed)
 
@@ -197,7 +219,7 @@ module _ (came : Option Content) (calm : IsCalm came) (to : ℕ) where
       → outlasts e mine held cookie transfer ≡ b → EstablishAnswers e cookie (queues_by b e cookie transfer) tie answers
       → Goes came to e (establish_by (flush_answered answers) e cookie (queues_by b e cookie transfer) tie (connected ∷ []))
   by_goes opening true e mine held echoed cookie tie transfer answers same there is allowed =
-      other_goes opening e mine held echoed cookie tie transfer answers same there (eqb-true mine.tag cookie.maker.tag (second_holds e.options.follow_rfc _ _ is)) allowed
+      other_goes opening e mine held echoed cookie tie transfer answers same there is allowed
   by_goes opening false e mine held echoed cookie tie transfer answers same there is allowed = anew_goes opening e cookie tie (connected ∷ []) answers refl allowed
 
   by_transfer_goes : IsOpening came → (e : Endpoint) (mine : Pair) (held : Held) (echoed : List ℕ) (cookie : Cookie) (tie : ℕ) (transfer : Option Transfer) (answers : List Answer) → e.core ≡ cookie_echoed mine held echoed → e.queues.transfer ≡ transfer

@@ -18,6 +18,7 @@ pub mod Idle
 pub mod Numbering
 pub mod Fronts
 pub mod Beginnings
+pub mod Outlasts
 pub mod SenderRuns
 pub mod ReceiverRuns
 pub mod Runs

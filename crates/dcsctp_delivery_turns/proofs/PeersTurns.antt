@@ -11,8 +11,9 @@ use Rattle.dcsctp_spec_lemmas.specs.spec.association.Effect.{Effect, Association
 use Rattle.dcsctp_spec_lemmas.specs.spec.queues.Transfer.{Transfer}
 use Rattle.dcsctp_spec_lemmas.specs.spec.endpoint.ResetOutcomes.{WorksResets, ResetTurn}
 use Rattle.dcsctp_delivery_turns.specs.Actions.{Collides, came_by, IsCalm, IsCall}
-use Rattle.dcsctp_delivery_turns.specs.PeerRequests.{NoneAsked, KnowsPeer, KnowsPeerIn, IsPlainRequest, PeerTurns, asks_nothing, begins_anew, collides_anew, PeersTurn, CalmAsksNothing, UnlinkedAsksNothing, EndsAskNothing}
+use Rattle.dcsctp_delivery_turns.specs.PeerRequests.{NoneAsked, KnowsPeer, KnowsPeerIn, IsPlainRequest, PeerTurns, asks_nothing, begins_anew, PeersTurn, CalmAsksNothing, UnlinkedAsksNothing, EndsAskNothing}
 use Rattle.dcsctp_delivery_turns.proofs.AskedResets.{request_turns}
+use Rattle.dcsctp_delivery_turns.proofs.Outlasts.{other_begun}
 use Rattle.dcsctp_delivery_turns.proofs.PeerRequests.{answers_ask, none_ends}
 use Rattle.dcsctp_delivery_turns.proofs.UnaskedHandshake.{CalmTurns, goes_on, begins, collides}
 use Rattle.dcsctp_delivery_turns.proofs.UnaskedTurns.{calm_turns}
@@ -67,13 +68,13 @@ calm_asks_nothing e input o calm may turn = calm_none (came_by input) e o (calm_
 
 -- Where both ends began at the same time, nothing waits for a reset.
 kept_waits : {came : Option Content} {e : Endpoint} {o : Outcome} (collision : Collides came e o) (left : Transfer) → WaitedIn (Some collision.kept) left → left.reassembly.deferral ≡ None
-kept_waits collision left waits = (let same = collision.kept_is.4 in subst (λ (t : Transfer). WaitedIn (Some t) left) same waits)
+kept_waits collision left waits = (let same = collision.kept_is.2 in subst (λ (t : Transfer). WaitedIn (Some t) left) same waits)
 
 calm_peer : (link : AssociationIdentity) (past : List Effect) (e : Endpoint) (input : Input) (o : Outcome) (transfer left : Transfer) → e.queues.transfer ≡ Some transfer → o.after.queues.transfer ≡ Some left → CalmTurns (came_by input) e o
     → PeerTurns link past e input o transfer.reassembly.deferral left.reassembly.deferral
 calm_peer link past e input o transfer left known at (goes_on asks) = asks_nothing asks.none (subst (λ (t : Option Transfer). WaitedIn t left) known (asks.waits left at))
 calm_peer link past e input o transfer left known at (begins begun opening linked asks) = begins_anew begun opening linked asks.none (asks.waits left at)
-calm_peer link past e input o transfer left known at (collides collision asks) = collides_anew collision asks.none (kept_waits collision left (asks.waits left at))
+calm_peer link past e input o transfer left known at (collides collision asks) = begins_anew (other_begun e input o collision) collision.opened.opening collision.opened.linked asks.none (kept_waits collision left (asks.waits left at))
 
 works_peer : (link : AssociationIdentity) (past : List Effect) (e : Endpoint) (tag : ℕ) (my : Pair) (held : Held) (parameters : List ResetParameter) (o : Outcome) (transfer left : Transfer) → KnowsPeer past held → link ≡ identity_of my held
     → IsPlainRequest (Some (re_config parameters)) → e.queues.transfer ≡ Some transfer → o.after.queues.transfer ≡ Some left → WorksResets e my held parameters o
@@ -131,8 +132,7 @@ reset_unlinked e (open_in phase my held) parameters o none turn = absurd (cc)
 unlinked_by : (input : Input) → Handles input → (e : Endpoint) (o : Outcome) → IsCall input → Turn e input o → identity_in e.core ≡ None → NoneAsked o.effects × WaitsNot e o
 unlinked_by input (calmly calm) e o may turn none = calm_unlinked (came_by input) e o (calm_turns e input o calm may turn)
 unlinked_by input (handles tag parameters is) e o may turn none =
-    let asks =
-    content_by e tag (re_config parameters) o (λ dropped. as_this e.queues.transfer o _ dropped (rests e)) (λ handled. reset_unlinked e e.core parameters o none handled)
+    let asks = content_by e tag (re_config parameters) o (λ dropped. as_this e.queues.transfer o _ dropped (rests e)) (λ handled. reset_unlinked e e.core parameters o none handled)
     (subst (λ (i : Input). Turn e i o) is turn) in
     (asks.none, waits_not e o asks)
 
@@ -150,8 +150,8 @@ reset_ends e (open_in phase my held) parameters o transfer turn known none = abs
 ends_by : (input : Input) → Handles input → (e : Endpoint) (o : Outcome) (transfer : Transfer) → IsCall input → Turn e input o → e.queues.transfer ≡ Some transfer → o.after.queues.transfer ≡ None → NoneAsked o.effects
 ends_by input (calmly calm) e o transfer may turn known none = calm_asks_nothing e input o calm may turn
 ends_by input (handles tag parameters is) e o transfer may turn known none =
-    content_by e tag (re_config parameters) o (λ dropped. subst (λ (x : Outcome). NoneAsked x.effects) (sym dropped) tt)
-    (λ handled. reset_ends e e.core parameters o transfer handled known none) (subst (λ (i : Input). Turn e i o) is turn)
+    content_by e tag (re_config parameters) o (λ dropped. subst (λ (x : Outcome). NoneAsked x.effects) (sym dropped) tt) (λ handled. reset_ends e e.core parameters o transfer handled known none)
+    (subst (λ (i : Input). Turn e i o) is turn)
 
 pub ends_ask_nothing : EndsAskNothing
 ends_ask_nothing e input o transfer may turn known none = ends_by input (input_handles input) e o transfer may turn known none

@@ -11,7 +11,7 @@ use Rattle.dcsctp_delivery_turns.specs.Actions.{ledger_of, Inside, inside, Made,
 use Rattle.dcsctp_delivery_turns.specs.Sides.{WasAsked, WasSent, receiving, ReceivingSteps}
 use Rattle.dcsctp_spec_lemmas.specs.spec.association.Effect.{identity_of, identity_in}
 use Rattle.dcsctp_spec_lemmas.specs.types.queues.Messages.{MessageContent}
-use Rattle.dcsctp_delivery_turns.specs.Runs.{new_direction, OpensSmall, HasNewTag, KnowsRequest, performed_where, ReceiverTurns, receiver_goes_on, receiver_ends, receiver_begins, OpensAssociation, IdleTurns, idle_stays, idle_begins}
+use Rattle.dcsctp_delivery_turns.specs.Runs.{new_direction, OpensSmall, KnowsRequest, performed_where, ReceiverTurns, receiver_goes_on, receiver_ends, receiver_begins, OpensAssociation, IdleTurns, idle_stays, idle_begins}
 use Rattle.dcsctp_delivery_directions.specs.Directions.{Asking, nothing_asked, Direction, DirectionRun}
 use Rattle.dcsctp_delivery_turns.proofs.Sides.{steps_go_on, actions_receive}
 use Rattle.dcsctp_delivery_turns.proofs.Idle.{actions_none, read_none, opening_sent}
@@ -26,6 +26,7 @@ use Rattle.dcsctp_delivery_directions.specs.Requests.{IsOfBegun}
 use Rattle.dcsctp_delivery_directions.proofs.Requests.{requests_were_begun}
 use Rattle.dcsctp_delivery_turns.proofs.PeerRequests.{none_requested}
 use Rattle.dcsctp_delivery_turns.proofs.Beginnings.{nothing_fits, unlinked_fits, worked_fits}
+use Rattle.dcsctp_delivery_turns.proofs.Outlasts.{collided_opens}
 
 abbrev empty_direction : Options → Direction
 empty_direction options = new_direction options 0 0 [] (record { queue = empty_queue options; transfer = None }) 0 [] (record { from_zero = false; keeps = λ id. false })
@@ -86,7 +87,7 @@ module _ (e : Endpoint) (input : Input) (o : Outcome) (small : OpensSmall e inpu
   idle_becomes none fits (collides collision alike unread again makes) = absurd (let both : Some collision.transfer ≡ None = sym collision.there ∙ none in cc)
 
 module _ (is_known : Bool) (options : Options) (first size : ℕ) (direction : Direction) (transfer : Transfer) (e : Endpoint) (input : Input) (o : Outcome) (run : DirectionRun options first size (receiving direction transfer direction.read))
-    (known : e.queues.transfer ≡ Some transfer) (was : WasSent direction.sent (came_by input)) (newest : KnowsRequest is_known direction transfer (came_by input) o.effects) (fits : SomeFit (own_of e)) (small : OpensSmall e input o) (new : HasNewTag e input o) where
+    (known : e.queues.transfer ≡ Some transfer) (was : WasSent direction.sent (came_by input)) (newest : KnowsRequest is_known direction transfer (came_by input) o.effects) (fits : SomeFit (own_of e)) (small : OpensSmall e input o) where
   -- the direction, once a request was performed in this turn or not
   abbrev worked_direction : Bool → Direction
   worked_direction is_reset = record direction { asking = performed_where is_known is_reset direction.asking }
@@ -136,4 +137,4 @@ module _ (is_known : Bool) (options : Options) (first size : ℕ) (direction : D
       (subst (λ (l : List MessageContent). DirectionRun options first size (record (receiving direction transfer l) { asking = asking })) (sym (unread direction.read)) stays)
   receiver_becomes (ends none unread last kept makes is) = receiver_ends none (ap (λ (b : EndpointQueues). b.transfer) is) unread
   receiver_becomes (begins begun opening linked alike unread again makes) = receiver_begins (opens e input o small begun opening linked unread again makes)
-  receiver_becomes (collides collision alike unread again makes) = absurd (new collision)
+  receiver_becomes (collides collision alike unread again makes) = receiver_begins (collided_opens e input o small collision unread again makes)

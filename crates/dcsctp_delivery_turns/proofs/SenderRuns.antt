@@ -15,7 +15,7 @@ use Rattle.dcsctp_delivery_sending.specs.Queueing.{QueueWaits}
 use Rattle.dcsctp_delivery_turns.specs.Addressed.{AreAddressed}
 use Rattle.dcsctp_spec_lemmas.specs.spec.association.Effect.{identity_in}
 use Rattle.dcsctp_spec_lemmas.specs.types.queues.Messages.{MessageContent}
-use Rattle.dcsctp_delivery_turns.specs.Runs.{sender_at, IsBetween, as_it_was, once_renewed, OpensSmall, HasNewTag, EndsPerformed, RefusesNone, MayDrop, SenderTurns, run_goes_on, run_ends, run_begins}
+use Rattle.dcsctp_delivery_turns.specs.Runs.{sender_at, IsBetween, as_it_was, once_renewed, OpensSmall, EndsPerformed, RefusesNone, MayDrop, SenderTurns, run_goes_on, run_ends, run_begins, run_outlasts}
 use Rattle.dcsctp_delivery_directions.specs.Directions.{Asking, nothing_asked, asking_renewed, Direction, Beginning, BeginsAs, DirectionRun, IsAwaited}
 use Rattle.dcsctp_delivery_turns.proofs.Sides.{one_step, steps_go_on, actions_send}
 use Rattle.dcsctp_spec_lemmas.specs.spec.Reconfiguration.{RequestedReset}
@@ -26,11 +26,12 @@ use Rattle.dcsctp_delivery_turns.proofs.Numbering.{actions_kind}
 use Rattle.dcsctp_delivery_turns.proofs.Fronts.{is_asking, own_renews, sending_by, front_sends}
 use Rattle.dcsctp_delivery_directions.proofs.Directions.{direction_queues}
 use Rattle.dcsctp_delivery_turns.proofs.Addressed.{data_goes_to_peer}
+use Rattle.dcsctp_delivery_turns.proofs.Outlasts.{outlasts_goes}
 use Rattle.dcsctp_delivery_turns.proofs.Begun.{grows_not}
 use Rattle.dcsctp_delivery_turns.proofs.Beginnings.{input_more, nothing_fits, begun_queues, begun_kind}
 
 module _ (options : Options) (first size : ℕ) (direction : Direction) (e : Endpoint) (input : Input) (o : Outcome) (run : DirectionRun options first size direction) (small : first < 2 ^ 32) (same : direction.queues ≡ e.queues)
-    (fits : AsksFit first (own_of e) direction.asking) (performed : EndsPerformed e o direction.asking) (refuses : RefusesNone e o) (drops : MayDrop input direction.beginning) (opens : OpensSmall e input o) (new : HasNewTag e input o) (few : length (queued_after e input direction.queued) < 2 ^ 64) where
+    (fits : AsksFit first (own_of e) direction.asking) (performed : EndsPerformed e o direction.asking) (refuses : RefusesNone e o) (drops : MayDrop input direction.beginning) (opens : OpensSmall e input o) (few : length (queued_after e input direction.queued) < 2 ^ 64) where
   both : QueueWaits direction.queued direction.queues.queue × AllByRecursion Fits direction.queued
   both = direction_queues options first size direction run small (let more = input_more e input direction.queued in omega (arith, few, more))
 
@@ -95,7 +96,8 @@ module _ (options : Options) (first size : ℕ) (direction : Direction) (e : End
       let left = direction_queues options first size (after_turn last.queues after.0 made.asking) after.1 small few in
       run_ends none (addressed (peer_tag e.core) (inside e) direction.asking first last _ _ (makes direction.queued [] [] first direction.asking fits)) last.queues
       (actions_kind (came_by input) (peer_tag e.core) _ _ made.actions) after.0 made.asking made.grows (subst (λ (o : Option Own). AsksFit first o made.asking) kept made.fits) after.1 is left.0 left.1
-  sender_becomes (collides collision alike unread again makes) = absurd (new collision)
+  sender_becomes (collides collision alike unread again makes) =
+      run_outlasts collision (alike direction.queued) (λ first_is asked. outlasts_goes options first size direction e input o run small same collision first_is asked again makes)
   sender_becomes (begins begun opening linked alike unread again makes) =
       let waits = subst (λ (b : EndpointQueues). QueueWaits direction.queued b.queue) same both.0 in
       run_begins begun opening linked

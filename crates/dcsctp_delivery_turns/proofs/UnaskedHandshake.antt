@@ -17,7 +17,7 @@ use Rattle.dcsctp_spec_lemmas.specs.spec.endpoint.FlushOutcomes.{Answer, draft_t
 use Rattle.dcsctp_spec_lemmas.specs.spec.endpoint.HandshakeOutcomes.{pair_from, renewed_pair, init_ack_emission, init_outcome, init_emission, awaits_init_ack, connect_outcome, awaits_cookie_ack, echo_emission, EchoAnswers, InitAckAnswers, accepted_init_ack_by, init_ack_by, connected_after, CookieAckAnswers, cookie_ack_by, abort_emission, no_cookie_text}
 use Rattle.dcsctp_spec_lemmas.specs.spec.endpoint.TimerOutcomes.{AgainAnswers, again_by}
 use Rattle.dcsctp_delivery_turns.specs.Actions.{Begun, Collides, begun_transfer, IsOpening}
-use Rattle.dcsctp_delivery_turns.proofs.Handshake.{second_holds, kept_or_anew}
+use Rattle.dcsctp_delivery_turns.proofs.Handshake.{second_holds, unasked_by, kept_or_anew}
 use Rattle.dcsctp_spec_lemmas.proofs.RefusalLemmas.{by_stale_outcome}
 use Rattle.std.proofs.lemmas.Bool.{eqb-true}
 use Rattle.dcsctp_spec_lemmas.specs.types.declared.association.Held.{Held}
@@ -124,9 +124,9 @@ module _ (came : Option Content) (opening : IsOpening came) (e : Endpoint) where
   anew_calm cookie tie told answers allowed = established_calm cookie (numbered_for (interleaves e cookie) (queue_restarted e.queues.queue)) tie told answers (inr refl) allowed
 
   -- What was sent in the one association goes on in the other.
-  other_calm : (mine : Pair) (held : Held) (echoed : List ℕ) (cookie : Cookie) (tie : ℕ) (transfer : Transfer) (answers : List Answer) → e.core ≡ cookie_echoed mine held echoed → e.queues.transfer ≡ Some transfer → mine.tag ≡ cookie.maker.tag
+  other_calm : (mine : Pair) (held : Held) (echoed : List ℕ) (cookie : Cookie) (tie : ℕ) (transfer : Transfer) (answers : List Answer) → e.core ≡ cookie_echoed mine held echoed → e.queues.transfer ≡ Some transfer → outlasts e mine held cookie transfer ≡ true
       → EstablishAnswers e cookie (queues_by true e cookie transfer) tie answers → CalmTurns came e (establish_by (flush_answered answers) e cookie (queues_by true e cookie transfer) tie (connected ∷ []))
-  other_calm mine held echoed cookie tie transfer answers same there tag allowed =
+  other_calm mine held echoed cookie tie transfer answers same there lasts allowed =
       let base : Endpoint = established_by e cookie (queues_by true e cookie transfer) tie in
       let last = flushed base (cookie_ack_emission (held_by_cookie e.options cookie) cookie) answers allowed in
       collides (record {
@@ -139,17 +139,18 @@ module _ (came : Option Content) (opening : IsOpening came) (e : Endpoint) where
         };
         old = identity_of mine held;
         was = ap identity_in same;
-        tag = sym tag;
+        tag = sym (eqb-true mine.tag cookie.maker.tag (second_holds e.options.follow_rfc _ _ lasts));
+        unasked = unasked_by e mine held echoed cookie transfer same lasts;
         transfer = transfer;
         there = there;
         kept = transfer_kept e.moment e.options cookie.addressee.first_tsn (window_by_cookie e.options cookie) transfer;
-        kept_is = (e.moment, e.options, cookie.addressee.first_tsn, window_by_cookie e.options cookie, refl);
+        kept_is = (e.moment, window_by_cookie e.options cookie, refl);
       }) (record { none = last.none; waits = last.waits })
 
   by_calm : (b : Bool) (mine : Pair) (held : Held) (echoed : List ℕ) (cookie : Cookie) (tie : ℕ) (transfer : Transfer) (answers : List Answer) → e.core ≡ cookie_echoed mine held echoed → e.queues.transfer ≡ Some transfer → outlasts e mine held cookie transfer ≡ b
       → EstablishAnswers e cookie (queues_by b e cookie transfer) tie answers → CalmTurns came e (establish_by (flush_answered answers) e cookie (queues_by b e cookie transfer) tie (connected ∷ []))
   by_calm true mine held echoed cookie tie transfer answers same there is allowed =
-      other_calm mine held echoed cookie tie transfer answers same there (eqb-true mine.tag cookie.maker.tag (second_holds e.options.follow_rfc _ _ is)) allowed
+      other_calm mine held echoed cookie tie transfer answers same there is allowed
   by_calm false mine held echoed cookie tie transfer answers same there is allowed = anew_calm cookie tie (connected ∷ []) answers allowed
 
   by_transfer_calm : (mine : Pair) (held : Held) (echoed : List ℕ) (cookie : Cookie) (tie : ℕ) (transfer : Option Transfer) (answers : List Answer) → e.core ≡ cookie_echoed mine held echoed → e.queues.transfer ≡ transfer

@@ -281,10 +281,12 @@ pub record Collides (came : Option Content) (e : Endpoint) (o : Outcome) : Type 
   pub old : AssociationIdentity
   pub was : identity_in e.core ≡ Some old
   pub tag : opened.link.my.tag ≡ old.my.tag
+  -- No request to reset streams was begun.
+  pub unasked : (own : Own) → own_of e ≡ Some own → own.next ≡ old.my.first_tsn
   pub transfer : Transfer
   pub there : e.queues.transfer ≡ Some transfer
   pub kept : Transfer
-  pub kept_is : (now : ℕ) × (options : Options) × (first : ℕ) × (window : ℕ) × (kept ≡ transfer_kept now options first window transfer)
+  pub kept_is : (now : ℕ) × (window : ℕ) × (kept ≡ transfer_kept now e.options opened.link.peer.first_tsn window transfer)
 
 -- what goes on
 abbrev pub kept_inside : {came : Option Content} {e : Endpoint} {o : Outcome} → Collides came e o → RequestedReset → Inside

@@ -15,7 +15,7 @@ use Rattle.dcsctp_spec_lemmas.specs.spec.association.FlushChanges.{next_number, 
 use Rattle.dcsctp_spec_lemmas.specs.spec.queues.Reassembly.{DeferralModel}
 use Rattle.dcsctp_spec_lemmas.specs.spec.queues.Transfer.{Transfer}
 use Rattle.dcsctp_delivery_sending.specs.Flushes.{NoRequests}
-use Rattle.dcsctp_delivery_turns.specs.Actions.{came_by, Begun, Collides, IsOpening, IsCalm, IsCall}
+use Rattle.dcsctp_delivery_turns.specs.Actions.{came_by, Begun, IsOpening, IsCalm, IsCall}
 
 -- No request of the peer was accepted or performed, and no association was restored.
 abbrev pub NoneAsked : List Effect → Type 0
@@ -71,8 +71,6 @@ pub data PeerTurns (link : AssociationIdentity) (past : List Effect) (e : Endpoi
       → (left : DeferralModel) → new ≡ Some left → WaitsFor reset old left → PeerTurns link past e input o old new
   -- Another association begins.
   begins_anew : (begun : Begun e o) → IsOpening (came_by input) → identity_in o.after.core ≡ Some (identity_of begun.my begun.held) → NoneAsked o.effects → new ≡ None → PeerTurns link past e input o old new
-  -- So does one that has our own tag.
-  collides_anew : Collides (came_by input) e o → NoneAsked o.effects → new ≡ None → PeerTurns link past e input o old new
 
 -- This holds for each turn in an association.
 abbrev pub PeersTurn : Type 0

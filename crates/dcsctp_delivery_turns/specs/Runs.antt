@@ -54,9 +54,21 @@ pub data IsBetween (happened : List Effect) (old : Asking) : Asking → Type 0 w
   once_refused : has_refused happened ≡ true → IsBetween happened old (all_ended old)
   once_renewed : (newest : BegunReset) (earlier : List BegunReset) (number : ℕ) → old.requests ≡ newest ∷ earlier → old.out ≡ 1 → number ≡ next_number newest.number → IsBetween happened old (asking_renewed number newest old)
 
+-- Both ends began at the same time (RFC 9260, section 5.2.4, action B). All data goes to the other peer's tag, and the run
+-- continues.
+pub record Outlasts (options : Options) (first size : ℕ) (direction : Direction) (e : Endpoint) (input : Input) (o : Outcome) (collision : Collides (came_by input) e o) : Type 0 where
+  pub acknowledged : ℕ
+  pub asking : Asking
+  pub grows : AskingGrows nothing_asked asking
+  pub fits : AsksFit first (own_of o.after) asking
+  pub addressed : AreAddressed collision.opened.link.peer.tag (packets_in o.events)
+  pub kind : o.after.queues.queue.is_interleaved ≡ e.queues.queue.is_interleaved
+  pub run : DirectionRun options first size (sender_at direction direction.queued o.after.queues acknowledged (direction.sent ++ packets_in o.events) asking)
+
 -- A turn of the sender continues the run; or the association ends after its last packets, and there is none; or another one
 -- begins, whoever receives, and whatever that side has done before. All data goes to the peer's tag. When an association ends or
--- begins, what no longer waits may be marked as spent.
+-- begins, what no longer waits may be marked as spent. Or another one takes its place, and the run continues if the numbers of
+-- the one are those of the other.
 pub data SenderTurns (options : Options) (first size : ℕ) (direction : Direction) (e : Endpoint) (input : Input) (o : Outcome) : Type 0 where
   run_goes_on : identity_in o.after.core ≡ identity_in e.core → AreAddressed (peer_tag e.core) (packets_in o.events) → o.after.queues.queue.is_interleaved ≡ e.queues.queue.is_interleaved
       → (acknowledged : ℕ) (between asking : Asking) → IsBetween o.effects direction.asking between → AskingGrows between asking → AsksFit first (own_of o.after) asking
@@ -73,6 +85,8 @@ pub data SenderTurns (options : Options) (first size : ℕ) (direction : Directi
       → BeginsAs beginning queued begun.queue → (acknowledged : ℕ) × (asking : Asking) × AskingGrows nothing_asked asking × AsksFit begun.my.first_tsn (own_of o.after) asking
       × DirectionRun other begun.my.first_tsn room (record (sender_at awaiting queued o.after.queues acknowledged (packets_in o.events) asking) { beginning = beginning }))
       → SenderTurns options first size direction e input o
+  run_outlasts : (collision : Collides (came_by input) e o) → queued_after e input direction.queued ≡ direction.queued
+      → (first ≡ collision.opened.link.my.first_tsn → direction.asking ≡ nothing_asked → Outlasts options first size direction e input o collision) → SenderTurns options first size direction e input o
 
 -- Where the turn ends a request as performed, the receiver has performed the newest one, with interleaving.
 abbrev pub EndsPerformed : Endpoint → Outcome → Asking → Type 0
@@ -86,20 +100,15 @@ RefusesNone e o = e.queues.queue.is_interleaved ≡ true → has_refused o.effec
 abbrev pub MayDrop : Input → Beginning → Type 0
 MayDrop input beginning = (ids : List ℕ) → streams_reset_by input ≡ Some ids → AllByRecursion (λ id. beginning.keeps id ≡ false) ids
 
--- No association begins in this turn under the own tag of the one before.
-abbrev pub HasNewTag : Endpoint → Input → Outcome → Type 0
-HasNewTag e input o = Collides (came_by input) e o → ⊥
-
 -- If an association begins in this turn, its own first TSN has 32 bits.
 abbrev pub OpensSmall : Endpoint → Input → Outcome → Type 0
 OpensSmall e input o = (begun : Begun e o) → IsOpening (came_by input) → identity_in o.after.core ≡ Some (identity_of begun.my begun.held) → begun.my.first_tsn < 2 ^ 32
 
--- This holds for each turn, also of a closed socket, with a direction on which nothing is in flight, if no association begins
--- under the own tag of the one before.
+-- This holds for each turn, also of a closed socket, with a direction on which nothing is in flight.
 abbrev pub SendersGoOn : Type 0
 SendersGoOn =
     (options : Options) (first size : ℕ) (direction : Direction) (e : Endpoint) (input : Input) (o : Outcome) → DirectionRun options first size direction → first < 2 ^ 32 → direction.queues ≡ e.queues
-    → AsksFit first (own_of e) direction.asking → EndsPerformed e o direction.asking → RefusesNone e o → MayDrop input direction.beginning → OpensSmall e input o → HasNewTag e input o
+    → AsksFit first (own_of e) direction.asking → EndsPerformed e o direction.asking → RefusesNone e o → MayDrop input direction.beginning → OpensSmall e input o
     → length (queued_after e input direction.queued) < 2 ^ 64 → IsCall input → Turn e input o → SenderTurns options first size direction e input o
 
 -- A run begins where the socket was just made, with number 0 on each stream and nothing queued,
@@ -168,11 +177,11 @@ pub data ReceiverTurns (is_known : Bool) (options : Options) (first size : ℕ) 
   receiver_ends : identity_in o.after.core ≡ None → o.after.queues.transfer ≡ None → ((read : List MessageContent) → read_after e input read ≡ read) → ReceiverTurns is_known options first size direction transfer e input o
   receiver_begins : OpensAssociation e input o → ReceiverTurns is_known options first size direction transfer e input o
 
--- This holds for each turn, if no association begins under the own tag of the one before.
+-- This holds for each turn.
 abbrev pub ReceiversGoOn : Type 0
 ReceiversGoOn =
     (is_known : Bool) (options : Options) (first size : ℕ) (direction : Direction) (transfer : Transfer) (e : Endpoint) (input : Input) (o : Outcome) → DirectionRun options first size (receiving direction transfer direction.read)
-    → e.queues.transfer ≡ Some transfer → WasSent direction.sent (came_by input) → KnowsRequest is_known direction transfer (came_by input) o.effects → SomeFit (own_of e) → OpensSmall e input o → HasNewTag e input o → IsCall input → Turn e input o → ReceiverTurns is_known options first size direction transfer e input o
+    → e.queues.transfer ≡ Some transfer → WasSent direction.sent (came_by input) → KnowsRequest is_known direction transfer (came_by input) o.effects → SomeFit (own_of e) → OpensSmall e input o → IsCall input → Turn e input o → ReceiverTurns is_known options first size direction transfer e input o
 
 -- Where there is no association, none is there after the turn, and nothing is read in one; or one begins.
 pub data IdleTurns (e : Endpoint) (input : Input) (o : Outcome) : Type 0 where
