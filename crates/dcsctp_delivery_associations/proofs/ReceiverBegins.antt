@@ -24,7 +24,7 @@ use Rattle.dcsctp_delivery_directions.proofs.Directions.{direction_queues}
 use Rattle.dcsctp_delivery_turns.specs.Actions.{peer_tag, IsCall}
 use Rattle.dcsctp_delivery_turns.specs.Asking.{own_of, AsksFit}
 use Rattle.dcsctp_delivery_turns.specs.Runs.{OpensAssociation}
-use Rattle.dcsctp_delivery_associations.specs.Ends.{SendingEnd, ReceivingEnd, joined, new_end, Ends, sender_key, HadPeer, Awaits, Sender, NewTag, HadTag, Receiver, awaiting, MetOrAlone, Between}
+use Rattle.dcsctp_delivery_associations.specs.Ends.{SendingEnd, ReceivingEnd, joined, new_end, Ends, sender_key, HadPeer, Awaits, Sender, NewTag, HadTag, Receiver, unbegun_end, MetOrAlone, Between}
 use Rattle.dcsctp_delivery_associations.specs.Reads.{Tags, tags_of, Reading, tags_or, with_key}
 use Rattle.dcsctp_delivery_associations.proofs.Growing.{set_all}
 use Rattle.dcsctp_delivery_associations.proofs.Growing.{set_three}
@@ -103,9 +103,9 @@ module _ (options : Options) (ends : Ends) (e : Endpoint) (queued : List Message
     later_alone firsts here others t =
         elim (decide t tag) [
           | inl e' ↦ subst (MetOrAlone options (record ends { sends = ends.sends; gets = set_at tag got ends.gets; firsts = firsts }) past (after_effects o.effects their_past)) (sym e')
-              (inr (subst (λ (n : ℕ). DirectionRun options n options.max_receiver_window_buffer_size (joined (awaiting options) (set_at tag got ends.gets tag))) (sym here)
-              (subst (λ (g : ReceivingEnd). DirectionRun options first options.max_receiver_window_buffer_size (joined (awaiting options) g)) (sym (set_same tag got ends.gets))
-              (opened_by (awaiting options) (senders_begin options options first options.max_receiver_window_buffer_size (λ id. false))))))
+              (inr (subst (λ (n : ℕ). DirectionRun options n options.max_receiver_window_buffer_size (joined (unbegun_end options) (set_at tag got ends.gets tag))) (sym here)
+              (subst (λ (g : ReceivingEnd). DirectionRun options first options.max_receiver_window_buffer_size (joined (unbegun_end options) g)) (sym (set_same tag got ends.gets))
+              (opened_by (unbegun_end options) (senders_begin options options first options.max_receiver_window_buffer_size (λ id. false))))))
           | inr ne ↦
               alone_later options ends (record ends { sends = ends.sends; gets = set_at tag got ends.gets; firsts = firsts }) past past their_past (after_effects o.effects their_past) (λ effect has. has) (after_within o.effects their_past) t
               (set_other tag t got ends.gets ne) (others t ne) (h.alone t)

@@ -23,11 +23,10 @@ use Rattle.dcsctp_delivery_associations.specs.Answered.{requests_of, waiting_def
 use Rattle.dcsctp_delivery_associations.proofs.AnsweringRests.{same_requests}
 use Rattle.dcsctp_delivery_associations.proofs.ReceiverOpens.{rests_answered}
 use Rattle.dcsctp_spec_lemmas.specs.types.declared.association.Pair.{Pair}
-use Rattle.dcsctp_spec_runs.specs.Past.{WasPerformed, HasEffect}
-use Rattle.dcsctp_spec_lemmas.specs.spec.association.Effect.{performs}
+use Rattle.dcsctp_spec_runs.specs.Past.{WasPerformed}
 use Rattle.dcsctp_delivery_turns.specs.Actions.{peer_tag, IsCall}
 use Rattle.dcsctp_delivery_turns.specs.Asking.{own_of, SomeFit}
-use Rattle.dcsctp_delivery_associations.specs.Ends.{ReceivingEnd, joined, new_end, Ends, sender_key, HadTag, LeavesReady, awaiting, MetOrAlone, Between}
+use Rattle.dcsctp_delivery_associations.specs.Ends.{ReceivingEnd, joined, new_end, Ends, sender_key, HadTag, LeavesReady, unbegun_end, MetOrAlone, Between}
 use Rattle.dcsctp_delivery_associations.specs.Reads.{Tags, Read, Reading, tags_or, reading_after, tagged_after, and_first, with_key}
 use Rattle.dcsctp_delivery_associations.proofs.WhatIsLeft.{left_idle, left_taken}
 use Rattle.dcsctp_delivery_associations.proofs.WhatIsRead.{all_of_first, all_of_later, of_link_later, MayRead, reads_first, reads_none, may_read, first_own, first_other}
@@ -156,8 +155,8 @@ module _ (options : Options) (ends : Ends) (e : Endpoint) (queued : List Message
         alone_here (inl met) = inl (met_later past past their_past (after_effects o.effects their_past) (λ effect has. has) (after_within o.effects their_past) reading.last.peer met)
         alone_here (inr run) =
             inr
-            (subst (λ (g : ReceivingEnd). DirectionRun options (ends.firsts reading.last.peer) options.max_receiver_window_buffer_size (joined (awaiting options) g)) (sym (set_same reading.last.peer (record { tracker = (ends.gets reading.last.peer).tracker; reassembly = with_ready messages (ends.gets reading.last.peer).reassembly; read = (ends.gets reading.last.peer).read ++ message ∷ [] }) ends.gets))
-            (directions.goes_on (joined (awaiting options) (ends.gets reading.last.peer)) (joined (awaiting options) (record { tracker = (ends.gets reading.last.peer).tracker; reassembly = with_ready messages (ends.gets reading.last.peer).reassembly; read = (ends.gets reading.last.peer).read ++ message ∷ [] })) run (directions.takes message messages ready)))
+            (subst (λ (g : ReceivingEnd). DirectionRun options (ends.firsts reading.last.peer) options.max_receiver_window_buffer_size (joined (unbegun_end options) g)) (sym (set_same reading.last.peer (record { tracker = (ends.gets reading.last.peer).tracker; reassembly = with_ready messages (ends.gets reading.last.peer).reassembly; read = (ends.gets reading.last.peer).read ++ message ∷ [] }) ends.gets))
+            (directions.goes_on (joined (unbegun_end options) (ends.gets reading.last.peer)) (joined (unbegun_end options) (record { tracker = (ends.gets reading.last.peer).tracker; reassembly = with_ready messages (ends.gets reading.last.peer).reassembly; read = (ends.gets reading.last.peer).read ++ message ∷ [] })) run (directions.takes message messages ready)))
 
     takes_goes : (left : List MessageContent) → IsLeft left → o.after.left ≡ without_first_message left → and_first reading.last left reading.reads ≡ tagged_after reading.last d input reading.reads → Turned
     takes_goes [] is stays same' = unread_rests (sym same') (inl stays)

@@ -42,7 +42,7 @@ sender_same ends gets key to below queued past packets s =
       kind = s.kind;
       kinds = s.kinds;
       begun = s.begun;
-      all_sent = of_more ends (record ends { gets = gets }) past past packets (λ effect has. has) (λ t emission both has. has) s.all_sent;
+      all_sent = of_more ends (record ends { gets = gets }) past past packets (λ effect has. has) (λ emission went. record { tag = went.tag; former_is = went.former_is }) (λ t emission both has. inr has) s.all_sent;
       to_is = s.to_is;
       went = s.went;
       replaced = s.replaced;
@@ -69,7 +69,7 @@ sender_asked ends tag asking got key to below queued past packets s still =
         | inl waits ↦ inl (still_awaits t waits)
         | inr had ↦ inr had
       ];
-      all_sent = of_more ends (asked_ends ends tag asking got) past past packets (λ effect has. has) (λ t emission both has. has) s.all_sent;
+      all_sent = of_more ends (asked_ends ends tag asking got) past past packets (λ effect has. has) (λ emission went. record { tag = went.tag; former_is = went.former_is }) (λ t emission both has. inr has) s.all_sent;
       to_is = s.to_is;
       went = s.went;
       replaced = s.replaced;
@@ -106,7 +106,7 @@ sender_first ends gets tag first key to below queued past packets s ne waits =
         | inl e ↦ inl (subst (λ (n : ℕ). Awaits (ends.sends n)) (sym e) waits)
         | inr other ↦ before t other (s.begun t some)
       ];
-      all_sent = of_more ends (record ends { gets = gets; firsts = set_at tag first ends.firsts }) past past packets (λ effect has. has) (λ t emission both has. has) s.all_sent;
+      all_sent = of_more ends (record ends { gets = gets; firsts = set_at tag first ends.firsts }) past past packets (λ effect has. has) (λ emission went. record { tag = went.tag; former_is = went.former_is }) (λ t emission both has. inr has) s.all_sent;
       to_is = s.to_is;
       went = s.went;
       replaced = s.replaced;

@@ -36,7 +36,7 @@ use Rattle.dcsctp_delivery_turns.specs.Asking.{own_of, SomeFit}
 use Rattle.dcsctp_delivery_turns.specs.Sides.{WasSent, receiving}
 use Rattle.dcsctp_delivery_turns.specs.Runs.{ReceiverTurns, receiver_goes_on, receiver_ends, receiver_begins, IdleTurns, idle_stays, idle_begins}
 use Rattle.dcsctp_delivery_turns.proofs.Runs.{receivers_go_on, receivers_begin}
-use Rattle.dcsctp_delivery_associations.specs.Ends.{LeavesReady, SendingEnd, ReceivingEnd, joined, new_end, Ends, sender_key, HadBoth, NewTag, HadTag, IsCurrentEnd, awaiting, MetOrAlone, Between}
+use Rattle.dcsctp_delivery_associations.specs.Ends.{LeavesReady, ReceivingEnd, joined, new_end, Ends, sender_key, HadBoth, NewTag, HadTag, IsCurrentEnd, unbegun_end, MetOrAlone, Between}
 use Rattle.dcsctp_delivery_associations.specs.Reads.{Tags, tags_of, Read, Reading, tags_or, reading_after, tagged_after, with_key}
 use Rattle.dcsctp_delivery_associations.proofs.WhatIsLeft.{goes_left, ends_left}
 use Rattle.dcsctp_delivery_associations.proofs.WhatIsRead.{all_of_after, all_of_later, reads_still, opening_still, own_read, other_read}
@@ -69,24 +69,24 @@ module _ (options : Options) (ends : Ends) (e : Endpoint) (queued : List Message
     abbrev alone_end : Transfer → ReceivingEnd
     alone_end left = record { tracker = left.tracker; reassembly = left.reassembly; read = read_after d input (ends.gets c.link.peer.tag).read }
 
-    alone_run : (left : Transfer) → o.after.queues.transfer ≡ Some left → WasSent [] (came_by input) → DirectionRun options (ends.firsts c.link.peer.tag) options.max_receiver_window_buffer_size (joined (awaiting options) (ends.gets c.link.peer.tag))
+    alone_run : (left : Transfer) → o.after.queues.transfer ≡ Some left → WasSent [] (came_by input) → DirectionRun options (ends.firsts c.link.peer.tag) options.max_receiver_window_buffer_size (joined (unbegun_end options) (ends.gets c.link.peer.tag))
         → identity_in o.after.core ≡ identity_in d.core
-        → DirectionRun options (ends.firsts c.link.peer.tag) options.max_receiver_window_buffer_size (joined (awaiting options) (alone_end left))
+        → DirectionRun options (ends.firsts c.link.peer.tag) options.max_receiver_window_buffer_size (joined (unbegun_end options) (alone_end left))
     alone_run left is none run same' =
         go
-        (receivers_go_on false options (ends.firsts c.link.peer.tag) options.max_receiver_window_buffer_size (joined (awaiting options) (ends.gets c.link.peer.tag)) transfer d input o
-        (subst (λ (t : TrackerState). DirectionRun options (ends.firsts c.link.peer.tag) options.max_receiver_window_buffer_size (joined (awaiting options) (record { tracker = t; reassembly = transfer.reassembly; read = (ends.gets c.link.peer.tag).read }))) c.tracker
-        (subst (λ (r : ReassemblyState). DirectionRun options (ends.firsts c.link.peer.tag) options.max_receiver_window_buffer_size (joined (awaiting options) (record { tracker = (ends.gets c.link.peer.tag).tracker; reassembly = r; read = (ends.gets c.link.peer.tag).read }))) c.reassembly run))
+        (receivers_go_on false options (ends.firsts c.link.peer.tag) options.max_receiver_window_buffer_size (joined (unbegun_end options) (ends.gets c.link.peer.tag)) transfer d input o
+        (subst (λ (t : TrackerState). DirectionRun options (ends.firsts c.link.peer.tag) options.max_receiver_window_buffer_size (joined (unbegun_end options) (record { tracker = t; reassembly = transfer.reassembly; read = (ends.gets c.link.peer.tag).read }))) c.tracker
+        (subst (λ (r : ReassemblyState). DirectionRun options (ends.firsts c.link.peer.tag) options.max_receiver_window_buffer_size (joined (unbegun_end options) (record { tracker = (ends.gets c.link.peer.tag).tracker; reassembly = r; read = (ends.gets c.link.peer.tag).read }))) c.reassembly run))
         there none (inl refl) h.receiver.fits (λ begun opening linked. (new begun opening linked).own_small) may turn)
       where
         one : (found : Option Transfer) (first second : Transfer) → found ≡ Some first → found ≡ Some second → first ≡ second
         one found first second a b = cc
 
-        go : ReceiverTurns false options (ends.firsts c.link.peer.tag) options.max_receiver_window_buffer_size (joined (awaiting options) (ends.gets c.link.peer.tag)) transfer d input o
-            → DirectionRun options (ends.firsts c.link.peer.tag) options.max_receiver_window_buffer_size (joined (awaiting options) (alone_end left))
+        go : ReceiverTurns false options (ends.firsts c.link.peer.tag) options.max_receiver_window_buffer_size (joined (unbegun_end options) (ends.gets c.link.peer.tag)) transfer d input o
+            → DirectionRun options (ends.firsts c.link.peer.tag) options.max_receiver_window_buffer_size (joined (unbegun_end options) (alone_end left))
         go (receiver_goes_on linked other there' fits asking by run') =
-            subst (λ (t : Transfer). DirectionRun options (ends.firsts c.link.peer.tag) options.max_receiver_window_buffer_size (joined (awaiting options) (alone_end t))) (one o.after.queues.transfer other left there' is)
-            (subst (λ (a : Asking). DirectionRun options (ends.firsts c.link.peer.tag) options.max_receiver_window_buffer_size (record (joined (awaiting options) (alone_end other)) { asking = a })) (by.3 ∙ unknown by.0) run')
+            subst (λ (t : Transfer). DirectionRun options (ends.firsts c.link.peer.tag) options.max_receiver_window_buffer_size (joined (unbegun_end options) (alone_end t))) (one o.after.queues.transfer other left there' is)
+            (subst (λ (a : Asking). DirectionRun options (ends.firsts c.link.peer.tag) options.max_receiver_window_buffer_size (record (joined (unbegun_end options) (alone_end other)) { asking = a })) (by.3 ∙ unknown by.0) run')
           where
             unknown : (reset : Bool) → performed_where false reset nothing_asked ≡ nothing_asked
             unknown true = refl
@@ -105,7 +105,7 @@ module _ (options : Options) (ends : Ends) (e : Endpoint) (queued : List Message
     alone_so left asking is same' (inr none) (inl met) = inl (met_later past past their_past (after_effects o.effects their_past) (λ effect has. has) (after_within o.effects their_past) c.link.peer.tag met)
     alone_so left asking is same' (inr none) (inr run) =
         inr
-        (subst (λ (g : ReceivingEnd). DirectionRun options (ends.firsts c.link.peer.tag) options.max_receiver_window_buffer_size (joined (awaiting options) g)) (sym (set_same c.link.peer.tag (alone_end left) ends.gets))
+        (subst (λ (g : ReceivingEnd). DirectionRun options (ends.firsts c.link.peer.tag) options.max_receiver_window_buffer_size (joined (unbegun_end options) g)) (sym (set_same c.link.peer.tag (alone_end left) ends.gets))
         (alone_run left is none run same'))
 
     receives : identity_in o.after.core ≡ identity_in d.core → (left : Transfer) → o.after.queues.transfer ≡ Some left → SomeFit (own_of o.after) → (asking : Asking)

@@ -1,8 +1,8 @@
 -- The sender sends its newest request again under the next number.
 use Rattle.std.proofs.Common.{◌≡◌, ℕ, suc, true, ◌<◌, ◌≤◌, ◌+◌, ◌-◌, ◌^◌, Option, List, [], ◌∷◌, ◌++◌, length, length-append, refl, sym, ◌∙◌, ap, subst, inl, inr, arith}
 use Rattle.std.specs.Prelude.{◌⊎◌}
-use Rattle.dcsctp_spec_runs.specs.Past.{WasPerformed, HasEffect}
-use Rattle.dcsctp_spec_lemmas.specs.spec.association.Effect.{Effect, performs}
+use Rattle.dcsctp_spec_runs.specs.Past.{WasPerformed}
+use Rattle.dcsctp_spec_lemmas.specs.spec.association.Effect.{Effect}
 use Rattle.dcsctp_spec_lemmas.specs.spec.queues.Reassembly.{DeferralModel}
 use Rattle.dcsctp_spec_lemmas.specs.spec.endpoint.BegunResets.{BegunReset}
 use Rattle.dcsctp_delivery_receiving.specs.Clear.{IsOwn}

@@ -19,7 +19,7 @@ use Rattle.dcsctp_delivery_turns.specs.Actions.{IsCall}
 use Rattle.dcsctp_delivery_turns.specs.Asking.{Own, own_with, own_in, own_of, AreNumbered, IsAsking, OutIs, AsksFit, AskingGrows}
 use Rattle.dcsctp_delivery_turns.specs.Runs.{EndsPerformed, RefusesNone, IsBetween, as_it_was, once_performed, once_refused, once_renewed}
 use Rattle.dcsctp_delivery_turns.proofs.Completing.{completes_own}
-use Rattle.dcsctp_delivery_associations.specs.Ends.{SendingEnd, ReceivingEnd, Ends, sender_key, NewPeer}
+use Rattle.dcsctp_delivery_associations.specs.Ends.{SendingEnd, ReceivingEnd, Ends, sender_key}
 use Rattle.dcsctp_delivery_associations.specs.Answered.{Requests, request_number_at, AnswersRequests, requests_of, waiting_deferral, AreAnswered}
 use Rattle.dcsctp_delivery_associations.specs.Laws.{CompletesPerformed}
 use Rattle.dcsctp_delivery_associations.proofs.RequestNumbers.{same_place, newest_number}
@@ -218,17 +218,17 @@ module _ (ends : Ends) (e : Endpoint) (past : List Effect) (d : Endpoint) (their
 
 -- ---- a turn in which an association begins
 
-pub begins_answers : (ends : Ends) (e : Endpoint) (past : List Effect) (d : Endpoint) (their_past : List Effect) (w : AreAnswered ends e past d their_past) (new : AssociationIdentity) → NewPeer past their_past new
+pub begins_answers : (ends : Ends) (e : Endpoint) (past : List Effect) (d : Endpoint) (their_past : List Effect) (w : AreAnswered ends e past d their_past) (new : AssociationIdentity) → new.my.tag ≢ 0 → ((theirs : AssociationIdentity) → HasEffect (holds theirs) their_past → theirs.peer.tag ≡ new.my.tag → theirs.peer ≡ new.my)
     → (ends.sends new.my.tag).asking ≡ nothing_asked → (end : SendingEnd) (gets : ℕ → ReceivingEnd) (firsts : ℕ → ℕ) → firsts new.my.tag ≡ new.my.first_tsn → ((tag : ℕ) → tag ≢ new.my.tag → firsts tag ≡ ends.firsts tag)
     → MayBegin new.my.first_tsn nothing_asked end.asking → ((other : AssociationIdentity) → identity_in d.core ≡ Some other → other.peer.tag ≡ new.my.tag → ends.firsts new.my.tag ≡ new.my.first_tsn)
     → (later : List Effect) → ((effect : Effect) → HasEffect effect past → HasEffect effect later) → HasEffect (holds new) later
     → AnswersRequests (requests_of (record ends { sends = set_at new.my.tag end ends.sends; gets = gets; firsts = firsts }) (set_at new.my.tag new.my w.pairs)) (Some new) later (identity_in d.core) their_past (waiting_deferral d.queues.transfer)
-begins_answers ends e past d their_past w new is nothing end gets firsts first others begins crossed later grows held =
+begins_answers ends e past d their_past w new some match nothing end gets firsts first others begins crossed later grows held =
     same_requests (requests_of (record ends { sends = set_at new.my.tag end ends.sends; gets = gets; firsts = firsts }) (set_at new.my.tag new.my w.pairs))
     (set_at new.my.tag (fresh_requests new end.queues.queue.is_interleaved end.asking) (requests_of ends w.pairs)) (Some new) later (identity_in d.core) their_past (waiting_deferral d.queues.transfer)
     (set_ends ends w.pairs new.my.tag end gets firsts (set_at new.my.tag new.my w.pairs) (fresh_requests new end.queues.queue.is_interleaved end.asking) here
     (λ tag ne. (others tag ne, set_other new.my.tag tag new.my w.pairs ne)))
-    (opens_on (requests_of ends w.pairs) (identity_in e.core) past (identity_in d.core) their_past (waiting_deferral d.queues.transfer) w.answers new is.some nothing is.match end.queues.queue.is_interleaved end.asking begins crossed later grows held)
+    (opens_on (requests_of ends w.pairs) (identity_in e.core) past (identity_in d.core) their_past (waiting_deferral d.queues.transfer) w.answers new some nothing match end.queues.queue.is_interleaved end.asking begins crossed later grows held)
   where
     here : of_end (firsts new.my.tag) (set_at new.my.tag new.my w.pairs new.my.tag) end ≡ fresh_requests new end.queues.queue.is_interleaved end.asking
     here = ap (λ (n : ℕ). of_end n (set_at new.my.tag new.my w.pairs new.my.tag) end) first ∙ ap (λ (m : Pair). of_end new.my.first_tsn m end) (set_same new.my.tag new.my w.pairs)

@@ -2,9 +2,9 @@
 use Rattle.std.proofs.Common.{◌≡◌, ◌≢◌, ℕ, true, ◌<◌, ◌-◌, ◌^◌, Option, Some, List, ◌∷◌, length, refl, sym, ◌∙◌, subst, inl, inr}
 use Rattle.std.specs.Prelude.{◌⊎◌}
 use Rattle.dcsctp_spec_lemmas.specs.types.declared.association.Pair.{Pair}
-use Rattle.dcsctp_spec_runs.specs.Past.{WasPerformed, HasEffect}
+use Rattle.dcsctp_spec_runs.specs.Past.{WasPerformed}
 use Rattle.dcsctp_spec_runs.specs.World.{after_effects}
-use Rattle.dcsctp_spec_lemmas.specs.spec.association.Effect.{AssociationIdentity, Effect, performs}
+use Rattle.dcsctp_spec_lemmas.specs.spec.association.Effect.{AssociationIdentity, Effect}
 use Rattle.dcsctp_spec_lemmas.specs.spec.queues.Reassembly.{DeferralModel}
 use Rattle.dcsctp_spec_lemmas.specs.spec.endpoint.BegunResets.{BegunReset}
 use Rattle.dcsctp_delivery_sending.specs.Places.{set_at}

@@ -31,7 +31,7 @@ use Rattle.dcsctp_delivery_turns.proofs.Beginnings.{begun_at_zero}
 use Rattle.dcsctp_delivery_turns.proofs.Runs.{senders_begin}
 use Rattle.dcsctp_delivery_turns.proofs.Unbegun.{unbegun_begins_at_zero, unbegun_begins_waiting}
 use Rattle.dcsctp_delivery_associations.proofs.Held.{never_held, none_held, some_held}
-use Rattle.dcsctp_delivery_associations.specs.Ends.{SendingEnd, ReceivingEnd, joined, new_end, Ends, HadPeer, HadKind, HadBoth, sender_key, awaiting, MetOrAlone, NeverHeld, KeepsThese, KeepsOnlyThese, BeginsAnew, Awaits, Sender, NewPeer, HadTag, IsCurrentEnd, Receiver, Between, IsOnlyOwn}
+use Rattle.dcsctp_delivery_associations.specs.Ends.{SendingEnd, ReceivingEnd, joined, new_end, Ends, HadPeer, HadKind, HadBoth, sender_key, unbegun_end, MetOrAlone, KeepsThese, KeepsOnlyThese, BeginsAnew, Awaits, Sender, NewPeer, HadTag, IsCurrentEnd, Receiver, Between, IsOnlyOwn, IsOnlyOne, IsBefore}
 use Rattle.dcsctp_delivery_directions.proofs.RequestCounts.{requests_more_to, requests_are_sent}
 use Rattle.dcsctp_delivery_associations.specs.Answered.{AnswersRequests, requests_of, waiting_deferral, AreAnswered}
 use Rattle.dcsctp_delivery_associations.proofs.AskedOn.{MayBegin}
@@ -129,10 +129,10 @@ module _ (options : Options) (ends : Ends) (e : Endpoint) (queued : List Message
       → BeginsAs beginning queued begun.queue → (acknowledged : ℕ) × (asking : Asking) × AskingGrows nothing_asked asking × AsksFit begun.my.first_tsn (own_of o.after) asking
       × DirectionRun other begun.my.first_tsn room (record (sender_at awaiting queued o.after.queues acknowledged (packets_in o.events) asking) { beginning = beginning })
 
-  new_held : HasEffect (holds new) (after_effects o.effects past)
+  pub new_held : HasEffect (holds new) (after_effects o.effects past)
   new_held = subst (λ (l : List Effect). HasEffect (holds new) (after_effects l past)) (sym begun.noted) (after_within begun.later (holds new ∷ past) (holds new) (inl refl))
 
-  had_new : HadPeer (after_effects o.effects past) begun.my.tag begun.my.first_tsn
+  pub had_new : HadPeer (after_effects o.effects past) begun.my.tag begun.my.first_tsn
   had_new =
       record {
         link = new;
@@ -141,11 +141,11 @@ module _ (options : Options) (ends : Ends) (e : Endpoint) (queued : List Message
         first_is = refl;
       }
 
-  had_both : HadBoth (after_effects o.effects past) begun.my.tag begun.held.peer.tag
+  pub had_both : HadBoth (after_effects o.effects past) begun.my.tag begun.held.peer.tag
   had_both = record { link = new; held = new_held; tag_is = refl; peer_is = refl }
 
   -- None began before, or it is the new one.
-  which : identity_in o.after.core ≡ Some new → (each : AssociationIdentity) → HasEffect (holds each) (after_effects o.effects past) → HasEffect (holds each) past ⊎ (each ≡ new)
+  pub which : identity_in o.after.core ≡ Some new → (each : AssociationIdentity) → HasEffect (holds each) (after_effects o.effects past) → HasEffect (holds each) past ⊎ (each ≡ new)
   which linked each has = elim (after_split (holds each) o.effects past has) [ inl here ↦ inr (one_link (only_one each here) linked) | inr old ↦ inl old ]
     where
       one_link : {found : Option AssociationIdentity} {one two : AssociationIdentity} → found ≡ Some one → found ≡ Some two → one ≡ two
@@ -165,11 +165,11 @@ module _ (options : Options) (ends : Ends) (e : Endpoint) (queued : List Message
       }
 
   -- Do the numbers of each stream begin at 0, and does it begin with all that was queued?
-  abbrev begins_anew : Beginning
+  abbrev pub begins_anew : Beginning
   begins_anew = record { from_zero = e.options.follow_rfc || never_held past; keeps = λ id. ends.never_resets id && never_held past }
 
   -- So it does.
-  begins_so : BeginsAs begins_anew marks begun.queue
+  pub begins_so : BeginsAs begins_anew marks begun.queue
   begins_so = record { zero = go e.options.follow_rfc (never_held past) refl refl; all = λ id. all_wait id (ends.never_resets id) (never_held past) refl refl }
     where
       all_wait : (id : ℕ) (resets never : Bool) → ends.never_resets id ≡ resets → never_held past ≡ never → (resets && never) ≡ true → AllWaitOn id marks begun.queue.streams
@@ -194,20 +194,20 @@ module _ (options : Options) (ends : Ends) (e : Endpoint) (queued : List Message
       go false some = (let found = some_held past some in absurd (is.other found.0 found.1 (only found.0 (after_within o.effects past (holds found.0) found.1))))
 
   -- It keeps each stream then that the user never resets.
-  kept_anew : NewPeer past their_past new → (end : SendingEnd) → end.beginning ≡ begins_anew → (tag : ℕ) → tag ≢ 0 → IsOnlyOwn (after_effects o.effects past) tag
+  kept_anew : NewPeer past their_past new → (end : SendingEnd) → end.beginning ≡ begins_anew → (tag : ℕ) → tag ≢ 0 → IsOnlyOne (after_effects o.effects past) tag
       → KeepsThese ends.never_resets (set_at begun.my.tag end ends.sends tag).beginning
   kept_anew is end here =
-      set_all (λ tag s. tag ≢ 0 → IsOnlyOwn (after_effects o.effects past) tag → KeepsThese ends.never_resets s.beginning) begun.my.tag end ends.sends
-      (λ some only id never. ap (λ (b : Beginning). b.keeps id) here ∙ ap (λ (b : Bool). b && never_held past) never ∙ first_of_all is only)
-      (λ tag ne some only. absurd (ne (sym (only new new_held))))
+      set_all (λ tag s. tag ≢ 0 → IsOnlyOne (after_effects o.effects past) tag → KeepsThese ends.never_resets s.beginning) begun.my.tag end ends.sends
+      (λ some only id never. ap (λ (b : Beginning). b.keeps id) here ∙ ap (λ (b : Bool). b && never_held past) never ∙ first_of_all is (λ link has. (only.1 link has).0))
+      (λ tag ne some only. absurd (ne (sym (only.1 new new_held).0)))
 
-  dropping_anew : (end : SendingEnd) → end.beginning ≡ begins_anew → (tag : ℕ) → KeepsOnlyThese ends.never_resets (set_at begun.my.tag end ends.sends tag).beginning
+  pub dropping_anew : (end : SendingEnd) → end.beginning ≡ begins_anew → (tag : ℕ) → KeepsOnlyThese ends.never_resets (set_at begun.my.tag end ends.sends tag).beginning
   dropping_anew end here =
       set_all (λ tag s. KeepsOnlyThese ends.never_resets s.beginning) begun.my.tag end ends.sends
       (λ id resets. ap (λ (b : Beginning). b.keeps id) here ∙ ap (λ (b : Bool). b && never_held past) resets) (λ tag ne. h.dropping tag)
 
   -- So they do in the new association, if it is the only one or the sender follows the RFC, and in each other as before.
-  numbers_anew : NewPeer past their_past new → (end : SendingEnd) → end.beginning ≡ begins_anew → (tag : ℕ) → tag ≢ 0 → BeginsAnew o.after (after_effects o.effects past) tag
+  pub numbers_anew : NewPeer past their_past new → (end : SendingEnd) → end.beginning ≡ begins_anew → (tag : ℕ) → tag ≢ 0 → BeginsAnew o.after (after_effects o.effects past) tag
       → (set_at begun.my.tag end ends.sends tag).beginning.from_zero ≡ true
   numbers_anew is end here =
       set_all (λ tag s. tag ≢ 0 → BeginsAnew o.after (after_effects o.effects past) tag → s.beginning.from_zero ≡ true) begun.my.tag end ends.sends
@@ -227,7 +227,7 @@ module _ (options : Options) (ends : Ends) (e : Endpoint) (queued : List Message
       other tag ne (inr only) = absurd (ne (sym (only new new_held)))
 
   -- What is begun in this turn is little.
-  begins_little : AreAddressed begun.held.peer.tag (packets_in o.events) → (options : Options) (size : ℕ) (acknowledged : ℕ) (asking : Asking) (direction : Direction) → AskingGrows nothing_asked asking
+  pub begins_little : AreAddressed begun.held.peer.tag (packets_in o.events) → (options : Options) (size : ℕ) (acknowledged : ℕ) (asking : Asking) (direction : Direction) → AskingGrows nothing_asked asking
       → AsksFit begun.my.first_tsn (own_of o.after) asking → identity_in o.after.core ≡ Some new
       → DirectionRun options begun.my.first_tsn size (sender_at direction marks o.after.queues acknowledged (packets_in o.events) asking) → MayBegin begun.my.first_tsn nothing_asked asking
   begins_little addressed options size acknowledged asking direction grows fits linked run =
@@ -238,7 +238,7 @@ module _ (options : Options) (ends : Ends) (e : Endpoint) (queued : List Message
       may_begin begun.my.first_tsn o.after.core o.after.outstanding nothing_asked asking new linked grows fits (omega (arith, sent, went, all, few))
 
   -- The answers are those of the association that begins.
-  answered_by : (later : Ends) → identity_in o.after.core ≡ Some new → (pairs : ℕ → Pair)
+  pub answered_by : (later : Ends) → identity_in o.after.core ≡ Some new → (pairs : ℕ → Pair)
       → AnswersRequests (requests_of later pairs) (Some new) (after_effects o.effects past) (identity_in d.core) their_past (waiting_deferral d.queues.transfer) → AreAnswered later o.after (after_effects o.effects past) d their_past
   answered_by later linked pairs answers =
       record {
@@ -247,23 +247,36 @@ module _ (options : Options) (ends : Ends) (e : Endpoint) (queued : List Message
         unlinked = w.unlinked;
       }
 
-  sender_of : (later : Ends) → identity_in o.after.core ≡ Some new → Sender later begun.my.tag begun.held.peer.tag o.after.queues queued (after_effects o.effects past) (packets ++ packets_in o.events)
+  pub sender_of : (later : Ends) → identity_in o.after.core ≡ Some new → Sender later begun.my.tag begun.held.peer.tag o.after.queues queued (after_effects o.effects past) (packets ++ packets_in o.events)
       → Sender later (sender_key o.after.core) (peer_tag o.after.core) o.after.queues queued (after_effects o.effects past) (packets ++ packets_in o.events)
   sender_of later linked sender =
       subst (λ (k : ℕ). Sender later k (peer_tag o.after.core) o.after.queues queued (after_effects o.effects past) (packets ++ packets_in o.events)) (sym (link_tag o.after.core new linked))
       (subst (λ (n : ℕ). Sender later begun.my.tag n o.after.queues queued (after_effects o.effects past) (packets ++ packets_in o.events)) (sym (link_peer o.after.core new linked)) sender)
 
   -- The association is there after the turn.
-  mine_then : identity_in o.after.core ≡ Some new → (link : AssociationIdentity) → identity_in o.after.core ≡ Some link → HasEffect (holds link) (after_effects o.effects past)
+  pub mine_then : identity_in o.after.core ≡ Some new → (link : AssociationIdentity) → identity_in o.after.core ≡ Some link → HasEffect (holds link) (after_effects o.effects past)
   mine_then linked link there = (let one : new ≡ link = cc in subst (λ (l : AssociationIdentity). HasEffect (holds l) (after_effects o.effects past)) one new_held)
 
   -- Each association of its tag is this one.
   which_is : NewPeer past their_past new → identity_in o.after.core ≡ Some new → (each : AssociationIdentity) → HasEffect (holds each) (after_effects o.effects past)
-      → HasEffect (holds each) past ⊎ ((each.my.tag ≢ 0) × (each.my.tag ≡ begun.my.tag) × (each.peer.tag ≡ begun.held.peer.tag))
+      → (HasEffect (holds each) past × (each.my.tag ≢ begun.my.tag)) ⊎ ((each.my.tag ≢ 0) × (each.my.tag ≡ begun.my.tag) × ((each.peer.tag ≡ begun.held.peer.tag) ⊎ (◌≡◌ {A = Option ℕ} None (Some each.peer.tag))))
   which_is is linked each has = elim (which linked each has) [
-    | inl old ↦ inl old
-    | inr here ↦ inr (subst (λ (l : AssociationIdentity). (l.my.tag ≢ 0) × (l.my.tag ≡ begun.my.tag) × (l.peer.tag ≡ begun.held.peer.tag)) (sym here) (is.some, refl, refl))
+    | inl old ↦ inl (old, is.other each old)
+    | inr here ↦
+        inr (subst (λ (l : AssociationIdentity). (l.my.tag ≢ 0) × (l.my.tag ≡ begun.my.tag) × ((l.peer.tag ≡ begun.held.peer.tag) ⊎ (◌≡◌ {A = Option ℕ} None (Some l.peer.tag)))) (sym here) (is.some, refl, inl refl))
   ]
+
+  nothing_left : NewPeer past their_past new → (each : AssociationIdentity) → HasEffect (holds each) past → each.my.tag ≡ begun.my.tag → (◌≡◌ {A = Option ℕ} None (Some each.peer.tag)) ⊎ ((ends.sends begun.my.tag).sent ≡ [])
+  nothing_left is each has same = absurd (is.other each has same)
+
+  before_held : (one other : AssociationIdentity) (past : List Effect) → IsBefore one other past → HasEffect (holds one) past
+  before_held one other [] before = absurd before
+  before_held one other (effect ∷ earlier) (inl here) = inr here.1
+  before_held one other (effect ∷ earlier) (inr before) = inr (before_held one other earlier before)
+
+  none_former : NewPeer past their_past new → (former : Option ℕ) → ends.former begun.my.tag ≡ former → ends.former begun.my.tag ≡ None
+  none_former is None none = none
+  none_former is (Some former) some = (let was = h.sender.replaced begun.my.tag former some in absurd (is.other was.old (before_held was.old was.link past was.before) was.old_is))
 
   crossed_begins : NewPeer past their_past new → Awaits (ends.sends begun.my.tag) → identity_in o.after.core ≡ Some new → AreAddressed begun.held.peer.tag (packets_in o.events)
       → QueueWaits marks e.queues.queue → AllByRecursion Fits marks → Later → ends.firsts begun.my.tag ≡ begun.my.first_tsn
@@ -275,8 +288,8 @@ module _ (options : Options) (ends : Ends) (e : Endpoint) (queued : List Message
       subst (λ (n : ℕ). DirectionRun options n options.max_receiver_window_buffer_size (joined (ends.sends to) (ends.gets to))) same (h.runs to) in
       let run = later options options.max_receiver_window_buffer_size (joined (ends.sends to) (ends.gets to)) marks begins_anew shown fit start
       (record { queued = waits.queued; sent = waits.sent; acknowledged = waits.acknowledged; transfer = waits.transfer; asking = waits.asking }) begins_so in
-      let end : SendingEnd = renewed_end ends (sender_key e.core) (peer_tag e.core) e.queues queued past packets h.sender o.effects to begun.held.peer.tag o.after.queues run.0 ps run.1 begins_anew ends.gets ends.firsts in
-      let ends' : Ends = renewed_ends ends (sender_key e.core) (peer_tag e.core) e.queues queued past packets h.sender o.effects to begun.held.peer.tag o.after.queues run.0 ps run.1 begins_anew ends.gets ends.firsts in
+      let end : SendingEnd = renewed_end ends (sender_key e.core) (peer_tag e.core) e.queues queued past packets h.sender o.effects to begun.held.peer.tag o.after.queues run.0 ps run.1 begins_anew ends.gets ends.firsts None in
+      let ends' : Ends = renewed_ends ends (sender_key e.core) (peer_tag e.core) e.queues queued past packets h.sender o.effects to begun.held.peer.tag o.after.queues run.0 ps run.1 begins_anew ends.gets ends.firsts None in
       record {
         ends = ends';
         is = refl;
@@ -285,8 +298,8 @@ module _ (options : Options) (ends : Ends) (e : Endpoint) (queued : List Message
               (subst (λ (n : ℕ). DirectionRun options n options.max_receiver_window_buffer_size (joined end (ends.gets to))) (sym same) run.4) (λ tag ne. h.runs tag);
           small = h.small;
           sender = sender_of ends' linked
-              (renewed ends (sender_key e.core) (peer_tag e.core) e.queues queued past packets h.sender o.effects to begun.held.peer.tag o.after.queues run.0 ps run.1 begins_anew ends.gets ends.firsts (inr waits)
-              (λ some. subst (λ (n : ℕ). HadPeer (after_effects o.effects past) to n) (sym same) had_new) (λ tag ne. refl) addressed (λ some. kind_new is linked) (inr had_both) is.other (which_is is linked));
+              (renewed ends (sender_key e.core) (peer_tag e.core) e.queues queued past packets h.sender o.effects to begun.held.peer.tag o.after.queues run.0 ps run.1 begins_anew ends.gets ends.firsts None (nothing_left is) (none_former is (ends.former begun.my.tag) refl)
+              (λ some. subst (λ (n : ℕ). HadPeer (after_effects o.effects past) to n) (sym same) had_new) (λ tag ne. refl) addressed (λ some. kind_new is linked) (inr had_both) (λ former none. absurd (cc)) (which_is is linked));
           mine = mine_then linked;
           asks = subst (λ (k : ℕ). AsksFit (ends.firsts k) (own_of o.after) (set_at to end ends.sends k).asking) (sym (link_tag o.after.core new linked))
               (subst (λ (s : SendingEnd). AsksFit (ends.firsts to) (own_of o.after) s.asking) (sym (set_same to end ends.sends))
@@ -299,7 +312,7 @@ module _ (options : Options) (ends : Ends) (e : Endpoint) (queued : List Message
           alone = λ tag. alone_later options ends ends' past (after_effects o.effects past) their_past their_past (after_within o.effects past) (λ effect has. has) tag refl refl (h.alone tag);
         };
         answered = answered_by ends' linked (set_at to begun.my w.pairs)
-            (begins_answers ends e past d their_past w new is waits.asking end ends.gets ends.firsts same (λ tag ne. refl)
+            (begins_answers ends e past d their_past w new is.some is.match waits.asking end ends.gets ends.firsts same (λ tag ne. refl)
             (begins_little addressed options options.max_receiver_window_buffer_size run.0 run.1 (record (joined (ends.sends to) (ends.gets to)) { beginning = begins_anew }) run.2 run.3 linked run.4) (λ other there tag. same) (after_effects o.effects past) (after_within o.effects past) new_held);
       }
 
@@ -313,15 +326,15 @@ module _ (options : Options) (ends : Ends) (e : Endpoint) (queued : List Message
       let ps : List Emission = packets_in o.events in
       let gets : ℕ → ReceivingEnd = set_at to (new_end options first) ends.gets in
       let firsts : ℕ → ℕ = set_at to first ends.firsts in
-      let new_alone : DirectionRun options (firsts to) options.max_receiver_window_buffer_size (joined (awaiting options) (gets to)) =
-      subst (λ (n : ℕ). DirectionRun options n options.max_receiver_window_buffer_size (joined (awaiting options) (gets to))) (sym (set_same to first ends.firsts))
-      (subst (λ (g : ReceivingEnd). DirectionRun options first options.max_receiver_window_buffer_size (joined (awaiting options) g)) (sym (set_same to (new_end options first) ends.gets))
+      let new_alone : DirectionRun options (firsts to) options.max_receiver_window_buffer_size (joined (unbegun_end options) (gets to)) =
+      subst (λ (n : ℕ). DirectionRun options n options.max_receiver_window_buffer_size (joined (unbegun_end options) (gets to))) (sym (set_same to first ends.firsts))
+      (subst (λ (g : ReceivingEnd). DirectionRun options first options.max_receiver_window_buffer_size (joined (unbegun_end options) g)) (sym (set_same to (new_end options first) ends.gets))
       (senders_begin options options first options.max_receiver_window_buffer_size (λ id. false))) in
       let run = later options options.max_receiver_window_buffer_size
       (new_direction options first options.max_receiver_window_buffer_size [] (record { queue = empty_queue options; transfer = None }) 0 [] (record { from_zero = true; keeps = λ id. false })) marks begins_anew shown fit (senders_begin options options first options.max_receiver_window_buffer_size (λ id. false))
       (record { queued = refl; sent = refl; acknowledged = refl; transfer = refl; asking = refl }) begins_so in
-      let end : SendingEnd = renewed_end ends (sender_key e.core) (peer_tag e.core) e.queues queued past packets h.sender o.effects to begun.held.peer.tag o.after.queues run.0 ps run.1 begins_anew gets firsts in
-      let ends' : Ends = renewed_ends ends (sender_key e.core) (peer_tag e.core) e.queues queued past packets h.sender o.effects to begun.held.peer.tag o.after.queues run.0 ps run.1 begins_anew gets firsts in
+      let end : SendingEnd = renewed_end ends (sender_key e.core) (peer_tag e.core) e.queues queued past packets h.sender o.effects to begun.held.peer.tag o.after.queues run.0 ps run.1 begins_anew gets firsts None in
+      let ends' : Ends = renewed_ends ends (sender_key e.core) (peer_tag e.core) e.queues queued past packets h.sender o.effects to begun.held.peer.tag o.after.queues run.0 ps run.1 begins_anew gets firsts None in
       record {
         ends = ends';
         is = refl;
@@ -329,8 +342,8 @@ module _ (options : Options) (ends : Ends) (e : Endpoint) (queued : List Message
           runs = set_three (λ tag f s g. DirectionRun options f options.max_receiver_window_buffer_size (joined s g)) to first end (new_end options first) ends.firsts ends.sends ends.gets run.4 (λ tag ne. h.runs tag);
           small = set_all (λ tag f. f < 2 ^ 32) to first ends.firsts is.small (λ tag ne. h.small tag);
           sender = sender_of ends' linked
-              (renewed ends (sender_key e.core) (peer_tag e.core) e.queues queued past packets h.sender o.effects to begun.held.peer.tag o.after.queues run.0 ps run.1 begins_anew gets firsts (inr waits)
-              (λ some. subst (λ (n : ℕ). HadPeer (after_effects o.effects past) to n) (sym (set_same to first ends.firsts)) had_new) (λ tag ne. set_other to tag first ends.firsts ne) addressed (λ some. kind_new is linked) (inr had_both) is.other (which_is is linked));
+              (renewed ends (sender_key e.core) (peer_tag e.core) e.queues queued past packets h.sender o.effects to begun.held.peer.tag o.after.queues run.0 ps run.1 begins_anew gets firsts None (nothing_left is) (none_former is (ends.former begun.my.tag) refl)
+              (λ some. subst (λ (n : ℕ). HadPeer (after_effects o.effects past) to n) (sym (set_same to first ends.firsts)) had_new) (λ tag ne. set_other to tag first ends.firsts ne) addressed (λ some. kind_new is linked) (inr had_both) (λ former none. absurd (cc)) (which_is is linked));
           mine = mine_then linked;
           asks = subst (λ (k : ℕ). AsksFit (firsts k) (own_of o.after) (set_at to end ends.sends k).asking) (sym (link_tag o.after.core new linked))
               (subst (λ (s : SendingEnd). AsksFit (firsts to) (own_of o.after) s.asking) (sym (set_same to end ends.sends))
@@ -347,7 +360,7 @@ module _ (options : Options) (ends : Ends) (e : Endpoint) (queued : List Message
           ];
         };
         answered = answered_by ends' linked (set_at to begun.my w.pairs)
-            (begins_answers ends e past d their_past w new is waits.asking end gets firsts (set_same to first ends.firsts) (λ tag ne. set_other to tag first ends.firsts ne)
+            (begins_answers ends e past d their_past w new is.some is.match waits.asking end gets firsts (set_same to first ends.firsts) (λ tag ne. set_other to tag first ends.firsts ne)
             (begins_little addressed options options.max_receiver_window_buffer_size run.0 run.1 (new_direction options first options.max_receiver_window_buffer_size [] (record { queue = empty_queue options; transfer = None }) 0 [] begins_anew) run.2 run.3 linked run.4)
             (λ other there tag. absurd (nowhere d.queues.transfer refl other there tag)) (after_effects o.effects past) (after_within o.effects past) new_held);
       }

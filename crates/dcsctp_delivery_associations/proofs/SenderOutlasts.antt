@@ -1,11 +1,10 @@
 -- A turn of the sender in which another association takes the place of its own: both ends began at
 -- the same time, and what was sent in the one goes on in the other (RFC 9260, section 5.2.4, action
 -- B). Both have one own tag.
-use Rattle.std.proofs.Common.{◌≡◌, ◌≢◌, ◌<◌, ◌-◌, ◌^◌, ◌%◌, ◌+◌, ℕ, Bool, true, false, Option, None, Some, List, [], ◌∷◌, ◌++◌, length, arith, refl, sym, ◌∙◌, ap, subst, inl, inr}
+use Rattle.std.proofs.Common.{◌≡◌, ◌≢◌, ◌<◌, ◌-◌, ◌^◌, ◌+◌, ℕ, Bool, true, Option, None, Some, List, [], ◌∷◌, ◌++◌, length, arith, refl, sym, ◌∙◌, ap, subst, inl, inr}
 use Rattle.std.specs.Prelude.{◌⊎◌, ◌≤◌}
 use Rattle.dcsctp_spec_lemmas.specs.types.declared.options.Options.{Options}
 use Rattle.dcsctp_spec_lemmas.specs.types.declared.association.Pair.{Pair}
-use Rattle.dcsctp_spec_lemmas.specs.spec.Reconfiguration.{RequestedReset}
 use Rattle.dcsctp_spec_lemmas.specs.spec.endpoint.Endpoint.{Endpoint, Core, closed, cookie_wait, cookie_echoed, open_in, OutstandingRequest}
 use Rattle.dcsctp_spec_lemmas.specs.spec.endpoint.BegunResets.{BegunReset}
 use Rattle.dcsctp_spec_lemmas.specs.spec.endpoint.Event.{packets_in}
@@ -16,33 +15,28 @@ use Rattle.dcsctp_spec_runs.specs.World.{after_effects}
 use Rattle.dcsctp_spec_lemmas.specs.spec.endpoint.Turn.{Input}
 use Rattle.dcsctp_spec_lemmas.specs.spec.association.Effect.{AssociationIdentity, Effect, holds, identity_in}
 use Rattle.dcsctp_spec_lemmas.specs.spec.queues.Reassembly.{DeferralModel}
-use Rattle.dcsctp_spec_lemmas.specs.spec.queues.Transfer.{Transfer, EndpointQueues}
 use Rattle.dcsctp_theorem_association.proofs.Growth.{after_within}
 use Rattle.dcsctp_delivery_sending.specs.ChunkCounts.{chunks_in, chunks_to}
-use Rattle.dcsctp_delivery_sending.specs.Places as places
 use Rattle.dcsctp_delivery_sending.specs.Places.{set_at}
 use Rattle.dcsctp_delivery_sending.specs.Log.{Message}
 use Rattle.dcsctp_delivery_sending.proofs.Places.{decide, set_same, set_other}
-use Rattle.dcsctp_delivery_directions.proofs.ChunkCounts.{chunks_more}
-use Rattle.dcsctp_delivery_directions.specs.Directions.{Direction, Asking, nothing_asked, DirectionRun}
+use Rattle.dcsctp_delivery_directions.specs.Directions.{Asking, nothing_asked, DirectionRun}
 use Rattle.dcsctp_delivery_directions.specs.Requests.{requests_in, requests_to}
 use Rattle.dcsctp_delivery_directions.proofs.RequestCounts.{requests_more, requests_more_to, requests_are_sent, unasked_sends_none, nothing_was_asked}
-use Rattle.dcsctp_delivery_turns.specs.Actions.{came_by, peer_tag, inside, MakesPackets, Collides, kept_inside}
-use Rattle.dcsctp_delivery_turns.specs.Addressed.{AreAddressed}
+use Rattle.dcsctp_delivery_turns.specs.Actions.{came_by, peer_tag, Collides}
 use Rattle.dcsctp_delivery_turns.specs.Asking.{Own, own_in, own_of, IsAsking, AsksFit, AskingGrows}
 use Rattle.dcsctp_delivery_turns.specs.Runs.{sender_at, Outlasts}
-use Rattle.dcsctp_delivery_turns.proofs.Outlasts.{outlasts_goes}
-use Rattle.dcsctp_delivery_associations.specs.Ends.{SendingEnd, joined, Ends, HadPeer, HadKind, HadBoth, IsBefore, WasReplaced, sender_key, Awaits, chunks_before, Sender, GoesOnWith, BeginsAnew, IsOnlyOwn, KeepsThese, KeepsOnlyThese, Between}
+use Rattle.dcsctp_delivery_associations.specs.Ends.{SendingEnd, joined, Ends, HadKind, IsBefore, PlaceWasTaken, sender_key, chunks_before, Sender, BeginsAnew, KeepsOnlyThese, Between, IsOnlyOne, WentBefore}
 use Rattle.dcsctp_delivery_associations.specs.Answered.{AnswersRequests, Requests, requests_of, waiting_deferral, AreAnswered, SenderHadPeer, WasJoined}
 use Rattle.dcsctp_delivery_associations.specs.Laws.{AreEnds, AsksLittle}
 use Rattle.dcsctp_delivery_associations.specs.Reads.{Reading}
 use Rattle.dcsctp_delivery_associations.proofs.AskedOn as asked
 use Rattle.dcsctp_delivery_associations.proofs.Renewed.{ends_so}
 use Rattle.dcsctp_delivery_associations.proofs.AnsweringRests.{after_split, after_new}
-use Rattle.dcsctp_delivery_associations.proofs.Counting.{more_to, addressed_counts, addressed_requests}
+use Rattle.dcsctp_delivery_associations.proofs.Counting.{addressed_requests}
 use Rattle.dcsctp_delivery_associations.proofs.Growing.{set_all, set_three}
 use Rattle.dcsctp_delivery_associations.proofs.SenderAnswers.{may_begin, goes_answers}
-use Rattle.dcsctp_delivery_associations.proofs.Senders.{IsWithin, alone_later, link_tag, link_peer, had_later, both_later, before_later, replaced_later, of_more, grown_end, grown_ends, grown}
+use Rattle.dcsctp_delivery_associations.proofs.Senders.{IsWithin, alone_later, link_tag, link_peer, had_later, before_later, replaced_later, of_more, grown}
 use Rattle.dcsctp_delivery_associations.proofs.SenderStays.{receiver_same}
 
 -- The requests of one pair are those of the other association with it.
@@ -81,8 +75,35 @@ unlinked (cookie_echoed my held cookie) request link there none = absurd (cc)
 unlinked (open_in phase my held) request link there none = absurd (cc)
 
 module _ (options : Options) (ends : Ends) (e : Endpoint) (queued : List Message) (past : List Effect) (packets : List Emission) (d : Endpoint) (their_past : List Effect) (reading : Reading)
+    (h : Between options ends e queued past packets d their_past reading) where
+  -- Where the next number of a request is the first, none was begun.
+  pub nothing_begun : (old : AssociationIdentity) → identity_in e.core ≡ Some old → ends.firsts (sender_key e.core) ≡ old.my.first_tsn → ((own : Own) → own_of e ≡ Some own → own.next ≡ old.my.first_tsn)
+      → length (ends.sends (sender_key e.core)).asking.requests < 2 ^ 32 - 1 → (ends.sends (sender_key e.core)).asking.requests ≡ []
+  nothing_begun old was first unasked few = by_own (own_of e) refl
+    where
+      by_own : (found : Option Own) → own_of e ≡ found → (ends.sends (sender_key e.core)).asking.requests ≡ []
+      by_own (Some own) is =
+          none_yet (ends.firsts (sender_key e.core)) own (ends.sends (sender_key e.core)).asking (subst (λ (f : Option Own). AsksFit (ends.firsts (sender_key e.core)) f (ends.sends (sender_key e.core)).asking) is h.asks)
+          (unasked own is ∙ sym first) (h.small (sender_key e.core)) few
+      by_own None is = absurd (unlinked e.core e.outstanding old was is)
+
+  pub asked_so : (ends.sends (sender_key e.core)).asking.requests ≡ [] → (ends.sends (sender_key e.core)).asking ≡ nothing_asked
+  asked_so none =
+      nothing_was_asked options (ends.firsts (sender_key e.core)) options.max_receiver_window_buffer_size (joined (ends.sends (sender_key e.core)) (ends.gets (sender_key e.core))) (h.runs (sender_key e.core)) none
+
+-- An association takes the place of the only one of its own tag, and both ends began at the same time.
+pub record GoesOn (past : List Effect) (e : Endpoint) (input : Input) (o : Outcome) : Type 0 where
+  pub collision : Collides (came_by input) e o
+  pub my : collision.old.my ≡ collision.opened.link.my
+  pub other : collision.old.peer.tag ≢ collision.opened.link.peer.tag
+  pub alike : collision.old.capabilities.message_interleaving ≡ collision.opened.link.capabilities.message_interleaving
+  pub only : (each : AssociationIdentity) → HasEffect (holds each) past → each.my.tag ≡ collision.opened.link.my.tag → each ≡ collision.old
+
+module _ (options : Options) (ends : Ends) (e : Endpoint) (queued : List Message) (past : List Effect) (packets : List Emission) (d : Endpoint) (their_past : List Effect) (reading : Reading)
     (h : Between options ends e queued past packets d their_past reading) (input : Input) (o : Outcome) (w : AreAnswered ends e past d their_past) (little : AsksLittle (packets ++ packets_in o.events))
-    (goes : GoesOnWith past e input o) (only_one : (each : AssociationIdentity) → HasEffect (holds each) o.effects → identity_in o.after.core ≡ Some each) where
+    (goes : GoesOn past e input o)
+    (goes_on_so : ends.firsts (sender_key e.core) ≡ goes.collision.opened.link.my.first_tsn → (ends.sends (sender_key e.core)).asking ≡ nothing_asked
+    → Outlasts options (ends.firsts (sender_key e.core)) options.max_receiver_window_buffer_size (joined (ends.sends (sender_key e.core)) (ends.gets (sender_key e.core))) e input o goes.collision) (only_one : (each : AssociationIdentity) → HasEffect (holds each) o.effects → identity_in o.after.core ≡ Some each) where
   collision : Collides (came_by input) e o
   collision = goes.collision
 
@@ -156,14 +177,12 @@ module _ (options : Options) (ends : Ends) (e : Endpoint) (queued : List Message
       let one : had.link ≡ goes.collision.old = goes.only had.link had.held (had.tag_is ∙ key_is) in
       sym had.first_is ∙ ap (λ (l : AssociationIdentity). l.my.first_tsn) one ∙ ap (λ (p : Pair). p.first_tsn) goes.my
 
-  none_requested : (found : Option Own) → own_of e ≡ found → (ends.sends (sender_key e.core)).asking.requests ≡ []
-  none_requested (Some own) is =
-      none_yet (ends.firsts key) own (ends.sends key).asking (subst (λ (f : Option Own). AsksFit (ends.firsts key) f (ends.sends key).asking) is h.asks)
-      (goes.collision.unasked own is ∙ ap (λ (p : Pair). p.first_tsn) goes.my ∙ sym first_is) (h.small key) few_asked
-  none_requested None is = absurd (unlinked e.core e.outstanding goes.collision.old goes.collision.was is)
+  none_requested : (ends.sends (sender_key e.core)).asking.requests ≡ []
+  none_requested =
+      nothing_begun options ends e queued past packets d their_past reading h goes.collision.old goes.collision.was (first_is ∙ ap (λ (p : Pair). p.first_tsn) (sym goes.my)) goes.collision.unasked few_asked
 
   asked_nothing : (ends.sends (sender_key e.core)).asking ≡ nothing_asked
-  asked_nothing = nothing_was_asked options (ends.firsts key) options.max_receiver_window_buffer_size (joined (ends.sends key) (ends.gets key)) (h.runs key) (none_requested (own_of e) refl)
+  asked_nothing = asked_so options ends e queued past packets d their_past reading h none_requested
 
   -- ---- data goes to the other peer now
 
@@ -202,7 +221,7 @@ module _ (options : Options) (ends : Ends) (e : Endpoint) (queued : List Message
         ];
       }
 
-  was_replaced : WasReplaced (after_effects o.effects past) (sender_key e.core) goes.collision.old.peer.tag goes.collision.opened.link.peer.tag
+  was_replaced : PlaceWasTaken (after_effects o.effects past) (sender_key e.core) goes.collision.old.peer.tag goes.collision.opened.link.peer.tag
   was_replaced =
       record {
         old = goes.collision.old;
@@ -225,26 +244,38 @@ module _ (options : Options) (ends : Ends) (e : Endpoint) (queued : List Message
 
   none_sent : requests_in (ends.sends (sender_key e.core)).sent ≡ 0
   none_sent =
-      unasked_sends_none options (ends.firsts key) options.max_receiver_window_buffer_size (joined (ends.sends key) (ends.gets key)) (h.runs key) (none_requested (own_of e) refl)
+      unasked_sends_none options (ends.firsts key) options.max_receiver_window_buffer_size (joined (ends.sends key) (ends.gets key)) (h.runs key) none_requested
 
   known_then : (each : AssociationIdentity) → HasEffect (holds each) (after_effects o.effects past)
       → (each.my.tag ≢ 0) × ((each.peer.tag ≡ set_at (sender_key e.core) goes.collision.opened.link.peer.tag ends.latest each.my.tag) ⊎ (set_at (sender_key e.core) (Some goes.collision.old.peer.tag) ends.former each.my.tag ≡ Some each.peer.tag))
   known_then each has =
       elim (which each has) [
-        | inl before ↦
-            ((h.sender.known each before).0, elim (decide each.my.tag key) [
-              | inl e' ↦ inr (ap (set_at key (Some goes.collision.old.peer.tag) ends.former) e' ∙ set_same key (Some goes.collision.old.peer.tag) ends.former
-                  ∙ ap (λ (l : AssociationIdentity). Some l.peer.tag) (sym (goes.only each before (e' ∙ key_is))))
-              | inr ne ↦ elim (h.sender.known each before).1 [
-                | inl is ↦ inl (is ∙ sym (set_other key each.my.tag goes.collision.opened.link.peer.tag ends.latest ne))
-                | inr is ↦ inr (set_other key each.my.tag (Some goes.collision.old.peer.tag) ends.former ne ∙ is)
-              ]
-            ])
-        | inr here ↦
-            (λ zero. some (key_is ∙ ap (λ (l : AssociationIdentity). l.my.tag) (sym here) ∙ zero),
-            inl (ap (λ (l : AssociationIdentity). l.peer.tag) here ∙ sym (set_same key goes.collision.opened.link.peer.tag ends.latest)
-            ∙ ap latest (key_is ∙ ap (λ (l : AssociationIdentity). l.my.tag) (sym here))))
+        | inl before ↦ (
+          (h.sender.known each before).0,
+          elim (decide each.my.tag key) [
+            | inl e' ↦ inr (ap (set_at key (Some goes.collision.old.peer.tag) ends.former) e' ∙ set_same key (Some goes.collision.old.peer.tag) ends.former
+                ∙ ap (λ (l : AssociationIdentity). Some l.peer.tag) (sym (goes.only each before (e' ∙ key_is))))
+            | inr ne ↦ elim (h.sender.known each before).1 [
+              | inl is ↦ inl (is ∙ sym (set_other key each.my.tag goes.collision.opened.link.peer.tag ends.latest ne))
+              | inr is ↦ inr (set_other key each.my.tag (Some goes.collision.old.peer.tag) ends.former ne ∙ is)
+            ]
+          ],
+        )
+        | inr here ↦ (
+          λ zero. some (key_is ∙ ap (λ (l : AssociationIdentity). l.my.tag) (sym here) ∙ zero),
+          inl (ap (λ (l : AssociationIdentity). l.peer.tag) here ∙ sym (set_same key goes.collision.opened.link.peer.tag ends.latest)
+              ∙ ap latest (key_is ∙ ap (λ (l : AssociationIdentity). l.my.tag) (sym here))),
+        )
       ]
+
+  -- What went to a peer before did so still: there was none under this tag.
+  went_so : (emission : Emission) → WentBefore ends emission → WentBefore (record ends { latest = set_at (sender_key e.core) goes.collision.opened.link.peer.tag ends.latest; former = set_at (sender_key e.core) (Some goes.collision.old.peer.tag) ends.former }) emission
+  went_so emission went =
+      record {
+        tag = went.tag;
+        former_is = set_other key went.tag (Some goes.collision.old.peer.tag) ends.former
+            (λ same. (let clash : ◌≡◌ {A = Option ℕ} None (Some emission.packet.tag) = sym (none_before (ends.former key) refl) ∙ ap ends.former (sym same) ∙ went.former_is in absurd (cc))) ∙ went.former_is;
+      }
 
   readdressed : Sender (record ends { latest = set_at (sender_key e.core) goes.collision.opened.link.peer.tag ends.latest; former = set_at (sender_key e.core) (Some goes.collision.old.peer.tag) ends.former })
       (sender_key e.core) goes.collision.opened.link.peer.tag e.queues queued (after_effects o.effects past) packets
@@ -263,7 +294,7 @@ module _ (options : Options) (ends : Ends) (e : Endpoint) (queued : List Message
         kind = λ some'. kind_goes e.queues.queue.is_interleaved (h.sender.kind some');
         begun = λ tag some'. elim (h.sender.begun tag some') [ inl waits ↦ inl waits | inr had ↦ inr (had_later o.effects past tag (ends.firsts tag) had) ];
         kinds = λ tag some'. elim (h.sender.kinds tag some') [ inl waits ↦ inl waits | inr had ↦ inr (kinds_then tag had) ];
-        all_sent = of_more ends to_other past (after_effects o.effects past) packets within (λ tag emission both has. has) h.sender.all_sent;
+        all_sent = of_more ends to_other past (after_effects o.effects past) packets within went_so (λ tag emission both has. inr has) h.sender.all_sent;
         to_is = set_same key goes.collision.opened.link.peer.tag ends.latest;
         went = inr (record { link = goes.collision.opened.link; held = link_held; tag_is = sym key_is; peer_is = refl });
         replaced = replaced_then;
@@ -278,26 +309,25 @@ module _ (options : Options) (ends : Ends) (e : Endpoint) (queued : List Message
             | inr ne ↦ record { link = had.link; held = within (holds had.link) had.held; tag_is = had.tag_is; kind_is = λ each has same. had.kind_is each (of_other tag ne each has same) same }
           ]
 
-      replaced_then : (tag before : ℕ) → former tag ≡ Some before → WasReplaced (after_effects o.effects past) tag before (latest tag)
+      replaced_then : (tag before : ℕ) → former tag ≡ Some before → PlaceWasTaken (after_effects o.effects past) tag before (latest tag)
       replaced_then tag =
           elim (decide tag key) [
-            | inl e' ↦ subst (λ (n : ℕ). (before : ℕ) → former n ≡ Some before → WasReplaced (after_effects o.effects past) n before (latest n)) (sym e') (λ before is. here before (sym (set_same key (Some goes.collision.old.peer.tag) ends.former) ∙ is))
+            | inl e' ↦ subst (λ (n : ℕ). (before : ℕ) → former n ≡ Some before → PlaceWasTaken (after_effects o.effects past) n before (latest n)) (sym e') (λ before is. here before (sym (set_same key (Some goes.collision.old.peer.tag) ends.former) ∙ is))
             | inr ne ↦ λ before is.
-                subst (WasReplaced (after_effects o.effects past) tag before) (sym (set_other key tag goes.collision.opened.link.peer.tag ends.latest ne))
+                subst (PlaceWasTaken (after_effects o.effects past) tag before) (sym (set_other key tag goes.collision.opened.link.peer.tag ends.latest ne))
                 (replaced_later o.effects past tag before (ends.latest tag) (h.sender.replaced tag before (sym (set_other key tag (Some goes.collision.old.peer.tag) ends.former ne) ∙ is)))
           ]
         where
-          here : (before : ℕ) → Some goes.collision.old.peer.tag ≡ Some before → WasReplaced (after_effects o.effects past) key before (latest key)
+          here : (before : ℕ) → Some goes.collision.old.peer.tag ≡ Some before → PlaceWasTaken (after_effects o.effects past) key before (latest key)
           here before is =
               let one : goes.collision.old.peer.tag ≡ before = cc in
-              subst (λ (n : ℕ). WasReplaced (after_effects o.effects past) key n (latest key)) one
-              (subst (WasReplaced (after_effects o.effects past) key goes.collision.old.peer.tag) (sym (set_same key goes.collision.opened.link.peer.tag ends.latest)) was_replaced)
+              subst (λ (n : ℕ). PlaceWasTaken (after_effects o.effects past) key n (latest key)) one
+              (subst (PlaceWasTaken (after_effects o.effects past) key goes.collision.old.peer.tag) (sym (set_same key goes.collision.opened.link.peer.tag ends.latest)) was_replaced)
 
   -- ---- after the turn
 
   outlasts : Outlasts options (ends.firsts (sender_key e.core)) options.max_receiver_window_buffer_size (joined (ends.sends (sender_key e.core)) (ends.gets (sender_key e.core))) e input o goes.collision
-  outlasts =
-      outlasts_goes options (ends.firsts key) options.max_receiver_window_buffer_size (joined (ends.sends key) (ends.gets key)) e input o (h.runs key) (h.small key) h.sender.queues_are goes.collision first_is asked_nothing goes.again goes.makes
+  outlasts = goes_on_so first_is asked_nothing
 
   abbrev end : SendingEnd
   end = record (ends.sends (sender_key e.core)) { queues = o.after.queues; acknowledged = outlasts.acknowledged; sent = (ends.sends (sender_key e.core)).sent ++ packets_in o.events; asking = outlasts.asking }
@@ -340,8 +370,9 @@ module _ (options : Options) (ends : Ends) (e : Endpoint) (queued : List Message
   anew_before follows tag (inl anew) = inl (sym follows ∙ anew)
   anew_before follows tag (inr only) = inr (λ each has. only each (within (holds each) has))
 
-  only_before : (tag : ℕ) → IsOnlyOwn (after_effects o.effects past) tag → IsOnlyOwn past tag
-  only_before tag only each has = only each (within (holds each) has)
+  -- It isn't the only one.
+  not_one : (tag : ℕ) → IsOnlyOne (after_effects o.effects past) tag → ⊥
+  not_one tag only = goes.other ((only.1 goes.collision.old (within (holds goes.collision.old) old_held)).1 ∙ sym (only.1 goes.collision.opened.link link_held).1)
 
   pub outlasts_goes_on : o.after.options.follow_rfc ≡ e.options.follow_rfc → AreEnds ends.never_resets options o.after queued (after_effects o.effects past) (packets ++ packets_in o.events) d their_past reading
   outlasts_goes_on follows =
@@ -358,8 +389,7 @@ module _ (options : Options) (ends : Ends) (e : Endpoint) (queued : List Message
               (subst (λ (s : SendingEnd). AsksFit (ends.firsts key) (own_of o.after) s.asking) (sym (set_same key end ends.sends)) outlasts.fits);
           numbered = set_all (λ tag s. tag ≢ 0 → BeginsAnew o.after (after_effects o.effects past) tag → s.beginning.from_zero ≡ true) key end ends.sends (λ some' anew. h.numbered key some' (anew_before follows key anew))
               (λ tag ne some' anew. h.numbered tag some' (anew_before follows tag anew));
-          kept = set_all (λ tag s. tag ≢ 0 → IsOnlyOwn (after_effects o.effects past) tag → KeepsThese ends.never_resets s.beginning) key end ends.sends
-              (λ some' only. h.kept key some' (only_before key only)) (λ tag ne some' only. h.kept tag some' (only_before tag only));
+          kept = λ tag some' only. absurd (not_one tag only);
           dropping = set_all (λ tag s. KeepsOnlyThese ends.never_resets s.beginning) key end ends.sends (h.dropping key) (λ tag ne. h.dropping tag);
           unbegun = λ never. absurd (never goes.collision.opened.link link_held);
           receiver = receiver_same options ends later.sends later.latest later.former d their_past reading h.receiver;

@@ -1,5 +1,5 @@
 -- A turn of the sender in which its association continues, or ends.
-use Rattle.std.proofs.Common.{◌≡◌, ◌≢◌, ℕ, Bool, true, false, Option, None, Some, List, [], ◌++◌, length, refl, sym, ◌∙◌, ap, subst, inl, inr}
+use Rattle.std.proofs.Common.{◌≡◌, ◌≢◌, ℕ, Bool, true, false, Option, None, Some, List, [], ◌++◌, length, refl, sym, ◌∙◌, ap, subst, inl, inr, ◌∷◌}
 use Rattle.std.specs.List.{AllByRecursion}
 use Rattle.std.proofs.lemmas.List.{append-nil}
 use Rattle.dcsctp_spec_lemmas.specs.types.declared.options.Options.{Options}
@@ -19,7 +19,7 @@ use Rattle.dcsctp_delivery_sending.specs.Log.{Message, Fits}
 use Rattle.dcsctp_delivery_sending.specs.Losing.{AllWaitOn}
 use Rattle.dcsctp_delivery_sending.specs.Queueing.{QueueWaits}
 use Rattle.dcsctp_delivery_sending.specs.Marking.{all_marked}
-use Rattle.dcsctp_delivery_sending.proofs.Places.{decide, set_same, set_other}
+use Rattle.dcsctp_delivery_sending.proofs.Places.{set_same}
 use Rattle.dcsctp_delivery_sending.proofs.MarkingAll.{all_are_marked, all_marked_keep, all_marked_fit}
 use Rattle.dcsctp_delivery_directions.specs.Directions.{Asking, nothing_asked, DirectionRun}
 use Rattle.dcsctp_delivery_turns.specs.Actions.{peer_tag, queued_after}
@@ -27,7 +27,7 @@ use Rattle.dcsctp_delivery_turns.specs.Asking.{own_of, AsksFit}
 use Rattle.dcsctp_delivery_turns.specs.Addressed.{AreAddressed}
 use Rattle.dcsctp_delivery_turns.specs.Runs.{sender_at}
 use Rattle.dcsctp_delivery_turns.proofs.Runs.{begins_anew}
-use Rattle.dcsctp_delivery_associations.specs.Ends.{SendingEnd, ReceivingEnd, joined, new_end, Ends, IsUnbegun, NeverHeld, KeepsThese, KeepsOnlyThese, BeginsAnew, sender_key, Sender, Receiver, Between, IsOnlyOwn}
+use Rattle.dcsctp_delivery_associations.specs.Ends.{SendingEnd, ReceivingEnd, joined, new_end, Ends, IsUnbegun, NeverHeld, KeepsThese, KeepsOnlyThese, BeginsAnew, sender_key, Sender, Receiver, Between, IsOnlyOne, IsBefore}
 use Rattle.dcsctp_delivery_associations.specs.Answered.{AreAnswered}
 use Rattle.dcsctp_delivery_associations.specs.Laws.{AreEnds}
 use Rattle.dcsctp_delivery_associations.specs.Reads.{Reading}
@@ -72,8 +72,8 @@ module _ (options : Options) (ends : Ends) (e : Endpoint) (queued : List Message
   anew_before follows tag (inl anew) = inl (sym follows ∙ anew)
   anew_before follows tag (inr only) = inr (λ link held. only link (after_within o.effects past (holds link) held))
 
-  only_before : (tag : ℕ) → IsOnlyOwn (after_effects o.effects past) tag → IsOnlyOwn past tag
-  only_before tag only link held = only link (after_within o.effects past (holds link) held)
+  only_before : (tag : ℕ) → IsOnlyOne (after_effects o.effects past) tag → IsOnlyOne past tag
+  only_before tag only = (only.0, λ link held. only.1 link (after_within o.effects past (holds link) held))
 
   -- what is to be shown of the turn
   abbrev pub Turned : Type 0
@@ -106,7 +106,7 @@ module _ (options : Options) (ends : Ends) (e : Endpoint) (queued : List Message
               (subst (λ (s : SendingEnd). AsksFit (ends.firsts key) (own_of o.after) s.asking) (sym (set_same key end ends.sends)) fits);
           numbered = set_all (λ tag s. tag ≢ 0 → BeginsAnew o.after (after_effects o.effects past) tag → s.beginning.from_zero ≡ true) key end ends.sends (λ some anew. h.numbered key some (anew_before follows key anew))
               (λ tag ne some anew. h.numbered tag some (anew_before follows tag anew));
-          kept = set_all (λ tag s. tag ≢ 0 → IsOnlyOwn (after_effects o.effects past) tag → KeepsThese ends.never_resets s.beginning) key end ends.sends
+          kept = set_all (λ tag s. tag ≢ 0 → IsOnlyOne (after_effects o.effects past) tag → KeepsThese ends.never_resets s.beginning) key end ends.sends
               (λ some only. h.kept key some (only_before key only)) (λ tag ne some only. h.kept tag some (only_before tag only));
           dropping = set_all (λ tag s. KeepsOnlyThese ends.never_resets s.beginning) key end ends.sends (h.dropping key) (λ tag ne. h.dropping tag);
           unbegun = λ never.
@@ -119,12 +119,22 @@ module _ (options : Options) (ends : Ends) (e : Endpoint) (queued : List Message
         answered = answered;
       }
 
+  before_held : (one other : AssociationIdentity) (past : List Effect) → IsBefore one other past → HasEffect (holds one) past
+  before_held one other [] before = absurd before
+  before_held one other (effect ∷ earlier) (inl here) = inr here.1
+  before_held one other (effect ∷ earlier) (inr before) = inr (before_held one other earlier before)
+
+  -- There was no peer before where there is none.
+  none_former : (former : Option ℕ) → ends.former 0 ≡ former → ends.former 0 ≡ None
+  none_former None is = is
+  none_former (Some former) is = (let was = h.sender.replaced 0 former is in absurd ((h.sender.known was.old (before_held was.old was.link past was.before)).0 was.old_is))
+
   -- the ends once it has ended
   abbrev pub ended_ends : ((each : AssociationIdentity) → HasEffect (holds each) (after_effects o.effects past) → HasEffect (holds each) past) → (last : EndpointQueues) → ℕ → Asking → AreAddressed (peer_tag e.core) (packets_in o.events)
       → last.queue.is_interleaved ≡ e.queues.queue.is_interleaved → Ends
   ended_ends none_began last acknowledged asking addressed kind =
       renewed_ends (grown_ends ends (sender_key e.core) (peer_tag e.core) e.queues queued past packets h.sender o.effects more last acknowledged (packets_in o.events) asking) (sender_key e.core) (peer_tag e.core) last (more ++ queued) (after_effects o.effects past)
-      (packets ++ packets_in o.events) (grown ends (sender_key e.core) (peer_tag e.core) e.queues queued past packets h.sender o.effects more last acknowledged (packets_in o.events) asking addressed kind none_began) [] 0 0 o.after.queues 0 [] nothing_asked (record { from_zero = false; keeps = λ id. false }) ends.gets ends.firsts
+      (packets ++ packets_in o.events) (grown ends (sender_key e.core) (peer_tag e.core) e.queues queued past packets h.sender o.effects more last acknowledged (packets_in o.events) asking addressed kind none_began) [] 0 0 o.after.queues 0 [] nothing_asked (record { from_zero = false; keeps = λ id. false }) ends.gets ends.firsts None
 
   pub ended : (none_began : (each : AssociationIdentity) → HasEffect (holds each) (after_effects o.effects past) → HasEffect (holds each) past) → o.after.options.follow_rfc ≡ e.options.follow_rfc → (NeverHeld (after_effects o.effects past) → IsUnbegun ends.never_resets (queued_after e input (ends.sends (sender_key e.core)).queued) o.after) → identity_in o.after.core ≡ None → (addressed : AreAddressed (peer_tag e.core) (packets_in o.events)) → (last : EndpointQueues) → (kind : last.queue.is_interleaved ≡ e.queues.queue.is_interleaved) → o.after.queues ≡ record last { transfer = None }
       → QueueWaits (queued_after e input (ends.sends (sender_key e.core)).queued) last.queue → AllByRecursion Fits (queued_after e input (ends.sends (sender_key e.core)).queued) → (acknowledged : ℕ) (asking : Asking)
@@ -138,12 +148,12 @@ module _ (options : Options) (ends : Ends) (e : Endpoint) (queued : List Message
       let end : SendingEnd = grown_end ends key (peer_tag e.core) e.queues queued past packets h.sender o.effects more last acknowledged ps asking in
       let middle : Ends = grown_ends ends key (peer_tag e.core) e.queues queued past packets h.sender o.effects more last acknowledged ps asking in
       let first : Sender middle key (peer_tag e.core) last (more ++ queued) (after_effects o.effects past) (packets ++ ps) = grown ends key (peer_tag e.core) e.queues queued past packets h.sender o.effects more last acknowledged ps asking addressed kind none_began in
-      let marked : List Message = marked_queue middle key (peer_tag e.core) last (more ++ queued) (after_effects o.effects past) (packets ++ ps) first [] 0 0 o.after.queues 0 [] nothing_asked (record { from_zero = false; keeps = λ id. false }) ends.gets ends.firsts in
-      let later : Ends = renewed_ends middle key (peer_tag e.core) last (more ++ queued) (after_effects o.effects past) (packets ++ ps) first [] 0 0 o.after.queues 0 [] nothing_asked (record { from_zero = false; keeps = λ id. false }) ends.gets ends.firsts in
-      let new : SendingEnd = renewed_end middle key (peer_tag e.core) last (more ++ queued) (after_effects o.effects past) (packets ++ ps) first [] 0 0 o.after.queues 0 [] nothing_asked (record { from_zero = false; keeps = λ id. false }) ends.gets ends.firsts in
+      let marked : List Message = marked_queue middle key (peer_tag e.core) last (more ++ queued) (after_effects o.effects past) (packets ++ ps) first [] 0 0 o.after.queues 0 [] nothing_asked (record { from_zero = false; keeps = λ id. false }) ends.gets ends.firsts None in
+      let later : Ends = renewed_ends middle key (peer_tag e.core) last (more ++ queued) (after_effects o.effects past) (packets ++ ps) first [] 0 0 o.after.queues 0 [] nothing_asked (record { from_zero = false; keeps = λ id. false }) ends.gets ends.firsts None in
+      let new : SendingEnd = renewed_end middle key (peer_tag e.core) last (more ++ queued) (after_effects o.effects past) (packets ++ ps) first [] 0 0 o.after.queues 0 [] nothing_asked (record { from_zero = false; keeps = λ id. false }) ends.gets ends.firsts None in
       let second : Sender later 0 0 o.after.queues (more ++ queued) (after_effects o.effects past) ((packets ++ ps) ++ []) =
-      renewed middle key (peer_tag e.core) last (more ++ queued) (after_effects o.effects past) (packets ++ ps) first [] 0 0 o.after.queues 0 [] nothing_asked (record { from_zero = false; keeps = λ id. false }) ends.gets ends.firsts (inl refl) (λ some. absurd (some refl)) (λ tag ne. refl) tt (λ some. absurd (some refl)) (inl refl)
-      (λ each has. (first.known each has).0) (λ each has. inl has) in
+      renewed middle key (peer_tag e.core) last (more ++ queued) (after_effects o.effects past) (packets ++ ps) first [] 0 0 o.after.queues 0 [] nothing_asked (record { from_zero = false; keeps = λ id. false }) ends.gets ends.firsts None (λ each has same. absurd ((first.known each has).0 same)) (none_former (ends.former 0) refl) (λ some. absurd (some refl)) (λ tag ne. refl) tt (λ some. absurd (some refl)) (inl refl)
+      (λ former is. absurd (cc)) (λ each has. inl (has, (first.known each has).0)) in
       let adds : queued_after e input (ends.sends key).queued ≡ end.queued = input_adds e input (ends.sends key).queued in
       let shown' : QueueWaits end.queued last.queue = subst (λ (l : List Message). QueueWaits l last.queue) adds shown in
       let fit' : AllByRecursion Fits end.queued = subst (λ (l : List Message). AllByRecursion Fits l) adds fit in
@@ -173,8 +183,8 @@ module _ (options : Options) (ends : Ends) (e : Endpoint) (queued : List Message
           numbered = set_all (λ tag s. tag ≢ 0 → BeginsAnew o.after (after_effects o.effects past) tag → s.beginning.from_zero ≡ true) 0 new middle.sends (λ some anew. absurd (some refl))
               (λ tag ne. set_all (λ t s. t ≢ 0 → BeginsAnew o.after (after_effects o.effects past) t → s.beginning.from_zero ≡ true) key end ends.sends (λ some anew. h.numbered key some (anew_before follows key anew))
               (λ t ne' some anew. h.numbered t some (anew_before follows t anew)) tag);
-          kept = set_all (λ tag s. tag ≢ 0 → IsOnlyOwn (after_effects o.effects past) tag → KeepsThese ends.never_resets s.beginning) 0 new middle.sends (λ some only. absurd (some refl))
-              (λ tag ne. set_all (λ t s. t ≢ 0 → IsOnlyOwn (after_effects o.effects past) t → KeepsThese ends.never_resets s.beginning) key end ends.sends
+          kept = set_all (λ tag s. tag ≢ 0 → IsOnlyOne (after_effects o.effects past) tag → KeepsThese ends.never_resets s.beginning) 0 new middle.sends (λ some only. absurd (some refl))
+              (λ tag ne. set_all (λ t s. t ≢ 0 → IsOnlyOne (after_effects o.effects past) t → KeepsThese ends.never_resets s.beginning) key end ends.sends
               (λ some only. h.kept key some (only_before key only)) (λ t ne' some only. h.kept t some (only_before t only)) tag);
           dropping = set_all (λ tag s. KeepsOnlyThese ends.never_resets s.beginning) 0 new middle.sends (λ id resets. refl)
               (λ tag ne. set_all (λ t s. KeepsOnlyThese ends.never_resets s.beginning) key end ends.sends (h.dropping key) (λ t ne'. h.dropping t) tag);

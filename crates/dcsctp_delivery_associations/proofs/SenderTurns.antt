@@ -19,20 +19,20 @@ use Rattle.dcsctp_theorem_association.proofs.Growth.{after_within}
 use Rattle.dcsctp_delivery_sending.specs.Places.{set_at}
 use Rattle.dcsctp_delivery_sending.specs.Log.{Message}
 use Rattle.dcsctp_delivery_sending.specs.Queueing.{QueueWaits}
-use Rattle.dcsctp_delivery_directions.specs.Directions.{Direction, Asking, DirectionRun}
+use Rattle.dcsctp_delivery_directions.specs.Directions.{Direction, Asking, DirectionRun, nothing_asked}
 use Rattle.dcsctp_delivery_directions.proofs.Directions.{direction_queues}
 use Rattle.dcsctp_delivery_directions.proofs.RequestCounts.{requests_more, requests_more_to, requests_are_sent}
-use Rattle.dcsctp_delivery_turns.specs.Actions.{IsOpening, came_by, peer_tag, queued_after, resets_stream, Begun, IsCall}
+use Rattle.dcsctp_delivery_turns.specs.Actions.{IsOpening, came_by, peer_tag, queued_after, resets_stream, Begun, IsCall, Collides}
 use Rattle.dcsctp_delivery_turns.specs.Addressed.{AreAddressed}
 use Rattle.dcsctp_delivery_turns.specs.Asking.{own_in, own_of, AsksFit, AskingGrows}
-use Rattle.dcsctp_delivery_turns.specs.Runs.{sender_at, IsBetween, EndsPerformed, RefusesNone, SenderTurns, run_goes_on, run_ends, run_begins, run_outlasts, MayDrop}
+use Rattle.dcsctp_delivery_turns.specs.Runs.{sender_at, IsBetween, EndsPerformed, RefusesNone, SenderTurns, run_goes_on, run_ends, run_begins, run_outlasts, MayDrop, Outlasts}
 use Rattle.dcsctp_delivery_turns.proofs.Completing.{completes_own}
 use Rattle.dcsctp_delivery_turns.proofs.ResetInputs.{named_by}
 use Rattle.dcsctp_delivery_turns.proofs.Runs.{senders_go_on}
 use Rattle.dcsctp_delivery_turns.specs.Unbegun.{UnbegunTurns, stays_unbegun, begins_first}
 use Rattle.dcsctp_delivery_turns.proofs.Unbegun.{stays_at_zero}
 use Rattle.dcsctp_spec_runs.specs.Past.{HasEffect}
-use Rattle.dcsctp_delivery_associations.specs.Ends.{SendingEnd, joined, Ends, sender_key, GoesOnWith, IsUnbegun, NeverHeld, NewPeer, Between}
+use Rattle.dcsctp_delivery_associations.specs.Ends.{SendingEnd, joined, Ends, sender_key, TakesOver, IsUnbegun, NeverHeld, NewPeer, Between}
 use Rattle.dcsctp_delivery_associations.specs.Answered.{AnswersRequests, requests_of, waiting_deferral, AreAnswered}
 use Rattle.dcsctp_delivery_associations.specs.Laws.{CompletesPerformed, AsksLittle, AreEnds, ResetsAs}
 use Rattle.dcsctp_delivery_associations.specs.Reads.{Reading}
@@ -45,10 +45,11 @@ use Rattle.dcsctp_delivery_associations.proofs.SenderAnswers.{some_completed, en
 use Rattle.dcsctp_delivery_associations.proofs.Senders.{link_tag, grown_end, grown_ends}
 use Rattle.dcsctp_delivery_associations.proofs.SenderStays.{goes_on, ended_ends, ended}
 use Rattle.dcsctp_delivery_associations.proofs.SenderBegins.{begins}
-use Rattle.dcsctp_delivery_associations.proofs.SenderOutlasts.{outlasts_goes_on}
+use Rattle.dcsctp_delivery_associations.proofs.SenderOutlasts.{outlasts_goes_on, GoesOn}
 use Rattle.dcsctp_delivery_associations.proofs.AnsweringRests.{after_split}
 use Rattle.dcsctp_delivery_turns.proofs.Holding.{holds_mean}
 use Rattle.dcsctp_delivery_turns.proofs.Outlasts.{other_begun}
+use Rattle.dcsctp_delivery_associations.proofs.SenderAnew.{takes_over}
 
 no_message : (l : List Message) → length l ≡ 0 → l ≡ []
 no_message [] none = refl
@@ -61,7 +62,7 @@ queues_none more queued same = no_message more (let long = length-append more qu
 -- ---- each turn
 
 module _ (options : Options) (ends : Ends) (e : Endpoint) (queued : List Message) (past : List Effect) (packets : List Emission) (d : Endpoint) (their_past : List Effect) (reading : Reading)
-    (h : Between options ends e queued past packets d their_past reading) (input : Input) (o : Outcome) (new : (begun : Begun e o) → IsOpening (came_by input) → identity_in o.after.core ≡ Some (identity_of begun.my begun.held) → NewPeer past their_past (identity_of begun.my begun.held) ⊎ GoesOnWith past e input o)
+    (h : Between options ends e queued past packets d their_past reading) (input : Input) (o : Outcome) (new : (begun : Begun e o) → IsOpening (came_by input) → identity_in o.after.core ≡ Some (identity_of begun.my begun.held) → NewPeer past their_past (identity_of begun.my begun.held) ⊎ TakesOver past their_past e (identity_of begun.my begun.held))
     (w : AreAnswered ends e past d their_past) (little : AsksLittle (packets ++ packets_in o.events)) where
   abbrev key : ℕ
   key = sender_key e.core
@@ -253,12 +254,32 @@ module _ (options : Options) (ends : Ends) (e : Endpoint) (queued : List Message
         | inr before ↦ before
       ]
 
-  -- Another one takes its place.
-  replaces : o.after.options.follow_rfc ≡ e.options.follow_rfc → IsCall input → Turn e input o → GoesOnWith past e input o
+  -- Another one takes its place, and goes on.
+  goes_so : (collision : Collides (came_by input) e o) → TakesOver past their_past e (identity_of (other_begun e input o collision).my (other_begun e input o collision).held) → GoesOn past e input o
+  goes_so collision takes =
+      let one : takes.old ≡ collision.old = one_link takes.was collision.was in
+      record {
+        collision = collision;
+        my = subst (λ (l : AssociationIdentity). l.my ≡ collision.opened.link.my) one takes.my;
+        other = subst (λ (l : AssociationIdentity). l.peer.tag ≢ collision.opened.link.peer.tag) one takes.other;
+        alike = subst (λ (l : AssociationIdentity). l.capabilities.message_interleaving ≡ collision.opened.link.capabilities.message_interleaving) one takes.alike;
+        only = λ each has same. takes.only each has same ∙ one;
+      }
+    where
+      one_link : {found : Option AssociationIdentity} {one two : AssociationIdentity} → found ≡ Some one → found ≡ Some two → one ≡ two
+      one_link first second = cc
+
+  replaces : o.after.options.follow_rfc ≡ e.options.follow_rfc → IsCall input → Turn e input o → queued_after e input (ends.sends (sender_key e.core)).queued ≡ (ends.sends (sender_key e.core)).queued → (collision : Collides (came_by input) e o)
+      → TakesOver past their_past e (identity_of (other_begun e input o collision).my (other_begun e input o collision).held)
+      → (ends.firsts (sender_key e.core) ≡ collision.opened.link.my.first_tsn → (ends.sends (sender_key e.core)).asking ≡ nothing_asked
+      → Outlasts options (ends.firsts (sender_key e.core)) options.max_receiver_window_buffer_size (joined (ends.sends (sender_key e.core)) (ends.gets (sender_key e.core))) e input o collision)
       → AreEnds ends.never_resets options o.after (queued_after e input queued) (after_effects o.effects past) (packets ++ packets_in o.events) d their_past reading
-  replaces follows may turn goes =
-      subst (λ (l : List Message). AreEnds ends.never_resets options o.after l (after_effects o.effects past) (packets ++ packets_in o.events) d their_past reading) (sym (goes.adds queued))
-      (outlasts_goes_on options ends e queued past packets d their_past reading h input o w little goes (λ each has. holds_mean e input o each may turn has) follows)
+  unfolding goes_so
+  replaces follows may turn same collision takes later =
+      let none : queued_after e input [] ≡ [] = queues_none (queued_after e input []) (ends.sends (sender_key e.core)).queued (sym (input_adds e input (ends.sends (sender_key e.core)).queued) ∙ same) in
+      let stays : queued_after e input queued ≡ queued = input_adds e input queued ∙ ap (λ (l : List Message). l ++ queued) none in
+      subst (λ (l : List Message). AreEnds ends.never_resets options o.after l (after_effects o.effects past) (packets ++ packets_in o.events) d their_past reading) (sym stays)
+      (outlasts_goes_on options ends e queued past packets d their_past reading h input o w little (goes_so collision takes) later (λ each has. holds_mean e input o each may turn has) follows)
 
   by_turn : length (queued_after e input queued) < 2 ^ 64 → o.after.options.follow_rfc ≡ e.options.follow_rfc → ResetsAs ends.never_resets input → IsCall input → Turn e input o → RefusesNone e o → CompletesPerformed their_past o
       → SenderTurns options (ends.firsts (sender_key e.core)) options.max_receiver_window_buffer_size (joined (ends.sends (sender_key e.core)) (ends.gets (sender_key e.core))) e input o
@@ -277,12 +298,14 @@ module _ (options : Options) (ends : Ends) (e : Endpoint) (queued : List Message
         | inl is ↦
             subst (λ (l : List Message). AreEnds ends.never_resets options o.after l (after_effects o.effects past) (packets ++ packets_in o.events) d their_past reading) (sym stays)
             (begins options ends e queued past packets d their_past reading h input o w little begun (λ each has. holds_mean e input o each may turn has) follows kind' is linked addressed shown fit later)
-        | inr goes ↦ replaces follows may turn goes
+        | inr takes ↦
+            subst (λ (l : List Message). AreEnds ends.never_resets options o.after l (after_effects o.effects past) (packets ++ packets_in o.events) d their_past reading) (sym stays)
+            (takes_over options ends e queued past packets d their_past reading h input o w little begun (λ each has. holds_mean e input o each may turn has) follows kind' takes linked addressed shown fit later)
       ]
   by_turn few follows resets may turn refuses completes_so (run_outlasts collision same later) =
       elim (new (other_begun e input o collision) collision.opened.opening collision.opened.linked) [
         | inl is ↦ absurd (is.other collision.old (h.mine collision.old collision.was) (sym collision.tag))
-        | inr goes ↦ replaces follows may turn goes
+        | inr takes ↦ replaces follows may turn same collision takes later
       ]
 
   -- The sender doesn't keep the streams that its user resets.
@@ -306,17 +329,13 @@ module _ (options : Options) (ends : Ends) (e : Endpoint) (queued : List Message
   small_so begun opening linked =
       elim (new begun opening linked) [
         | inl is ↦ is.small
-        | inr goes ↦
-            (let had = h.sender.current (λ zero. (h.sender.known goes.collision.old (h.mine goes.collision.old goes.collision.was)).0 (sym (link_tag e.core goes.collision.old goes.collision.was) ∙ zero)) in
-            let one : had.link ≡ goes.collision.old = goes.only had.link had.held (had.tag_is ∙ link_tag e.core goes.collision.old goes.collision.was ∙ ap (λ (p : Pair). p.tag) goes.my) in
-            let link : goes.collision.opened.link ≡ identity_of begun.my begun.held = one_link goes.collision.opened.linked linked in
-            let first : ends.firsts (sender_key e.core) ≡ begun.my.first_tsn = sym had.first_is ∙ ap (λ (l : AssociationIdentity). l.my.first_tsn) one ∙ ap (λ (p : Pair). p.first_tsn) goes.my
-            ∙ ap (λ (l : AssociationIdentity). l.my.first_tsn) link in
+        | inr takes ↦
+            (let own : sender_key e.core ≡ takes.old.my.tag = link_tag e.core takes.old takes.was in
+            let had = h.sender.current (λ zero. (h.sender.known takes.old (h.mine takes.old takes.was)).0 (sym own ∙ zero)) in
+            let one : had.link ≡ takes.old = takes.only had.link had.held (had.tag_is ∙ own ∙ ap (λ (p : Pair). p.tag) takes.my) in
+            let first : ends.firsts (sender_key e.core) ≡ begun.my.first_tsn = sym had.first_is ∙ ap (λ (l : AssociationIdentity). l.my.first_tsn) one ∙ ap (λ (p : Pair). p.first_tsn) takes.my in
             subst (λ (n : ℕ). n < 2 ^ 32) first (h.small (sender_key e.core)))
       ]
-    where
-      one_link : {found : Option AssociationIdentity} {one two : AssociationIdentity} → found ≡ Some one → found ≡ Some two → one ≡ two
-      one_link first second = cc
 
   pub sender_turns : length (queued_after e input queued) < 2 ^ 64 → RefusesNone e o → ResetsAs ends.never_resets input → CompletesPerformed their_past o → o.after.options.follow_rfc ≡ e.options.follow_rfc → IsCall input → Turn e input o
       → AreEnds ends.never_resets options o.after (queued_after e input queued) (after_effects o.effects past) (packets ++ packets_in o.events) d their_past reading

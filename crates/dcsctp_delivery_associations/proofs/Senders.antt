@@ -24,7 +24,7 @@ use Rattle.dcsctp_delivery_turns.specs.Addressed.{IsAddressed, AreAddressed}
 use Rattle.dcsctp_delivery_directions.specs.Requests.{requests_in, requests_to}
 use Rattle.dcsctp_delivery_directions.proofs.RequestCounts.{requests_more, requests_more_to}
 use Rattle.dcsctp_delivery_associations.proofs.Counting.{addressed_requests}
-use Rattle.dcsctp_delivery_associations.specs.Ends.{SendingEnd, ReceivingEnd, Ends, MarksLeft, HadPeer, HadKind, HadBoth, IsBefore, WasReplaced, Awaits, IsOfEnds, AreOfEnds, chunks_before, sender_key, joined, awaiting, IsMet, MetOrAlone, Sender}
+use Rattle.dcsctp_delivery_associations.specs.Ends.{SendingEnd, ReceivingEnd, Ends, MarksLeft, HadPeer, HadKind, HadBoth, IsBefore, PlaceWasTaken, Awaits, IsOfEnds, AreOfEnds, chunks_before, sender_key, joined, unbegun_end, IsMet, MetOrAlone, Sender, WentBefore}
 use Rattle.dcsctp_delivery_associations.proofs.Counting.{more_to, addressed_counts}
 use Rattle.dcsctp_delivery_associations.proofs.Growing.{set_all, set_three, AllFound, found_later, found_then, found_grown, marked_grown, marked_still}
 
@@ -98,7 +98,7 @@ pub before_later : (effects past : List Effect) (old link : AssociationIdentity)
 before_later [] past old link before = before
 before_later (effect ∷ effects) past old link before = before_later effects (effect ∷ past) old link (inr before)
 
-pub replaced_later : (effects past : List Effect) (tag former latest : ℕ) → WasReplaced past tag former latest → WasReplaced (after_effects effects past) tag former latest
+pub replaced_later : (effects past : List Effect) (tag former latest : ℕ) → PlaceWasTaken past tag former latest → PlaceWasTaken (after_effects effects past) tag former latest
 replaced_later effects past tag former latest was =
     record {
       old = was.old;
@@ -125,20 +125,26 @@ pub alone_later : (options : Options) (ends ends' : Ends) (past later their_past
 alone_later options ends ends' past later their_past their_later within their_within tag gets firsts (inl met) = inl (met_later past later their_past their_later within their_within tag met)
 alone_later options ends ends' past later their_past their_later within their_within tag gets firsts (inr run) =
     inr
-    (subst (λ (n : ℕ). DirectionRun options n options.max_receiver_window_buffer_size (joined (awaiting options) (ends'.gets tag))) (sym firsts)
-    (subst (λ (g : ReceivingEnd). DirectionRun options (ends.firsts tag) options.max_receiver_window_buffer_size (joined (awaiting options) g)) (sym gets) run))
+    (subst (λ (n : ℕ). DirectionRun options n options.max_receiver_window_buffer_size (joined (unbegun_end options) (ends'.gets tag))) (sym firsts)
+    (subst (λ (g : ReceivingEnd). DirectionRun options (ends.firsts tag) options.max_receiver_window_buffer_size (joined (unbegun_end options) g)) (sym gets) run))
 
 -- ---- packets
 
 pub of_more : (ends later : Ends) (past past' : List Effect) (packets : List Emission) → IsWithin past past'
-    → ((tag : ℕ) (emission : Emission) → HadBoth past tag emission.packet.tag → places.HasEntry emission (ends.sends tag).sent → places.HasEntry emission (later.sends tag).sent) → AreOfEnds ends past packets → AreOfEnds later past' packets
-of_more ends later past past' [] within more are = tt
-of_more ends later past past' (p ∷ packets) within more are = (one are.0, of_more ends later past past' packets within more are.1)
+    → ((emission : Emission) → WentBefore ends emission → WentBefore later emission)
+    → ((tag : ℕ) (emission : Emission) → HadBoth past tag emission.packet.tag → places.HasEntry emission (ends.sends tag).sent → WentBefore later emission ⊎ places.HasEntry emission (later.sends tag).sent) → AreOfEnds ends past packets → AreOfEnds later past' packets
+of_more ends later past past' [] within before more are = tt
+of_more ends later past past' (p ∷ packets) within before more are = (one are.0, of_more ends later past past' packets within before more are.1)
   where
     one : IsOfEnds ends past p → IsOfEnds later past' p
     one (inl none) = inl none
     one (inr (free, inl zero)) = inr (free, inl zero)
-    one (inr (free, inr end)) = inr (free, inr (record { tag = end.tag; both = both_later past past' within end.tag p.packet.tag end.both; has = more end.tag p end.both end.has }))
+    one (inr (free, inr (inl went))) = inr (free, inr (inl (before p went)))
+    one (inr (free, inr (inr end))) =
+        elim (more end.tag p end.both end.has) [
+          | inl went ↦ inr (free, inr (inl went))
+          | inr has ↦ inr (free, inr (inr (record { tag = end.tag; both = both_later past past' within end.tag p.packet.tag end.both; has = has })))
+        ]
 
 of_both : (ends : Ends) (past : List Effect) (one other : List Emission) → AreOfEnds ends past one → AreOfEnds ends past other → AreOfEnds ends past (one ++ other)
 of_both ends past [] other are are' = are'
@@ -153,7 +159,7 @@ of_new ends past key to (p ∷ packets) has went are = (one are.0 went, of_new e
     one : IsAddressed to p → (to ≡ 0) ⊎ HadBoth past key to → IsOfEnds ends past p
     one (inl none) went = inl none
     one (inr (tag, free)) (inl zero) = inr (free, inl (tag ∙ zero))
-    one (inr (tag, free)) (inr both) = inr (free, inr (record { tag = key; both = subst (HadBoth past key) (sym tag) both; has = has p (inl refl) }))
+    one (inr (tag, free)) (inr both) = inr (free, inr (inr (record { tag = key; both = subst (HadBoth past key) (sym tag) both; has = has p (inl refl) })))
 
 pub has_front : (p : Emission) (one other : List Emission) → places.HasEntry p one → places.HasEntry p (one ++ other)
 has_front p [] other h = absurd h
@@ -245,7 +251,7 @@ module _ (ends : Ends) (key to : ℕ) (below : EndpointQueues) (queued : List Me
         kinds = set_all (λ tag s. tag ≢ 0 → Awaits s ⊎ HadKind (after_effects effects past) tag s.queues.queue.is_interleaved) key grown_end ends.sends
             (λ some. inr (kind_now some))
             (λ tag ne some. kinds_before tag (h.kinds tag some));
-        all_sent = of_both grown_ends (after_effects effects past) packets ps (of_more ends grown_ends past (after_effects effects past) packets within (λ tag emission both. grown_sent tag emission) h.all_sent)
+        all_sent = of_both grown_ends (after_effects effects past) packets ps (of_more ends grown_ends past (after_effects effects past) packets within (λ emission went. record { tag = went.tag; former_is = went.former_is }) (λ tag emission both has. inr (grown_sent tag emission has)) h.all_sent)
             (of_new grown_ends (after_effects effects past) key to ps
             (λ emission has. subst (λ (s : SendingEnd). places.HasEntry emission s.sent) (sym (set_same key grown_end ends.sends)) (has_back emission (ends.sends key).sent ps has))
             (went_later past (after_effects effects past) within key to h.went) addressed);
@@ -275,7 +281,7 @@ module _ (ends : Ends) (key to : ℕ) (below : EndpointQueues) (queued : List Me
 -- ---- another end takes its place, in which all that no longer waits is marked
 
 module _ (ends : Ends) (key peer : ℕ) (below : EndpointQueues) (queued : List Message) (past : List Effect) (packets : List Emission) (h : Sender ends key peer below queued past packets)
-    (effects : List Effect) (to at : ℕ) (after : EndpointQueues) (acknowledged : ℕ) (ps : List Emission) (asking : Asking) (beginning : Beginning) (gets : ℕ → ReceivingEnd) (firsts : ℕ → ℕ) where
+    (effects : List Effect) (to at : ℕ) (after : EndpointQueues) (acknowledged : ℕ) (ps : List Emission) (asking : Asking) (beginning : Beginning) (gets : ℕ → ReceivingEnd) (firsts : ℕ → ℕ) (before : Option ℕ) where
   abbrev pub marked_queue : List Message
   marked_queue = all_marked (length (ends.sends key).queued) (ends.sends key).queues.queue.streams (ends.sends key).queued
 
@@ -283,7 +289,7 @@ module _ (ends : Ends) (key peer : ℕ) (below : EndpointQueues) (queued : List 
   renewed_end = record { queued = marked_queue; queues = after; acknowledged = acknowledged; sent = ps; asking = asking; beginning = beginning }
 
   abbrev pub renewed_ends : Ends
-  renewed_ends = record ends { sends = set_at to renewed_end ends.sends; gets = gets; firsts = firsts; latest = set_at to at ends.latest; former = set_at to None ends.former }
+  renewed_ends = record ends { sends = set_at to renewed_end ends.sends; gets = gets; firsts = firsts; latest = set_at to at ends.latest; former = set_at to before ends.former }
 
   are : AreMarked marked_queue (ends.sends key).queued
   are = all_are_marked (length (ends.sends key).queued) (ends.sends key).queues.queue.streams (ends.sends key).queued
@@ -320,31 +326,43 @@ module _ (ends : Ends) (key peer : ℕ) (below : EndpointQueues) (queued : List 
             ]
       ]
 
-  renewed_sent : (to ≡ 0) ⊎ Awaits (ends.sends to) → (tag : ℕ) (emission : Emission) → HadBoth past tag emission.packet.tag → places.HasEntry emission (ends.sends tag).sent → places.HasEntry emission (renewed_ends.sends tag).sent
-  renewed_sent fresh tag emission both has =
-      elim (decide tag to) [
-        | inl e ↦ absurd (nothing e fresh)
-        | inr ne ↦ subst (λ (s : SendingEnd). places.HasEntry emission s.sent) (sym (set_other to tag renewed_end ends.sends ne)) has
-      ]
-    where
-      nothing : tag ≡ to → (to ≡ 0) ⊎ Awaits (ends.sends to) → ⊥
-      nothing e (inl zero) = (h.known both.link both.held).0 (both.tag_is ∙ e ∙ zero)
-      nothing e (inr waits) = subst (λ (l : List Emission). places.HasEntry emission l) waits.sent (subst (λ (n : ℕ). places.HasEntry emission (ends.sends n).sent) e has)
+  -- What went to a peer before did so still.
+  went_still : ends.former to ≡ None → (emission : Emission) → WentBefore ends emission → WentBefore renewed_ends emission
+  went_still none emission went =
+      record {
+        tag = went.tag;
+        former_is = set_other to went.tag before ends.former (λ same. (let clash : ◌≡◌ {A = Option ℕ} None (Some emission.packet.tag) = sym none ∙ ap ends.former (sym same) ∙ went.former_is in cc)) ∙ went.former_is;
+      }
 
-  pub renewed : (to ≡ 0) ⊎ Awaits (ends.sends to) → (to ≢ 0 → HadPeer (after_effects effects past) to (firsts to)) → ((tag : ℕ) → tag ≢ to → firsts tag ≡ ends.firsts tag) → AreAddressed at ps → (to ≢ 0 → HadKind (after_effects effects past) to after.queue.is_interleaved)
-      → (at ≡ 0) ⊎ HadBoth (after_effects effects past) to at → ((each : AssociationIdentity) → HasEffect (holds each) past → each.my.tag ≢ to)
-      → ((each : AssociationIdentity) → HasEffect (holds each) (after_effects effects past) → HasEffect (holds each) past ⊎ ((each.my.tag ≢ 0) × (each.my.tag ≡ to) × (each.peer.tag ≡ at)))
+  -- What was sent before under this tag went to a peer before, or nothing was.
+  abbrev pub Left : Type 0
+  Left = (each : AssociationIdentity) → HasEffect (holds each) past → each.my.tag ≡ to → (before ≡ Some each.peer.tag) ⊎ ((ends.sends to).sent ≡ [])
+
+  renewed_sent : Left → (tag : ℕ) (emission : Emission) → HadBoth past tag emission.packet.tag → places.HasEntry emission (ends.sends tag).sent → WentBefore renewed_ends emission ⊎ places.HasEntry emission (renewed_ends.sends tag).sent
+  renewed_sent left tag emission both has =
+      elim (decide tag to) [
+        | inl e ↦ elim (left both.link both.held (both.tag_is ∙ e)) [
+          | inl is ↦ inl (record { tag = to; former_is = set_same to before ends.former ∙ is ∙ ap Some both.peer_is })
+          | inr none ↦ absurd (subst (λ (l : List Emission). places.HasEntry emission l) none (subst (λ (n : ℕ). places.HasEntry emission (ends.sends n).sent) e has))
+        ]
+        | inr ne ↦ inr (subst (λ (s : SendingEnd). places.HasEntry emission s.sent) (sym (set_other to tag renewed_end ends.sends ne)) has)
+      ]
+
+  pub renewed : Left → ends.former to ≡ None → (to ≢ 0 → HadPeer (after_effects effects past) to (firsts to)) → ((tag : ℕ) → tag ≢ to → firsts tag ≡ ends.firsts tag) → AreAddressed at ps → (to ≢ 0 → HadKind (after_effects effects past) to after.queue.is_interleaved)
+      → (at ≡ 0) ⊎ HadBoth (after_effects effects past) to at → ((former : ℕ) → before ≡ Some former → PlaceWasTaken (after_effects effects past) to former at)
+      → ((each : AssociationIdentity) → HasEffect (holds each) (after_effects effects past)
+      → (HasEffect (holds each) past × (each.my.tag ≢ to)) ⊎ ((each.my.tag ≢ 0) × (each.my.tag ≡ to) × ((each.peer.tag ≡ at) ⊎ (before ≡ Some each.peer.tag))))
       → Sender renewed_ends to at after queued (after_effects effects past) (packets ++ ps)
-  renewed fresh had kept addressed kind went apart which =
+  renewed left none had kept addressed kind went replaced which =
       record {
         queues_are = ap (λ (s : SendingEnd). s.queues) (set_same to renewed_end ends.sends);
         long = ap (λ (s : SendingEnd). length s.queued) (set_same to renewed_end ends.sends) ∙ are.size ∙ h.long;
         marks = set_all (λ tag s. AllFound s.queued queued) to renewed_end ends.sends (found_then marked_queue (ends.sends key).queued queued are (h.marks key)) (λ tag ne. h.marks tag);
         short = set_all (λ tag s. length s.queued ≤ length queued) to renewed_end ends.sends (let a = are.size in let b = h.long in omega (arith, a, b)) (λ tag ne. h.short tag);
-        few = set_three (λ tag s f l. chunks_in s.sent ≤ chunks_before f (packets ++ ps) + chunks_to l (packets ++ ps)) to renewed_end None at ends.sends ends.former ends.latest
+        few = set_three (λ tag s f l. chunks_in s.sent ≤ chunks_before f (packets ++ ps) + chunks_to l (packets ++ ps)) to renewed_end before at ends.sends ends.former ends.latest
             (let b = more_to at packets ps in let c = addressed_counts at ps addressed in omega (arith, b, c))
             (λ tag ne. (let b = more_to (ends.latest tag) packets ps in let c = h.few tag in let f = before_grows (ends.former tag) packets ps in omega (arith, b, c, f)));
-        few_requests = set_three (λ tag s f l. requests_in s.sent ≤ requests_to l (packets ++ ps)) to renewed_end None at ends.sends ends.former ends.latest
+        few_requests = set_three (λ tag s f l. requests_in s.sent ≤ requests_to l (packets ++ ps)) to renewed_end before at ends.sends ends.former ends.latest
             (let b = requests_more_to at packets ps in let c = addressed_requests at ps addressed in omega (arith, b, c)) (λ tag ne. (let b = requests_more_to (ends.latest tag) packets ps in let c = h.few_requests tag in omega (arith, b, c)));
         last = λ tag ne. renewed_behind tag to refl ne;
         pairs = renewed_pairs;
@@ -355,15 +373,21 @@ module _ (ends : Ends) (key peer : ℕ) (below : EndpointQueues) (queued : List 
           | inr ne ↦ begun_before tag ne (h.begun tag some)
         ];
         kinds = set_all (λ tag s. tag ≢ 0 → Awaits s ⊎ HadKind (after_effects effects past) tag s.queues.queue.is_interleaved) to renewed_end ends.sends (λ some. inr (kind some)) (λ tag ne some. kinds_before tag ne (h.kinds tag some));
-        all_sent = of_both renewed_ends (after_effects effects past) packets ps (of_more ends renewed_ends past (after_effects effects past) packets (after_within effects past) (renewed_sent fresh) h.all_sent)
+        all_sent = of_both renewed_ends (after_effects effects past) packets ps (of_more ends renewed_ends past (after_effects effects past) packets (after_within effects past) (went_still none) (renewed_sent left) h.all_sent)
             (of_new renewed_ends (after_effects effects past) to at ps (λ emission has. subst (λ (s : SendingEnd). places.HasEntry emission s.sent) (sym (set_same to renewed_end ends.sends)) has) went addressed);
         to_is = set_same to at ends.latest;
         went = went;
-        replaced = set_three (λ tag s f l. (former : ℕ) → f ≡ Some former → WasReplaced (after_effects effects past) tag former l) to renewed_end None at ends.sends ends.former ends.latest
-            (λ former is. absurd (cc)) (λ tag ne former is. replaced_later effects past tag former (ends.latest tag) (h.replaced tag former is));
+        replaced = set_three (λ tag s f l. (former : ℕ) → f ≡ Some former → PlaceWasTaken (after_effects effects past) tag former l) to renewed_end before at ends.sends ends.former ends.latest
+            replaced (λ tag ne former is. replaced_later effects past tag former (ends.latest tag) (h.replaced tag former is));
         known = λ link has. elim (which link has) [
-          | inl old ↦ ((h.known link old).0, known_before link (apart link old) (h.known link old).1)
-          | inr new ↦ (new.0, inl (new.2 ∙ sym (set_same to at ends.latest) ∙ ap (set_at to at ends.latest) (sym new.1)))
+          | inl old ↦ ((h.known link old.0).0, known_before link old.1 (h.known link old.0).1)
+          | inr new ↦ (
+            new.0,
+            elim new.2 [
+              | inl is ↦ inl (is ∙ sym (set_same to at ends.latest) ∙ ap (set_at to at ends.latest) (sym new.1))
+              | inr is ↦ inr (ap (set_at to before ends.former) new.1 ∙ set_same to before ends.former ∙ is)
+            ],
+          )
         ];
       }
     where
@@ -374,9 +398,9 @@ module _ (ends : Ends) (key peer : ℕ) (below : EndpointQueues) (queued : List 
       kinds_before : (tag : ℕ) → tag ≢ to → Awaits (ends.sends tag) ⊎ HadKind past tag (ends.sends tag).queues.queue.is_interleaved → Awaits (ends.sends tag) ⊎ HadKind (after_effects effects past) tag (ends.sends tag).queues.queue.is_interleaved
       kinds_before tag ne (inl waits) = inl waits
       kinds_before tag ne (inr had) =
-          inr (kind_later effects past tag (ends.sends tag).queues.queue.is_interleaved (λ each has same. elim (which each has) [ inl old ↦ old | inr new ↦ absurd (ne (sym same ∙ new.1)) ]) had)
+          inr (kind_later effects past tag (ends.sends tag).queues.queue.is_interleaved (λ each has same. elim (which each has) [ inl old ↦ old.0 | inr new ↦ absurd (ne (sym same ∙ new.1)) ]) had)
 
       known_before : (link : AssociationIdentity) → link.my.tag ≢ to → (link.peer.tag ≡ ends.latest link.my.tag) ⊎ (ends.former link.my.tag ≡ Some link.peer.tag)
-          → (link.peer.tag ≡ set_at to at ends.latest link.my.tag) ⊎ (set_at to None ends.former link.my.tag ≡ Some link.peer.tag)
+          → (link.peer.tag ≡ set_at to at ends.latest link.my.tag) ⊎ (set_at to before ends.former link.my.tag ≡ Some link.peer.tag)
       known_before link ne (inl is) = inl (is ∙ sym (set_other to link.my.tag at ends.latest ne))
-      known_before link ne (inr is) = inr (set_other to link.my.tag None ends.former ne ∙ is)
+      known_before link ne (inr is) = inr (set_other to link.my.tag before ends.former ne ∙ is)

@@ -1,7 +1,7 @@
 -- What was read under one tag of the receiver is what was read of one tag of its peer, whose
 -- association crosses that of the sender.
-use Rattle.std.proofs.Common.{◌≡◌, ◌≢◌, ◌<◌, ◌^◌, ◌+◌, ℕ, Bool, List, [], ◌∷◌, length, refl, sym, ◌∙◌, ap, arith, subst, inl, inr}
-use Rattle.std.specs.Prelude.{◌⊎◌, if◌then◌else◌}
+use Rattle.std.proofs.Common.{◌≡◌, ℕ, Bool, List, [], ◌∷◌, refl, sym, ◌∙◌, ap, arith, subst, inl, inr}
+use Rattle.std.specs.Prelude.{if◌then◌else◌}
 use Rattle.std.proofs.lemmas.Bool.Decides.{eqb_tells}
 use Rattle.dcsctp_spec_lemmas.specs.types.declared.options.Options.{Options}
 use Rattle.dcsctp_spec_lemmas.specs.types.queues.Messages.{MessageContent}
@@ -11,12 +11,10 @@ use Rattle.dcsctp_spec_lemmas.specs.spec.association.Effect.{AssociationIdentity
 use Rattle.dcsctp_spec_runs.specs.Past.{HasEffect}
 use Rattle.dcsctp_delivery_sending.specs.Log.{Message}
 use Rattle.dcsctp_delivery_sending.specs.Places.{HasEntry}
-use Rattle.dcsctp_delivery_sending.proofs.Places.{decide}
-use Rattle.dcsctp_delivery_receiving.specs.Ready.{WereQueued}
-use Rattle.dcsctp_delivery_directions.specs.Directions.{DirectionRun, assigned}
+use Rattle.dcsctp_delivery_directions.specs.Directions.{DirectionRun}
 use Rattle.dcsctp_delivery_directions.proofs.Directions.{directions_deliver}
-use Rattle.dcsctp_delivery_associations.specs.Ends.{ReceivingEnd, joined, Ends, HadBoth, HadTag, awaiting, IsMet, Between}
-use Rattle.dcsctp_delivery_associations.specs.Reads.{Tags, tags_of, no_tags, Read, Reading, with_tag, with_key, AreOfLink, AllOfLinks}
+use Rattle.dcsctp_delivery_associations.specs.Ends.{ReceivingEnd, joined, Ends, HadBoth, unbegun_end, Between}
+use Rattle.dcsctp_delivery_associations.specs.Reads.{Tags, Read, Reading, with_tag, with_key, AreOfLink, AllOfLinks}
 use Rattle.dcsctp_delivery_associations.proofs.InOrder.{read_none}
 
 -- No two associations have peers of one tag.
@@ -92,9 +90,9 @@ pub data ReadUnder (past their_past : List Effect) (reading : Reading) (own : �
 module _ (options : Options) (ends : Ends) (e : Endpoint) (queued : List Message) (past : List Effect) (packets : List Emission) (other : Endpoint) (their_past : List Effect) (reading : Reading)
     (h : Between options ends e queued past packets other their_past reading) (mine_differ : PeersDiffer past) (theirs_differ : PeersDiffer their_past) where
   -- Nothing is read where no association crosses.
-  none_alone : (key : ℕ) → DirectionRun options (ends.firsts key) options.max_receiver_window_buffer_size (joined (awaiting options) (ends.gets key)) → with_key key reading.reads ≡ []
+  none_alone : (key : ℕ) → DirectionRun options (ends.firsts key) options.max_receiver_window_buffer_size (joined (unbegun_end options) (ends.gets key)) → with_key key reading.reads ≡ []
   none_alone key run =
-      let d = directions_deliver options (ends.firsts key) options.max_receiver_window_buffer_size (joined (awaiting options) (ends.gets key)) run (h.small key) (omega arith) (omega arith) in
+      let d = directions_deliver options (ends.firsts key) options.max_receiver_window_buffer_size (joined (unbegun_end options) (ends.gets key)) run (h.small key) (omega arith) (omega arith) in
       h.receiver.were_read key ∙ read_none [] refl (ends.gets key).read d.places d.were_queued
 
   none_at_zero : with_key 0 reading.reads ≡ []
@@ -112,9 +110,13 @@ module _ (options : Options) (ends : Ends) (e : Endpoint) (queued : List Message
       by_link (inr (link, held, is)) =
           elim (h.alone r.tags.peer) [
             | inl met ↦
-                (let one : met.link ≡ link = theirs_differ met.link link met.held held (met.tag_is ∙ ap (λ (t : Tags). t.peer) is) in
-                (link, held, ap (λ (t : Tags). t.peer) (sym is), ap (λ (t : Tags). t.own) (sym is),
-                subst (HadBoth past r.tags.peer) (ap (λ (l : AssociationIdentity). l.my.tag) one ∙ ap (λ (t : Tags). t.own) (sym is)) met.both))
+                (let one : met.link ≡ link = theirs_differ met.link link met.held held (met.tag_is ∙ ap (λ (t : Tags). t.peer) is) in (
+                  link,
+                  held,
+                  ap (λ (t : Tags). t.peer) (sym is),
+                  ap (λ (t : Tags). t.own) (sym is),
+                  subst (HadBoth past r.tags.peer) (ap (λ (l : AssociationIdentity). l.my.tag) one ∙ ap (λ (t : Tags). t.own) (sym is)) met.both,
+                ))
             | inr run ↦ absurd (among_key reading.reads r has (none_alone r.tags.peer run))
           ]
 

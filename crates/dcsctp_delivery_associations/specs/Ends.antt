@@ -6,10 +6,6 @@ use Rattle.std.specs.Prelude.{◌≡◌, ◌≢◌, ◌<◌, ◌≤◌, ◌+◌,
 use Rattle.dcsctp_spec_lemmas.specs.types.declared.options.Options.{Options}
 use Rattle.dcsctp_spec_lemmas.specs.spec.endpoint.Endpoint.{Endpoint, Core, closed, cookie_wait, cookie_echoed, open_in}
 use Rattle.dcsctp_spec_lemmas.specs.spec.Packet.{Emission}
-use Rattle.dcsctp_spec_lemmas.specs.spec.Reconfiguration.{RequestedReset}
-use Rattle.dcsctp_spec_lemmas.specs.spec.endpoint.Event.{packets_in}
-use Rattle.dcsctp_spec_lemmas.specs.spec.endpoint.Outcome.{Outcome}
-use Rattle.dcsctp_spec_lemmas.specs.spec.endpoint.Turn.{Input}
 use Rattle.dcsctp_spec_runs.specs.Past.{HasEffect}
 use Rattle.dcsctp_spec_lemmas.specs.spec.association.Effect.{AssociationIdentity, Effect, holds, identity_in}
 use Rattle.dcsctp_spec_lemmas.specs.types.queues.Messages.{MessageContent}
@@ -26,8 +22,8 @@ use Rattle.dcsctp_delivery_sending.specs.ChunkCounts.{chunks_in, chunks_to}
 use Rattle.dcsctp_delivery_sending.specs.Marking.{WaitsNoLonger, FindsMarked, IsMarked}
 use Rattle.dcsctp_delivery_directions.specs.Directions.{Direction, Beginning, BeginsAs, Asking, nothing_asked, DirectionRun}
 use Rattle.dcsctp_delivery_directions.specs.Requests.{requests_in, requests_to}
-use Rattle.dcsctp_delivery_turns.specs.Asking.{own_of, AsksFit, SomeFit}
-use Rattle.dcsctp_delivery_turns.specs.Actions.{NoEnd, came_by, peer_tag, queued_after, inside, MakesPackets, Collides, kept_inside}
+use Rattle.dcsctp_delivery_turns.specs.Asking.{Own, own_of, AsksFit, SomeFit}
+use Rattle.dcsctp_delivery_turns.specs.Actions.{NoEnd, peer_tag}
 use Rattle.dcsctp_delivery_turns.specs.Unbegun.{IsAtZero}
 use Rattle.dcsctp_delivery_associations.specs.Reads.{Reading, tags_of, with_key, AreOfLink, AllOfLinks}
 
@@ -117,7 +113,7 @@ IsBefore old link [] = ⊥
 IsBefore old link (effect ∷ earlier) = ((holds link ≡ effect) × HasEffect (holds old) earlier) ⊎ IsBefore old link earlier
 
 -- Under this tag of the sender the association with the one peer took the place of that with the other.
-pub record WasReplaced (past : List Effect) (tag former latest : ℕ) : Type 0 where
+pub record PlaceWasTaken (past : List Effect) (tag former latest : ℕ) : Type 0 where
   pub old : AssociationIdentity
   pub link : AssociationIdentity
   pub before : IsBefore old link past
@@ -144,6 +140,10 @@ IsOnlyTag past tag = (link : AssociationIdentity) → HasEffect (holds link) pas
 -- Each has this tag of its own.
 abbrev pub IsOnlyOwn : List Effect → ℕ → Type 0
 IsOnlyOwn past tag = (link : AssociationIdentity) → HasEffect (holds link) past → link.my.tag ≡ tag
+
+-- And all have one tag of the peer: it had one association.
+abbrev pub IsOnlyOne : List Effect → ℕ → Type 0
+IsOnlyOne past tag = (peer : ℕ) × ((link : AssociationIdentity) → HasEffect (holds link) past → (link.my.tag ≡ tag) × (link.peer.tag ≡ peer))
 
 -- The numbers of each stream begin at 0 under this tag of the sender: it follows the RFC (RFC 9260, section 6.5), or it had no
 -- other.
@@ -173,9 +173,14 @@ pub record IsOfEnd (ends : Ends) (past : List Effect) (emission : Emission) : Ty
   pub both : HadBoth past tag emission.packet.tag
   pub has : places.HasEntry emission (ends.sends tag).sent
 
+-- Or it went to a peer whose place another one took.
+pub record WentBefore (ends : Ends) (emission : Emission) : Type 0 where
+  pub tag : ℕ
+  pub former_is : ends.former tag ≡ Some emission.packet.tag
+
 -- So is each packet with data. No data is ever handled under the tag 0.
 abbrev pub IsOfEnds : Ends → List Effect → Emission → Type 0
-IsOfEnds ends past emission = NoData emission.packet.contents ⊎ (NoEnd emission.packet.contents × ((emission.packet.tag ≡ 0) ⊎ IsOfEnd ends past emission))
+IsOfEnds ends past emission = NoData emission.packet.contents ⊎ (NoEnd emission.packet.contents × ((emission.packet.tag ≡ 0) ⊎ (WentBefore ends emission ⊎ IsOfEnd ends past emission)))
 
 abbrev pub AreOfEnds : Ends → List Effect → List Emission → Type 0
 AreOfEnds ends past [] = Unit {0}
@@ -205,7 +210,7 @@ pub record Sender (ends : Ends) (key to : ℕ) (sender_queues : EndpointQueues) 
   -- Data goes to the peer of each tag, and went to the one before.
   pub to_is : ends.latest key ≡ to
   pub went : (to ≡ 0) ⊎ HadBoth past key to
-  pub replaced : (tag former : ℕ) → ends.former tag ≡ Some former → WasReplaced past tag former (ends.latest tag)
+  pub replaced : (tag former : ℕ) → ends.former tag ≡ Some former → PlaceWasTaken past tag former (ends.latest tag)
   pub known : (link : AssociationIdentity) → HasEffect (holds link) past → (link.my.tag ≢ 0) × ((link.peer.tag ≡ ends.latest link.my.tag) ⊎ (ends.former link.my.tag ≡ Some link.peer.tag))
 
 -- What must hold of an association that begins at the sender: its own tag is a new one, and the receiver's of this tag have its
@@ -217,17 +222,21 @@ pub record NewPeer (past their_past : List Effect) (link : AssociationIdentity) 
   pub other : (old : AssociationIdentity) → HasEffect (holds old) past → old.my.tag ≢ link.my.tag
   pub match : (theirs : AssociationIdentity) → HasEffect (holds theirs) their_past → theirs.peer.tag ≡ link.my.tag → theirs.peer ≡ link.my
 
--- Or both ends began at the same time, and it goes on with what was sent in the only one of this own tag, which is there: with the
--- same own pair, another peer's tag, and messages that interleave as they did.
-pub record GoesOnWith (past : List Effect) (e : Endpoint) (input : Input) (o : Outcome) : Type 0 where
-  pub collision : Collides (came_by input) e o
-  pub adds : (queued : List Message) → queued_after e input queued ≡ queued
-  pub again : RequestedReset
-  pub makes : MakesPackets (came_by input) collision.opened.link.peer.tag (kept_inside collision again) (packets_in o.events) (inside o.after)
-  pub my : collision.old.my ≡ collision.opened.link.my
-  pub other : collision.old.peer.tag ≢ collision.opened.link.peer.tag
-  pub alike : collision.old.capabilities.message_interleaving ≡ collision.opened.link.capabilities.message_interleaving
-  pub only : (each : AssociationIdentity) → HasEffect (holds each) past → each.my.tag ≡ collision.opened.link.my.tag → each ≡ collision.old
+-- Or it takes the place of the only one of this own tag, which is there: both ends began at the same time (RFC 9260, section 5.2.4,
+-- action B). It has the same own pair, another peer's tag, and messages interleave as they did. The receiver has no association
+-- under the tag of the peer before, and the sender began no request to reset streams.
+pub record TakesOver (past their_past : List Effect) (e : Endpoint) (link : AssociationIdentity) : Type 0 where
+  pub follows : e.options.follow_rfc ≡ true
+  pub old : AssociationIdentity
+  pub was : identity_in e.core ≡ Some old
+  pub my : old.my ≡ link.my
+  pub other : old.peer.tag ≢ link.peer.tag
+  pub some_peer : link.peer.tag ≢ 0
+  pub alike : old.capabilities.message_interleaving ≡ link.capabilities.message_interleaving
+  pub only : (each : AssociationIdentity) → HasEffect (holds each) past → each.my.tag ≡ link.my.tag → each ≡ old
+  pub unasked : (own : Own) → own_of e ≡ Some own → own.next ≡ old.my.first_tsn
+  pub unmet : (theirs : AssociationIdentity) → HasEffect (holds theirs) their_past → theirs.my.tag ≢ old.peer.tag
+  pub match : (theirs : AssociationIdentity) → HasEffect (holds theirs) their_past → theirs.peer.tag ≡ link.my.tag → theirs.peer ≡ link.my
 
 -- ---- the receiver
 
@@ -285,8 +294,8 @@ pub record IsMet (past their_past : List Effect) (tag : ℕ) : Type 0 where
   pub both : HadBoth past tag link.my.tag
 
 -- a sender that hasn't begun
-abbrev pub awaiting : Options → SendingEnd
-awaiting options =
+abbrev pub unbegun_end : Options → SendingEnd
+unbegun_end options =
     record {
       queued = [];
       queues = record { queue = empty_queue options; transfer = None };
@@ -299,7 +308,7 @@ awaiting options =
 -- What was received from a tag whose associations don't cross needs no sender.
 abbrev pub MetOrAlone : Options → Ends → List Effect → List Effect → ℕ → Type 0
 MetOrAlone options ends past their_past tag =
-    IsMet past their_past tag ⊎ DirectionRun options (ends.firsts tag) options.max_receiver_window_buffer_size (joined (awaiting options) (ends.gets tag))
+    IsMet past their_past tag ⊎ DirectionRun options (ends.firsts tag) options.max_receiver_window_buffer_size (joined (unbegun_end options) (ends.gets tag))
 
 pub record Between (options : Options) (ends : Ends) (e : Endpoint) (queued : List Message) (past : List Effect) (packets : List Emission) (other : Endpoint) (their_past : List Effect) (reading : Reading) : Type 0 where
   pub runs : EndsRun options ends
@@ -308,7 +317,7 @@ pub record Between (options : Options) (ends : Ends) (e : Endpoint) (queued : Li
   pub mine : (link : AssociationIdentity) → identity_in e.core ≡ Some link → HasEffect (holds link) past
   pub asks : AsksFit (ends.firsts (sender_key e.core)) (own_of e) (ends.sends (sender_key e.core)).asking
   pub numbered : (tag : ℕ) → tag ≢ 0 → BeginsAnew e past tag → (ends.sends tag).beginning.from_zero ≡ true
-  pub kept : (tag : ℕ) → tag ≢ 0 → IsOnlyOwn past tag → KeepsThese ends.never_resets (ends.sends tag).beginning
+  pub kept : (tag : ℕ) → tag ≢ 0 → IsOnlyOne past tag → KeepsThese ends.never_resets (ends.sends tag).beginning
   pub dropping : (tag : ℕ) → KeepsOnlyThese ends.never_resets (ends.sends tag).beginning
   pub unbegun : NeverHeld past → IsUnbegun ends.never_resets (ends.sends (sender_key e.core)).queued e
   pub receiver : Receiver options ends other their_past reading

@@ -19,11 +19,11 @@ use Rattle.dcsctp_delivery_turns.specs.Runs.{RefusesNone}
 use Rattle.dcsctp_delivery_turns.specs.PeerRequests.{KnowsPeerIn}
 use Rattle.dcsctp_spec_lemmas.specs.types.declared.association.Pair.{Pair}
 use Rattle.dcsctp_spec_runs.specs.Past.{WasPerformed, HasEffect}
-use Rattle.dcsctp_spec_lemmas.specs.spec.association.Effect.{holds, completes, performs}
+use Rattle.dcsctp_spec_lemmas.specs.spec.association.Effect.{holds, completes}
 use Rattle.dcsctp_delivery_directions.specs.Requests.{requests_to}
 use Rattle.dcsctp_delivery_associations.specs.Answered.{request_number_at, AreAnswered}
 use Rattle.dcsctp_delivery_turns.specs.Sides.{WasSent}
-use Rattle.dcsctp_delivery_associations.specs.Ends.{Ends, NewPeer, GoesOnWith, NewTag, chunks_before, HadBoth, Between}
+use Rattle.dcsctp_delivery_associations.specs.Ends.{Ends, NewPeer, TakesOver, NewTag, chunks_before, HadBoth, Between}
 use Rattle.dcsctp_delivery_associations.specs.Reads.{Reading, nothing_read, reading_after, messages_of}
 
 -- A request of ours that ends as performed was performed by the peer, or it is the 2^32nd of its association.
@@ -53,13 +53,13 @@ EndsBegin = (never_resets : ℕ → Bool) (mine options : Options) → AreEnds n
 abbrev pub NewPeerTags : List Effect → Outcome → Type 0
 NewPeerTags past o = (link old : AssociationIdentity) → HasEffect (holds link) o.effects → HasEffect (holds old) past → old.peer.tag ≢ link.peer.tag
 
--- A turn of the sender leaves them, with `follow_rfc` as it is, if an association that begins is of a new tag, or goes on with the one
--- that is there, few requests to reset streams went to each tag, with interleaving none fails, and one that ends as performed was performed by the
+-- A turn of the sender leaves them, with `follow_rfc` as it is, if an association that begins is of a new tag, or takes the place of the
+-- one that is there, few requests to reset streams went to each tag, with interleaving none fails, and one that ends as performed was performed by the
 -- receiver.
 abbrev pub SendersTurn : Type 0
 SendersTurn =
     (options : Options) (ends : Ends) (e : Endpoint) (queued : List Message) (past : List Effect) (packets : List Emission) (other : Endpoint) (their_past : List Effect) (reading : Reading) (input : Input) (o : Outcome)
-    → Between options ends e queued past packets other their_past reading → AreAnswered ends e past other their_past → ((begun : Begun e o) → IsOpening (came_by input) → identity_in o.after.core ≡ Some (identity_of begun.my begun.held) → NewPeer past their_past (identity_of begun.my begun.held) ⊎ GoesOnWith past e input o) → length (queued_after e input queued) < 2 ^ 64 → AsksLittle (packets ++ packets_in o.events)
+    → Between options ends e queued past packets other their_past reading → AreAnswered ends e past other their_past → ((begun : Begun e o) → IsOpening (came_by input) → identity_in o.after.core ≡ Some (identity_of begun.my begun.held) → NewPeer past their_past (identity_of begun.my begun.held) ⊎ TakesOver past their_past e (identity_of begun.my begun.held)) → length (queued_after e input queued) < 2 ^ 64 → AsksLittle (packets ++ packets_in o.events)
     → RefusesNone e o → ResetsAs ends.never_resets input → CompletesPerformed their_past o → o.after.options.follow_rfc ≡ e.options.follow_rfc → IsCall input → Turn e input o → AreEnds ends.never_resets options o.after (queued_after e input queued) (after_effects o.effects past) (packets ++ packets_in o.events) other their_past reading
 
 -- So does one of the receiver, if what is handled in its association was sent in it, the peer of each association that is recorded

@@ -8,9 +8,10 @@ pub fn ends_begin()
     ensures { EndsBegin }
 {}
 
-/// A turn of the sender leaves what is known of all associations, if one that begins is of a tag of its own, and the
-/// receiver's of that tag is the matching one; if few requests to reset streams went to each tag, and none fails with
-/// interleaving; and if one that ends as performed was performed by the receiver.
+/// A turn of the sender leaves what is known of all associations, if one that begins is of a tag of its own, or takes
+/// the place of one that the receiver never had (RFC 9260, section 5.2.4, action B), and the receiver's of that tag is
+/// the matching one; if few requests to reset streams went to each tag, and none fails with interleaving; and if one
+/// that ends as performed was performed by the receiver.
 pub fn senders_turn()
     ensures { SendersTurn }
 {}
@@ -22,7 +23,8 @@ pub fn receivers_turn()
 {}
 
 /// Each message that was read, in any association or after it has ended, was queued, and none was read twice, if fewer
-/// than 2^30 chunks of data went to each verification tag. An association assigns at most two TSNs for each.
+/// than 2^30 chunks of data went to each verification tag, and to that whose place it took together. An association
+/// assigns at most two TSNs for each.
 pub fn ends_deliver()
     ensures { EndsDeliver }
 {}

@@ -1,16 +1,33 @@
 -- What is read was sent, where what is shown allows it.
-use Rattle.std.proofs.Common.{List, [], ◌∷◌}
+use Rattle.std.proofs.Common.{List, [], ◌∷◌, inl, inr}
 use Rattle.dcsctp_spec_lemmas.specs.types.declared.options.Options.{Options}
-use Rattle.dcsctp_spec_runs.specs.Sockets.{PerformedAct, Both, SocketRun, acts_of}
+use Rattle.dcsctp_spec_lemmas.specs.types.declared.schedule.Side.{Side}
+use Rattle.dcsctp_spec_lemmas.specs.types.declared.schedule.Side.TheVariants as sides
+use Rattle.dcsctp_spec_lemmas.specs.spec.endpoint.CallTurns.{Transition}
+use Rattle.dcsctp_spec_runs.specs.Sockets.{PerformedAct, Both, of_side, turns_after, SocketRun, acts_of}
 use Rattle.dcsctp_theorem_sockets.specs.Agreement.{AreUsable}
-use Rattle.dcsctp_delivery_sockets.specs.Delivery.{AreInMemory, SocketsDeliver}
-use Rattle.dcsctp_delivery_shown.specs.Shown.{ShownTagsSuffice}
-use Rattle.dcsctp_delivery_shown.specs.Delivery.{DeliverThroughout}
+use Rattle.dcsctp_delivery_sockets.specs.Delivery.{AreInMemory, SocketsDeliver, TagsServeOnce, SendsLittleTogether, TurnsAllowDelivery}
+use Rattle.dcsctp_delivery_sockets.proofs.Replaced.{tags_wider, together_wider}
+use Rattle.dcsctp_delivery_shown.specs.Shown.{ShownTagsServeOnce, ShownTagsSuffice}
+use Rattle.dcsctp_delivery_shown.specs.Delivery.{OneTakesThePlace, AllowsDelivery, DeliverThroughout}
+
+-- Where each tag serves one association none takes the place of another.
+none_takes : (options : Both Options) (turns : Both (List Transition)) → TagsServeOnce turns → OneTakesThePlace options turns
+none_takes options turns once = record { tags = tags_wider options turns once; together = both }
+  where
+    both : (side : Side) → SendsLittleTogether (of_side side turns)
+    both sides.A = together_wider turns.a once.a
+    both sides.B = together_wider turns.b once.b
+
+allowed : (options : Both Options) (run : List PerformedAct) → (ShownTagsServeOnce options run → TagsServeOnce (turns_after run)) → AllowsDelivery options run → TurnsAllowDelivery options (turns_after run)
+allowed options run suffice allows =
+    let one : OneTakesThePlace options (turns_after run) = elim allows.tags [ inl once ↦ none_takes options (turns_after run) (suffice once) | inr one ↦ one ] in
+    record { tags = one.tags; little = allows.little; together = one.together; refused = allows.refused }
 
 pub deliver : SocketsDeliver → ShownTagsSuffice → (options : Both Options) (run : List PerformedAct) → AreUsable options → AreInMemory (acts_of run) → SocketRun options run → DeliverThroughout options run
 deliver law tags options [] are in_memory runs = tt
 deliver law tags options (worked ∷ earlier) are in_memory runs = (
   (λ honest fresh allows. law options (worked ∷ earlier) are in_memory runs honest fresh
-      (record { tags = tags options (worked ∷ earlier) are runs honest fresh allows.tags; little = allows.little; refused = allows.refused })),
+      (allowed options (worked ∷ earlier) (tags options (worked ∷ earlier) are runs honest fresh) allows)),
   deliver law tags options earlier are in_memory.1 runs.1,
 )

@@ -31,10 +31,11 @@ pub fn shown_tags_suffice()
 /// What a user reads is what its peer's user sent, and no message is read twice, in any association or after it has
 /// ended. So it is at the end of each first part of a run that loses, repeats, delays and reorders packets, as long as
 /// no act comes from outside and no tag is drawn twice; if each verification tag serves one association, as far as the
-/// sockets show; if fewer than 2^30 chunks of data and fewer than 2^32 - 1 requests to reset streams go to each, each
-/// counted as often as it is sent; if a side sends fewer than 2^64 messages; and if none of these requests fails in an
-/// association with interleaving (RFC 8260). It comes in order, stream by stream, and without gaps, as `sockets_deliver`
-/// says.
+/// sockets show, or with `follow_rfc` one takes the place of another that the other socket never has (RFC 9260, section
+/// 5.2.4, action B); if fewer than 2^30 chunks of data and fewer than 2^32 - 1 requests to reset streams go to each,
+/// each counted as often as it is sent; if a side sends fewer than 2^64 messages; and if none of these requests fails
+/// in an association with interleaving (RFC 8260). It comes in order, stream by stream, and without gaps, as
+/// `sockets_deliver` says.
 pub fn users_read_what_was_sent()
     ensures { UsersReadWhatWasSent }
 {

@@ -11,7 +11,7 @@ use Rattle.dcsctp_spec_lemmas.specs.types.declared.schedule.Side.{Side}
 use Rattle.dcsctp_spec_lemmas.specs.types.declared.schedule.Side.TheVariants as sides
 use Rattle.dcsctp_spec_lemmas.specs.types.Schedule.{StepContent, call_step, delivery_step, ActContent, step_act, outside_act, IsHonestAct, AreHonest}
 use Rattle.dcsctp_spec_lemmas.specs.types.Settings.{FitsOptions, wire_options, ports_of}
-use Rattle.dcsctp_spec_lemmas.specs.spec.endpoint.CallTurns.{Transition, HandleInput, events_of, AlongTurns}
+use Rattle.dcsctp_spec_lemmas.specs.spec.endpoint.CallTurns.{Transition, HandleInput, events_of, effects_of, AlongTurns}
 use Rattle.dcsctp_spec_lemmas.specs.spec.endpoint.Endpoint.{Endpoint, fresh_endpoint}
 use Rattle.dcsctp_spec_lemmas.specs.spec.endpoint.Event.{Event, sent, packets_in}
 use Rattle.dcsctp_spec_runs.specs.Fitting.{OfSent, AllSent, FitsEndpoint, IsSendable}
@@ -31,7 +31,7 @@ use Rattle.dcsctp_delivery_associations.specs.Reads.{nothing_read, messages_of, 
 use Rattle.dcsctp_delivery_sockets.specs.Echoes.{GoesToMaker}
 use Rattle.dcsctp_delivery_sockets.specs.Ordered.{AllowsOrder, IsDeliveredInOrder, read_under, AllowsNoGaps, IsDeliveredWithoutGaps, IsReliable, IsDeliveredByStream, AllowsDataOrder}
 use Rattle.dcsctp_delivery_sockets.specs.UserMessages.{messages_sent_in, sendings_in, read_of, IsDelivered}
-use Rattle.dcsctp_delivery_sockets.specs.Delivery.{FitsStep, AreInMemory, MatchByTags, SendsLittle, TurnsAllowDelivery, Delivers, SocketsDeliver, IsOfNewTags}
+use Rattle.dcsctp_delivery_sockets.specs.Delivery.{FitsStep, AreInMemory, MatchOrUnmatched, SendsLittle, SendsLittleTogether, TurnsAllowDelivery, Delivers, SocketsDeliver, IsOfNewTagsBut}
 use Rattle.dcsctp_delivery_associations.proofs.Delivers.{ends_begin, ends_deliver}
 use Rattle.dcsctp_delivery_sockets.specs.Acts.{ResetsIn}
 use Rattle.dcsctp_delivery_turns.specs.Actions.{resets_streams, resets_stream}
@@ -39,7 +39,7 @@ use Rattle.std.specs.List.{AllByRecursion}
 use Rattle.std.specs.Prelude.{not, ◌&&◌}
 use Rattle.dcsctp_delivery_order.specs.Delivered.{DeliveredInOrder, DeliveredWithoutGaps}
 use Rattle.dcsctp_delivery_associations.specs.InOrder.{Interleaves, InterleavesUnder}
-use Rattle.dcsctp_delivery_associations.specs.Ends.{BeginsAnew, IsOnlyTag, HadBoth, IsBefore, WasReplaced, chunks_before, IsOnlyOwn}
+use Rattle.dcsctp_delivery_associations.specs.Ends.{BeginsAnew, IsOnlyTag, HadBoth, chunks_before, IsOnlyOwn, IsOnlyOne}
 use Rattle.dcsctp_spec_lemmas.specs.spec.endpoint.MessageOutcomes.{Sending}
 use Rattle.dcsctp_spec_lemmas.specs.spec.endpoint.Turn.{Input, arrival, refusal, packet_begins, chunk_input, packet_ends, act_input, user_sets, user_sends, user_resets, user_takes, timer_expires, time_passes, restores}
 use Rattle.dcsctp_delivery_order.specs.PlainDirections.{FewOnEachStream}
@@ -50,18 +50,21 @@ use Rattle.dcsctp_delivery_associations.proofs.InOrder.{ends_deliver_in_order, e
 use Rattle.dcsctp_delivery_sockets.proofs.Calls.{AreCalls, call_without, call_is, input_is}
 use Rattle.dcsctp_delivery_sockets.proofs.Echoes.{echoes_go_to_makers}
 use Rattle.dcsctp_delivery_sockets.proofs.KnownPeers.{IsMove}
-use Rattle.dcsctp_delivery_sockets.proofs.NewLinks.{AllOpenFitting, none_open, matched_swapped, AllPerformed, packet_opens}
-use Rattle.dcsctp_delivery_sockets.proofs.Performed.{BothPerformed, both_performed, fresh_front}
-use Rattle.dcsctp_delivery_sockets.proofs.Known.{same_rules_after, own_turn, IsOwn, GoodPacket, SideKnown, BothKnown, both_front}
+use Rattle.dcsctp_delivery_sockets.proofs.NewLinks.{AllOpenFitting, none_open, packet_opens, ConnectedSo, NoneRestored, all_connected}
+use Rattle.dcsctp_delivery_sockets.proofs.Replaced.{match_swapped, peers_differ, before_held, replaced_unmatched}
+use Rattle.dcsctp_delivery_sockets.proofs.Performed.{SidePerformed, BothPerformed, both_performed, fresh_front}
+use Rattle.dcsctp_delivery_sockets.proofs.Known.{past_more, rest_turns, rest_moves, same_rules_after, own_turn, IsOwn, GoodPacket, SideKnown, BothKnown, both_front}
 use Rattle.dcsctp_delivery_sockets.proofs.Stands.{Stand, queued_of, packets_of, reading_of, queued_same, sender_more, receiver_calls, receiver_handles, few_queued}
 use Rattle.dcsctp_delivery_sockets.proofs.UserMessages.{is_without_gaps, is_by_stream, SaysSame, are_unlimited, are_unlimited_on, nothing_same, turns_same, turns_read, is_delivered, is_in_order, SaysSame, is_without_gaps}
 use Rattle.dcsctp_spec_lemmas.specs.spec.association.Effect.{AssociationIdentity, Effect, holds}
 use Rattle.dcsctp_spec_runs.specs.Past.{HasEffect, Each}
-use Rattle.dcsctp_delivery_associations.proofs.Tagged.{PeersDiffer, ReadUnder, nothing_under, under_key, read_under_key}
+use Rattle.dcsctp_delivery_associations.proofs.Tagged.{ReadUnder, nothing_under, under_key, read_under_key}
 use Rattle.dcsctp_delivery_sending.specs.ChunkCounts.{chunks_to}
 use Rattle.dcsctp_delivery_directions.specs.Requests.{requests_to}
 use Rattle.dcsctp_delivery_order.specs.Streams.{DeliveredByStream}
 use Rattle.dcsctp_spec_lemmas.specs.types.queues.Messages.{MessageContent}
+use Rattle.dcsctp_spec_lemmas.proofs.TurnLists.{after_all-append}
+use Rattle.dcsctp_spec_runs.specs.World.{after_effects}
 
 -- ---- a packet that is delivered
 
@@ -83,17 +86,28 @@ good_among all (event ∷ events) within each = (tt, good_among all events withi
 record ActedSide (never_resets their_never : ℕ → Bool) (mine theirs : Options) (turns others more : List Transition) : Type 0 where
   sends : Stand never_resets mine theirs (turns ++ more) others
   receives : Stand their_never theirs mine others (turns ++ more)
+  connected : ConnectedSo (endpoint_after mine (turns ++ more)) (noted_past (turns ++ more))
 
 module _ (law : Below) (never_resets their_never : ℕ → Bool) (mine theirs : Options) (turns others more : List Transition) (fits : FitsEndpoint (endpoint_after mine turns)) (their_fits : FitsOptions theirs)
-    (known : SideKnown never_resets mine (turns ++ more)) (their_known : SideKnown their_never theirs others) (matched : MatchByTags (noted_past (turns ++ more)) (noted_past others))
-    (performed : AllPerformed (noted_past (turns ++ more)) (noted_past others)) (sends : Stand never_resets mine theirs turns others)
+    (known : SideKnown never_resets mine (noted_past others) (turns ++ more)) (their_known : SideKnown their_never theirs (noted_past (turns ++ more)) others)
+    (matched : MatchOrUnmatched mine theirs (noted_past (turns ++ more)) (noted_past others))
+    (side : SidePerformed (noted_past (turns ++ more)) (noted_past others)) (connected : ConnectedSo (endpoint_after mine turns) (noted_past turns)) (sends : Stand never_resets mine theirs turns others)
     (receives : Stand their_never theirs mine others turns) where
   nothing_done : more ≡ [] → ActedSide never_resets their_never mine theirs turns others more
   nothing_done none =
+      let same : turns ≡ turns ++ more = sym (ap (λ (m : List Transition). turns ++ m) none ∙ append-nil turns) in
       record {
-        sends = subst (λ (ts : List Transition). Stand never_resets mine theirs ts others) (sym (ap (λ (m : List Transition). turns ++ m) none ∙ append-nil turns)) sends;
-        receives = subst (λ (ts : List Transition). Stand their_never theirs mine others ts) (sym (ap (λ (m : List Transition). turns ++ m) none ∙ append-nil turns)) receives;
+        sends = subst (λ (ts : List Transition). Stand never_resets mine theirs ts others) same sends;
+        receives = subst (λ (ts : List Transition). Stand their_never theirs mine others ts) same receives;
+        connected = subst (λ (ts : List Transition). ConnectedSo (endpoint_after mine ts) (noted_past ts)) same connected;
       }
+
+  connected_so : AreCalls more → ConnectedSo (endpoint_after mine (turns ++ more)) (noted_past (turns ++ more))
+  connected_so calls =
+      subst (λ (past : List Effect). ConnectedSo (endpoint_after mine (turns ++ more)) past) (sym (past_more turns more))
+      (subst (λ (e : Endpoint). ConnectedSo e (after_effects (effects_of more) (noted_past turns))) (sym (after_all-append (fresh_endpoint mine) turns more))
+      (all_connected more (noted_past turns) (endpoint_after mine turns) connected (rest_turns never_resets mine turns more known) calls (rest_moves never_resets mine turns more known)
+      (subst NoneRestored (past_more turns more) side.restored)))
 
   handled : (bytes : List ℕ) → IsSent (WasGood (packets_of others)) (emission_bytes (ports_of theirs)) bytes → HandleInput (endpoint_after mine turns) bytes more → ActedSide never_resets their_never mine theirs turns others more
   handled bytes out taken =
@@ -101,10 +115,12 @@ module _ (law : Below) (never_resets their_never : ℕ → Bool) (mine theirs : 
       let is : (packet : PacketContent) → IsPacket (wire_options e.options) packet bytes → packet_in packet ≡ out.emission.packet =
       λ packet found. reads_as_sent law.built e.options theirs out.emission packet their_fits out.good.good.sendable (subst (λ (bs : List ℕ). IsPacket (wire_options e.options) packet bs) out.is found) in
       let opens : AllOpenFitting more = packet_opens law.offers e bytes out.emission more fits out.good.good.sendable is taken in
+      let calls : AreCalls more = input_is e bytes more taken in
       record {
-        sends = sender_more never_resets mine theirs turns others more sends known matched performed (input_is e bytes more taken) opens;
-        receives = receiver_handles their_never never_resets theirs mine others turns more receives known (matched_swapped (noted_past (turns ++ more)) (noted_past others) matched) their_known.little bytes out.emission out.good.has
-            out.good.good is taken opens;
+        sends = sender_more never_resets mine theirs turns others more sends known matched side.performed calls opens;
+        receives = receiver_handles their_never never_resets theirs mine others turns more receives known their_known.tags matched connected side.found side.restored their_known.little bytes out.emission out.good.has
+            out.good.good is taken calls opens;
+        connected = connected_so calls;
       }
 
   delivered : (index : ℕ) (found : Option (List ℕ)) → slice_get (packets_shown theirs others) index ≡ found → DeliveryTurns (endpoint_after mine turns) found more → ActedSide never_resets their_never mine theirs turns others more
@@ -117,8 +133,9 @@ module _ (law : Below) (never_resets their_never : ℕ → Bool) (mine theirs : 
   side_acts (call_step which call) in_memory taken =
       let calls : AreCalls more = call_is (endpoint_after mine turns) call more in_memory taken in
       record {
-        sends = sender_more never_resets mine theirs turns others more sends known matched performed calls (none_open more (call_without (endpoint_after mine turns) call more taken));
-        receives = receiver_calls their_never never_resets theirs mine others turns more receives known (matched_swapped (noted_past (turns ++ more)) (noted_past others) matched) their_known.little call taken calls;
+        sends = sender_more never_resets mine theirs turns others more sends known matched side.performed calls (none_open more (call_without (endpoint_after mine turns) call more taken));
+        receives = receiver_calls their_never never_resets theirs mine others turns more receives known their_known.tags matched connected side.found side.restored their_known.little call taken calls;
+        connected = connected_so calls;
       }
   side_acts (delivery_step which zero) in_memory none = nothing_done none
   side_acts (delivery_step which (suc index)) in_memory taken = delivered index (slice_get (packets_shown theirs others) index) refl taken
@@ -128,27 +145,33 @@ module _ (law : Below) (never_resets their_never : ℕ → Bool) (mine theirs : 
 record BothStand (never_resets : Both (ℕ → Bool)) (options : Both Options) (turns : Both (List Transition)) : Type 0 where
   to_b : Stand never_resets.a options.a options.b turns.a turns.b
   to_a : Stand never_resets.b options.b options.a turns.b turns.a
+  connected_a : ConnectedSo (endpoint_after options.a turns.a) (noted_past turns.a)
+  connected_b : ConnectedSo (endpoint_after options.b turns.b) (noted_past turns.b)
 
 stepped : Below → (never_resets : Both (ℕ → Bool)) (options : Both Options) (turns : Both (List Transition)) (step : StepContent) (more : List Transition) (side : Side) → AreUsable options → Joined options turns → BothKnown never_resets options (side_turns_added side more turns)
     → BothPerformed (side_turns_added side more turns) → FitsStep step → BothStand never_resets options turns → StepTurns (endpoint_after (of_side side options) (of_side side turns)) (packets_shown (of_other side options) (of_other side turns)) step more
     → BothStand never_resets options (side_turns_added side more turns)
 stepped law never_resets options turns step more sides.A are j known performed in_memory h taken =
-    let done = side_acts law never_resets.a never_resets.b options.a options.b turns.a turns.b more j.a.fits (are sides.B).fits known.a known.b known.matched performed.a h.to_b h.to_a step in_memory taken in
-    record { to_b = done.sends; to_a = done.receives }
+    let done = side_acts law never_resets.a never_resets.b options.a options.b turns.a turns.b more j.a.fits (are sides.B).fits known.a known.b known.matched performed.a h.connected_a h.to_b h.to_a step in_memory taken in
+    record { to_b = done.sends; to_a = done.receives; connected_a = done.connected; connected_b = h.connected_b }
 stepped law never_resets options turns step more sides.B are j known performed in_memory h taken =
     let done = side_acts law never_resets.b never_resets.a options.b options.a turns.b turns.a more j.b.fits (are sides.A).fits known.b known.a
-    (matched_swapped (noted_past turns.a) (noted_past (turns.b ++ more)) known.matched) performed.b h.to_a h.to_b step in_memory taken in
-    record { to_b = done.receives; to_a = done.sends }
+    (match_swapped options.a options.b (noted_past turns.a) (noted_past (turns.b ++ more)) known.matched) performed.b h.connected_b h.to_a h.to_b step in_memory taken in
+    record { to_b = done.receives; to_a = done.sends; connected_a = h.connected_a; connected_b = done.connected }
 
 acted : Below → (never_resets : Both (ℕ → Bool)) (options : Both Options) (turns : Both (List Transition)) (act : ActContent) (more : List Transition) → AreUsable options → IsHonestAct act → AreInMemory (act ∷ []) → Joined options turns
     → BothKnown never_resets options (side_turns_added (side_of_act act) more turns) → BothPerformed (side_turns_added (side_of_act act) more turns) → BothStand never_resets options turns → NextTurns options turns act more → BothStand never_resets options (side_turns_added (side_of_act act) more turns)
 acted law never_resets options turns (step_act step) more are honest in_memory j known performed h taken = stepped law never_resets options turns step more (side_of step) are j known performed in_memory.0 h taken
 acted law never_resets options turns (outside_act outside) more are honest in_memory j known performed h taken = absurd honest
 
+-- A fresh endpoint is closed.
+fresh_connected : (options : Options) → ConnectedSo (endpoint_after options []) (noted_past [])
+fresh_connected options follows opens link linked = absurd (cc)
+
 both_stand : Below → AnswerKeepsAgreement → (never_resets : Both (ℕ → Bool)) (options : Both Options) (run : List PerformedAct) → AreUsable options → SocketRun options run → AreHonest (acts_of run) → AreFresh (turns_after run) → AreInMemory (acts_of run)
     → BothKnown never_resets options (turns_after run)
     → BothStand never_resets options (turns_after run)
-both_stand law answers never_resets options [] are runs honest fresh in_memory known = record { to_b = ends_begin never_resets.a options.a options.b; to_a = ends_begin never_resets.b options.b options.a }
+both_stand law answers never_resets options [] are runs honest fresh in_memory known = record { to_b = ends_begin never_resets.a options.a options.b; to_a = ends_begin never_resets.b options.b options.a; connected_a = fresh_connected options.a; connected_b = fresh_connected options.b }
 both_stand law answers never_resets options (worked ∷ earlier) are runs honest fresh in_memory known =
     let before : BothKnown never_resets options (turns_after earlier) = both_front never_resets options (turns_after earlier) (side_of_act worked.act) worked.turns known in
     acted law never_resets options (turns_after earlier) worked.act worked.turns are honest.0 (in_memory.0, tt) (joined law options earlier are runs.1 honest.1) known
@@ -228,6 +251,7 @@ both_known law options run are runs honest fresh allows =
         resets = resets_so (fresh_endpoint options.a) (resets_none (turns_after run).a) (turns_after run).a (λ stream is. is);
         tags = allows.tags.a;
         little = allows.little sides.A;
+        together = allows.together sides.A;
       };
       b = record {
         own = run_along IsOwn own_turn options run runs sides.B;
@@ -238,36 +262,15 @@ both_known law options run are runs honest fresh allows =
         resets = resets_so (fresh_endpoint options.b) (resets_none (turns_after run).b) (turns_after run).b (λ stream is. is);
         tags = allows.tags.b;
         little = allows.little sides.B;
+        together = allows.together sides.B;
       };
       matched = allows.tags.matched;
     }
 
 -- ---- what was read
 
--- No two associations of a side have peers of one tag.
-peers_differ : (past : List Effect) → Each IsOfNewTags past → PeersDiffer past
-peers_differ [] each one two has has' same = absurd has
-peers_differ (effect ∷ earlier) each one two (inl is) (inl is') same = cc
-peers_differ (effect ∷ earlier) each one two (inl is) (inr has') same = absurd ((subst (λ (x : Effect). IsOfNewTags x earlier) (sym is) each.0 two has').1 (sym same))
-peers_differ (effect ∷ earlier) each one two (inr has) (inl is') same = absurd ((subst (λ (x : Effect). IsOfNewTags x earlier) (sym is') each.0 one has).1 same)
-peers_differ (effect ∷ earlier) each one two (inr has) (inr has') same = peers_differ earlier each.1 one two has has' same
-
-before_held : (one other : AssociationIdentity) (past : List Effect) → IsBefore one other past → HasEffect (holds one) past × HasEffect (holds other) past
-before_held one other [] before = absurd before
-before_held one other (effect ∷ earlier) (inl here) = (inr here.1, inl here.0)
-before_held one other (effect ∷ earlier) (inr before) = (let both = before_held one other earlier before in (inr both.0, inr both.1))
-
--- None took the place of another.
-none_replaced : (past : List Effect) → Each IsOfNewTags past → (tag former latest : ℕ) → WasReplaced past tag former latest → ⊥
-none_replaced past each tag former latest was = go past each was.before
-  where
-    go : (past : List Effect) → Each IsOfNewTags past → IsBefore was.old was.link past → ⊥
-    go [] each before = before
-    go (effect ∷ earlier) each (inl here) = (subst (λ (x : Effect). IsOfNewTags x earlier) (sym here.0) each.0 was.old here.1).0 (was.old_is ∙ sym was.link_is)
-    go (effect ∷ earlier) each (inr before) = go earlier each.1 before
-
-module _ (never_resets : ℕ → Bool) (mine theirs : Options) (turns others : List Transition) (little : SendsLittle mine turns) (h : Stand never_resets mine theirs turns others) (window : theirs.max_receiver_window_buffer_size < 2 ^ 32)
-    (each : Each IsOfNewTags (noted_past turns)) (their_each : Each IsOfNewTags (noted_past others)) where
+module _ (never_resets : ℕ → Bool) (mine theirs : Options) (turns others : List Transition) (little : SendsLittle mine turns) (together : SendsLittleTogether turns) (h : Stand never_resets mine theirs turns others)
+    (window : theirs.max_receiver_window_buffer_size < 2 ^ 32) (each : Each (IsOfNewTagsBut mine (noted_past others)) (noted_past turns)) (their_each : Each (IsOfNewTagsBut theirs (noted_past turns)) (noted_past others)) where
   few_went : (tag : ℕ) → chunks_before (h.ends.former tag) (packets_of turns) + chunks_to (h.ends.latest tag) (packets_of turns) < 2 ^ 30
   few_went tag = go (h.ends.former tag) refl
     where
@@ -276,7 +279,14 @@ module _ (never_resets : ℕ → Bool) (mine theirs : Options) (turns others : L
           let nothing : chunks_before (h.ends.former tag) (packets_of turns) ≡ 0 = ap (λ (f : Option ℕ). chunks_before f (packets_of turns)) none in
           let few = little.chunks (h.ends.latest tag) in
           omega (arith, nothing, few)
-      go (Some former) is = absurd (none_replaced (noted_past turns) each tag former (h.ends.latest tag) (h.between.sender.replaced tag former is))
+      go (Some former) is =
+          let was = h.between.sender.replaced tag former is in
+          let held = before_held was.old was.link (noted_past turns) was.before in
+          let few = together was.old was.link held.0 held.1 (was.old_is ∙ sym was.link_is) (λ same. was.other (sym was.former_is ∙ same ∙ was.latest_is)) in
+          let one : chunks_before (h.ends.former tag) (packets_of turns) ≡ chunks_to was.old.peer.tag (packets_of turns) =
+          ap (λ (f : Option ℕ). chunks_before f (packets_of turns)) is ∙ ap (λ (n : ℕ). chunks_to n (packets_of turns)) (sym was.former_is) in
+          let two : chunks_to (h.ends.latest tag) (packets_of turns) ≡ chunks_to was.link.peer.tag (packets_of turns) = ap (λ (n : ℕ). chunks_to n (packets_of turns)) (sym was.latest_is) in
+          omega (arith, few, one, two)
 
   one_way : IsDelivered (messages_sent_in (fresh_endpoint mine) turns) (read_of (fresh_endpoint theirs) others)
   one_way =
@@ -300,11 +310,14 @@ module _ (never_resets : ℕ → Bool) (mine theirs : Options) (turns others : L
 
   -- ---- in one association
 
-  module _ (tag key : ℕ) (both : HadBoth (noted_past turns) key tag) where
+  module _ (tag key : ℕ) (both : HadBoth (noted_past turns) key tag) (their_link : AssociationIdentity) (their_held : HasEffect (holds their_link) (noted_past others)) (their_own : their_link.my.tag ≡ tag) where
     -- Where the peer of the only association has the tag, that is of this key.
     only_own : IsOnlyTag (noted_past turns) tag → IsOnlyOwn (noted_past turns) key
     only_own only link has =
-        ap (λ (l : AssociationIdentity). l.my.tag) (peers_differ (noted_past turns) each link both.link has both.held (only link has ∙ sym both.peer_is)) ∙ both.tag_is
+        ap (λ (l : AssociationIdentity). l.my.tag) (peers_differ mine (noted_past others) (noted_past turns) each link both.link has both.held (only link has ∙ sym both.peer_is)) ∙ both.tag_is
+
+    only_one : IsOnlyTag (noted_past turns) tag → IsOnlyOne (noted_past turns) key
+    only_one only = (tag, λ link has. (only_own only link has, only link has))
 
     interleaves_so : Interleaves (noted_past turns) tag → InterleavesUnder (noted_past turns) key
     interleaves_so interleaves = (both.link, both.held, both.tag_is, interleaves both.link both.held both.peer_is)
@@ -314,7 +327,8 @@ module _ (never_resets : ℕ → Bool) (mine theirs : Options) (turns others : L
     latest_is =
         elim (h.between.sender.known both.link both.held).1 [
           | inl is ↦ ap h.ends.latest (sym both.tag_is) ∙ sym is ∙ both.peer_is
-          | inr is ↦ absurd (none_replaced (noted_past turns) each both.link.my.tag both.link.peer.tag (h.ends.latest both.link.my.tag) (h.between.sender.replaced both.link.my.tag both.link.peer.tag is))
+          | inr is ↦ absurd (replaced_unmatched mine (noted_past others) (noted_past turns) each both.link.my.tag both.link.peer.tag (h.ends.latest both.link.my.tag)
+              (h.between.sender.replaced both.link.my.tag both.link.peer.tag is) their_link their_held (their_own ∙ sym both.peer_is))
         ]
 
     by_order : BeginsAnew (endpoint_after mine turns) (noted_past turns) key → Interleaves (noted_past turns) tag ⊎ AllowsDataOrder mine turns tag
@@ -333,32 +347,32 @@ module _ (never_resets : ℕ → Bool) (mine theirs : Options) (turns others : L
     gaps_of never leaves =
         ends_deliver_without_gaps theirs h.ends (endpoint_after mine turns) (queued_of mine turns) (noted_past turns) (packets_of turns) (endpoint_after theirs others) (noted_past others) (reading_of theirs others) h.between
         (few_queued mine turns little) few_went window (are_unlimited (queued_of mine turns) sent_all sent_same leaves.unlimited)
-        (λ stream. ap (λ (n : ℕ → Bool). n stream) h.is ∙ never stream (none_reset stream turns (none_of_all stream turns leaves.never_resets))) key (only_own leaves.only_association)
+        (λ stream. ap (λ (n : ℕ → Bool). n stream) h.is ∙ never stream (none_reset stream turns (none_of_all stream turns leaves.never_resets))) key (only_one leaves.only_association)
 
     streams_of : IsOnlyTag (noted_past turns) tag → Interleaves (noted_past turns) tag → DeliveredByStream h.ends.never_resets (queued_of mine turns) (with_key key (reading_of theirs others).reads)
     streams_of only interleaves =
         ends_deliver_by_stream theirs h.ends (endpoint_after mine turns) (queued_of mine turns) (noted_past turns) (packets_of turns) (endpoint_after theirs others) (noted_past others) (reading_of theirs others) h.between
-        (few_queued mine turns little) few_went key (only_own only) (interleaves_so interleaves)
+        (few_queued mine turns little) few_went key (only_one only) (interleaves_so interleaves)
 
   -- What was read under a tag was read of one key of the sender, or nothing was.
-  by_key : (P : List MessageContent → Type 0) (tag : ℕ) → P [] → ((key : ℕ) → HadBoth (noted_past turns) key tag → P (with_key key (reading_of theirs others).reads)) → P (read_under tag theirs others)
+  by_key : (P : List MessageContent → Type 0) (tag : ℕ) → P [] → ((key : ℕ) → HadBoth (noted_past turns) key tag → (their_link : AssociationIdentity) → HasEffect (holds their_link) (noted_past others) → their_link.my.tag ≡ tag → P (with_key key (reading_of theirs others).reads)) → P (read_under tag theirs others)
   by_key P tag nothing under =
       go (read_under_key theirs h.ends (endpoint_after mine turns) (queued_of mine turns) (noted_past turns) (packets_of turns) (endpoint_after theirs others) (noted_past others) (reading_of theirs others) h.between
-      (peers_differ (noted_past turns) each) (peers_differ (noted_past others) their_each) tag)
+      (peers_differ mine (noted_past others) (noted_past turns) each) (peers_differ theirs (noted_past turns) (noted_past others) their_each) tag)
     where
       go : ReadUnder (noted_past turns) (noted_past others) (reading_of theirs others) tag → P (read_under tag theirs others)
       go (nothing_under none) = subst P (sym none) nothing
-      go (under_key key same both their_link held own) = subst P (sym same) (under key both)
+      go (under_key key same both their_link held own) = subst P (sym same) (under key both their_link held own)
 
   one_in_order : (endpoint_after mine turns).options.follow_rfc ≡ mine.follow_rfc → (tag : ℕ) → AllowsOrder mine turns tag → IsDeliveredInOrder sent_all (read_under tag theirs others)
   one_in_order rules tag allows =
       is_in_order (queued_of mine turns) sent_all (read_under tag theirs others) sent_same
-      (by_key (DeliveredInOrder (queued_of mine turns)) tag (nothing_in_order (queued_of mine turns) [] refl) (λ key both. order_of tag key both rules allows))
+      (by_key (DeliveredInOrder (queued_of mine turns)) tag (nothing_in_order (queued_of mine turns) [] refl) (λ key both their_link held own. order_of tag key both their_link held own rules allows))
 
   one_without_gaps : ((stream : ℕ) → resets_none turns stream ≡ true → never_resets stream ≡ true) → (tag : ℕ) → AllowsNoGaps mine turns tag → IsDeliveredWithoutGaps sent_all (read_under tag theirs others)
   one_without_gaps never tag leaves =
       is_without_gaps (queued_of mine turns) sent_all (read_under tag theirs others) sent_same
-      (by_key (DeliveredWithoutGaps (queued_of mine turns)) tag (nothing_before (queued_of mine turns) [] refl) (λ key both. gaps_of tag key both never leaves))
+      (by_key (DeliveredWithoutGaps (queued_of mine turns)) tag (nothing_before (queued_of mine turns) [] refl) (λ key both their_link held own. gaps_of tag key both their_link held own never leaves))
 
   one_by_stream : ((stream : ℕ) → resets_none turns stream ≡ true → never_resets stream ≡ true) → (tag : ℕ) → IsOnlyTag (noted_past turns) tag → Interleaves (noted_past turns) tag
       → IsDeliveredByStream (IsReliable mine turns) sent_all (read_under tag theirs others)
@@ -368,7 +382,7 @@ module _ (never_resets : ℕ → Bool) (mine theirs : Options) (turns others : L
         ap (λ (n : ℕ → Bool). n stream) h.is ∙ never stream (none_reset stream turns reliable.never_resets),
         are_unlimited_on stream (queued_of mine turns) sent_all sent_same reliable.unlimited,
       ))
-      (by_key (DeliveredByStream h.ends.never_resets (queued_of mine turns)) tag (nothing_by_stream h.ends.never_resets (queued_of mine turns) [] refl) (λ key both. streams_of tag key both only interleaves))
+      (by_key (DeliveredByStream h.ends.never_resets (queued_of mine turns)) tag (nothing_by_stream h.ends.never_resets (queued_of mine turns) [] refl) (λ key both their_link held own. streams_of tag key both their_link held own only interleaves))
 
 pub sockets_deliver : DeliveryLaws → SocketsDeliver
 sockets_deliver law options run are in_memory runs honest fresh allows side =
@@ -386,15 +400,15 @@ sockets_deliver law options run are in_memory runs honest fresh allows side =
     both_deliver : BothStand (both_resets_none turns) options turns → (s : Side) → Delivers options turns s
     both_deliver h sides.A =
         record {
-          once = one_way (resets_none turns.b) options.b options.a turns.b turns.a (allows.little sides.B) h.to_a (window sides.A) known.b.tags known.a.tags;
-          in_order = one_in_order (resets_none turns.b) options.b options.a turns.b turns.a (allows.little sides.B) h.to_a (window sides.A) known.b.tags known.a.tags (same_rules_after (resets_none turns.b) options.b turns.b known.b);
-          no_gaps = one_without_gaps (resets_none turns.b) options.b options.a turns.b turns.a (allows.little sides.B) h.to_a (window sides.A) known.b.tags known.a.tags (λ stream is. is);
-          by_stream = one_by_stream (resets_none turns.b) options.b options.a turns.b turns.a (allows.little sides.B) h.to_a (window sides.A) known.b.tags known.a.tags (λ stream is. is);
+          once = one_way (resets_none turns.b) options.b options.a turns.b turns.a (allows.little sides.B) (allows.together sides.B) h.to_a (window sides.A) known.b.tags known.a.tags;
+          in_order = one_in_order (resets_none turns.b) options.b options.a turns.b turns.a (allows.little sides.B) (allows.together sides.B) h.to_a (window sides.A) known.b.tags known.a.tags (same_rules_after (resets_none turns.b) options.b turns.b known.b);
+          no_gaps = one_without_gaps (resets_none turns.b) options.b options.a turns.b turns.a (allows.little sides.B) (allows.together sides.B) h.to_a (window sides.A) known.b.tags known.a.tags (λ stream is. is);
+          by_stream = one_by_stream (resets_none turns.b) options.b options.a turns.b turns.a (allows.little sides.B) (allows.together sides.B) h.to_a (window sides.A) known.b.tags known.a.tags (λ stream is. is);
         }
     both_deliver h sides.B =
         record {
-          once = one_way (resets_none turns.a) options.a options.b turns.a turns.b (allows.little sides.A) h.to_b (window sides.B) known.a.tags known.b.tags;
-          in_order = one_in_order (resets_none turns.a) options.a options.b turns.a turns.b (allows.little sides.A) h.to_b (window sides.B) known.a.tags known.b.tags (same_rules_after (resets_none turns.a) options.a turns.a known.a);
-          no_gaps = one_without_gaps (resets_none turns.a) options.a options.b turns.a turns.b (allows.little sides.A) h.to_b (window sides.B) known.a.tags known.b.tags (λ stream is. is);
-          by_stream = one_by_stream (resets_none turns.a) options.a options.b turns.a turns.b (allows.little sides.A) h.to_b (window sides.B) known.a.tags known.b.tags (λ stream is. is);
+          once = one_way (resets_none turns.a) options.a options.b turns.a turns.b (allows.little sides.A) (allows.together sides.A) h.to_b (window sides.B) known.a.tags known.b.tags;
+          in_order = one_in_order (resets_none turns.a) options.a options.b turns.a turns.b (allows.little sides.A) (allows.together sides.A) h.to_b (window sides.B) known.a.tags known.b.tags (same_rules_after (resets_none turns.a) options.a turns.a known.a);
+          no_gaps = one_without_gaps (resets_none turns.a) options.a options.b turns.a turns.b (allows.little sides.A) (allows.together sides.A) h.to_b (window sides.B) known.a.tags known.b.tags (λ stream is. is);
+          by_stream = one_by_stream (resets_none turns.a) options.a options.b turns.a turns.b (allows.little sides.A) (allows.together sides.A) h.to_b (window sides.B) known.a.tags known.b.tags (λ stream is. is);
         }

@@ -1,5 +1,5 @@
 -- What is known of each side of a run, and so of each first part of it.
-use Rattle.std.proofs.Common.{◌≡◌, ℕ, List, [], ◌∷◌, ◌++◌, length, refl, sym, ◌∙◌, ap, arith, subst, append_assoc, Bool}
+use Rattle.std.proofs.Common.{◌≡◌, ℕ, List, [], ◌∷◌, ◌++◌, length, refl, sym, ◌∙◌, ap, arith, subst, append_assoc, Bool, ◌+◌}
 use Rattle.dcsctp_spec_lemmas.specs.types.declared.options.Options.{Options}
 use Rattle.dcsctp_spec_lemmas.specs.types.declared.schedule.Side.{Side}
 use Rattle.dcsctp_spec_lemmas.specs.types.declared.schedule.Side.TheVariants as sides
@@ -9,14 +9,14 @@ use Rattle.std.proofs.lemmas.List.{length-append}
 use Rattle.dcsctp_spec_lemmas.specs.spec.endpoint.Event.{Event, packets_in}
 use Rattle.dcsctp_spec_runs.specs.Fitting.{AllSent, IsSendable}
 use Rattle.dcsctp_spec_lemmas.specs.spec.Packet.{Emission}
-use Rattle.dcsctp_spec_runs.specs.Past.{Each}
+use Rattle.dcsctp_spec_runs.specs.Past.{Each, HasEffect}
 use Rattle.dcsctp_spec_runs.specs.Sockets.{Both, side_turns_added, endpoint_after}
 use Rattle.dcsctp_spec_lemmas.specs.spec.endpoint.Turn.{Input, Turn}
 use Rattle.dcsctp_spec_runs.specs.World.{after_effects}
-use Rattle.dcsctp_spec_lemmas.specs.spec.association.Effect.{Effect}
+use Rattle.dcsctp_spec_lemmas.specs.spec.association.Effect.{Effect, AssociationIdentity, holds}
 use Rattle.dcsctp_spec_lemmas.specs.types.queues.Messages.{MessageContent}
 use Rattle.dcsctp_spec_lemmas.proofs.TurnLists.{effects_of-append, events_of-append}
-use Rattle.dcsctp_theorem_association.proofs.Growth.{after_effects-append}
+use Rattle.dcsctp_theorem_association.proofs.Growth.{after_effects-append, after_within}
 use Rattle.dcsctp_theorem_sockets.specs.Agreement.{noted_past}
 use Rattle.dcsctp_theorem_sockets.proofs.Bursts.{packets_in-append}
 use Rattle.dcsctp_delivery_sending.specs.ChunkCounts.{chunks_to}
@@ -25,10 +25,10 @@ use Rattle.dcsctp_delivery_directions.proofs.RequestCounts.{requests_more_to}
 use Rattle.dcsctp_delivery_sockets.specs.Acts.{AreTurns, ResetsIn}
 use Rattle.dcsctp_delivery_sockets.specs.Echoes.{GoesToMaker}
 use Rattle.dcsctp_delivery_sockets.specs.UserMessages.{sent_in, messages_sent_in}
-use Rattle.dcsctp_delivery_sockets.specs.Delivery.{IsOfNewTags, MatchByTags, SendsLittle, IsUnrefused}
+use Rattle.dcsctp_delivery_sockets.specs.Delivery.{IsOfNewTagsBut, MatchOrUnmatched, SendsLittle, SendsLittleTogether, IsUnrefused}
 use Rattle.dcsctp_delivery_associations.proofs.Counting.{more_to}
 use Rattle.dcsctp_delivery_sockets.proofs.KnownPeers.{each_earlier, IsMove, RanTo, run_starts, run_through}
-use Rattle.dcsctp_delivery_sockets.proofs.NewLinks.{matched_earlier}
+use Rattle.dcsctp_delivery_sockets.proofs.Replaced.{each_before, match_before}
 
 -- ---- lists of turns and of events
 
@@ -70,24 +70,30 @@ pub record GoodPacket (emission : Emission) : Type 0 where
   pub sendable : IsSendable emission
   pub goes : GoesToMaker emission
 
-pub record SideKnown (never_resets : ℕ → Bool) (options : Options) (turns : List Transition) : Type 0 where
+pub record SideKnown (never_resets : ℕ → Bool) (options : Options) (theirs : List Effect) (turns : List Transition) : Type 0 where
   pub own : AlongTurns IsOwn (fresh_endpoint options) turns
   pub moves : AlongTurns IsMove (fresh_endpoint options) turns
   pub refused : AlongTurns IsUnrefused (fresh_endpoint options) turns
   pub resets : AlongTurns (ResetsIn never_resets) (fresh_endpoint options) turns
   pub packets : AllSent GoodPacket (events_of turns)
-  pub tags : Each IsOfNewTags (noted_past turns)
+  pub tags : Each (IsOfNewTagsBut options theirs) (noted_past turns)
   pub little : SendsLittle options turns
+  pub together : SendsLittleTogether turns
 
-pub side_front : (never_resets : ℕ → Bool) (options : Options) (turns more : List Transition) → SideKnown never_resets options (turns ++ more) → SideKnown never_resets options turns
-side_front never_resets options turns more h =
+pub side_front : (never_resets : ℕ → Bool) (options : Options) (theirs : List Effect) (turns more : List Transition) → SideKnown never_resets options theirs (turns ++ more) → SideKnown never_resets options theirs turns
+side_front never_resets options theirs turns more h =
     record {
       own = along_front IsOwn (fresh_endpoint options) turns more h.own;
       moves = along_front IsMove (fresh_endpoint options) turns more h.moves;
       refused = along_front IsUnrefused (fresh_endpoint options) turns more h.refused;
       resets = along_front (ResetsIn never_resets) (fresh_endpoint options) turns more h.resets;
       packets = sent_front GoodPacket (events_of turns) (events_of more) (subst (AllSent GoodPacket) (events_of-append turns more) h.packets);
-      tags = each_earlier IsOfNewTags (effects_of more) (noted_past turns) (subst (Each IsOfNewTags) (past_more turns more) h.tags);
+      tags = each_earlier (IsOfNewTagsBut options theirs) (effects_of more) (noted_past turns) (subst (Each (IsOfNewTagsBut options theirs)) (past_more turns more) h.tags);
+      together = λ old link has has' same other.
+          (let few = h.together old link (later old has) (later link has') same other in
+          let one = went old.peer.tag in
+          let two = went link.peer.tag in
+          omega (arith, few, one, two));
       little =
           record {
             messages =
@@ -107,46 +113,57 @@ side_front never_resets options turns more h =
                 omega (arith, both, few));
           };
     }
+  where
+    later : (link : AssociationIdentity) → HasEffect (holds link) (noted_past turns) → HasEffect (holds link) (noted_past (turns ++ more))
+    later link has = subst (HasEffect (holds link)) (sym (past_more turns more)) (after_within (effects_of more) (noted_past turns) (holds link) has)
+
+    went : (tag : ℕ) → chunks_to tag (packets_in (events_of (turns ++ more))) ≡ chunks_to tag (packets_in (events_of turns)) + chunks_to tag (packets_in (events_of more))
+    went tag = ap (chunks_to tag) (ap packets_in (events_of-append turns more) ∙ packets_in-append (events_of turns) (events_of more)) ∙ more_to tag (packets_in (events_of turns)) (packets_in (events_of more))
+
+-- So it is of less that the other side did.
+pub side_before : (never_resets : ℕ → Bool) (options : Options) (theirs more : List Effect) (turns : List Transition) → SideKnown never_resets options (after_effects more theirs) turns → SideKnown never_resets options theirs turns
+side_before never_resets options theirs more turns h =
+    record { own = h.own; moves = h.moves; refused = h.refused; resets = h.resets; packets = h.packets; tags = each_before options theirs more (noted_past turns) h.tags; little = h.little; together = h.together }
 
 -- what is known of the turns of an act
-pub rest_turns : (never_resets : ℕ → Bool) (options : Options) (turns more : List Transition) → SideKnown never_resets options (turns ++ more) → AreTurns (endpoint_after options turns) more
+pub rest_turns : (never_resets : ℕ → Bool) (options : Options) {theirs : List Effect} (turns more : List Transition) → SideKnown never_resets options theirs (turns ++ more) → AreTurns (endpoint_after options turns) more
 rest_turns never_resets options turns more h = are_turns (endpoint_after options turns) more (along_rest IsOwn (fresh_endpoint options) turns more h.own)
 
-pub rest_moves : (never_resets : ℕ → Bool) (options : Options) (turns more : List Transition) → SideKnown never_resets options (turns ++ more) → AlongTurns IsMove (endpoint_after options turns) more
+pub rest_moves : (never_resets : ℕ → Bool) (options : Options) {theirs : List Effect} (turns more : List Transition) → SideKnown never_resets options theirs (turns ++ more) → AlongTurns IsMove (endpoint_after options turns) more
 rest_moves never_resets options turns more h = along_rest IsMove (fresh_endpoint options) turns more h.moves
 
-pub rest_refused : (never_resets : ℕ → Bool) (options : Options) (turns more : List Transition) → SideKnown never_resets options (turns ++ more) → AlongTurns IsUnrefused (endpoint_after options turns) more
+pub rest_refused : (never_resets : ℕ → Bool) (options : Options) {theirs : List Effect} (turns more : List Transition) → SideKnown never_resets options theirs (turns ++ more) → AlongTurns IsUnrefused (endpoint_after options turns) more
 rest_refused never_resets options turns more h = along_rest IsUnrefused (fresh_endpoint options) turns more h.refused
 
-pub rest_resets : (never_resets : ℕ → Bool) (options : Options) (turns more : List Transition) → SideKnown never_resets options (turns ++ more) → AlongTurns (ResetsIn never_resets) (endpoint_after options turns) more
+pub rest_resets : (never_resets : ℕ → Bool) (options : Options) {theirs : List Effect} (turns more : List Transition) → SideKnown never_resets options theirs (turns ++ more) → AlongTurns (ResetsIn never_resets) (endpoint_after options turns) more
 rest_resets never_resets options turns more h = along_rest (ResetsIn never_resets) (fresh_endpoint options) turns more h.resets
 
 -- A side ran to where the act begins.
-pub ran_front : (never_resets : ℕ → Bool) (options : Options) (turns more : List Transition) → SideKnown never_resets options (turns ++ more) → RanTo options (endpoint_after options turns) (noted_past turns)
+pub ran_front : (never_resets : ℕ → Bool) (options : Options) {theirs : List Effect} (turns more : List Transition) → SideKnown never_resets options theirs (turns ++ more) → RanTo options (endpoint_after options turns) (noted_past turns)
 ran_front never_resets options turns more h = run_through options turns (fresh_endpoint options) [] (run_starts options) (along_front IsMove (fresh_endpoint options) turns more h.moves)
 
 -- It follows the RFC at the end if it did when it was made.
-pub same_rules_after : (never_resets : ℕ → Bool) (options : Options) (turns : List Transition) → SideKnown never_resets options turns → (endpoint_after options turns).options.follow_rfc ≡ options.follow_rfc
+pub same_rules_after : (never_resets : ℕ → Bool) (options : Options) {theirs : List Effect} (turns : List Transition) → SideKnown never_resets options theirs turns → (endpoint_after options turns).options.follow_rfc ≡ options.follow_rfc
 same_rules_after never_resets options turns h = ap (λ (p : Options). p.follow_rfc) (run_through options turns (fresh_endpoint options) [] (run_starts options) h.moves).same
 
 -- ---- both sides
 
 pub record BothKnown (never_resets : Both (ℕ → Bool)) (options : Both Options) (turns : Both (List Transition)) : Type 0 where
-  pub a : SideKnown never_resets.a options.a turns.a
-  pub b : SideKnown never_resets.b options.b turns.b
-  pub matched : MatchByTags (noted_past turns.a) (noted_past turns.b)
+  pub a : SideKnown never_resets.a options.a (noted_past turns.b) turns.a
+  pub b : SideKnown never_resets.b options.b (noted_past turns.a) turns.b
+  pub matched : MatchOrUnmatched options.a options.b (noted_past turns.a) (noted_past turns.b)
 
 pub both_front : (never_resets : Both (ℕ → Bool)) (options : Both Options) (turns : Both (List Transition)) (side : Side) (more : List Transition) → BothKnown never_resets options (side_turns_added side more turns)
     → BothKnown never_resets options turns
 both_front never_resets options turns sides.A more h =
     record {
-      a = side_front never_resets.a options.a turns.a more h.a;
-      b = h.b;
-      matched = matched_earlier (noted_past turns.a) (noted_past turns.b) (effects_of more) [] (subst (λ (p : List Effect). MatchByTags p (noted_past turns.b)) (past_more turns.a more) h.matched);
+      a = side_front never_resets.a options.a (noted_past turns.b) turns.a more h.a;
+      b = side_before never_resets.b options.b (noted_past turns.a) (effects_of more) turns.b (subst (λ (p : List Effect). SideKnown never_resets.b options.b p turns.b) (past_more turns.a more) h.b);
+      matched = match_before options.a options.b (noted_past turns.a) (noted_past turns.b) (effects_of more) [] (subst (λ (p : List Effect). MatchOrUnmatched options.a options.b p (noted_past turns.b)) (past_more turns.a more) h.matched);
     }
 both_front never_resets options turns sides.B more h =
     record {
-      a = h.a;
-      b = side_front never_resets.b options.b turns.b more h.b;
-      matched = matched_earlier (noted_past turns.a) (noted_past turns.b) [] (effects_of more) (subst (λ (p : List Effect). MatchByTags (noted_past turns.a) p) (past_more turns.b more) h.matched);
+      a = side_before never_resets.a options.a (noted_past turns.b) (effects_of more) turns.a (subst (λ (p : List Effect). SideKnown never_resets.a options.a p turns.a) (past_more turns.b more) h.a);
+      b = side_front never_resets.b options.b (noted_past turns.a) turns.b more h.b;
+      matched = match_before options.a options.b (noted_past turns.a) (noted_past turns.b) [] (effects_of more) (subst (λ (p : List Effect). MatchOrUnmatched options.a options.b (noted_past turns.a) p) (past_more turns.b more) h.matched);
     }

@@ -26,7 +26,7 @@ use Rattle.dcsctp_theorem_association.specs.OneSide.{LeavesCore, LeavesHeld}
 use Rattle.dcsctp_theorem_association.proofs.Growth.{after_effects-append}
 use Rattle.dcsctp_theorem_association.proofs.OneSideTurns.{effects_in_place, past_is_state}
 use Rattle.dcsctp_theorem_sockets.proofs.Follow.{noted_after}
-use Rattle.dcsctp_theorem_sockets.proofs.NotedLemmas.{number_to_accept-noted, in_place-noted}
+use Rattle.dcsctp_theorem_sockets.proofs.NotedLemmas.{number_to_accept-noted, in_place-noted, current-noted, number_to_begin-noted, outstanding-noted}
 use Rattle.dcsctp_theorem_sockets.proofs.SocketsAlone.{Moves, it_rests, it_moves}
 use Rattle.dcsctp_theorem_sockets.proofs.TimeMoves.{longest_expires}
 use Rattle.dcsctp_delivery_turns.specs.PeerRequests.{KnowsPeer, KnowsPeerIn}
@@ -185,3 +185,20 @@ run_through options (t ∷ turns) e past ran along =
 -- What it recorded gives the numbers of its peer's requests.
 pub ran_knows : (options : Options) (e : Endpoint) (past : List Effect) → RanTo options e past → KnowsPeerIn past e.core
 ran_knows options e past ran = subst (λ (p : List Effect). KnowsPeerIn p e.core) ran.noted_is (subst (KnowsPeerIn (noted (side_after options ran.steps).past)) ran.core (run_knows options ran.steps ran.is_run))
+
+-- The association is what the past leaves.
+leaves_noted : (past : List Effect) (core : Core) → LeavesCore past core → LeavesCore (noted past) core
+leaves_noted past closed leaves = current-noted past ∙ leaves
+leaves_noted past (cookie_wait my) leaves = current-noted past ∙ leaves
+leaves_noted past (cookie_echoed my held cookie) leaves = held_noted past my held leaves
+  where
+    held_noted : (past : List Effect) (my : Pair) (held : Held) → LeavesHeld past my held → LeavesHeld (noted past) my held
+    held_noted past my held leaves =
+        record { link = current-noted past ∙ leaves.link; own_next = number_to_begin-noted past ∙ leaves.own_next; own_outstanding = outstanding-noted past ∙ leaves.own_outstanding; peer_next = number_to_accept-noted past ∙ leaves.peer_next }
+leaves_noted past (open_in phase my held) leaves =
+    record { link = current-noted past ∙ leaves.link; own_next = number_to_begin-noted past ∙ leaves.own_next; own_outstanding = outstanding-noted past ∙ leaves.own_outstanding; peer_next = number_to_accept-noted past ∙ leaves.peer_next }
+
+pub ran_leaves : (options : Options) (e : Endpoint) (past : List Effect) → RanTo options e past → LeavesCore past e.core
+ran_leaves options e past ran =
+    subst (λ (p : List Effect). LeavesCore p e.core) ran.noted_is
+    (subst (LeavesCore (noted (side_after options ran.steps).past)) ran.core (leaves_noted (side_after options ran.steps).past (side_after options ran.steps).core (past_is_state options ran.steps ran.is_run)))

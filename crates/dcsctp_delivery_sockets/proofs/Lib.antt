@@ -12,4 +12,4 @@ pub mod Stands
 pub mod FewSent
 pub mod Delivery
 pub mod Replaced
-pub mod Connected
+pub mod Opening

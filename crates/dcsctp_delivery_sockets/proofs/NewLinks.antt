@@ -1,6 +1,6 @@
 -- An association that begins in an act is of new tags, and its numbers fit their fields.
-use Rattle.std.proofs.Common.{◌≡◌, ◌≢◌, ◌⊎◌, ℕ, Bool, true, false, ◌≤◌, ◌-◌, ◌^◌, List, [], ◌∷◌, ◌++◌, refl, sym, ap, arith, subst, inl, inr}
-use Rattle.std.specs.Prelude.{Some}
+use Rattle.std.proofs.Common.{◌≡◌, ◌≢◌, ◌⊎◌, ℕ, Bool, true, false, ◌≤◌, ◌-◌, ◌^◌, List, [], ◌∷◌, ◌++◌, refl, sym, ap, arith, subst, inl, inr, ◌∙◌}
+use Rattle.std.specs.Prelude.{Some, Option, None, ◌⊎◌, Bool}
 use Rattle.std.specs.List.{AllByRecursion}
 use Rattle.dcsctp_spec_lemmas.specs.wire.Content.{PacketContent}
 use Rattle.dcsctp_spec_lemmas.specs.wire.Format.{IsPacket}
@@ -9,29 +9,34 @@ use Rattle.dcsctp_spec_lemmas.specs.types.declared.options.Options.{Options}
 use Rattle.dcsctp_spec_lemmas.specs.types.Settings.{wire_options}
 use Rattle.dcsctp_spec_lemmas.specs.spec.Admission.{Admission, all_chunks, shutdown_acks_alone, refused, admits, shutdown_acks_in}
 use Rattle.dcsctp_spec_lemmas.specs.spec.endpoint.MessageOutcomes.{awaits_opening}
-use Rattle.dcsctp_spec_lemmas.specs.spec.endpoint.CallTurns.{packet_tail, Transition, IsTurn, Turns, AlongTurns, AdmittedTurns, HandleInput, unreadable, readable, effects_of}
-use Rattle.dcsctp_spec_lemmas.specs.spec.endpoint.Endpoint.{Endpoint, Core, closed, cookie_wait, cookie_echoed, open_in, established, shutdown_pending, shutdown_sent, shutdown_received, shutdown_ack_sent}
+use Rattle.dcsctp_spec_lemmas.specs.spec.endpoint.CallTurns.{packet_tail, Transition, IsTurn, Turns, AlongTurns, AdmittedTurns, HandleInput, unreadable, readable, effects_of, after_all}
+use Rattle.dcsctp_spec_lemmas.specs.spec.endpoint.Endpoint.{Endpoint, Core, closed, cookie_wait, cookie_echoed, open_in, established, shutdown_pending, shutdown_sent, shutdown_received, shutdown_ack_sent, OutstandingRequest, is_cookie_echoed}
 use Rattle.dcsctp_spec_runs.specs.Fitting.{FitsCore, FitsEndpoint, SendablePacket, IsSendable}
 use Rattle.dcsctp_spec_lemmas.specs.spec.CookieFits.{FitsPair}
 use Rattle.dcsctp_spec_runs.specs.Laws.{OfferReadsBack}
 use Rattle.dcsctp_theorem_sockets.proofs.SocketsAlone.{Moves, it_rests, it_moves}
 use Rattle.dcsctp_spec_lemmas.specs.spec.endpoint.Outcome.{Outcome}
 use Rattle.dcsctp_spec_lemmas.specs.spec.Packet.{Packet, packet_in, Emission}
-use Rattle.dcsctp_spec_runs.specs.Past.{WasPerformed, HasEffect, Each}
+use Rattle.dcsctp_spec_runs.specs.Past.{WasPerformed, HasEffect, Each, current, number_to_begin}
 use Rattle.dcsctp_spec_lemmas.specs.spec.endpoint.Turn.{Input, arrival, refusal, packet_begins, chunk_input, packet_ends, act_input, user_sets, user_sends, user_resets, user_takes, timer_expires, time_passes, restores, has_data_chunk, BeginTurn, unreadable_text}
 use Rattle.dcsctp_spec_runs.specs.World.{after_effects}
-use Rattle.dcsctp_spec_lemmas.specs.spec.association.Effect.{AssociationIdentity, Effect, holds, completes, identity_of, identity_in}
+use Rattle.dcsctp_spec_lemmas.specs.spec.association.Effect.{AssociationIdentity, Effect, holds, completes, identity_of, identity_in, connects, resumes}
 use Rattle.dcsctp_theorem_association.proofs.Growth.{after_effects-append, after_within}
 use Rattle.dcsctp_theorem_sockets.proofs.Deliver.{tail_fits, Fits, chunk_turns_fit, nothing_ends, acks_sendable}
 use Rattle.dcsctp_theorem_sockets.proofs.Signs.{among_after}
 use Rattle.dcsctp_delivery_turns.specs.Actions.{came_by, IsOpening, Begun}
 use Rattle.dcsctp_delivery_associations.specs.Answered.{request_number_at}
-use Rattle.dcsctp_delivery_associations.specs.Ends.{NewPeer, NewTag}
-use Rattle.dcsctp_delivery_sockets.specs.Acts.{AreNewPeers}
-use Rattle.dcsctp_delivery_sockets.specs.Packets.{AreNewTags}
-use Rattle.dcsctp_delivery_sockets.specs.Delivery.{IsUnrefused, IsOfNewTags, MatchByTags}
-use Rattle.dcsctp_delivery_sockets.proofs.KnownPeers.{each_earlier, IsMove, RanTo, next_run, ran_knows}
+use Rattle.dcsctp_delivery_associations.specs.Ends.{NewPeer, NewTag, TakesOver}
+use Rattle.dcsctp_delivery_sockets.specs.Acts.{AreNewPeers, AreTurns}
+use Rattle.dcsctp_delivery_sockets.specs.Packets.{AreNewTags, IsCrossedByEach, IsNoneBefore, CrossesOrWaits}
+use Rattle.dcsctp_delivery_sockets.specs.Delivery.{IsUnrefused, IsOfNewTagsBut, TakesPlace, MayBeReplaced, MatchOrUnmatched}
+use Rattle.dcsctp_delivery_sockets.proofs.KnownPeers.{each_earlier, IsMove, RanTo, next_run, ran_knows, ran_leaves}
 use Rattle.dcsctp_delivery_sockets.proofs.Calls.{NoChunk, NoChunks, AreCalls}
+use Rattle.dcsctp_delivery_sockets.proofs.Replaced.{own_or_none, replaced_unmatched}
+use Rattle.dcsctp_delivery_sockets.proofs.Opening.{is_open, HasConnected, still_connected}
+use Rattle.dcsctp_theorem_association.specs.OneSide.{LeavesCore}
+use Rattle.dcsctp_delivery_turns.specs.Asking.{Own, own_with, own_in}
+use Rattle.dcsctp_spec_lemmas.specs.types.declared.capabilities.Capabilities.{Capabilities}
 
 -- ---- where an association begins, its numbers fit
 
@@ -131,27 +136,39 @@ not_zero n some zero = absurd (omega arith)
 -- ---- its tags are new
 
 -- Each association that was recorded has another peer's tag than those before.
-new_noted : (effects past : List Effect) → Each IsOfNewTags (after_effects effects past) → (link old : AssociationIdentity) → HasEffect (holds link) effects → HasEffect (holds old) past → old.peer.tag ≢ link.peer.tag
-new_noted [] past each link old has before = absurd has
-new_noted (effect ∷ effects) past each link old (inl is) before =
-    let rule : IsOfNewTags (holds link) past = subst (λ (x : Effect). IsOfNewTags x past) (sym is) (each_earlier IsOfNewTags effects (effect ∷ past) each).0 in
-    (rule old before).1
-new_noted (effect ∷ effects) past each link old (inr has) before = new_noted effects (effect ∷ past) each link old has (inr before)
+new_noted : (options : Options) (theirs effects past : List Effect) → Each (IsOfNewTagsBut options theirs) (after_effects effects past) → (link old : AssociationIdentity) → HasEffect (holds link) effects → HasEffect (holds old) past → old.peer.tag ≢ link.peer.tag
+new_noted options theirs [] past each link old has before = absurd has
+new_noted options theirs (effect ∷ effects) past each link old (inl is) before =
+    let rule : IsOfNewTagsBut options theirs (holds link) past = subst (λ (x : Effect). IsOfNewTagsBut options theirs x past) (sym is) (each_earlier (IsOfNewTagsBut options theirs) effects (effect ∷ past) each).0 in
+    (rule old before).0
+new_noted options theirs (effect ∷ effects) past each link old (inr has) before = new_noted options theirs effects (effect ∷ past) each link old has (inr before)
 
-pub matched_earlier : (mine theirs effects more : List Effect) → MatchByTags (after_effects effects mine) (after_effects more theirs) → MatchByTags mine theirs
-matched_earlier mine theirs effects more matched link other has has' share = matched link other (after_within effects mine (holds link) has) (after_within more theirs (holds other) has') share
+-- ---- the association that is there
 
-pub matched_swapped : (mine theirs : List Effect) → MatchByTags mine theirs → MatchByTags theirs mine
-matched_swapped mine theirs matched link other has has' (inl e) = (let both = matched other link has' has (inr (sym e)) in (sym both.1, sym both.0))
-matched_swapped mine theirs matched link other has has' (inr e) = (let both = matched other link has' has (inl (sym e)) in (sym both.1, sym both.0))
+current_is : (past : List Effect) (core : Core) (old : AssociationIdentity) → LeavesCore past core → current past ≡ Some old → identity_in core ≡ Some old
+current_is past closed old leaves there = (let clash : ◌≡◌ {A = Option AssociationIdentity} None (Some old) = sym leaves ∙ there in absurd (cc))
+current_is past (cookie_wait my) old leaves there = (let clash : ◌≡◌ {A = Option AssociationIdentity} None (Some old) = sym leaves ∙ there in absurd (cc))
+current_is past (cookie_echoed my held cookie) old leaves there = sym leaves.link ∙ there
+current_is past (open_in phase my held) old leaves there = sym leaves.link ∙ there
+
+some_same : {n m : ℕ} → Some n ≡ Some m → n ≡ m
+some_same is = cc
+
+unasked_is : (past : List Effect) (core : Core) (request : Option OutstandingRequest) (number : ℕ) (own : Own) → LeavesCore past core → number_to_begin past ≡ Some number → own_in core request ≡ Some own → own.next ≡ number
+unasked_is past closed request number own leaves is kept = absurd (cc)
+unasked_is past (cookie_wait my) request number own leaves is kept = absurd (cc)
+unasked_is past (cookie_echoed my held cookie) request number own leaves is kept =
+    (let one : own_with held request ≡ own = cc in sym (ap (λ (o : Own). o.next) one) ∙ some_same (sym leaves.own_next ∙ is))
+unasked_is past (open_in phase my held) request number own leaves is kept =
+    (let one : own_with held request ≡ own = cc in sym (ap (λ (o : Own). o.next) one) ∙ some_same (sym leaves.own_next ∙ is))
 
 -- The association that a turn begins was recorded first in it.
 noted_first : (e : Endpoint) (o : Outcome) (begun : Begun e o) (rest past : List Effect)
     → after_effects (o.effects ++ rest) past ≡ after_effects (begun.later ++ rest) (holds (identity_of begun.my begun.held) ∷ past)
 noted_first e o begun rest past = ap (λ (effects : List Effect). after_effects (effects ++ rest) past) begun.noted
 
-module _ (e : Endpoint) (o : Outcome) (begun : Begun e o) (rest past their_past : List Effect) (opening : FitsCore o.after.core) (linked : identity_in o.after.core ≡ Some (identity_of begun.my begun.held))
-    (each : Each IsOfNewTags (after_effects (o.effects ++ rest) past)) (matched : MatchByTags (after_effects (o.effects ++ rest) past) their_past) where
+module _ (options their_options : Options) (e : Endpoint) (o : Outcome) (begun : Begun e o) (rest past their_past : List Effect) (opening : FitsCore o.after.core) (linked : identity_in o.after.core ≡ Some (identity_of begun.my begun.held))
+    (each : Each (IsOfNewTagsBut options their_past) (after_effects (o.effects ++ rest) past)) (matched : MatchOrUnmatched options their_options (after_effects (o.effects ++ rest) past) their_past) where
   begun_link : AssociationIdentity
   begun_link = identity_of begun.my begun.held
 
@@ -159,24 +176,64 @@ module _ (e : Endpoint) (o : Outcome) (begun : Begun e o) (rest past their_past 
   unfolding begun_link
   its_fits = link_fits o.after.core begun_link opening linked
 
-  is_new : IsOfNewTags (holds begun_link) past
+  is_new : IsOfNewTagsBut options their_past (holds begun_link) past
   unfolding begun_link
-  is_new = (each_earlier IsOfNewTags (begun.later ++ rest) (holds begun_link ∷ past) (subst (Each IsOfNewTags) (noted_first e o begun rest past) each)).0
+  is_new = (each_earlier (IsOfNewTagsBut options their_past) (begun.later ++ rest) (holds begun_link ∷ past) (subst (Each (IsOfNewTagsBut options their_past)) (noted_first e o begun rest past) each)).0
 
   was_noted : HasEffect (holds begun_link) (after_effects (o.effects ++ rest) past)
   unfolding begun_link
   was_noted = subst (HasEffect (holds begun_link)) (sym (noted_first e o begun rest past)) (after_within (begun.later ++ rest) (holds begun_link ∷ past) (holds begun_link) (inl refl))
 
-  pub new_peer : NewPeer past their_past (identity_of begun.my begun.held)
-  unfolding begun_link its_fits is_new was_noted
-  new_peer =
+  -- Its own pair is the receiver's of its tag.
+  shares_own : (theirs : AssociationIdentity) → HasEffect (holds theirs) their_past → theirs.peer.tag ≡ begun.my.tag → theirs.peer ≡ begun.my
+  unfolding begun_link was_noted
+  shares_own theirs has same = sym ((matched begun_link theirs was_noted has (inl (sym same))).0.my (sym same))
+
+  new_peer : ((old : AssociationIdentity) → HasEffect (holds old) past → old.my.tag ≢ begun.my.tag) → NewPeer past their_past (identity_of begun.my begun.held)
+  unfolding begun_link its_fits
+  new_peer none =
       record {
         some = not_zero begun_link.my.tag its_fits.my.tag_is_not_zero;
         some_peer = not_zero begun_link.peer.tag its_fits.peer.tag_is_not_zero;
         small = its_fits.my.first_tsn;
-        other = λ old has. (is_new old has).0;
-        match = λ theirs has same. sym (matched begun_link theirs was_noted has (inl (sym same))).0;
+        other = none;
+        match = shares_own;
       }
+
+  takes_over : RanTo options e past → (old : AssociationIdentity) → HasEffect (holds old) past → (old.peer.tag ≢ begun.held.peer.tag) → TakesPlace options their_past past old (identity_of begun.my begun.held) → TakesOver past their_past e (identity_of begun.my begun.held)
+  unfolding begun_link its_fits is_new
+  takes_over ran old has other takes =
+      let leaves = ran_leaves options e past ran in
+      record {
+        follows = ap (λ (p : Options). p.follow_rfc) ran.same ∙ takes.follows;
+        old = old;
+        was = current_is past e.core old leaves takes.there;
+        my = takes.my;
+        other = other;
+        some_peer = not_zero begun_link.peer.tag its_fits.peer.tag_is_not_zero;
+        alike = ap (λ (c : Capabilities). c.message_interleaving) takes.capabilities;
+        only = λ one held same. elim (is_new one held).1 [
+          | inl ne ↦ absurd (ne same)
+          | inr also ↦ some_link (sym also.there ∙ takes.there)
+        ];
+        unasked = λ own kept. unasked_is past e.core e.outstanding old.my.first_tsn own leaves takes.unasked kept;
+        unmet = takes.unmatched;
+        match = shares_own;
+      }
+    where
+      some_link : {one two : AssociationIdentity} → Some one ≡ Some two → one ≡ two
+      some_link is = cc
+
+  pub new_or_over : RanTo options e past → NewPeer past their_past (identity_of begun.my begun.held) ⊎ TakesOver past their_past e (identity_of begun.my begun.held)
+  unfolding begun_link is_new
+  new_or_over ran = elim (own_or_none past begun.my.tag) [
+    | inl none ↦ inl (new_peer none)
+    | inr found ↦
+        elim (is_new found.0 found.1).1 [
+          | inl ne ↦ absurd (ne found.2)
+          | inr takes ↦ inr (takes_over ran found.0 found.1 (is_new found.0 found.1).0 takes)
+        ]
+  ]
 
   pub new_tag : NewTag past their_past (identity_of begun.my begun.held)
   unfolding begun_link its_fits is_new was_noted
@@ -186,8 +243,8 @@ module _ (e : Endpoint) (o : Outcome) (begun : Begun e o) (rest past their_past 
         own_some = not_zero begun_link.my.tag its_fits.my.tag_is_not_zero;
         small = its_fits.peer.first_tsn;
         own_small = its_fits.my.first_tsn;
-        other = λ old has. (is_new old has).1;
-        match = λ theirs has same. sym (matched begun_link theirs was_noted has (inr (sym same))).1;
+        other = λ old has. (is_new old has).0;
+        match = λ theirs has same. sym ((matched begun_link theirs was_noted has (inr (sym same))).0.peer (sym same));
       }
 
 -- ---- over the turns of an act
@@ -205,34 +262,100 @@ same_rules : (e : Endpoint) (o : Outcome) → Moves e o → o.after.options.foll
 same_rules e o (it_rests core options effects told) = ap (λ (p : Options). p.follow_rfc) options
 same_rules e o (it_moves change turn is) = ap (λ (p : Options). p.follow_rfc) is.options
 
-pub new_peers : (their_past : List Effect) (turns : List Transition) (past : List Effect) (e : Endpoint) → AreCalls turns → AlongTurns IsUnrefused e turns → AlongTurns IsMove e turns → AllOpenFitting turns → Each IsOfNewTags (after_effects (effects_of turns) past)
-    → MatchByTags (after_effects (effects_of turns) past) their_past → AllPerformed (after_effects (effects_of turns) past) their_past → AreNewPeers past their_past e turns
-new_peers their_past [] past e calls unrefused along opens each matched performed = tt
-new_peers their_past (t ∷ turns) past e calls unrefused along opens each matched performed =
+pub new_peers : (options their_options : Options) (their_past : List Effect) (turns : List Transition) (past : List Effect) (e : Endpoint) → RanTo options e past → AreCalls turns → AlongTurns IsUnrefused e turns → AlongTurns IsMove e turns → AllOpenFitting turns
+    → Each (IsOfNewTagsBut options their_past) (after_effects (effects_of turns) past) → MatchOrUnmatched options their_options (after_effects (effects_of turns) past) their_past → AllPerformed (after_effects (effects_of turns) past) their_past
+    → AreNewPeers past their_past e turns
+new_peers options their_options their_past [] past e ran calls unrefused along opens each matched performed = tt
+new_peers options their_options their_past (t ∷ turns) past e ran calls unrefused along opens each matched performed =
     let split = after_first t.outcome.effects (effects_of turns) past in
     let later : AllPerformed (after_effects (effects_of turns) (after_effects t.outcome.effects past)) their_past = subst (λ (p : List Effect). AllPerformed p their_past) split performed in (
       calls.0,
-      (λ begun opening linked. inl (new_peer e t.outcome begun (effects_of turns) past their_past (opens.0 opening) linked each matched)),
+      (λ begun opening linked. new_or_over options their_options e t.outcome begun (effects_of turns) past their_past (opens.0 opening) linked each matched ran),
       unrefused.0,
       (λ my number has. later my number (after_within (effects_of turns) (after_effects t.outcome.effects past) (completes my number) (among_after (completes my number) t.outcome.effects past has))),
       same_rules e t.outcome along.0,
-      new_peers their_past turns (after_effects t.outcome.effects past) t.outcome.after calls.1 unrefused.1 along.1 opens.1 (subst (Each IsOfNewTags) split each)
-          (subst (λ (p : List Effect). MatchByTags p their_past) split matched) later,
+      new_peers options their_options their_past turns (after_effects t.outcome.effects past) t.outcome.after (next_run options e past t ran along.0) calls.1 unrefused.1 along.1 opens.1 (subst (Each (IsOfNewTagsBut options their_past)) split each)
+          (subst (λ (p : List Effect). MatchOrUnmatched options their_options p their_past) split matched) later,
     )
 
-pub new_tags : (options : Options) (past : List Effect) (turns : List Transition) (their_past : List Effect) (e : Endpoint) → RanTo options e their_past → AlongTurns IsMove e turns → AllOpenFitting turns
-    → Each IsOfNewTags (after_effects (effects_of turns) their_past) → MatchByTags (after_effects (effects_of turns) their_past) past → AreNewTags options their_past past e turns
-new_tags options past [] their_past e ran along opens each matched = tt
-new_tags options past (t ∷ turns) their_past e ran along opens each matched =
+-- ---- the association that receives
+
+-- Each association that connected is one that the other side has.
+abbrev pub AllFound : List Effect → List Effect → Type 0
+AllFound past theirs = (link : AssociationIdentity) → HasEffect (connects link) past → (other : AssociationIdentity) × HasEffect (holds other) theirs × (other.my.tag ≡ link.peer.tag)
+
+-- None was restored.
+abbrev pub NoneRestored : List Effect → Type 0
+NoneRestored past = (link : AssociationIdentity) (own last : ℕ) → HasEffect (resumes link own last) past → ⊥
+
+-- The open association has connected, if the side follows the RFC.
+abbrev pub ConnectedSo : Endpoint → List Effect → Type 0
+ConnectedSo e past = e.options.follow_rfc ≡ true → HasConnected e past
+
+-- It is crossed by that of the sender, or its COOKIE ACK is awaited.
+module _ (options their_options : Options) (e : Endpoint) (their_past whole past : List Effect) (within : (effect : Effect) → HasEffect effect their_past → HasEffect effect whole) (same : e.options.follow_rfc ≡ options.follow_rfc) (connected : ConnectedSo e their_past)
+    (sender_each : Each (IsOfNewTagsBut their_options whole) past) (matched : MatchOrUnmatched options their_options whole past) (found : AllFound whole past) where
+  crosses : CrossesOrWaits their_past past e
+  crosses link held linked = by_core (is_cookie_echoed e.core) refl e.options.follow_rfc refl
+    where
+      none_before : IsNoneBefore past link
+      none_before tag former latest was is = replaced_unmatched their_options whole past sender_each tag former latest was link (within (holds link) held) is
+
+      crossed : (MayBeReplaced options link past → ⊥) → IsCrossedByEach past link
+      crossed not_may other has is =
+          elim (matched link other (within (holds link) held) has (inl (sym is))).1 [
+            | inl both ↦ ap (λ (p : Pair). p.tag) (sym both.1)
+            | inr which ↦ absurd (elim which [ inl my ↦ not_may my | inr their ↦ their.1 link (within (holds link) held) (sym is) ])
+          ]
+
+      open_so : (core : Core) → e.core ≡ core → is_cookie_echoed core ≡ false → is_open core ≡ true
+      open_so closed at none = (let clash : ◌≡◌ {A = Option AssociationIdentity} None (Some link) = ap identity_in (sym at) ∙ linked in absurd (cc))
+      open_so (cookie_wait my) at none = (let clash : ◌≡◌ {A = Option AssociationIdentity} None (Some link) = ap identity_in (sym at) ∙ linked in absurd (cc))
+      open_so (cookie_echoed my held' cookie) at none = absurd (cc)
+      open_so (open_in phase my held') at none = refl
+
+      by_core : (echoed : Bool) → is_cookie_echoed e.core ≡ echoed → (follows : Bool) → e.options.follow_rfc ≡ follows → (IsCrossedByEach past link × IsNoneBefore past link) ⊎ ((e.options.follow_rfc ≡ true) × (is_cookie_echoed e.core ≡ true))
+      by_core true echoed true follows = inr (follows, echoed)
+      by_core true echoed false follows = inl (crossed (λ may. (let clash : false ≡ true = sym follows ∙ same ∙ may.0 in absurd (cc))), none_before)
+      by_core false is true follows =
+          inl (crossed (λ may. (let other = found link (within (connects link) (connected follows (open_so e.core refl is) link linked)) in may.1 other.0 other.1 other.2)), none_before)
+      by_core false is false follows = inl (crossed (λ may. (let clash : false ≡ true = sym follows ∙ same ∙ may.0 in absurd (cc))), none_before)
+
+pub connected_after : (options : Options) (past : List Effect) (t : Transition) (turns : List Transition) (their_past : List Effect) (e : Endpoint) → ConnectedSo e their_past → AreTurns e (t ∷ turns) → AreCalls (t ∷ turns) → AlongTurns IsMove e (t ∷ turns)
+    → NoneRestored (after_effects (effects_of turns) (after_effects t.outcome.effects their_past)) → ConnectedSo t.outcome.after (after_effects t.outcome.effects their_past)
+connected_after options past t turns their_past e connected taken calls along none still =
+    let follows : e.options.follow_rfc ≡ true = sym (same_rules e t.outcome along.0) ∙ still in
+    still_connected e their_past t follows (connected follows) calls.0 taken.0 along.0
+    (λ link number last has. none link number last (after_within (effects_of turns) (after_effects t.outcome.effects their_past) (resumes link number last) (among_after (resumes link number last) t.outcome.effects their_past has)))
+
+-- So it is after the turns of an act.
+pub all_connected : (turns : List Transition) (past : List Effect) (e : Endpoint) → ConnectedSo e past → AreTurns e turns → AreCalls turns → AlongTurns IsMove e turns → NoneRestored (after_effects (effects_of turns) past)
+    → ConnectedSo (after_all e turns) (after_effects (effects_of turns) past)
+all_connected [] past e connected taken calls along none = connected
+all_connected (t ∷ turns) past e connected taken calls along none =
+    let split = after_first t.outcome.effects (effects_of turns) past in
+    let none' : NoneRestored (after_effects (effects_of turns) (after_effects t.outcome.effects past)) = subst NoneRestored split none in
+    subst (ConnectedSo (after_all t.outcome.after turns)) (sym split)
+    (all_connected turns (after_effects t.outcome.effects past) t.outcome.after (connected_after e.options past t turns past e connected taken calls along none') taken.1 calls.1 along.1 none')
+
+pub new_tags : (options their_options : Options) (past : List Effect) (turns : List Transition) (their_past : List Effect) (e : Endpoint) → RanTo options e their_past → ConnectedSo e their_past → AreTurns e turns → AreCalls turns → AlongTurns IsMove e turns
+    → AllOpenFitting turns → Each (IsOfNewTagsBut options past) (after_effects (effects_of turns) their_past) → Each (IsOfNewTagsBut their_options (after_effects (effects_of turns) their_past)) past
+    → MatchOrUnmatched options their_options (after_effects (effects_of turns) their_past) past → AllFound (after_effects (effects_of turns) their_past) past → NoneRestored (after_effects (effects_of turns) their_past) → AreNewTags options their_past past e turns
+new_tags options their_options past [] their_past e ran connected taken calls along opens each their_each matched found none = tt
+new_tags options their_options past (t ∷ turns) their_past e ran connected taken calls along opens each their_each matched found none =
     let split = after_first t.outcome.effects (effects_of turns) their_past in
-    let later : Each IsOfNewTags (after_effects (effects_of turns) (after_effects t.outcome.effects their_past)) = subst (Each IsOfNewTags) split each in (
+    let later : Each (IsOfNewTagsBut options past) (after_effects (effects_of turns) (after_effects t.outcome.effects their_past)) = subst (Each (IsOfNewTagsBut options past)) split each in
+    let none' : NoneRestored (after_effects (effects_of turns) (after_effects t.outcome.effects their_past)) = subst NoneRestored split none in
+    let follows : e.options.follow_rfc ≡ options.follow_rfc = ap (λ (p : Options). p.follow_rfc) ran.same in (
       ran.same,
-      (λ begun opening linked. new_tag e t.outcome begun (effects_of turns) their_past past (opens.0 opening) linked each matched),
+      (λ begun opening linked. new_tag options their_options e t.outcome begun (effects_of turns) their_past past (opens.0 opening) linked each matched),
       ran_knows options e their_past ran,
       (
-        new_noted t.outcome.effects their_past (each_earlier IsOfNewTags (effects_of turns) (after_effects t.outcome.effects their_past) later),
-        λ link held linked. inl (λ other has same. (let both = matched link other (after_within (effects_of (t ∷ turns)) their_past (holds link) held) has (inl (sym same)) in ap (λ (p : Pair). p.tag) (sym both.1))),
+        new_noted options past t.outcome.effects their_past (each_earlier (IsOfNewTagsBut options past) (effects_of turns) (after_effects t.outcome.effects their_past) later),
+        crosses options their_options e their_past (after_effects (effects_of (t ∷ turns)) their_past) past (after_within (effects_of (t ∷ turns)) their_past) follows connected their_each matched found,
       ),
-      new_tags options past turns (after_effects t.outcome.effects their_past) t.outcome.after (next_run options e their_past t ran along.0) along.1 opens.1 later
-          (subst (λ (p : List Effect). MatchByTags p past) split matched),
+      new_tags options their_options past turns (after_effects t.outcome.effects their_past) t.outcome.after (next_run options e their_past t ran along.0)
+          (connected_after options past t turns their_past e connected taken calls along none')
+          taken.1 calls.1 along.1 opens.1 later (subst (λ (p : List Effect). Each (IsOfNewTagsBut their_options p) past) split their_each) (subst (λ (p : List Effect). MatchOrUnmatched options their_options p past) split matched)
+          (subst (λ (p : List Effect). AllFound p past) split found) none',
     )

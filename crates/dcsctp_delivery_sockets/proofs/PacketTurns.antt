@@ -24,7 +24,7 @@ use Rattle.dcsctp_delivery_associations.specs.Ends.{Ends, IsOfEnds, HadBoth}
 use Rattle.dcsctp_delivery_associations.specs.Laws.{AsksLittle, AreEnds}
 use Rattle.dcsctp_delivery_associations.specs.Reads.{Reading, reading_after, Tags, tags_of, tags_or}
 use Rattle.dcsctp_delivery_sockets.specs.Echoes.{AllMayFollow, ContentsGo, GoesToMaker}
-use Rattle.dcsctp_delivery_sockets.specs.Packets.{reading_through, AreNewTags, IsCrossed}
+use Rattle.dcsctp_delivery_sockets.specs.Packets.{reading_through, AreNewTags, IsCrossedByEach, IsNoneBefore}
 use Rattle.dcsctp_delivery_turns.proofs.Tags.{echoes_own}
 use Rattle.dcsctp_delivery_turns.proofs.Addressed.{addressed_tags_are_own}
 use Rattle.dcsctp_delivery_associations.proofs.ReceiverTurns.{receiver_turns}
@@ -106,10 +106,10 @@ module _ (never_resets : ℕ → Bool) (options : Options) (e : Endpoint) (queue
       goes sent = one_turn d their_past reading (chunk_input tag content) t h turn new sent tt
 
       by_link : (transfer : Transfer) → d.queues.transfer ≡ Some transfer → (link : AssociationIdentity) → HasEffect (holds link) their_past → identity_in d.core ≡ Some link → link.my.tag ≢ 0
-          → IsCrossed past link ⊎ ((d.options.follow_rfc ≡ true) × (is_cookie_echoed d.core ≡ true)) → Have t.outcome.after (after_effects t.outcome.effects their_past) (reading_after d t.input t.outcome.after reading)
+          → (IsCrossedByEach past link × IsNoneBefore past link) ⊎ ((d.options.follow_rfc ≡ true) × (is_cookie_echoed d.core ≡ true)) → Have t.outcome.after (after_effects t.outcome.effects their_past) (reading_after d t.input t.outcome.after reading)
       by_link transfer there link held linked some (inl crosses) =
           goes (λ other link' there' linked'. subst (λ (l : AssociationIdentity). WasSent (h.ends.sends l.peer.tag).sent (Some content) × (HadBoth past l.peer.tag l.my.tag ⊎ WasSent [] (Some content))) (own_link link link' linked linked')
-          (was_sent h.ends past emission (of_ends h.ends past emission packets h.between.sender.all_sent has) d link linked some crosses content may))
+          (was_sent h.ends past emission (of_ends h.ends past emission packets h.between.sender.all_sent has) d link linked some crosses.0 crosses.1 h.between.sender.replaced content may))
       by_link transfer there link held linked some (inr (follows, echoed)) =
           content_where d tag content t.outcome (λ early dropped. drops d their_past reading tag content t link h turn linked (h.between.receiver.last link linked) dropped)
           (λ late handled. goes (λ other link' there' linked'. (unsent (h.ends.sends link'.peer.tag).sent content (needs_none late), inr (unsent [] content (needs_none late))))) turn.comes

@@ -8,19 +8,19 @@ use Rattle.dcsctp_spec_lemmas.specs.spec.endpoint.Endpoint.{Endpoint, Core, clos
 use Rattle.dcsctp_spec_lemmas.specs.spec.endpoint.Outcome.{Outcome, quiet, fits}
 use Rattle.dcsctp_spec_lemmas.specs.spec.Packet.{Introduction, Content, init, init_ack, cookie_echo, cookie_ack, re_config, abort, shutdown, shutdown_ack, shutdown_complete, unknown, heartbeat, heartbeat_ack, unworked, plain, Emission}
 use Rattle.dcsctp_spec_lemmas.specs.spec.Reconfiguration.{ResetParameter}
-use Rattle.dcsctp_spec_lemmas.specs.spec.association.Effect.{AssociationIdentity, identity_of, identity_in, Effect, holds}
+use Rattle.dcsctp_spec_lemmas.specs.spec.association.Effect.{AssociationIdentity, identity_of, identity_in, Effect}
 use Rattle.dcsctp_spec_lemmas.specs.spec.endpoint.FlushOutcomes.{Answer, flush_answered}
 use Rattle.dcsctp_spec_lemmas.specs.spec.endpoint.HandshakeOutcomes.{echo_emission, EchoAnswers, awaits_cookie_ack, InitAckAnswers, init_ack_by, InitAckTurn}
 use Rattle.dcsctp_spec_lemmas.specs.spec.endpoint.Turn.{Input, Turn, needs_connection}
 use Rattle.dcsctp_delivery_sending.specs.Places as places
-use Rattle.dcsctp_delivery_sending.specs.Flushes.{NoRequests, NoContent, NoData}
+use Rattle.dcsctp_delivery_sending.specs.Flushes.{NoContent, NoData}
 use Rattle.dcsctp_delivery_turns.specs.Actions.{came_by, IsOpening, Becomes, goes_on, pauses, works_resets, renews, ends, begins, collides, IsCall}
-use Rattle.dcsctp_delivery_turns.specs.Sides.{WasIn, WasAsked, WasSent}
-use Rattle.dcsctp_delivery_associations.specs.Ends.{Ends, IsOfEnds, AreOfEnds, IsOfEnd, HadBoth, WasReplaced}
+use Rattle.dcsctp_delivery_turns.specs.Sides.{WasIn, WasSent}
+use Rattle.dcsctp_delivery_associations.specs.Ends.{Ends, IsOfEnds, AreOfEnds, IsOfEnd, HadBoth, PlaceWasTaken, WentBefore}
 use Rattle.dcsctp_delivery_sockets.specs.Echoes.{MayFollow}
 use Rattle.dcsctp_delivery_turns.proofs.Tags.{flush_link}
 use Rattle.dcsctp_delivery_turns.proofs.Turns.{turns_are_actions}
-use Rattle.dcsctp_delivery_sockets.specs.Packets.{IsCrossed}
+use Rattle.dcsctp_delivery_sockets.specs.Packets.{IsCrossedByEach, IsNoneBefore}
 
 -- ---- what was sent
 
@@ -75,7 +75,8 @@ unsent sent (shutdown c) none = tt
 unsent sent shutdown_ack none = tt
 unsent sent (shutdown_complete t) none = tt
 
-module _ (table : Ends) (past : List Effect) (emission : Emission) (is : IsOfEnds table past emission) (e : Endpoint) (link : AssociationIdentity) (linked : identity_in e.core ≡ Some link) (some : link.my.tag ≢ 0) (crosses : IsCrossed past link) where
+module _ (table : Ends) (past : List Effect) (emission : Emission) (is : IsOfEnds table past emission) (e : Endpoint) (link : AssociationIdentity) (linked : identity_in e.core ≡ Some link) (some : link.my.tag ≢ 0) (crosses : IsCrossedByEach past link)
+    (none_before : IsNoneBefore past link) (replaced : (tag former : ℕ) → table.former tag ≡ Some former → PlaceWasTaken past tag former (table.latest tag)) where
   -- What was sent in the association that crosses it, or needs no sender.
   abbrev pub Sent : Option Content → Type 0
   Sent came = WasSent (table.sends link.peer.tag).sent came × (HadBoth past link.peer.tag link.my.tag ⊎ WasSent [] came)
@@ -89,6 +90,10 @@ module _ (table : Ends) (past : List Effect) (emission : Emission) (is : IsOfEnd
         subst (λ (t : ℕ). HadBoth past t link.my.tag) same (subst (HadBoth past end.tag) (sym own) end.both),
       )
 
+  -- It went to no other peer.
+  went_no : TagIs emission.packet.tag e → WentBefore table emission → ⊥
+  went_no tag went = none_before went.tag emission.packet.tag (table.latest went.tag) (replaced went.tag emission.packet.tag went.former_is) (tag link linked)
+
   was_in : (chunk : ChunkContent) → (NoContent (plain (unworked chunk)) → ⊥) → MayHandle emission e (plain (unworked chunk)) → WasIn (table.sends link.peer.tag).sent chunk × HadBoth past link.peer.tag link.my.tag
   was_in chunk bears (inl none) = absurd (bears none)
   was_in chunk bears (inr (has, tag)) = go is
@@ -96,7 +101,8 @@ module _ (table : Ends) (past : List Effect) (emission : Emission) (is : IsOfEnd
       go : IsOfEnds table past emission → WasIn (table.sends link.peer.tag).sent chunk × HadBoth past link.peer.tag link.my.tag
       go (inl none) = absurd (bears (no_content (plain (unworked chunk)) emission.packet.contents none has))
       go (inr (free, inl zero)) = absurd (some (tag link linked ∙ zero))
-      go (inr (free, inr end)) = (let found = the_end tag end in (record { emission = emission; was = found.0; holds = has }, found.1))
+      go (inr (free, inr (inl went))) = absurd (went_no tag went)
+      go (inr (free, inr (inr end))) = (let found = the_end tag end in (record { emission = emission; was = found.0; holds = has }, found.1))
 
   -- So was what asks for a reset of streams.
   was_asked : (parameters : List ResetParameter) → MayHandle emission e (re_config parameters) → Sent (Some (re_config parameters))
@@ -106,7 +112,8 @@ module _ (table : Ends) (past : List Effect) (emission : Emission) (is : IsOfEnd
       go : IsOfEnds table past emission → Sent (Some (re_config parameters))
       go (inl none) = (let free = no_content (re_config parameters) emission.packet.contents none has in (inl free, inr (inl free)))
       go (inr (free, inl zero)) = absurd (some (tag link linked ∙ zero))
-      go (inr (free, inr end)) = (let found = the_end tag end in (inr (record { emission = emission; was = found.0; holds = has }), inl found.1))
+      go (inr (free, inr (inl went))) = absurd (went_no tag went)
+      go (inr (free, inr (inr end))) = (let found = the_end tag end in (inr (record { emission = emission; was = found.0; holds = has }), inl found.1))
 
   pub was_sent : (content : Content) → MayHandle emission e content → Sent (Some content)
   was_sent (plain (unworked (data_chunk chunk))) may = (let found = was_in (data_chunk chunk) (λ none. none) may in (found.0, inl found.1))

@@ -25,10 +25,10 @@ use Rattle.dcsctp_delivery_associations.specs.Reads.{Reading, nothing_read, read
 use Rattle.dcsctp_delivery_sockets.specs.Acts.{queued_through, AreNewPeers}
 use Rattle.dcsctp_delivery_sockets.specs.Packets.{reading_through, AreNewTags}
 use Rattle.dcsctp_delivery_sockets.specs.UserMessages.{message_sent, messages_sent_in}
-use Rattle.dcsctp_delivery_sockets.specs.Delivery.{IsOfNewTags, MatchByTags, SendsLittle}
+use Rattle.dcsctp_delivery_sockets.specs.Delivery.{IsOfNewTagsBut, MatchOrUnmatched, SendsLittle}
 use Rattle.dcsctp_delivery_sockets.proofs.Acts.{senders_act, receivers_act, receivers_handle}
 use Rattle.dcsctp_delivery_sockets.proofs.Calls.{NoChunks, AreCalls, call_without}
-use Rattle.dcsctp_delivery_sockets.proofs.NewLinks.{AllOpenFitting, none_open, matched_swapped, AllPerformed, new_peers, new_tags}
+use Rattle.dcsctp_delivery_sockets.proofs.NewLinks.{AllOpenFitting, none_open, AllPerformed, AllFound, NoneRestored, ConnectedSo, new_peers, new_tags}
 use Rattle.dcsctp_delivery_sockets.proofs.Known.{past_more, GoodPacket, SideKnown, rest_turns, rest_moves, rest_refused, rest_resets, ran_front}
 use Rattle.dcsctp_delivery_sockets.proofs.UserMessages.{SaysSame, nothing_same, turns_same}
 
@@ -78,14 +78,15 @@ module _ (never_resets : ℕ → Bool) (theirs : Options) (d : Endpoint) (their_
       (subst (λ (x : List Effect). AreEnds never_resets theirs e queued x packets' d their_past reading) same_past
       (subst (λ (x : List Emission). AreEnds never_resets theirs e queued past x d their_past reading) same_packets h)))
 
-pub sender_more : (never_resets : ℕ → Bool) (mine theirs : Options) (turns others more : List Transition) → Stand never_resets mine theirs turns others → SideKnown never_resets mine (turns ++ more) → MatchByTags (noted_past (turns ++ more)) (noted_past others)
-    → AllPerformed (noted_past (turns ++ more)) (noted_past others) → AreCalls more → AllOpenFitting more → Stand never_resets mine theirs (turns ++ more) others
+pub sender_more : (never_resets : ℕ → Bool) (mine theirs : Options) (turns others more : List Transition) → Stand never_resets mine theirs turns others → SideKnown never_resets mine (noted_past others) (turns ++ more)
+    → MatchOrUnmatched mine theirs (noted_past (turns ++ more)) (noted_past others) → AllPerformed (noted_past (turns ++ more)) (noted_past others) → AreCalls more → AllOpenFitting more → Stand never_resets mine theirs (turns ++ more) others
 sender_more never_resets mine theirs turns others more h known matched performed calls opens =
     let e : Endpoint = endpoint_after mine turns in
     let past : List Effect = noted_past turns in
     let new : AreNewPeers past (noted_past others) e more =
-    new_peers (noted_past others) more past e calls (rest_refused never_resets mine turns more known) (rest_moves never_resets mine turns more known) opens (subst (Each IsOfNewTags) (past_more turns more) known.tags)
-    (subst (λ (p : List Effect). MatchByTags p (noted_past others)) (past_more turns more) matched)
+    new_peers mine theirs (noted_past others) more past e (ran_front never_resets mine turns more known) calls (rest_refused never_resets mine turns more known) (rest_moves never_resets mine turns more known) opens
+    (subst (Each (IsOfNewTagsBut mine (noted_past others))) (past_more turns more) known.tags)
+    (subst (λ (p : List Effect). MatchOrUnmatched mine theirs p (noted_past others)) (past_more turns more) matched)
     (subst (λ (p : List Effect). AllPerformed p (noted_past others)) (past_more turns more) performed) in
     let few : length (queued_through e more (queued_of mine turns)) < 2 ^ 64 =
     subst (λ (q : List Message). length q < 2 ^ 64) (queued_more (fresh_endpoint mine) turns more []) (few_queued mine (turns ++ more) known.little) in
@@ -105,12 +106,17 @@ module _ (never_resets : ℕ → Bool) (theirs : Options) (e : Endpoint) (queued
       (subst (λ (x : List Effect). AreEnds never_resets theirs e queued past packets d x reading') same_past
       (subst (λ (x : Reading). AreEnds never_resets theirs e queued past packets d their_past x) same_reading h))
 
-module _ (never_resets their_never : ℕ → Bool) (mine theirs : Options) (turns others more : List Transition) (h : Stand never_resets mine theirs turns others) (known : SideKnown their_never theirs (others ++ more)) (matched : MatchByTags (noted_past turns) (noted_past (others ++ more)))
-    (little : SendsLittle mine turns) where
-  their_tags : AllOpenFitting more → AreNewTags theirs (noted_past others) (noted_past turns) (endpoint_after theirs others) more
-  their_tags opens =
-      new_tags theirs (noted_past turns) more (noted_past others) (endpoint_after theirs others) (ran_front their_never theirs others more known) (rest_moves their_never theirs others more known) opens (subst (Each IsOfNewTags) (past_more others more) known.tags)
-      (subst (λ (p : List Effect). MatchByTags p (noted_past turns)) (past_more others more) (matched_swapped (noted_past turns) (noted_past (others ++ more)) matched))
+module _ (never_resets their_never : ℕ → Bool) (mine theirs : Options) (turns others more : List Transition) (h : Stand never_resets mine theirs turns others) (known : SideKnown their_never theirs (noted_past turns) (others ++ more))
+    (each : Each (IsOfNewTagsBut mine (noted_past (others ++ more))) (noted_past turns)) (matched : MatchOrUnmatched theirs mine (noted_past (others ++ more)) (noted_past turns)) (connected : ConnectedSo (endpoint_after theirs others) (noted_past others))
+    (found : AllFound (noted_past (others ++ more)) (noted_past turns)) (restored : NoneRestored (noted_past (others ++ more))) (little : SendsLittle mine turns) where
+  their_tags : AreCalls more → AllOpenFitting more → AreNewTags theirs (noted_past others) (noted_past turns) (endpoint_after theirs others) more
+  their_tags calls opens =
+      let same : noted_past (others ++ more) ≡ after_effects (effects_of more) (noted_past others) = past_more others more in
+      new_tags theirs mine (noted_past turns) more (noted_past others) (endpoint_after theirs others) (ran_front their_never theirs others more known) connected (rest_turns their_never theirs others more known) calls
+      (rest_moves their_never theirs others more known) opens (subst (Each (IsOfNewTagsBut theirs (noted_past turns))) same known.tags)
+      (subst (λ (p : List Effect). Each (IsOfNewTagsBut mine p) (noted_past turns)) same each)
+      (subst (λ (p : List Effect). MatchOrUnmatched theirs mine p (noted_past turns)) same matched)
+      (subst (λ (p : List Effect). AllFound p (noted_past turns)) same found) (subst NoneRestored same restored)
 
   now_stands : AreEnds never_resets theirs (endpoint_after mine turns) (queued_of mine turns) (noted_past turns) (packets_of turns) (after_all (endpoint_after theirs others) more) (after_effects (effects_of more) (noted_past others))
       (reading_through (endpoint_after theirs others) more (reading_of theirs others)) → Stand never_resets mine theirs turns (others ++ more)
@@ -123,11 +129,11 @@ module _ (never_resets their_never : ℕ → Bool) (mine theirs : Options) (turn
   receiver_calls call taken calls =
       let none : NoChunks more = call_without (endpoint_after theirs others) call more taken in
       now_stands (receivers_act never_resets theirs (endpoint_after mine turns) (queued_of mine turns) (noted_past turns) (packets_of turns) (few_queued mine turns little) little.requests more (endpoint_after theirs others) (noted_past others)
-      (reading_of theirs others) h none (rest_turns their_never theirs others more known) calls (their_tags (none_open more none)))
+      (reading_of theirs others) h none (rest_turns their_never theirs others more known) calls (their_tags calls (none_open more none)))
 
   pub receiver_handles : (bytes : List ℕ) (emission : Emission) → places.HasEntry emission (packets_of turns) → GoodPacket emission
-      → ((packet : PacketContent) → IsPacket (wire_options (endpoint_after theirs others).options) packet bytes → packet_in packet ≡ emission.packet) → HandleInput (endpoint_after theirs others) bytes more → AllOpenFitting more
+      → ((packet : PacketContent) → IsPacket (wire_options (endpoint_after theirs others).options) packet bytes → packet_in packet ≡ emission.packet) → HandleInput (endpoint_after theirs others) bytes more → AreCalls more → AllOpenFitting more
       → Stand never_resets mine theirs turns (others ++ more)
-  receiver_handles bytes emission has good is taken opens =
+  receiver_handles bytes emission has good is taken calls opens =
       now_stands (receivers_handle never_resets theirs (endpoint_after mine turns) (queued_of mine turns) (noted_past turns) (packets_of turns) (few_queued mine turns little) little.requests (endpoint_after theirs others) (noted_past others)
-      (reading_of theirs others) emission bytes more h has good.goes is (their_tags opens) taken)
+      (reading_of theirs others) emission bytes more h has good.goes is (their_tags calls opens) taken)

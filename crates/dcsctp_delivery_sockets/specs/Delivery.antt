@@ -1,6 +1,6 @@
 -- What a user reads is what its peer's user sent, over every list of honest acts of two sockets,
 -- with interleaving or without.
-use Rattle.std.specs.Prelude.{◌≡◌, ◌≢◌, ◌⊎◌, ◌<◌, ◌-◌, ◌^◌, ℕ, List, length}
+use Rattle.std.specs.Prelude.{◌≡◌, ◌≢◌, ◌⊎◌, ◌<◌, ◌-◌, ◌^◌, ℕ, List, length, true, Some, ◌+◌}
 use Rattle.std.specs.List.{AllByRecursion}
 use Rattle.dcsctp_spec_lemmas.specs.types.declared.options.Options.{Options}
 use Rattle.dcsctp_spec_lemmas.specs.types.declared.schedule.Side.{Side}
@@ -8,7 +8,7 @@ use Rattle.dcsctp_spec_lemmas.specs.types.Schedule.{CallContent, set_call, send_
 use Rattle.dcsctp_spec_lemmas.specs.spec.endpoint.CallTurns.{Transition, AlongTurns, events_of}
 use Rattle.dcsctp_spec_lemmas.specs.spec.endpoint.Endpoint.{Endpoint, fresh_endpoint}
 use Rattle.dcsctp_spec_lemmas.specs.spec.endpoint.Event.{packets_in}
-use Rattle.dcsctp_spec_runs.specs.Past.{HasEffect, Each}
+use Rattle.dcsctp_spec_runs.specs.Past.{HasEffect, Each, current, number_to_begin}
 use Rattle.dcsctp_spec_runs.specs.Sockets.{PerformedAct, Both, of_side, of_other, turns_after, SocketRun, acts_of}
 use Rattle.dcsctp_spec_lemmas.specs.spec.association.Effect.{AssociationIdentity, Effect, holds}
 use Rattle.dcsctp_spec_lemmas.specs.types.queues.Messages.{MessageContent}
@@ -67,6 +67,51 @@ pub record TagsServeOnce (turns : Both (List Transition)) : Type 0 where
   pub b : Each IsOfNewTags (noted_past turns.b)
   pub matched : MatchByTags (noted_past turns.a) (noted_past turns.b)
 
+-- ---- or two, where both sides connect
+
+-- The other side never has this association: none of its own tags is the peer's tag of it.
+abbrev pub IsUnmatched : AssociationIdentity → List Effect → Type 0
+IsUnmatched link theirs = (other : AssociationIdentity) → HasEffect (holds other) theirs → other.my.tag ≢ link.peer.tag
+
+-- With `follow_rfc` the association takes the place of the old one, under the same own pair and with the same capabilities: both
+-- sides connect (RFC 9260, section 5.2.4, action B). The old one, of which no request to reset streams was begun, is there when the
+-- new one begins.
+pub record TakesPlace (options : Options) (theirs earlier : List Effect) (old link : AssociationIdentity) : Type 0 where
+  pub follows : options.follow_rfc ≡ true
+  pub my : old.my ≡ link.my
+  pub capabilities : old.capabilities ≡ link.capabilities
+  pub there : current earlier ≡ Some old
+  pub unasked : number_to_begin earlier ≡ Some old.my.first_tsn
+  pub unmatched : IsUnmatched old theirs
+
+-- An association that begins at a side with these options has another peer's tag than each earlier one of this side. It has
+-- another own tag, too, or takes its place.
+abbrev pub IsOfNewTagsBut : Options → List Effect → Effect → List Effect → Type 0
+IsOfNewTagsBut options theirs (holds link) earlier =
+    (old : AssociationIdentity) → HasEffect (holds old) earlier → (old.peer.tag ≢ link.peer.tag) × ((old.my.tag ≢ link.my.tag) ⊎ TakesPlace options theirs earlier old link)
+IsOfNewTagsBut options theirs effect earlier = Unit {0}
+
+-- Another may take the place of this one.
+abbrev pub MayBeReplaced : Options → AssociationIdentity → List Effect → Type 0
+MayBeReplaced options link theirs = (options.follow_rfc ≡ true) × IsUnmatched link theirs
+
+-- A tag that the two have in common is of one pair.
+pub record ShareThePair (link other : AssociationIdentity) : Type 0 where
+  pub my : link.my.tag ≡ other.peer.tag → link.my ≡ other.peer
+  pub peer : link.peer.tag ≡ other.my.tag → link.peer ≡ other.my
+
+-- If an association of the one side and one of the other have a tag in common, it is of one pair, and they match, or one of them
+-- may be replaced.
+abbrev pub MatchOrUnmatched : Options → Options → List Effect → List Effect → Type 0
+MatchOrUnmatched my_options their_options mine theirs =
+    (link other : AssociationIdentity) → HasEffect (holds link) mine → HasEffect (holds other) theirs → (link.my.tag ≡ other.peer.tag) ⊎ (link.peer.tag ≡ other.my.tag)
+    → ShareThePair link other × (((link.my ≡ other.peer) × (link.peer ≡ other.my)) ⊎ (MayBeReplaced my_options link theirs ⊎ MayBeReplaced their_options other mine))
+
+pub record TagsServeOnceBut (options : Both Options) (turns : Both (List Transition)) : Type 0 where
+  pub a : Each (IsOfNewTagsBut options.a (noted_past turns.b)) (noted_past turns.a)
+  pub b : Each (IsOfNewTagsBut options.b (noted_past turns.a)) (noted_past turns.b)
+  pub matched : MatchOrUnmatched options.a options.b (noted_past turns.a) (noted_past turns.b)
+
 -- ---- how much is sent
 
 -- Fewer than 2^30 chunks of data, new or sent again, went to each verification tag: then an association assigns fewer than 2^31
@@ -76,6 +121,13 @@ pub record SendsLittle (options : Options) (turns : List Transition) : Type 0 wh
   pub messages : length (messages_sent_in (fresh_endpoint options) turns) < 2 ^ 64
   pub chunks : (tag : ℕ) → chunks_to tag (packets_in (events_of turns)) < 2 ^ 30
   pub requests : (tag : ℕ) → requests_to tag (packets_in (events_of turns)) < 2 ^ 32 - 1
+
+-- So few went to the two tags of a peer whose association was replaced and of the one that took its place: what was in flight goes
+-- on under the same TSNs.
+abbrev pub SendsLittleTogether : List Transition → Type 0
+SendsLittleTogether turns =
+    (old link : AssociationIdentity) → HasEffect (holds old) (noted_past turns) → HasEffect (holds link) (noted_past turns) → old.my.tag ≡ link.my.tag → old.peer.tag ≢ link.peer.tag
+    → chunks_to old.peer.tag (packets_in (events_of turns)) + chunks_to link.peer.tag (packets_in (events_of turns)) < 2 ^ 30
 
 -- ---- with interleaving
 
@@ -91,8 +143,9 @@ NoneRefused options turns = (side : Side) → AlongTurns IsUnrefused (fresh_endp
 
 -- All that delivery asks of the turns of a run, beside what agreement asks.
 pub record TurnsAllowDelivery (options : Both Options) (turns : Both (List Transition)) : Type 0 where
-  pub tags : TagsServeOnce turns
+  pub tags : TagsServeOnceBut options turns
   pub little : (side : Side) → SendsLittle (of_side side options) (of_side side turns)
+  pub together : (side : Side) → SendsLittleTogether (of_side side turns)
   pub refused : NoneRefused options turns
 
 -- What this side's user read is what the other's user sent, and no message was read twice, in any association or after it has
@@ -109,8 +162,8 @@ pub record Delivers (options : Both Options) (turns : Both (List Transition)) (s
       → IsDeliveredByStream (IsReliable (of_other side options) (of_other side turns)) (sendings_in (fresh_endpoint (of_other side options)) (of_other side turns))
       (read_under tag (of_side side options) (of_side side turns))
 
--- So it is at the end of a run that is honest, in which no tag was drawn twice, each served one association, little was sent,
--- and with interleaving no request to reset streams failed.
+-- So it is at the end of a run that is honest, in which no tag was drawn twice, each served one association or two of which the one
+-- took the place of the other, little was sent, and with interleaving no request to reset streams failed.
 abbrev pub SocketsDeliver : Type 0
 SocketsDeliver =
     (options : Both Options) (run : List PerformedAct) → AreUsable options → AreInMemory (acts_of run) → SocketRun options run → AreHonest (acts_of run) → AreFresh (turns_after run) → TurnsAllowDelivery options (turns_after run)

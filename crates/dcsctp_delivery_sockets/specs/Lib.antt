@@ -4,4 +4,3 @@ pub mod Acts
 pub mod UserMessages
 pub mod Ordered
 pub mod Delivery
-pub mod Replaced

@@ -1,6 +1,6 @@
 -- A packet that a sender sent, handled by the receiver: what is handled in an association was sent
 -- in it.
-use Rattle.std.specs.Prelude.{◌<◌, ◌^◌, List, [], ◌∷◌, length, ◌≡◌, ◌⊎◌, Some, true}
+use Rattle.std.specs.Prelude.{◌<◌, ◌^◌, List, [], ◌∷◌, length, ◌≡◌, ◌⊎◌, Some, true, ℕ, ◌≢◌}
 use Rattle.dcsctp_spec_lemmas.specs.types.declared.options.Options.{Options}
 use Rattle.dcsctp_spec_lemmas.specs.types.Settings.{SameOptions}
 use Rattle.dcsctp_spec_lemmas.specs.spec.Admission.{admits}
@@ -15,7 +15,7 @@ use Rattle.dcsctp_delivery_sending.specs.Places as places
 use Rattle.dcsctp_delivery_turns.specs.Actions.{came_by, IsOpening, Begun}
 use Rattle.dcsctp_delivery_turns.specs.PeerRequests.{KnowsPeerIn}
 use Rattle.dcsctp_delivery_associations.specs.Answered.{AreAnswered}
-use Rattle.dcsctp_delivery_associations.specs.Ends.{Ends, NewTag, Between}
+use Rattle.dcsctp_delivery_associations.specs.Ends.{Ends, NewTag, Between, PlaceWasTaken}
 use Rattle.dcsctp_delivery_associations.specs.Laws.{NewPeerTags, AsksLittle, AreEnds}
 use Rattle.dcsctp_delivery_associations.specs.Reads.{Reading, reading_after}
 use Rattle.dcsctp_delivery_sockets.specs.Echoes.{GoesToMaker}
@@ -26,13 +26,17 @@ reading_through e [] reading = reading
 reading_through e (turn ∷ turns) reading = reading_through turn.outcome.after turns (reading_after e turn.input turn.outcome.after reading)
 
 -- Each association of the sender whose peer has this own tag crosses it.
-abbrev pub IsCrossed : List Effect → AssociationIdentity → Type 0
-IsCrossed past link = (other : AssociationIdentity) → HasEffect (holds other) past → other.peer.tag ≡ link.my.tag → other.my.tag ≡ link.peer.tag
+abbrev pub IsCrossedByEach : List Effect → AssociationIdentity → Type 0
+IsCrossedByEach past link = (other : AssociationIdentity) → HasEffect (holds other) past → other.peer.tag ≡ link.my.tag → other.my.tag ≡ link.peer.tag
+
+-- It is none whose place another one took at the sender.
+abbrev pub IsNoneBefore : List Effect → AssociationIdentity → Type 0
+IsNoneBefore past link = (tag former latest : ℕ) → PlaceWasTaken past tag former latest → link.my.tag ≢ former
 
 -- The association that is there is crossed so, or its COOKIE ACK is awaited as by the RFC.
 abbrev pub CrossesOrWaits : List Effect → List Effect → Endpoint → Type 0
 CrossesOrWaits their_past past e =
-    (link : AssociationIdentity) → HasEffect (holds link) their_past → identity_in e.core ≡ Some link → IsCrossed past link ⊎ ((e.options.follow_rfc ≡ true) × (is_cookie_echoed e.core ≡ true))
+    (link : AssociationIdentity) → HasEffect (holds link) their_past → identity_in e.core ≡ Some link → (IsCrossedByEach past link × IsNoneBefore past link) ⊎ ((e.options.follow_rfc ≡ true) × (is_cookie_echoed e.core ≡ true))
 
 -- Each turn starts with these options, and an association that begins in it has a peer of a new tag, and the one that is there is
 -- crossed, or waits. The past knows the peer's requests, and each association that is recorded has a peer of a new tag.

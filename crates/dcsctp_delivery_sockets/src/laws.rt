@@ -46,12 +46,14 @@ pub fn acts_keep_ends()
 /// ended. So it is over every schedule that loses, repeats, delays and reorders packets, as long as no act comes from
 /// outside, no tag is drawn twice, each verification tag serves one association, fewer than 2^30 chunks of data and
 /// fewer than 2^32 - 1 requests to reset streams go to each, each counted as often as it is sent, a side sends fewer
-/// than 2^64 messages, and none of these requests fails in an association with interleaving (RFC 8260). The ordered
-/// messages of a stream that are read in one association come in the order in which they were sent, where the sender
-/// follows the RFC or has no other association, and messages interleave, across resets of the stream, or no request to
-/// reset streams was sent, and no message may be abandoned or few are ordered. Where the sender has one association, no
-/// message may be abandoned and its user never resets streams, they are a prefix of what was sent. Where messages
-/// interleave, it takes this of the stream alone.
+/// than 2^64 messages, and none of these requests fails in an association with interleaving (RFC 8260). With `follow_rfc`
+/// an own tag may serve two associations, the second of which takes the place of one that the other side never has
+/// (RFC 9260, section 5.2.4, action B): both sides connect, the one after it answered the other's INIT, and fewer than
+/// 2^30 chunks go to both peers' tags together. The ordered messages of a stream that are read in one association come
+/// in the order in which they were sent, where the sender follows the RFC or has no other association, and messages
+/// interleave, across resets of the stream, or no request to reset streams was sent, and no message may be abandoned or
+/// few are ordered. Where the sender has one association, no message may be abandoned and its user never resets streams,
+/// they are a prefix of what was sent. Where messages interleave, it takes this of the stream alone.
 pub fn sockets_deliver()
     ensures { SocketsDeliver }
 {

@@ -1,6 +1,6 @@
 -- Both ends began at the same time: what was sent to the one peer goes on with the other (RFC 9260,
 -- section 5.2.4, action B). The run of the direction continues.
-use Rattle.std.proofs.Common.{◌≡◌, ◌<◌, ◌^◌, ℕ, true, false, None, Some, List, [], ◌++◌, refl, sym, ◌∙◌, ap, subst, inr}
+use Rattle.std.proofs.Common.{◌≡◌, ◌<◌, ◌^◌, ℕ, false, None, Some, List, [], ◌++◌, refl, sym, ◌∙◌, ap, subst, inr}
 use Rattle.std.specs.Prelude.{Option}
 use Rattle.dcsctp_spec_lemmas.specs.wire.declared.reconfiguration.ReconfigurationResponseResult.TheVariants.{InProgress}
 use Rattle.dcsctp_spec_lemmas.specs.types.declared.association.Held.{Held}
@@ -18,9 +18,8 @@ use Rattle.dcsctp_spec_lemmas.specs.spec.queues.Tracker.{TrackerState, new_track
 use Rattle.dcsctp_spec_lemmas.specs.spec.queues.Transfer.{Transfer, EndpointQueues, part_overhead}
 use Rattle.dcsctp_delivery_directions.specs.Directions.{Asking, nothing_asked, Direction, DirectionRun}
 use Rattle.dcsctp_delivery_directions.proofs.Awaited.{kept_goes}
-use Rattle.dcsctp_delivery_turns.specs.Actions.{ledger_of, inside, Made, MakesPackets, came_by, read_after, Begun, begun_transfer, Collides, kept_inside}
-use Rattle.dcsctp_delivery_turns.specs.Addressed.{AreAddressed}
-use Rattle.dcsctp_delivery_turns.specs.Asking.{SomeFit, own_of, AsksFit, AskingGrows}
+use Rattle.dcsctp_delivery_turns.specs.Actions.{ledger_of, inside, Made, MakesPackets, came_by, read_after, Begun, Collides, kept_inside}
+use Rattle.dcsctp_delivery_turns.specs.Asking.{SomeFit, own_of, AsksFit}
 use Rattle.dcsctp_delivery_turns.specs.PeerRequests.{SameWaits}
 use Rattle.dcsctp_delivery_turns.specs.Runs.{sender_at, new_direction, OpensSmall, OpensAssociation, Outlasts}
 use Rattle.dcsctp_delivery_turns.specs.Sides.{receiving, ReceivingSteps}

@@ -1,10 +1,10 @@
 -- A socket that has had no association has begun no message.
-use Rattle.std.proofs.Common.{◌≡◌, ◌==◌, ℕ, Bool, true, false, ◌<◌, ◌%◌, ◌^◌, Option, None, Some, List, [], ◌∷◌, map, refl, sym, ◌∙◌, ap, arith, subst, inl, inr}
+use Rattle.std.proofs.Common.{◌≡◌, ◌==◌, ℕ, Bool, true, false, ◌%◌, ◌^◌, Option, None, Some, List, [], ◌∷◌, map, refl, sym, ◌∙◌, ap, subst, inl, inr}
 use Rattle.std.specs.Prelude.{if◌then◌else◌}
 use Rattle.dcsctp_spec_lemmas.specs.types.declared.sending.UnderWay.{UnderWay}
 use Rattle.dcsctp_spec_lemmas.specs.types.queues.SendStreams.{Stream, unused, next_numbers, with_message, begun_anew}
 use Rattle.dcsctp_spec_lemmas.specs.types.Setting.{Setting, stream_priority, stream_low_threshold, longest_message}
-use Rattle.dcsctp_spec_lemmas.specs.spec.Packet.{Content, Emission}
+use Rattle.dcsctp_spec_lemmas.specs.spec.Packet.{Content}
 use Rattle.dcsctp_spec_lemmas.specs.spec.association.Effect.{identity_in}
 use Rattle.dcsctp_spec_lemmas.specs.spec.endpoint.Endpoint.{Endpoint, Core, closed, cookie_wait, cookie_echoed, open_in, OutstandingRequest}
 use Rattle.dcsctp_spec_lemmas.specs.spec.endpoint.Event.{packets_in}

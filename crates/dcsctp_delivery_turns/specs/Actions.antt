@@ -5,7 +5,6 @@ use Rattle.std.specs.List.{AllByRecursion}
 use Rattle.dcsctp_spec_lemmas.specs.wire.Content.{DataContent, IDataContent, SackContent, data_chunk, i_data_chunk, error_chunk, forward_tsn_chunk, i_forward_tsn_chunk}
 use Rattle.dcsctp_spec_lemmas.specs.types.declared.association.Held.{Held}
 use Rattle.dcsctp_spec_lemmas.specs.types.declared.association.Pair.{Pair}
-use Rattle.dcsctp_spec_lemmas.specs.types.declared.options.Options.{Options}
 use Rattle.dcsctp_spec_lemmas.specs.spec.endpoint.Endpoint.{Endpoint, Core, closed, cookie_wait, cookie_echoed, open_in}
 use Rattle.dcsctp_spec_lemmas.specs.spec.endpoint.Event.{packets_in}
 use Rattle.dcsctp_spec_lemmas.specs.spec.endpoint.Outcome.{Outcome}

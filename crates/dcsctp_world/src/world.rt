@@ -234,15 +234,18 @@ impl<R: Rng + Drop> World<R> {
     /// cookie that this side gave away before, in an INIT ACK. A cookie that makes an association was given away
     /// at most `cookie_lifetime` before, by that side's clock (section 5.1.5).
     ///
-    /// What a side's user read (`read`) is what the other's user sent (`sent`): stream, protocol identifier and
-    /// bytes, and no message is read twice, in any association. That has further premises. Each verification tag
-    /// serves one association: what `associations` shows after an act was there before it, or has an own tag and a
-    /// peer's tag that are new, and where one side's own tag is the other's peer tag, both pairs are crossed. Fewer
-    /// than 2^30 chunks of data and fewer than 2^32 - 1 requests to reset streams go to each tag, each counted as often
-    /// as it is sent, and a side sends fewer than 2^64 messages. In an association with interleaving (RFC 8260) no
-    /// such request ends by OnStreamsResetFailed. Where a tag serves a second association, a message may be read twice,
-    /// or be made of parts of two: a COOKIE ECHO that is delivered again once its association has ended makes another
-    /// one under the same tags, for as long as its cookie lives.
+    /// What a side's user read (`read`) is what the other's user sent (`sent`): stream, protocol identifier and bytes,
+    /// and no message is read twice, in any association. That has further premises. Each verification tag serves one
+    /// association: what `associations` shows after an act was there before it, or has an own tag and a peer's tag that
+    /// are new, and where one side's own tag is the other's peer tag, both pairs are crossed. Or with `follow_rfc` one
+    /// takes the place of another under the same own pair, which had begun no request to reset streams, and which the
+    /// other side never has (RFC 9260, section 5.2.4, action B): both sides connect, and a COOKIE ECHO is late or lost.
+    /// Fewer than 2^30 chunks of data, to both peers' tags together, and fewer than 2^32 - 1 requests to reset streams
+    /// go to each tag, each counted as often as it is sent, and a side sends fewer than 2^64 messages. In an
+    /// association with interleaving (RFC 8260) no such request ends by OnStreamsResetFailed. Where a tag serves a
+    /// second association otherwise, a message may be read twice, or be made of parts of two: a COOKIE ECHO that is
+    /// delivered again once its association has ended makes another one under the same tags, for as long as its cookie
+    /// lives.
     ///
     /// In one association, or after it has ended, the ordered messages of a stream are read in the order in which they
     /// were sent (RFC 9260, section 6.6). That has two more premises. The sender has `follow_rfc`, or had no other
