@@ -1,0 +1,5 @@
+pub mod Contents
+pub mod Laws
+pub mod Slots
+pub mod Streams
+pub mod Table
