@@ -1,0 +1,4 @@
+pub mod Acks
+pub mod Canonical
+pub mod ReadsBack
+mod StandardFacts
