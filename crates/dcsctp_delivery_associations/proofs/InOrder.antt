@@ -30,7 +30,7 @@ use Rattle.dcsctp_delivery_order.proofs.FewDirections.{plain_few_deliver_in_orde
 use Rattle.dcsctp_delivery_order.specs.PlainDirections.{FewOnEachStream}
 use Rattle.dcsctp_delivery_associations.proofs.FewMarks.{few_marks}
 use Rattle.dcsctp_delivery_order.proofs.PlainFront.{plain_directions_deliver_without_gaps}
-use Rattle.dcsctp_delivery_associations.specs.Ends.{ReceivingEnd, joined, Ends, HadKind, IsOnlyOne, BeginsAnew, Awaits, chunks_before, Between}
+use Rattle.dcsctp_delivery_associations.specs.Ends.{ReceivingEnd, joined, Ends, HadKind, IsOnlyOwn, BeginsAnew, Awaits, chunks_before, Between}
 use Rattle.dcsctp_delivery_associations.specs.InOrder.{InterleavesUnder}
 use Rattle.dcsctp_delivery_associations.specs.Reads.{Reading, with_key}
 use Rattle.dcsctp_delivery_associations.proofs.Delivers.{were_unmarked}
@@ -219,13 +219,13 @@ module _ (options : Options) (ends : Ends) (e : Endpoint) (queued : List Message
       (directions_deliver_in_order options (ends.firsts tag) options.max_receiver_window_buffer_size (own tag) (h.runs tag) (h.small tag) (little tag) (short tag)
       (sym (had.kind_is interleaves.0 interleaves.1 interleaves.2) ∙ interleaves.3) (h.numbered tag some anew)))
 
-  pub ends_deliver_by_stream : (tag : ℕ) → IsOnlyOne past tag → InterleavesUnder past tag → DeliveredByStream ends.never_resets queued (with_key tag reading.reads)
+  pub ends_deliver_by_stream : (tag : ℕ) → IsOnlyOwn past tag → InterleavesUnder past tag → DeliveredByStream ends.never_resets queued (with_key tag reading.reads)
   ends_deliver_by_stream tag only interleaves =
       by_begun tag (nothing_by_stream ends.never_resets queued (with_key tag reading.reads))
       (λ some had. by_stream_unmarked (ends.sends tag).beginning.keeps ends.never_resets (ends.sends tag).queued queued (with_key tag reading.reads) (h.sender.marks tag) (h.kept tag some only)
       (subst (DeliveredByStream (ends.sends tag).beginning.keeps (ends.sends tag).queued) (sym (h.receiver.were_read tag))
       (streams_deliver_without_gaps options (ends.firsts tag) options.max_receiver_window_buffer_size (own tag) (h.runs tag) (h.small tag) (little tag) (short tag)
-      (sym (had.kind_is interleaves.0 interleaves.1 interleaves.2) ∙ interleaves.3) (h.numbered tag some (inr (λ link has. (only.1 link has).0))))))
+      (sym (had.kind_is interleaves.0 interleaves.1 interleaves.2) ∙ interleaves.3) (h.numbered tag some (inr only)))))
 
   module _ (window : options.max_receiver_window_buffer_size < 2 ^ 32) where
     room : options.max_receiver_window_buffer_size ≤ 2 ^ 63
@@ -251,16 +251,16 @@ module _ (options : Options) (ends : Ends) (e : Endpoint) (queued : List Message
         (λ some had. in_order_so tag (own_data tag (ends.sends tag).queues.queue.is_interleaved refl (h.numbered tag some anew) (unasked tag none) which))
 
     -- Either way of numbering leaves no gap.
-    own_front : AreUnlimited queued → (tag : ℕ) → tag ≢ 0 → ((id : ℕ) → ends.never_resets id ≡ true) → IsOnlyOne past tag → (kind : Bool) → (ends.sends tag).queues.queue.is_interleaved ≡ kind
+    own_front : AreUnlimited queued → (tag : ℕ) → tag ≢ 0 → ((id : ℕ) → ends.never_resets id ≡ true) → IsOnlyOwn past tag → (kind : Bool) → (ends.sends tag).queues.queue.is_interleaved ≡ kind
         → DeliveredWithoutGaps (ends.sends tag).queued (ends.gets tag).read
     own_front are tag some never only true is =
         directions_deliver_without_gaps options (ends.firsts tag) options.max_receiver_window_buffer_size (own tag) (h.runs tag) (h.small tag) (little tag) (short tag) is
-        (h.numbered tag some (inr (λ link has. (only.1 link has).0))) (λ id. h.kept tag some only id (never id)) (unlimited are tag)
+        (h.numbered tag some (inr only)) (λ id. h.kept tag some only id (never id)) (unlimited are tag)
     own_front are tag some never only false is =
         plain_directions_deliver_without_gaps options (ends.firsts tag) options.max_receiver_window_buffer_size (own tag) (h.runs tag) (h.small tag) (little tag) (short tag) room is
-        (h.numbered tag some (inr (λ link has. (only.1 link has).0))) (λ id. h.kept tag some only id (never id)) (unlimited are tag)
+        (h.numbered tag some (inr only)) (λ id. h.kept tag some only id (never id)) (unlimited are tag)
 
-    pub ends_deliver_without_gaps : AreUnlimited queued → ((id : ℕ) → ends.never_resets id ≡ true) → (tag : ℕ) → IsOnlyOne past tag → DeliveredWithoutGaps queued (with_key tag reading.reads)
+    pub ends_deliver_without_gaps : AreUnlimited queued → ((id : ℕ) → ends.never_resets id ≡ true) → (tag : ℕ) → IsOnlyOwn past tag → DeliveredWithoutGaps queued (with_key tag reading.reads)
     ends_deliver_without_gaps are never tag only =
         by_begun tag (nothing_before queued (with_key tag reading.reads))
         (λ some had. front_so tag (own_front are tag some never only (ends.sends tag).queues.queue.is_interleaved refl))

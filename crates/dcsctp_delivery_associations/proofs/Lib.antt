@@ -12,7 +12,6 @@ pub mod Senders
 pub mod SenderStays
 pub mod SenderBegins
 pub mod SenderOutlasts
-pub mod SenderAnew
 pub mod SenderTurns
 pub mod WhatIsLeft
 pub mod WhatIsRead

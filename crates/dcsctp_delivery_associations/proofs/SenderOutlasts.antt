@@ -26,7 +26,7 @@ use Rattle.dcsctp_delivery_directions.proofs.RequestCounts.{requests_more, reque
 use Rattle.dcsctp_delivery_turns.specs.Actions.{came_by, peer_tag, Collides}
 use Rattle.dcsctp_delivery_turns.specs.Asking.{Own, own_in, own_of, IsAsking, AsksFit, AskingGrows}
 use Rattle.dcsctp_delivery_turns.specs.Runs.{sender_at, Outlasts}
-use Rattle.dcsctp_delivery_associations.specs.Ends.{SendingEnd, joined, Ends, HadKind, IsBefore, PlaceWasTaken, sender_key, chunks_before, Sender, BeginsAnew, KeepsOnlyThese, Between, IsOnlyOne, WentBefore}
+use Rattle.dcsctp_delivery_associations.specs.Ends.{SendingEnd, joined, Ends, HadKind, IsBefore, PlaceWasTaken, sender_key, chunks_before, Sender, BeginsAnew, KeepsThese, KeepsOnlyThese, Between, IsOnlyOwn, WentBefore}
 use Rattle.dcsctp_delivery_associations.specs.Answered.{AnswersRequests, Requests, requests_of, waiting_deferral, AreAnswered, SenderHadPeer, WasJoined}
 use Rattle.dcsctp_delivery_associations.specs.Laws.{AreEnds, AsksLittle}
 use Rattle.dcsctp_delivery_associations.specs.Reads.{Reading}
@@ -370,9 +370,8 @@ module _ (options : Options) (ends : Ends) (e : Endpoint) (queued : List Message
   anew_before follows tag (inl anew) = inl (sym follows ∙ anew)
   anew_before follows tag (inr only) = inr (λ each has. only each (within (holds each) has))
 
-  -- It isn't the only one.
-  not_one : (tag : ℕ) → IsOnlyOne (after_effects o.effects past) tag → ⊥
-  not_one tag only = goes.other ((only.1 goes.collision.old (within (holds goes.collision.old) old_held)).1 ∙ sym (only.1 goes.collision.opened.link link_held).1)
+  only_before : (tag : ℕ) → IsOnlyOwn (after_effects o.effects past) tag → IsOnlyOwn past tag
+  only_before tag only = λ each has. only each (within (holds each) has)
 
   pub outlasts_goes_on : o.after.options.follow_rfc ≡ e.options.follow_rfc → AreEnds ends.never_resets options o.after queued (after_effects o.effects past) (packets ++ packets_in o.events) d their_past reading
   outlasts_goes_on follows =
@@ -389,7 +388,8 @@ module _ (options : Options) (ends : Ends) (e : Endpoint) (queued : List Message
               (subst (λ (s : SendingEnd). AsksFit (ends.firsts key) (own_of o.after) s.asking) (sym (set_same key end ends.sends)) outlasts.fits);
           numbered = set_all (λ tag s. tag ≢ 0 → BeginsAnew o.after (after_effects o.effects past) tag → s.beginning.from_zero ≡ true) key end ends.sends (λ some' anew. h.numbered key some' (anew_before follows key anew))
               (λ tag ne some' anew. h.numbered tag some' (anew_before follows tag anew));
-          kept = λ tag some' only. absurd (not_one tag only);
+          kept = set_all (λ tag s. tag ≢ 0 → IsOnlyOwn (after_effects o.effects past) tag → KeepsThese ends.never_resets s.beginning) key end ends.sends
+              (λ some' only. h.kept key some' (only_before key only)) (λ tag ne some' only. h.kept tag some' (only_before tag only));
           dropping = set_all (λ tag s. KeepsOnlyThese ends.never_resets s.beginning) key end ends.sends (h.dropping key) (λ tag ne. h.dropping tag);
           unbegun = λ never. absurd (never goes.collision.opened.link link_held);
           receiver = receiver_same options ends later.sends later.latest later.former d their_past reading h.receiver;

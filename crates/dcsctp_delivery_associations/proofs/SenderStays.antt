@@ -27,7 +27,7 @@ use Rattle.dcsctp_delivery_turns.specs.Asking.{own_of, AsksFit}
 use Rattle.dcsctp_delivery_turns.specs.Addressed.{AreAddressed}
 use Rattle.dcsctp_delivery_turns.specs.Runs.{sender_at}
 use Rattle.dcsctp_delivery_turns.proofs.Runs.{begins_anew}
-use Rattle.dcsctp_delivery_associations.specs.Ends.{SendingEnd, ReceivingEnd, joined, new_end, Ends, IsUnbegun, NeverHeld, KeepsThese, KeepsOnlyThese, BeginsAnew, sender_key, Sender, Receiver, Between, IsOnlyOne, IsBefore}
+use Rattle.dcsctp_delivery_associations.specs.Ends.{SendingEnd, ReceivingEnd, joined, new_end, Ends, IsUnbegun, NeverHeld, KeepsThese, KeepsOnlyThese, BeginsAnew, sender_key, Sender, Receiver, Between, IsOnlyOwn, IsBefore}
 use Rattle.dcsctp_delivery_associations.specs.Answered.{AreAnswered}
 use Rattle.dcsctp_delivery_associations.specs.Laws.{AreEnds}
 use Rattle.dcsctp_delivery_associations.specs.Reads.{Reading}
@@ -72,8 +72,8 @@ module _ (options : Options) (ends : Ends) (e : Endpoint) (queued : List Message
   anew_before follows tag (inl anew) = inl (sym follows ∙ anew)
   anew_before follows tag (inr only) = inr (λ link held. only link (after_within o.effects past (holds link) held))
 
-  only_before : (tag : ℕ) → IsOnlyOne (after_effects o.effects past) tag → IsOnlyOne past tag
-  only_before tag only = (only.0, λ link held. only.1 link (after_within o.effects past (holds link) held))
+  only_before : (tag : ℕ) → IsOnlyOwn (after_effects o.effects past) tag → IsOnlyOwn past tag
+  only_before tag only = λ link held. only link (after_within o.effects past (holds link) held)
 
   -- what is to be shown of the turn
   abbrev pub Turned : Type 0
@@ -106,7 +106,7 @@ module _ (options : Options) (ends : Ends) (e : Endpoint) (queued : List Message
               (subst (λ (s : SendingEnd). AsksFit (ends.firsts key) (own_of o.after) s.asking) (sym (set_same key end ends.sends)) fits);
           numbered = set_all (λ tag s. tag ≢ 0 → BeginsAnew o.after (after_effects o.effects past) tag → s.beginning.from_zero ≡ true) key end ends.sends (λ some anew. h.numbered key some (anew_before follows key anew))
               (λ tag ne some anew. h.numbered tag some (anew_before follows tag anew));
-          kept = set_all (λ tag s. tag ≢ 0 → IsOnlyOne (after_effects o.effects past) tag → KeepsThese ends.never_resets s.beginning) key end ends.sends
+          kept = set_all (λ tag s. tag ≢ 0 → IsOnlyOwn (after_effects o.effects past) tag → KeepsThese ends.never_resets s.beginning) key end ends.sends
               (λ some only. h.kept key some (only_before key only)) (λ tag ne some only. h.kept tag some (only_before tag only));
           dropping = set_all (λ tag s. KeepsOnlyThese ends.never_resets s.beginning) key end ends.sends (h.dropping key) (λ tag ne. h.dropping tag);
           unbegun = λ never.
@@ -183,8 +183,8 @@ module _ (options : Options) (ends : Ends) (e : Endpoint) (queued : List Message
           numbered = set_all (λ tag s. tag ≢ 0 → BeginsAnew o.after (after_effects o.effects past) tag → s.beginning.from_zero ≡ true) 0 new middle.sends (λ some anew. absurd (some refl))
               (λ tag ne. set_all (λ t s. t ≢ 0 → BeginsAnew o.after (after_effects o.effects past) t → s.beginning.from_zero ≡ true) key end ends.sends (λ some anew. h.numbered key some (anew_before follows key anew))
               (λ t ne' some anew. h.numbered t some (anew_before follows t anew)) tag);
-          kept = set_all (λ tag s. tag ≢ 0 → IsOnlyOne (after_effects o.effects past) tag → KeepsThese ends.never_resets s.beginning) 0 new middle.sends (λ some only. absurd (some refl))
-              (λ tag ne. set_all (λ t s. t ≢ 0 → IsOnlyOne (after_effects o.effects past) t → KeepsThese ends.never_resets s.beginning) key end ends.sends
+          kept = set_all (λ tag s. tag ≢ 0 → IsOnlyOwn (after_effects o.effects past) tag → KeepsThese ends.never_resets s.beginning) 0 new middle.sends (λ some only. absurd (some refl))
+              (λ tag ne. set_all (λ t s. t ≢ 0 → IsOnlyOwn (after_effects o.effects past) t → KeepsThese ends.never_resets s.beginning) key end ends.sends
               (λ some only. h.kept key some (only_before key only)) (λ t ne' some only. h.kept t some (only_before t only)) tag);
           dropping = set_all (λ tag s. KeepsOnlyThese ends.never_resets s.beginning) 0 new middle.sends (λ id resets. refl)
               (λ tag ne. set_all (λ t s. KeepsOnlyThese ends.never_resets s.beginning) key end ends.sends (h.dropping key) (λ t ne'. h.dropping t) tag);

@@ -6,7 +6,7 @@ use Rattle.std.proofs.lemmas.Bool.{eq-eqb}
 use Rattle.std.proofs.lemmas.List.{length-append}
 use Rattle.dcsctp_spec_lemmas.specs.types.declared.options.Options.{Options}
 use Rattle.dcsctp_spec_lemmas.specs.types.declared.association.Pair.{Pair}
-use Rattle.dcsctp_spec_lemmas.specs.spec.endpoint.Endpoint.{Endpoint, Core, OutstandingRequest}
+use Rattle.dcsctp_spec_lemmas.specs.spec.endpoint.Endpoint.{Endpoint, Core, closed, cookie_wait, cookie_echoed, open_in, OutstandingRequest, is_cookie_echoed}
 use Rattle.dcsctp_spec_lemmas.specs.spec.endpoint.Event.{packets_in}
 use Rattle.dcsctp_spec_lemmas.specs.spec.endpoint.Outcome.{Outcome}
 use Rattle.dcsctp_spec_lemmas.specs.spec.Packet.{Emission}
@@ -14,7 +14,6 @@ use Rattle.dcsctp_spec_lemmas.specs.spec.endpoint.Turn.{Input, Turn}
 use Rattle.dcsctp_spec_runs.specs.World.{after_effects}
 use Rattle.dcsctp_spec_lemmas.specs.spec.association.Effect.{AssociationIdentity, identity_in, Effect, holds, identity_of}
 use Rattle.dcsctp_spec_lemmas.specs.spec.queues.Incoming.{is_named}
-use Rattle.dcsctp_spec_lemmas.specs.spec.queues.Transfer.{EndpointQueues}
 use Rattle.dcsctp_theorem_association.proofs.Growth.{after_within}
 use Rattle.dcsctp_delivery_sending.specs.Places.{set_at}
 use Rattle.dcsctp_delivery_sending.specs.Log.{Message}
@@ -24,7 +23,7 @@ use Rattle.dcsctp_delivery_directions.proofs.Directions.{direction_queues}
 use Rattle.dcsctp_delivery_directions.proofs.RequestCounts.{requests_more, requests_more_to, requests_are_sent}
 use Rattle.dcsctp_delivery_turns.specs.Actions.{IsOpening, came_by, peer_tag, queued_after, resets_stream, Begun, IsCall, Collides}
 use Rattle.dcsctp_delivery_turns.specs.Addressed.{AreAddressed}
-use Rattle.dcsctp_delivery_turns.specs.Asking.{own_in, own_of, AsksFit, AskingGrows}
+use Rattle.dcsctp_delivery_turns.specs.Asking.{own_with, own_in, own_of, AsksFit, AskingGrows}
 use Rattle.dcsctp_delivery_turns.specs.Runs.{sender_at, IsBetween, EndsPerformed, RefusesNone, SenderTurns, run_goes_on, run_ends, run_begins, run_outlasts, MayDrop, Outlasts}
 use Rattle.dcsctp_delivery_turns.proofs.Completing.{completes_own}
 use Rattle.dcsctp_delivery_turns.proofs.ResetInputs.{named_by}
@@ -48,8 +47,13 @@ use Rattle.dcsctp_delivery_associations.proofs.SenderBegins.{begins}
 use Rattle.dcsctp_delivery_associations.proofs.SenderOutlasts.{outlasts_goes_on, GoesOn}
 use Rattle.dcsctp_delivery_associations.proofs.AnsweringRests.{after_split}
 use Rattle.dcsctp_delivery_turns.proofs.Holding.{holds_mean}
-use Rattle.dcsctp_delivery_turns.proofs.Outlasts.{other_begun}
-use Rattle.dcsctp_delivery_associations.proofs.SenderAnew.{takes_over}
+use Rattle.dcsctp_delivery_turns.proofs.Outlasts.{other_begun, outlasts_goes}
+use Rattle.dcsctp_delivery_turns.proofs.Handshake.{GoesThere}
+use Rattle.dcsctp_delivery_turns.proofs.Keeping.{goes_there}
+use Rattle.dcsctp_delivery_turns.specs.Untouched.{IsUntouched, Untouched}
+use Rattle.dcsctp_spec_lemmas.specs.types.declared.association.Held.{Held}
+use Rattle.dcsctp_spec_lemmas.specs.types.declared.capabilities.Capabilities.{Capabilities}
+use Rattle.dcsctp_spec_lemmas.specs.spec.queues.Transfer.{Transfer, EndpointQueues}
 
 no_message : (l : List Message) → length l ≡ 0 → l ≡ []
 no_message [] none = refl
@@ -62,7 +66,7 @@ queues_none more queued same = no_message more (let long = length-append more qu
 -- ---- each turn
 
 module _ (options : Options) (ends : Ends) (e : Endpoint) (queued : List Message) (past : List Effect) (packets : List Emission) (d : Endpoint) (their_past : List Effect) (reading : Reading)
-    (h : Between options ends e queued past packets d their_past reading) (input : Input) (o : Outcome) (new : (begun : Begun e o) → IsOpening (came_by input) → identity_in o.after.core ≡ Some (identity_of begun.my begun.held) → NewPeer past their_past (identity_of begun.my begun.held) ⊎ TakesOver past their_past e (identity_of begun.my begun.held))
+    (h : Between options ends e queued past packets d their_past reading) (input : Input) (o : Outcome) (new : (begun : Begun e o) → IsOpening (came_by input) → identity_in o.after.core ≡ Some (identity_of begun.my begun.held) → NewPeer past their_past (identity_of begun.my begun.held) ⊎ TakesOver past their_past e input (identity_of begun.my begun.held))
     (w : AreAnswered ends e past d their_past) (little : AsksLittle (packets ++ packets_in o.events)) where
   abbrev key : ℕ
   key = sender_key e.core
@@ -255,14 +259,14 @@ module _ (options : Options) (ends : Ends) (e : Endpoint) (queued : List Message
       ]
 
   -- Another one takes its place, and goes on.
-  goes_so : (collision : Collides (came_by input) e o) → TakesOver past their_past e (identity_of (other_begun e input o collision).my (other_begun e input o collision).held) → GoesOn past e input o
+  goes_so : (collision : Collides (came_by input) e o) → TakesOver past their_past e input (identity_of (other_begun e input o collision).my (other_begun e input o collision).held) → GoesOn past e input o
   goes_so collision takes =
       let one : takes.old ≡ collision.old = one_link takes.was collision.was in
       record {
         collision = collision;
         my = subst (λ (l : AssociationIdentity). l.my ≡ collision.opened.link.my) one takes.my;
         other = subst (λ (l : AssociationIdentity). l.peer.tag ≢ collision.opened.link.peer.tag) one takes.other;
-        alike = subst (λ (l : AssociationIdentity). l.capabilities.message_interleaving ≡ collision.opened.link.capabilities.message_interleaving) one takes.alike;
+        alike = subst (λ (l : AssociationIdentity). l.capabilities.message_interleaving ≡ collision.opened.link.capabilities.message_interleaving) one (ap (λ (c : Capabilities). c.message_interleaving) takes.alike);
         only = λ each has same. takes.only each has same ∙ one;
       }
     where
@@ -270,7 +274,7 @@ module _ (options : Options) (ends : Ends) (e : Endpoint) (queued : List Message
       one_link first second = cc
 
   replaces : o.after.options.follow_rfc ≡ e.options.follow_rfc → IsCall input → Turn e input o → queued_after e input (ends.sends (sender_key e.core)).queued ≡ (ends.sends (sender_key e.core)).queued → (collision : Collides (came_by input) e o)
-      → TakesOver past their_past e (identity_of (other_begun e input o collision).my (other_begun e input o collision).held)
+      → TakesOver past their_past e input (identity_of (other_begun e input o collision).my (other_begun e input o collision).held)
       → (ends.firsts (sender_key e.core) ≡ collision.opened.link.my.first_tsn → (ends.sends (sender_key e.core)).asking ≡ nothing_asked
       → Outlasts options (ends.firsts (sender_key e.core)) options.max_receiver_window_buffer_size (joined (ends.sends (sender_key e.core)) (ends.gets (sender_key e.core))) e input o collision)
       → AreEnds ends.never_resets options o.after (queued_after e input queued) (after_effects o.effects past) (packets ++ packets_in o.events) d their_past reading
@@ -280,6 +284,40 @@ module _ (options : Options) (ends : Ends) (e : Endpoint) (queued : List Message
       let stays : queued_after e input queued ≡ queued = input_adds e input queued ∙ ap (λ (l : List Message). l ++ queued) none in
       subst (λ (l : List Message). AreEnds ends.never_resets options o.after l (after_effects o.effects past) (packets ++ packets_in o.events) d their_past reading) (sym stays)
       (outlasts_goes_on options ends e queued past packets d their_past reading h input o w little (goes_so collision takes) later (λ each has. holds_mean e input o each may turn has) follows)
+
+  -- Where it takes the place of the one that is there, what was sent goes on.
+  collided : (begun : Begun e o) → IsOpening (came_by input) → TakesOver past their_past e input (identity_of begun.my begun.held) → Turn e input o → GoesThere (came_by input) e o
+  collided begun opening takes turn = by_core e.core refl takes.echoed
+    where
+      by_transfer : (mine : Pair) (held : Held) (echoed : List ℕ) → e.core ≡ cookie_echoed mine held echoed → takes.old ≡ identity_of mine held → (found : Option Transfer) → e.queues.transfer ≡ found → Untouched takes.old.my.first_tsn takes.old.capabilities found
+          → GoesThere (came_by input) e o
+      by_transfer mine held echoed at is None there untouched = absurd untouched
+      by_transfer mine held echoed at is (Some transfer) there untouched =
+          goes_there e mine held echoed at takes.follows transfer there (subst (λ (l : AssociationIdentity). IsUntouched l.my.first_tsn l.capabilities transfer.retransmission) is untouched)
+          (takes.unasked (own_with held e.outstanding) (ap (λ (c : Core). own_in c e.outstanding) at) ∙ ap (λ (l : AssociationIdentity). l.my.first_tsn) is) (identity_of begun.my begun.held) begun.later
+          (sym takes.my ∙ ap (λ (l : AssociationIdentity). l.my) is) (ap (λ (l : AssociationIdentity). l.capabilities) (sym is) ∙ takes.alike) input o takes.maker opening turn begun.noted
+
+      same_link : (one other : AssociationIdentity) → identity_in e.core ≡ Some one → identity_in e.core ≡ Some other → one ≡ other
+      same_link one other first second = cc
+
+      by_core : (core : Core) → e.core ≡ core → is_cookie_echoed core ≡ true → GoesThere (came_by input) e o
+      by_core closed at echoed = absurd (cc)
+      by_core (cookie_wait my) at echoed = absurd (cc)
+      by_core (cookie_echoed mine held cookie) at echoed =
+          by_transfer mine held cookie at (same_link takes.old (identity_of mine held) takes.was (ap identity_in at)) e.queues.transfer refl takes.untouched
+      by_core (open_in phase my held) at echoed = absurd (cc)
+
+  replaced : o.after.options.follow_rfc ≡ e.options.follow_rfc → IsCall input → Turn e input o → queued_after e input (ends.sends (sender_key e.core)).queued ≡ (ends.sends (sender_key e.core)).queued → (begun : Begun e o) → IsOpening (came_by input)
+      → identity_in o.after.core ≡ Some (identity_of begun.my begun.held) → TakesOver past their_past e input (identity_of begun.my begun.held)
+      → AreEnds ends.never_resets options o.after (queued_after e input queued) (after_effects o.effects past) (packets ++ packets_in o.events) d their_past reading
+  replaced follows may turn same begun opening linked takes =
+      let there : GoesThere (came_by input) e o = collided begun opening takes turn in
+      let one : identity_of begun.my begun.held ≡ there.collision.opened.link = one_link (identity_of begun.my begun.held) there.collision.opened.link linked there.collision.opened.linked in
+      replaces follows may turn same there.collision (subst (TakesOver past their_past e input) one takes)
+      (λ first_is asked. outlasts_goes options (ends.firsts key) options.max_receiver_window_buffer_size now e input o (h.runs key) (h.small key) h.sender.queues_are there.collision first_is asked there.again there.makes)
+    where
+      one_link : (one other : AssociationIdentity) → identity_in o.after.core ≡ Some one → identity_in o.after.core ≡ Some other → one ≡ other
+      one_link one other first second = cc
 
   by_turn : length (queued_after e input queued) < 2 ^ 64 → o.after.options.follow_rfc ≡ e.options.follow_rfc → ResetsAs ends.never_resets input → IsCall input → Turn e input o → RefusesNone e o → CompletesPerformed their_past o
       → SenderTurns options (ends.firsts (sender_key e.core)) options.max_receiver_window_buffer_size (joined (ends.sends (sender_key e.core)) (ends.gets (sender_key e.core))) e input o
@@ -298,9 +336,7 @@ module _ (options : Options) (ends : Ends) (e : Endpoint) (queued : List Message
         | inl is ↦
             subst (λ (l : List Message). AreEnds ends.never_resets options o.after l (after_effects o.effects past) (packets ++ packets_in o.events) d their_past reading) (sym stays)
             (begins options ends e queued past packets d their_past reading h input o w little begun (λ each has. holds_mean e input o each may turn has) follows kind' is linked addressed shown fit later)
-        | inr takes ↦
-            subst (λ (l : List Message). AreEnds ends.never_resets options o.after l (after_effects o.effects past) (packets ++ packets_in o.events) d their_past reading) (sym stays)
-            (takes_over options ends e queued past packets d their_past reading h input o w little begun (λ each has. holds_mean e input o each may turn has) follows kind' takes linked addressed shown fit later)
+        | inr takes ↦ replaced follows may turn same begun opening linked takes
       ]
   by_turn few follows resets may turn refuses completes_so (run_outlasts collision same later) =
       elim (new (other_begun e input o collision) collision.opened.opening collision.opened.linked) [

@@ -4,8 +4,9 @@
 -- 5.2.4, action B): what is sent in the one goes on in the other.
 use Rattle.std.specs.Prelude.{◌≡◌, ◌≢◌, ◌<◌, ◌≤◌, ◌+◌, ◌^◌, ◌⊎◌, ℕ, Bool, true, false, Option, None, Some, List, [], ◌∷◌, length}
 use Rattle.dcsctp_spec_lemmas.specs.types.declared.options.Options.{Options}
-use Rattle.dcsctp_spec_lemmas.specs.spec.endpoint.Endpoint.{Endpoint, Core, closed, cookie_wait, cookie_echoed, open_in}
+use Rattle.dcsctp_spec_lemmas.specs.spec.endpoint.Endpoint.{Endpoint, Core, closed, cookie_wait, cookie_echoed, open_in, is_cookie_echoed}
 use Rattle.dcsctp_spec_lemmas.specs.spec.Packet.{Emission}
+use Rattle.dcsctp_spec_lemmas.specs.spec.endpoint.Turn.{Input}
 use Rattle.dcsctp_spec_runs.specs.Past.{HasEffect}
 use Rattle.dcsctp_spec_lemmas.specs.spec.association.Effect.{AssociationIdentity, Effect, holds, identity_in}
 use Rattle.dcsctp_spec_lemmas.specs.types.queues.Messages.{MessageContent}
@@ -25,6 +26,7 @@ use Rattle.dcsctp_delivery_directions.specs.Requests.{requests_in, requests_to}
 use Rattle.dcsctp_delivery_turns.specs.Asking.{Own, own_of, AsksFit, SomeFit}
 use Rattle.dcsctp_delivery_turns.specs.Actions.{NoEnd, peer_tag}
 use Rattle.dcsctp_delivery_turns.specs.Unbegun.{IsAtZero}
+use Rattle.dcsctp_delivery_turns.specs.Untouched.{Untouched, EchoesMaker}
 use Rattle.dcsctp_delivery_associations.specs.Reads.{Reading, tags_of, with_key, AreOfLink, AllOfLinks}
 
 -- ---- the two ends of a direction
@@ -133,17 +135,9 @@ pub record IsUnbegun (never_resets : ℕ → Bool) (queued : List Message) (e : 
 abbrev pub NeverHeld : List Effect → Type 0
 NeverHeld past = (link : AssociationIdentity) → HasEffect (holds link) past → ⊥
 
--- Each of its associations has this tag of the peer.
-abbrev pub IsOnlyTag : List Effect → ℕ → Type 0
-IsOnlyTag past tag = (link : AssociationIdentity) → HasEffect (holds link) past → link.peer.tag ≡ tag
-
--- Each has this tag of its own.
+-- Each of its associations has this tag of its own.
 abbrev pub IsOnlyOwn : List Effect → ℕ → Type 0
 IsOnlyOwn past tag = (link : AssociationIdentity) → HasEffect (holds link) past → link.my.tag ≡ tag
-
--- And all have one tag of the peer: it had one association.
-abbrev pub IsOnlyOne : List Effect → ℕ → Type 0
-IsOnlyOne past tag = (peer : ℕ) × ((link : AssociationIdentity) → HasEffect (holds link) past → (link.my.tag ≡ tag) × (link.peer.tag ≡ peer))
 
 -- The numbers of each stream begin at 0 under this tag of the sender: it follows the RFC (RFC 9260, section 6.5), or it had no
 -- other.
@@ -222,17 +216,21 @@ pub record NewPeer (past their_past : List Effect) (link : AssociationIdentity) 
   pub other : (old : AssociationIdentity) → HasEffect (holds old) past → old.my.tag ≢ link.my.tag
   pub match : (theirs : AssociationIdentity) → HasEffect (holds theirs) their_past → theirs.peer.tag ≡ link.my.tag → theirs.peer ≡ link.my
 
--- Or it takes the place of the only one of this own tag, which is there: both ends began at the same time (RFC 9260, section 5.2.4,
--- action B). It has the same own pair, another peer's tag, and messages interleave as they did. The receiver has no association
--- under the tag of the peer before, and the sender began no request to reset streams.
-pub record TakesOver (past their_past : List Effect) (e : Endpoint) (link : AssociationIdentity) : Type 0 where
+-- Or it takes the place of the only one of this own tag, which is there and whose COOKIE ACK is awaited: both ends began at the same
+-- time (RFC 9260, section 5.2.4, action B). It has the same own pair, another peer's tag, and the same capabilities. Nothing that was
+-- sent was acknowledged, the sender began no request to reset streams, and the receiver has no association under the tag of the peer
+-- before. So what was sent goes on.
+pub record TakesOver (past their_past : List Effect) (e : Endpoint) (input : Input) (link : AssociationIdentity) : Type 0 where
   pub follows : e.options.follow_rfc ≡ true
   pub old : AssociationIdentity
   pub was : identity_in e.core ≡ Some old
+  pub echoed : is_cookie_echoed e.core ≡ true
+  pub untouched : Untouched old.my.first_tsn old.capabilities e.queues.transfer
+  pub maker : EchoesMaker input
   pub my : old.my ≡ link.my
   pub other : old.peer.tag ≢ link.peer.tag
   pub some_peer : link.peer.tag ≢ 0
-  pub alike : old.capabilities.message_interleaving ≡ link.capabilities.message_interleaving
+  pub alike : old.capabilities ≡ link.capabilities
   pub only : (each : AssociationIdentity) → HasEffect (holds each) past → each.my.tag ≡ link.my.tag → each ≡ old
   pub unasked : (own : Own) → own_of e ≡ Some own → own.next ≡ old.my.first_tsn
   pub unmet : (theirs : AssociationIdentity) → HasEffect (holds theirs) their_past → theirs.my.tag ≢ old.peer.tag
@@ -317,7 +315,7 @@ pub record Between (options : Options) (ends : Ends) (e : Endpoint) (queued : Li
   pub mine : (link : AssociationIdentity) → identity_in e.core ≡ Some link → HasEffect (holds link) past
   pub asks : AsksFit (ends.firsts (sender_key e.core)) (own_of e) (ends.sends (sender_key e.core)).asking
   pub numbered : (tag : ℕ) → tag ≢ 0 → BeginsAnew e past tag → (ends.sends tag).beginning.from_zero ≡ true
-  pub kept : (tag : ℕ) → tag ≢ 0 → IsOnlyOne past tag → KeepsThese ends.never_resets (ends.sends tag).beginning
+  pub kept : (tag : ℕ) → tag ≢ 0 → IsOnlyOwn past tag → KeepsThese ends.never_resets (ends.sends tag).beginning
   pub dropping : (tag : ℕ) → KeepsOnlyThese ends.never_resets (ends.sends tag).beginning
   pub unbegun : NeverHeld past → IsUnbegun ends.never_resets (ends.sends (sender_key e.core)).queued e
   pub receiver : Receiver options ends other their_past reading

@@ -13,7 +13,7 @@ use Rattle.dcsctp_delivery_directions.specs.Requests.{requests_to}
 use Rattle.dcsctp_delivery_order.specs.PlainDirections.{FewOnEachStream}
 use Rattle.dcsctp_delivery_order.specs.Delivered.{DeliveredInOrder, DeliveredWithoutGaps}
 use Rattle.dcsctp_delivery_order.specs.Streams.{DeliveredByStream}
-use Rattle.dcsctp_delivery_associations.specs.Ends.{Ends, IsOnlyOne, BeginsAnew, chunks_before, Between}
+use Rattle.dcsctp_delivery_associations.specs.Ends.{Ends, IsOnlyOwn, BeginsAnew, chunks_before, Between}
 use Rattle.dcsctp_delivery_associations.specs.Reads.{Reading, with_key}
 
 -- In the association of the sender whose peer has this tag messages interleave (RFC 8260).
@@ -39,18 +39,18 @@ EndsDeliverDataInOrder =
     → Between options ends e queued past packets other their_past reading → length queued < 2 ^ 64 → ((tag : ℕ) → chunks_before (ends.former tag) packets + chunks_to (ends.latest tag) packets < 2 ^ 30) → options.max_receiver_window_buffer_size < 2 ^ 32
     → AreUnlimited queued ⊎ FewOnEachStream queued → (tag : ℕ) → BeginsAnew e past tag → requests_to (ends.latest tag) packets ≡ 0 → DeliveredInOrder queued (with_key tag reading.reads)
 
--- Where messages interleave, and the association is the only one, what was read of a stream's ordered messages is a prefix of what
+-- Where messages interleave, and the sender has had no other own tag, what was read of a stream's ordered messages is a prefix of what
 -- was queued, if the stream is never reset, and no message on it may be abandoned.
 abbrev pub EndsDeliverByStream : Type 0
 EndsDeliverByStream =
     (options : Options) (ends : Ends) (e : Endpoint) (queued : List Message) (past : List Effect) (packets : List Emission) (other : Endpoint) (their_past : List Effect) (reading : Reading)
     → Between options ends e queued past packets other their_past reading → length queued < 2 ^ 64 → ((tag : ℕ) → chunks_before (ends.former tag) packets + chunks_to (ends.latest tag) packets < 2 ^ 30)
-    → (tag : ℕ) → IsOnlyOne past tag → InterleavesUnder past tag → DeliveredByStream ends.never_resets queued (with_key tag reading.reads)
+    → (tag : ℕ) → IsOnlyOwn past tag → InterleavesUnder past tag → DeliveredByStream ends.never_resets queued (with_key tag reading.reads)
 
--- Also where they don't it is so of each stream, if no message may be abandoned, no stream is reset, and the association is the
--- only one.
+-- Also where they don't it is so of each stream, if no message may be abandoned, no stream is reset, and the sender has had no other
+-- own tag.
 abbrev pub EndsDeliverWithoutGaps : Type 0
 EndsDeliverWithoutGaps =
     (options : Options) (ends : Ends) (e : Endpoint) (queued : List Message) (past : List Effect) (packets : List Emission) (other : Endpoint) (their_past : List Effect) (reading : Reading)
     → Between options ends e queued past packets other their_past reading → length queued < 2 ^ 64 → ((tag : ℕ) → chunks_before (ends.former tag) packets + chunks_to (ends.latest tag) packets < 2 ^ 30) → options.max_receiver_window_buffer_size < 2 ^ 32
-    → AreUnlimited queued → ((id : ℕ) → ends.never_resets id ≡ true) → (tag : ℕ) → IsOnlyOne past tag → DeliveredWithoutGaps queued (with_key tag reading.reads)
+    → AreUnlimited queued → ((id : ℕ) → ends.never_resets id ≡ true) → (tag : ℕ) → IsOnlyOwn past tag → DeliveredWithoutGaps queued (with_key tag reading.reads)

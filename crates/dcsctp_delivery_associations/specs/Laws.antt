@@ -59,7 +59,7 @@ NewPeerTags past o = (link old : AssociationIdentity) → HasEffect (holds link)
 abbrev pub SendersTurn : Type 0
 SendersTurn =
     (options : Options) (ends : Ends) (e : Endpoint) (queued : List Message) (past : List Effect) (packets : List Emission) (other : Endpoint) (their_past : List Effect) (reading : Reading) (input : Input) (o : Outcome)
-    → Between options ends e queued past packets other their_past reading → AreAnswered ends e past other their_past → ((begun : Begun e o) → IsOpening (came_by input) → identity_in o.after.core ≡ Some (identity_of begun.my begun.held) → NewPeer past their_past (identity_of begun.my begun.held) ⊎ TakesOver past their_past e (identity_of begun.my begun.held)) → length (queued_after e input queued) < 2 ^ 64 → AsksLittle (packets ++ packets_in o.events)
+    → Between options ends e queued past packets other their_past reading → AreAnswered ends e past other their_past → ((begun : Begun e o) → IsOpening (came_by input) → identity_in o.after.core ≡ Some (identity_of begun.my begun.held) → NewPeer past their_past (identity_of begun.my begun.held) ⊎ TakesOver past their_past e input (identity_of begun.my begun.held)) → length (queued_after e input queued) < 2 ^ 64 → AsksLittle (packets ++ packets_in o.events)
     → RefusesNone e o → ResetsAs ends.never_resets input → CompletesPerformed their_past o → o.after.options.follow_rfc ≡ e.options.follow_rfc → IsCall input → Turn e input o → AreEnds ends.never_resets options o.after (queued_after e input queued) (after_effects o.effects past) (packets ++ packets_in o.events) other their_past reading
 
 -- So does one of the receiver, if what is handled in its association was sent in it, the peer of each association that is recorded

@@ -149,7 +149,7 @@ module _ (kinds : Capabilities) where
   action_is came to old _ h (actions.speaks emission no_data stale) = record { left = h.left; says = all_append _ old.sent (emission ∷ []) h.says (spoken_goes kinds emission.packet.contents no_data stale, tt) }
   action_is came to old _ h (actions.asks_again emission begun tag has contents) =
       record { left = h.left; says = all_append _ old.sent (emission ∷ []) h.says (subst (ContentsAllowed kinds) (sym contents) tt, tt) }
-  action_is came to old _ h (actions.acknowledges now sack transfer new known valid takes) =
+  action_is came to old _ h (actions.acknowledges now sack transfer new may known valid takes) =
       record { left = sack_is kinds now sack transfer new (of_known transfer old.queues.transfer known h.left) takes; says = h.says }
   action_is came to old _ h (actions.loses now transfer known) = record { left = of_known transfer old.queues.transfer known h.left; says = h.says }
   action_is came to old _ h (actions.receives chunk transfer new is some known does) = record { left = receives_is _ _ transfer new (of_known transfer old.queues.transfer known h.left) does; says = h.says }

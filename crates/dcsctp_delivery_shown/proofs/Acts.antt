@@ -9,7 +9,7 @@ use Rattle.dcsctp_spec_lemmas.specs.types.declared.options.Options.{Options}
 use Rattle.dcsctp_spec_lemmas.specs.spec.Admission.{Admission, all_chunks, shutdown_acks_alone, refused, admits, shutdown_acks_in}
 use Rattle.dcsctp_spec_lemmas.specs.spec.endpoint.MessageOutcomes.{awaits_opening}
 use Rattle.dcsctp_spec_lemmas.specs.spec.endpoint.CallTurns.{asked_again, Transition, Turns, AlongTurns, AfterChunk, ChunkTurns, AdmittedTurns, HandleInput, unreadable, readable, after_all, effects_of, events_of}
-use Rattle.dcsctp_spec_lemmas.specs.spec.endpoint.Endpoint.{Endpoint}
+use Rattle.dcsctp_spec_lemmas.specs.spec.endpoint.Endpoint.{Endpoint, Core, closed, cookie_wait, cookie_echoed, open_in, established, shutdown_pending, shutdown_sent, shutdown_received, shutdown_ack_sent}
 use Rattle.dcsctp_spec_lemmas.specs.spec.endpoint.Following.{Following, next_chunk, packet_end, dropped_rest}
 use Rattle.dcsctp_spec_laws.specs.TurnLaws.{ChunksAreControlled}
 use Rattle.dcsctp_spec_lemmas.specs.types.Offer.{Offer, offer_of}
@@ -19,7 +19,7 @@ use Rattle.dcsctp_spec_runs.specs.Past.{HasEffect}
 use Rattle.dcsctp_spec_lemmas.specs.types.Schedule.{CallContent, set_call, reset_call, send_call, send_many_call}
 use Rattle.dcsctp_spec_lemmas.specs.types.Settings.{SameOptions, wire_options}
 use Rattle.dcsctp_spec_lemmas.specs.spec.endpoint.UserTurns.{UserTurns}
-use Rattle.dcsctp_spec_lemmas.specs.spec.endpoint.Turn.{Input, arrival, refusal, chunk_input, packet_ends, has_data_chunk, unreadable_text}
+use Rattle.dcsctp_spec_lemmas.specs.spec.endpoint.Turn.{Input, BeginTurn, arrival, refusal, chunk_input, packet_ends, has_data_chunk, unreadable_text}
 use Rattle.dcsctp_spec_lemmas.specs.spec.association.Effect.{AssociationIdentity, Effect, holds, identity_in}
 use Rattle.dcsctp_spec_laws.proofs.TurnLemmas.{same_after}
 use Rattle.dcsctp_theorem_sockets.proofs.NewAssociations.{FirstAlone}
@@ -27,7 +27,7 @@ use Rattle.dcsctp_theorem_sockets.proofs.NoHolding.{HoldsNone, none-append}
 use Rattle.dcsctp_delivery_turns.specs.Actions.{came_by, IsOpening, Opened}
 use Rattle.dcsctp_delivery_sockets.specs.Echoes.{MayFollow, AllMayFollow}
 use Rattle.dcsctp_delivery_sockets.proofs.Calls.{of_turns, MayCall, MaySend, of_call}
-use Rattle.dcsctp_delivery_sockets.proofs.NewLinks.{OpensFitting, AllOpenFitting}
+use Rattle.dcsctp_delivery_sockets.proofs.OpenFitting.{OpensFitting, AllOpenFitting}
 use Rattle.dcsctp_delivery_sockets.proofs.PacketTurns.{begin_core}
 use Rattle.dcsctp_delivery_shown.proofs.Allowed.{AllAllowed, ContentsAllowed}
 use Rattle.dcsctp_delivery_shown.proofs.Actions.{events_both}
@@ -100,6 +100,18 @@ tail_is_calm : (asks : Bool) → AllByRecursion IsCalm (packet_ends ∷ asked_ag
 tail_is_calm true = (tt, (tt, tt))
 tail_is_calm false = (tt, tt)
 
+-- What precedes the chunks of a packet records nothing.
+begin_effects : (e : Endpoint) (core : Core) (has : Bool) (o : Outcome) → BeginTurn e core has o → o.effects ≡ []
+begin_effects e closed has o turn = ap (λ (x : Outcome). x.effects) turn
+begin_effects e (cookie_wait my) has o turn = ap (λ (x : Outcome). x.effects) turn
+begin_effects e (cookie_echoed my held cookie) has o turn = ap (λ (x : Outcome). x.effects) turn
+begin_effects e (open_in established my held) has o turn = ap (λ (x : Outcome). x.effects) turn
+begin_effects e (open_in shutdown_pending my held) has o turn = ap (λ (x : Outcome). x.effects) turn
+begin_effects e (open_in shutdown_sent my held) true o turn = ap (λ (x : Outcome). x.effects) turn
+begin_effects e (open_in shutdown_sent my held) false o turn = ap (λ (x : Outcome). x.effects) turn
+begin_effects e (open_in shutdown_received my held) has o turn = ap (λ (x : Outcome). x.effects) turn
+begin_effects e (open_in shutdown_ack_sent my held) has o turn = ap (λ (x : Outcome). x.effects) turn
+
 -- ---- a packet
 
 -- The chunks of a packet that the other socket sent to one with this offer.
@@ -120,7 +132,7 @@ module _ (law : ChunksAreControlled) (kinds : Capabilities) where
   begun_first e t rest good came opened none stays =
       let link : AssociationIdentity = opened.link in
       let later : HoldsNone opened.later = subst FirstAlone opened.noted good.first in
-      notes_one link [] (opened.later ++ effects_of rest) (ap (λ (es : List Effect). es ++ effects_of rest) opened.noted) tt (none-append opened.later (effects_of rest) later none)
+      notes_one link (opened.later ++ effects_of rest) (ap (λ (es : List Effect). es ++ effects_of rest) opened.noted) (none-append opened.later (effects_of rest) later none)
       (good.anew link (subst (HasEffect (holds link)) (sym opened.noted) (inl refl))) (stays ∙ opened.linked)
 
   front_notes : (came : Option Content) (e : Endpoint) (t : Transition) (rest : List Transition) → GoodTurn e t → MovesLink came e t.outcome → HoldsNone (effects_of rest)
@@ -165,7 +177,7 @@ module _ (law : ChunksAreControlled) (kinds : Capabilities) where
       → EndpointIs kinds e → AllOpenFitting turns → AlongTurns Known e turns → AdmittedTurns e packet admission turns → ActIs kinds e turns
   admitted_act mine e packet all_chunks [] own are allowed h fit known taken = absurd taken
   admitted_act mine e packet all_chunks (t ∷ turns) own are allowed h fit known taken =
-      one_then kinds e t turns (subst IsCalm (sym taken.0.is) tt, tt) known.0 h (ap identity_in (begin_core e e.core (has_data_chunk e.options.follow_rfc packet.contents) t.outcome taken.0.comes))
+      one_then kinds e t turns (subst IsCalm (sym taken.0.is) tt, tt) known.0 h (begin_effects e e.core (has_data_chunk e.options.follow_rfc packet.contents) t.outcome taken.0.comes) (ap identity_in (begin_core e e.core (has_data_chunk e.options.follow_rfc packet.contents) t.outcome taken.0.comes))
       (λ is. whole_act (awaits_opening t.outcome.after t.outcome.after.core) t.outcome.after packet.tag packet.contents turns
       (contents_of mine t.outcome.after.options packet.contents (same_after mine e.options t.outcome.after.options own known.0.1.options) are) allowed is fit.1 known.1 taken.1)
   admitted_act mine e packet shutdown_acks_alone turns own are allowed h fit known taken =
@@ -180,6 +192,6 @@ module _ (law : ChunksAreControlled) (kinds : Capabilities) where
       calm_act e turns (of_turns IsCalm e (arrival ∷ refusal unreadable_text ∷ []) turns (tt, (tt, tt)) taken) known h
   packet_acts mine e bytes was _ own are allowed is h fit known (readable packet counted turns found counting taken) =
       let core : counted.outcome.after.core ≡ e.core = ap (λ (x : Outcome). x.after.core) counting.comes in
-      one_then kinds e counted turns (subst IsCalm (sym counting.is) tt, tt) known.0 h (ap identity_in core)
+      one_then kinds e counted turns (subst IsCalm (sym counting.is) tt, tt) known.0 h (ap (λ (x : Outcome). x.effects) counting.comes) (ap identity_in core)
       (λ left. admitted_act mine counted.outcome.after was (admits e.core was) turns (same_after mine e.options counted.outcome.after.options own known.0.1.options) are allowed left fit.1 known.1
       (subst (λ (p : Packet). AdmittedTurns counted.outcome.after p (admits e.core p) turns) (is packet found) taken))

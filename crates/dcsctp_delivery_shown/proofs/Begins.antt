@@ -26,7 +26,7 @@ use Rattle.dcsctp_theorem_sockets.proofs.NewAssociations.{maintain_none}
 use Rattle.dcsctp_theorem_sockets.proofs.NoHolding.{IsNoHolding, HoldsNone, none-append, none-alone, none-flush}
 use Rattle.dcsctp_theorem_sockets.proofs.OneSocket.{noted_happened}
 use Rattle.dcsctp_delivery_turns.specs.Actions.{IsOpening, Opened}
-use Rattle.dcsctp_delivery_sockets.proofs.NewLinks.{link_fits}
+use Rattle.dcsctp_delivery_sockets.proofs.OpenFitting.{link_fits}
 use Rattle.dcsctp_delivery_shown.proofs.Turns.{SameKinds, BeginsSo}
 
 pub not_among : (link : AssociationIdentity) (effects : List Effect) → HoldsNone effects → HasEffect (holds link) effects → ⊥

@@ -123,11 +123,10 @@ module _ (kinds : Capabilities) where
 
 -- ---- an act
 
--- The turns record no association; or one, which wasn't there before them and is there after them.
+-- The turns record no association; or one, before all else, which wasn't there before them and is there after them.
 pub data Notes (e : Endpoint) (turns : List Transition) : Type 0 where
   notes_none : HoldsNone (effects_of turns) → Notes e turns
-  notes_one : (link : AssociationIdentity) (front later : List Effect) → effects_of turns ≡ front ++ holds link ∷ later → HoldsNone front → HoldsNone later → identity_in e.core ≢ Some link → identity_in (after_all e turns).core ≡ Some link
-      → Notes e turns
+  notes_one : (link : AssociationIdentity) (later : List Effect) → effects_of turns ≡ holds link ∷ later → HoldsNone later → identity_in e.core ≢ Some link → identity_in (after_all e turns).core ≡ Some link → Notes e turns
 
 pub record ActIs (kinds : Capabilities) (e : Endpoint) (turns : List Transition) : Type 0 where
   pub notes : Notes e turns
@@ -137,21 +136,20 @@ pub record ActIs (kinds : Capabilities) (e : Endpoint) (turns : List Transition)
 pub of_calm : (kinds : Capabilities) (e : Endpoint) (turns : List Transition) → Calm kinds e turns → ActIs kinds e turns
 of_calm kinds e turns calm = record { notes = notes_none calm.none; is = calm.is; says = calm.says }
 
--- a turn before these that keeps the association and records none
-front_notes : (e : Endpoint) (t : Transition) (turns : List Transition) → HoldsNone t.outcome.effects → identity_in t.outcome.after.core ≡ identity_in e.core → Notes t.outcome.after turns → Notes e (t ∷ turns)
-front_notes e t turns none same (notes_none others) = notes_none (none-append t.outcome.effects (effects_of turns) none others)
-front_notes e t turns none same (notes_one link front later is front_none later_none other there) =
-    notes_one link (t.outcome.effects ++ front) later (ap (λ (es : List Effect). t.outcome.effects ++ es) is ∙ sym (append_assoc t.outcome.effects front (holds link ∷ later)))
-    (none-append t.outcome.effects front none front_none) later_none (λ was. other (same ∙ was)) there
+-- a turn before these that keeps the association and records nothing
+front_notes : (e : Endpoint) (t : Transition) (turns : List Transition) → t.outcome.effects ≡ [] → identity_in t.outcome.after.core ≡ identity_in e.core → Notes t.outcome.after turns → Notes e (t ∷ turns)
+front_notes e t turns nothing same (notes_none others) = notes_none (subst (λ (es : List Effect). HoldsNone (es ++ effects_of turns)) (sym nothing) others)
+front_notes e t turns nothing same (notes_one link later is later_none other there) =
+    notes_one link later (ap (λ (es : List Effect). es ++ effects_of turns) nothing ∙ is) later_none (λ was. other (same ∙ was)) there
 
-pub one_then : (kinds : Capabilities) (e : Endpoint) (t : Transition) (turns : List Transition) → AllByRecursion (λ u. IsCalm u.input) (t ∷ []) → Known e t → EndpointIs kinds e → identity_in t.outcome.after.core ≡ identity_in e.core
+pub one_then : (kinds : Capabilities) (e : Endpoint) (t : Transition) (turns : List Transition) → AllByRecursion (λ u. IsCalm u.input) (t ∷ []) → Known e t → EndpointIs kinds e → t.outcome.effects ≡ [] → identity_in t.outcome.after.core ≡ identity_in e.core
     → (EndpointIs kinds t.outcome.after → ActIs kinds t.outcome.after turns) → ActIs kinds e (t ∷ turns)
-one_then kinds e t turns calm known h same rest =
+one_then kinds e t turns calm known h nothing same rest =
     let so : TurnIs kinds e (came_by t.input) t.outcome =
     turn_is kinds e t.input t.outcome h (calm_step t.input calm.0) (λ opened. absurd (calm_opens t.input calm.0 opened.opening)) known.0 in
     let others : ActIs kinds t.outcome.after turns = rest so.after in
     record {
-      notes = front_notes e t turns (none_noted (came_by t.input) e t known.1 (calm_opens t.input calm.0) so.moves) same others.notes;
+      notes = front_notes e t turns nothing same others.notes;
       is = others.is;
       says = events_both kinds t.outcome.events (events_of turns) so.says others.says;
     }

@@ -1,6 +1,6 @@
 -- Over an honest run each association that a side records is shown, so the tags of what is shown are
 -- those of all.
-use Rattle.std.proofs.Common.{◌≡◌, Bool, true, false, List, [], ◌∷◌, ◌++◌, refl, subst}
+use Rattle.std.proofs.Common.{◌≡◌, Bool, true, false, List, [], ◌∷◌, ◌++◌, refl, subst, inl, inr}
 use Rattle.std.specs.Prelude.{Option, ◌&&◌}
 use Rattle.dcsctp_spec_lemmas.specs.types.declared.capabilities.Capabilities.{Capabilities}
 use Rattle.dcsctp_spec_lemmas.specs.types.declared.options.Options.{Options}
@@ -14,7 +14,8 @@ use Rattle.dcsctp_spec_lemmas.specs.types.Schedule.{StepContent, ActContent, ste
 use Rattle.dcsctp_spec_runs.specs.Sockets.{PerformedAct, Both, of_side, of_other, side_turns_added, turns_after, endpoint_after, packets_shown, StepTurns, SocketRun, side_of, side_of_act, NextTurns, acts_of}
 use Rattle.dcsctp_spec_runs.specs.World as machine
 use Rattle.dcsctp_spec_runs.specs.World.{world_after}
-use Rattle.dcsctp_spec_lemmas.specs.spec.association.Effect.{AssociationIdentity, identity_in}
+use Rattle.dcsctp_spec_lemmas.specs.spec.association.Effect.{Effect, AssociationIdentity, identity_in}
+use Rattle.dcsctp_spec_runs.specs.Past.{current}
 use Rattle.dcsctp_spec_runs.proofs.RunsAlong.{run_along}
 use Rattle.dcsctp_spec_lemmas.proofs.TurnLists.{events_of-append}
 use Rattle.dcsctp_theorem_association.proofs.Agreement.{TrueWorld}
@@ -26,8 +27,12 @@ use Rattle.dcsctp_theorem_sockets.proofs.SocketsAlone.{of_moves}
 use Rattle.dcsctp_delivery_directions.specs.Directions.{nothing_asked}
 use Rattle.dcsctp_delivery_sockets.proofs.Delivery.{DeliveryLaws}
 use Rattle.dcsctp_delivery_sockets.proofs.Echoes.{true_world}
+use Rattle.dcsctp_theorem_association.specs.OneSide.{LeavesCore}
+use Rattle.dcsctp_theorem_sockets.specs.Agreement.{noted_past}
+use Rattle.dcsctp_delivery_sockets.proofs.KnownPeers.{IsMove, run_starts, run_through, ran_leaves}
 use Rattle.dcsctp_delivery_sockets.proofs.Known.{along_front, along_rest, sent_front, IsOwn, own_turn}
-use Rattle.dcsctp_delivery_shown.specs.Shown.{identity_shown, identities_shown, ShownTagsSuffice}
+use Rattle.dcsctp_delivery_shown.specs.Shown.{identity_shown, identities_shown, OneTakesThePlace, ShownTagsSuffice}
+use Rattle.dcsctp_delivery_sockets.specs.Delivery.{MatchOrUnmatched, SendsLittleTogether}
 use Rattle.dcsctp_delivery_shown.proofs.Turns.{SameKinds, EndpointIs}
 use Rattle.dcsctp_delivery_shown.proofs.Calm.{GoodTurn, good_turn, Known, ActIs}
 use Rattle.dcsctp_delivery_shown.proofs.Sides.{SideIs, acted_side, rested_side}
@@ -43,6 +48,7 @@ record BothSides (kinds : Capabilities) (options : Both Options) (turns : Both (
 record SideGood (kinds : Capabilities) (mine theirs : Options) (turns : List Transition) : Type 0 where
   known : AlongTurns Known (fresh_endpoint mine) turns
   packets : AllSent (WasTrue kinds (offer_of theirs)) (events_of turns)
+  moves : AlongTurns IsMove (fresh_endpoint mine) turns
 
 record BothGood (kinds : Capabilities) (options : Both Options) (turns : Both (List Transition)) : Type 0 where
   a : SideGood kinds options.a options.b turns.a
@@ -53,6 +59,7 @@ side_front kinds mine theirs turns more h =
     record {
       known = along_front Known (fresh_endpoint mine) turns more h.known;
       packets = sent_front (WasTrue kinds (offer_of theirs)) (events_of turns) (events_of more) (subst (AllSent (WasTrue kinds (offer_of theirs))) (events_of-append turns more) h.packets);
+      moves = along_front IsMove (fresh_endpoint mine) turns more h.moves;
     }
 
 both_front : (kinds : Capabilities) (options : Both Options) (turns : Both (List Transition)) (side : Side) (more : List Transition) → BothGood kinds options (side_turns_added side more turns) → BothGood kinds options turns
@@ -65,6 +72,18 @@ both_front kinds options turns sides.B more h = record { a = h.a; b = side_front
 abbrev link_at : Options → List Transition → Option AssociationIdentity
 link_at options turns = identity_in (endpoint_after options turns).core
 
+-- The association is what the past leaves.
+current_leaves : (past : List Effect) (core : Core) → LeavesCore past core → current past ≡ identity_in core
+current_leaves past closed leaves = leaves
+current_leaves past (cookie_wait my) leaves = leaves
+current_leaves past (cookie_echoed my held cookie) leaves = leaves.link
+current_leaves past (open_in phase my held) leaves = leaves.link
+
+is_current : (kinds : Capabilities) (mine theirs : Options) (turns more : List Transition) → SideGood kinds mine theirs (turns ++ more) → current (noted_past turns) ≡ identity_in (endpoint_after mine turns).core
+is_current kinds mine theirs turns more good =
+    current_leaves (noted_past turns) (endpoint_after mine turns).core
+    (ran_leaves mine (endpoint_after mine turns) (noted_past turns) (run_through mine turns (fresh_endpoint mine) [] (run_starts mine) (along_front IsMove (fresh_endpoint mine) turns more good.moves)))
+
 module _ (law : DeliveryLaws) (kinds : Capabilities) (options : Both Options) (are : AreUsable options) where
   stepped : (turns : Both (List Transition)) (step : StepContent) (more : List Transition) (side : Side) (shown_a shown_b : List (Option AssociationIdentity)) → Joined options turns → BothGood kinds options (side_turns_added side more turns)
       → BothSides kinds options turns shown_a shown_b → StepTurns (endpoint_after (of_side side options) (of_side side turns)) (packets_shown (of_other side options) (of_other side turns)) step more
@@ -72,11 +91,11 @@ module _ (law : DeliveryLaws) (kinds : Capabilities) (options : Both Options) (a
   stepped turns step more sides.A shown_a shown_b j good h taken =
       let act : ActIs kinds (endpoint_after options.a turns.a) more =
       step_acts law kinds options.a options.b turns.a turns.b more shown_a shown_b j.a.fits j.a.own_options (are sides.B).fits (along_rest Known (fresh_endpoint options.a) turns.a more good.a.known) good.b.packets h.a h.b step taken in
-      record { a = acted_side kinds options.a turns.a shown_a more h.a act; b = rested_side kinds options.b turns.b shown_b h.b }
+      record { a = acted_side kinds options.a turns.a shown_a more (is_current kinds options.a options.b turns.a more good.a) h.a act; b = rested_side kinds options.b turns.b shown_b h.b }
   stepped turns step more sides.B shown_a shown_b j good h taken =
       let act : ActIs kinds (endpoint_after options.b turns.b) more =
       step_acts law kinds options.b options.a turns.b turns.a more shown_b shown_a j.b.fits j.b.own_options (are sides.A).fits (along_rest Known (fresh_endpoint options.b) turns.b more good.b.known) good.a.packets h.b h.a step taken in
-      record { a = rested_side kinds options.a turns.a shown_a h.a; b = acted_side kinds options.b turns.b shown_b more h.b act }
+      record { a = rested_side kinds options.a turns.a shown_a h.a; b = acted_side kinds options.b turns.b shown_b more (is_current kinds options.b options.a turns.b more good.b) h.b act }
 
   acted : (turns : Both (List Transition)) (act : ActContent) (more : List Transition) (shown_a shown_b : List (Option AssociationIdentity)) → IsHonestAct act → Joined options turns → BothGood kinds options (side_turns_added (side_of_act act) more turns)
       → BothSides kinds options turns shown_a shown_b → NextTurns options turns act more
@@ -100,8 +119,8 @@ module _ (law : DeliveryLaws) (kinds : Capabilities) (options : Both Options) (a
       → BothSides kinds options (turns_after run) (identities_shown sides.A options run) (identities_shown sides.B options run)
   both_sides [] runs honest good =
       record {
-        a = record { is = fresh_is options.a; says = tt; newest = refl; past = record { among = λ link has. absurd has; each = λ serve. tt } };
-        b = record { is = fresh_is options.b; says = tt; newest = refl; past = record { among = λ link has. absurd has; each = λ serve. tt } };
+        a = record { is = fresh_is options.a; says = tt; newest = refl; past = record { among = λ link has. absurd has; each = λ serve. tt; each_but = λ theirs their_shown were serve. tt } };
+        b = record { is = fresh_is options.b; says = tt; newest = refl; past = record { among = λ link has. absurd has; each = λ serve. tt; each_but = λ theirs their_shown were serve. tt } };
       }
   both_sides (worked ∷ earlier) runs honest good =
       let before : BothGood kinds options (turns_after earlier) = both_front kinds options (turns_after earlier) (side_of_act worked.act) worked.turns good in
@@ -146,20 +165,50 @@ both_good law options run are runs honest fresh =
         known = along_both (fresh_endpoint options.a) (turns_after run).a (run_along IsOwn own_turn options run runs sides.A) (of_moves law.moves GoodTurn (good_turn law.below.effects_mean) options run are runs sides.A);
         packets = all_sent_map (was_true kinds (offer_of options.a) (offer_of options.b) world.a.past world.b.past (swapped_kinds (offer_of options.a) (offer_of options.b))
             (true_past options.a options.b world.a world.b j.a.side_options j.b.side_options is.a.past)) (events_of (turns_after run).a) j.a.went;
+        moves = of_moves law.moves IsMove (λ e t moves. moves) options run are runs sides.A;
       };
       b = record {
         known = along_both (fresh_endpoint options.b) (turns_after run).b (run_along IsOwn own_turn options run runs sides.B) (of_moves law.moves GoodTurn (good_turn law.below.effects_mean) options run are runs sides.B);
         packets = all_sent_map (was_true kinds (offer_of options.b) (offer_of options.a) world.b.past world.a.past (refl, refl)
             (true_past options.b options.a world.b world.a j.b.side_options j.a.side_options is.b.past)) (events_of (turns_after run).b) j.b.went;
+        moves = of_moves law.moves IsMove (λ e t moves. moves) options run are runs sides.B;
       };
     }
 
 pub shown_tags_suffice : DeliveryLaws → ShownTagsSuffice
-shown_tags_suffice law options run are runs honest fresh serve =
-    let h : BothSides (kinds_of options) options (turns_after run) (identities_shown sides.A options run) (identities_shown sides.B options run) =
-    both_sides law (kinds_of options) options are run runs honest (both_good law options run are runs honest fresh) in
+shown_tags_suffice law options run are runs honest fresh = (
+  λ serve.
+      record {
+        a = h.a.past.each serve.a;
+        b = h.b.past.each serve.b;
+        matched = λ link other has has' share. serve.matched link other (h.a.past.among link has) (h.b.past.among other has') share;
+      },
+  λ one. (
     record {
-      a = h.a.past.each serve.a;
-      b = h.b.past.each serve.b;
-      matched = λ link other has has' share. serve.matched link other (h.a.past.among link has) (h.b.past.among other has') share;
-    }
+      a = h.a.past.each_but (noted_past (turns_after run).b) (identities_shown sides.B options run) h.b.past.among one.a;
+      b = h.b.past.each_but (noted_past (turns_after run).a) (identities_shown sides.A options run) h.a.past.among one.b;
+      matched = matched one;
+    },
+    together one,
+  ),
+)
+  where
+    h : BothSides (kinds_of options) options (turns_after run) (identities_shown sides.A options run) (identities_shown sides.B options run)
+    h = both_sides law (kinds_of options) options are run runs honest (both_good law options run are runs honest fresh)
+
+    matched : OneTakesThePlace options run → MatchOrUnmatched options.a options.b (noted_past (turns_after run).a) (noted_past (turns_after run).b)
+    matched one link other has has' share =
+        let is = one.matched link other (h.a.past.among link has) (h.b.past.among other has') share in (
+          is.0,
+          elim is.1 [
+            | inl both ↦ inl both
+            | inr which ↦ inr (elim which [
+              | inl mine ↦ inl (mine.0, λ theirs was. mine.1 theirs (h.b.past.among theirs was))
+              | inr their ↦ inr (their.0, λ ours was. their.1 ours (h.a.past.among ours was))
+            ])
+          ],
+        )
+
+    together : OneTakesThePlace options run → (side : Side) → SendsLittleTogether (of_side side (turns_after run))
+    together one sides.A old link has has' same other = one.little sides.A old link (h.a.past.among old has) (h.a.past.among link has') same other
+    together one sides.B old link has has' same other = one.little sides.B old link (h.b.past.among old has) (h.b.past.among link has') same other

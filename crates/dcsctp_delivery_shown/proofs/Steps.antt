@@ -24,7 +24,7 @@ use Rattle.dcsctp_theorem_sockets.proofs.Follow.{Went}
 use Rattle.dcsctp_delivery_sockets.specs.Echoes.{MayFollow, AllMayFollow}
 use Rattle.dcsctp_delivery_sockets.proofs.Delivery.{DeliveryLaws}
 use Rattle.dcsctp_delivery_sockets.proofs.Known.{IsOwn}
-use Rattle.dcsctp_delivery_sockets.proofs.NewLinks.{packet_opens}
+use Rattle.dcsctp_delivery_sockets.proofs.OpenFitting.{packet_opens}
 use Rattle.dcsctp_delivery_shown.proofs.Allowed.{IsAllowed, AreAllowed}
 use Rattle.dcsctp_delivery_shown.proofs.Turns.{SameKinds}
 use Rattle.dcsctp_delivery_shown.proofs.Begins.{front_kinds}

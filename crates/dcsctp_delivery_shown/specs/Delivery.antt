@@ -4,22 +4,15 @@ use Rattle.std.specs.Prelude.{◌⊎◌, List, [], ◌∷◌}
 use Rattle.dcsctp_spec_lemmas.specs.types.declared.options.Options.{Options}
 use Rattle.dcsctp_spec_lemmas.specs.types.declared.schedule.Side.{Side}
 use Rattle.dcsctp_spec_lemmas.specs.types.Schedule.{AreHonest}
-use Rattle.dcsctp_spec_lemmas.specs.spec.endpoint.CallTurns.{Transition}
 use Rattle.dcsctp_spec_runs.specs.Sockets.{PerformedAct, Both, of_side, turns_after, SocketRun, acts_of}
 use Rattle.dcsctp_theorem_sockets.specs.Agreement.{AreUsable, AreFresh}
-use Rattle.dcsctp_delivery_sockets.specs.Delivery.{AreInMemory, TagsServeOnceBut, SendsLittle, SendsLittleTogether, NoneRefused, Delivers}
-use Rattle.dcsctp_delivery_shown.specs.Shown.{ShownTagsServeOnce}
-
--- Among all associations that the two sockets ever had, with `follow_rfc` one may take the place of another that the other socket
--- never had, and fewer than 2^30 chunks of data went to the peers' tags of both.
-pub record OneTakesThePlace (options : Both Options) (turns : Both (List Transition)) : Type 0 where
-  pub tags : TagsServeOnceBut options turns
-  pub together : (side : Side) → SendsLittleTogether (of_side side turns)
+use Rattle.dcsctp_delivery_sockets.specs.Delivery.{AreInMemory, SendsLittle, NoneRefused, Delivers}
+use Rattle.dcsctp_delivery_shown.specs.Shown.{ShownTagsServeOnce, OneTakesThePlace}
 
 -- All that delivery asks of a run, beside what agreement asks: each verification tag serves one association, or one takes the place
 -- of another, not too much is sent to it, and with interleaving no own request to reset streams fails.
 pub record AllowsDelivery (options : Both Options) (run : List PerformedAct) : Type 0 where
-  pub tags : ShownTagsServeOnce options run ⊎ OneTakesThePlace options (turns_after run)
+  pub tags : ShownTagsServeOnce options run ⊎ OneTakesThePlace options run
   pub little : (side : Side) → SendsLittle (of_side side options) (of_side side (turns_after run))
   pub refused : NoneRefused options (turns_after run)
 

@@ -12,9 +12,10 @@ use dcsctp_spec_runs::{
 use dcsctp_theorem_association::effects_mean;
 use dcsctp_wire_laws::built_packet_reads_as_itself;
 
-/// If each verification tag serves one association among those that two sockets show after each act, it serves one
-/// association among all that they ever have. So it is over every schedule that loses, repeats, delays and reorders
-/// packets, as long as no act comes from outside and no tag is drawn twice: no association begins and ends in one act.
+/// If each verification tag serves one association among those that two sockets show after each act, or with
+/// `follow_rfc` one takes the place of another, so it is among all that they ever have. It is so over every schedule
+/// that loses, repeats, delays and reorders packets, as long as no act comes from outside and no tag is drawn twice: no
+/// association begins and ends in one act.
 pub fn shown_tags_suffice()
     ensures { ShownTagsSuffice }
 {
@@ -31,7 +32,7 @@ pub fn shown_tags_suffice()
 /// What a user reads is what its peer's user sent, and no message is read twice, in any association or after it has
 /// ended. So it is at the end of each first part of a run that loses, repeats, delays and reorders packets, as long as
 /// no act comes from outside and no tag is drawn twice; if each verification tag serves one association, as far as the
-/// sockets show, or with `follow_rfc` one takes the place of another that the other socket never has (RFC 9260, section
+/// sockets show, or with `follow_rfc` one takes the place of another that the other socket never shows (RFC 9260, section
 /// 5.2.4, action B); if fewer than 2^30 chunks of data and fewer than 2^32 - 1 requests to reset streams go to each,
 /// each counted as often as it is sent; if a side sends fewer than 2^64 messages; and if none of these requests fails
 /// in an association with interleaving (RFC 8260). It comes in order, stream by stream, and without gaps, as

@@ -29,7 +29,7 @@ use Rattle.dcsctp_delivery_sending.specs.Places as places
 use Rattle.dcsctp_delivery_directions.specs.Directions.{Delivered}
 use Rattle.dcsctp_delivery_associations.specs.Reads.{nothing_read, messages_of, with_key}
 use Rattle.dcsctp_delivery_sockets.specs.Echoes.{GoesToMaker}
-use Rattle.dcsctp_delivery_sockets.specs.Ordered.{AllowsOrder, IsDeliveredInOrder, read_under, AllowsNoGaps, IsDeliveredWithoutGaps, IsReliable, IsDeliveredByStream, AllowsDataOrder}
+use Rattle.dcsctp_delivery_sockets.specs.Ordered.{HasOneTag, AllowsOrder, IsDeliveredInOrder, read_under, AllowsNoGaps, IsDeliveredWithoutGaps, IsReliable, IsDeliveredByStream, AllowsDataOrder}
 use Rattle.dcsctp_delivery_sockets.specs.UserMessages.{messages_sent_in, sendings_in, read_of, IsDelivered}
 use Rattle.dcsctp_delivery_sockets.specs.Delivery.{FitsStep, AreInMemory, MatchOrUnmatched, SendsLittle, SendsLittleTogether, TurnsAllowDelivery, Delivers, SocketsDeliver, IsOfNewTagsBut}
 use Rattle.dcsctp_delivery_associations.proofs.Delivers.{ends_begin, ends_deliver}
@@ -39,7 +39,7 @@ use Rattle.std.specs.List.{AllByRecursion}
 use Rattle.std.specs.Prelude.{not, ◌&&◌}
 use Rattle.dcsctp_delivery_order.specs.Delivered.{DeliveredInOrder, DeliveredWithoutGaps}
 use Rattle.dcsctp_delivery_associations.specs.InOrder.{Interleaves, InterleavesUnder}
-use Rattle.dcsctp_delivery_associations.specs.Ends.{BeginsAnew, IsOnlyTag, HadBoth, chunks_before, IsOnlyOwn, IsOnlyOne}
+use Rattle.dcsctp_delivery_associations.specs.Ends.{BeginsAnew, HadBoth, chunks_before, IsOnlyOwn}
 use Rattle.dcsctp_spec_lemmas.specs.spec.endpoint.MessageOutcomes.{Sending}
 use Rattle.dcsctp_spec_lemmas.specs.spec.endpoint.Turn.{Input, arrival, refusal, packet_begins, chunk_input, packet_ends, act_input, user_sets, user_sends, user_resets, user_takes, timer_expires, time_passes, restores}
 use Rattle.dcsctp_delivery_order.specs.PlainDirections.{FewOnEachStream}
@@ -50,7 +50,8 @@ use Rattle.dcsctp_delivery_associations.proofs.InOrder.{ends_deliver_in_order, e
 use Rattle.dcsctp_delivery_sockets.proofs.Calls.{AreCalls, call_without, call_is, input_is}
 use Rattle.dcsctp_delivery_sockets.proofs.Echoes.{echoes_go_to_makers}
 use Rattle.dcsctp_delivery_sockets.proofs.KnownPeers.{IsMove}
-use Rattle.dcsctp_delivery_sockets.proofs.NewLinks.{AllOpenFitting, none_open, packet_opens, ConnectedSo, NoneRestored, all_connected}
+use Rattle.dcsctp_delivery_sockets.proofs.OpenFitting.{AllOpenFitting, none_open, packet_opens}
+use Rattle.dcsctp_delivery_sockets.proofs.Early.{NoneRestored, StandsSo, fresh_stands, all_stand, AllEcho, none_echo, packet_echoes}
 use Rattle.dcsctp_delivery_sockets.proofs.Replaced.{match_swapped, peers_differ, before_held, replaced_unmatched}
 use Rattle.dcsctp_delivery_sockets.proofs.Performed.{SidePerformed, BothPerformed, both_performed, fresh_front}
 use Rattle.dcsctp_delivery_sockets.proofs.Known.{past_more, rest_turns, rest_moves, same_rules_after, own_turn, IsOwn, GoodPacket, SideKnown, BothKnown, both_front}
@@ -86,12 +87,12 @@ good_among all (event ∷ events) within each = (tt, good_among all events withi
 record ActedSide (never_resets their_never : ℕ → Bool) (mine theirs : Options) (turns others more : List Transition) : Type 0 where
   sends : Stand never_resets mine theirs (turns ++ more) others
   receives : Stand their_never theirs mine others (turns ++ more)
-  connected : ConnectedSo (endpoint_after mine (turns ++ more)) (noted_past (turns ++ more))
+  side_stands : StandsSo (endpoint_after mine (turns ++ more)) (noted_past (turns ++ more))
 
 module _ (law : Below) (never_resets their_never : ℕ → Bool) (mine theirs : Options) (turns others more : List Transition) (fits : FitsEndpoint (endpoint_after mine turns)) (their_fits : FitsOptions theirs)
     (known : SideKnown never_resets mine (noted_past others) (turns ++ more)) (their_known : SideKnown their_never theirs (noted_past (turns ++ more)) others)
     (matched : MatchOrUnmatched mine theirs (noted_past (turns ++ more)) (noted_past others))
-    (side : SidePerformed (noted_past (turns ++ more)) (noted_past others)) (connected : ConnectedSo (endpoint_after mine turns) (noted_past turns)) (sends : Stand never_resets mine theirs turns others)
+    (side : SidePerformed (noted_past (turns ++ more)) (noted_past others)) (stands : StandsSo (endpoint_after mine turns) (noted_past turns)) (sends : Stand never_resets mine theirs turns others)
     (receives : Stand their_never theirs mine others turns) where
   nothing_done : more ≡ [] → ActedSide never_resets their_never mine theirs turns others more
   nothing_done none =
@@ -99,14 +100,14 @@ module _ (law : Below) (never_resets their_never : ℕ → Bool) (mine theirs : 
       record {
         sends = subst (λ (ts : List Transition). Stand never_resets mine theirs ts others) same sends;
         receives = subst (λ (ts : List Transition). Stand their_never theirs mine others ts) same receives;
-        connected = subst (λ (ts : List Transition). ConnectedSo (endpoint_after mine ts) (noted_past ts)) same connected;
+        side_stands = subst (λ (ts : List Transition). StandsSo (endpoint_after mine ts) (noted_past ts)) same stands;
       }
 
-  connected_so : AreCalls more → ConnectedSo (endpoint_after mine (turns ++ more)) (noted_past (turns ++ more))
-  connected_so calls =
-      subst (λ (past : List Effect). ConnectedSo (endpoint_after mine (turns ++ more)) past) (sym (past_more turns more))
-      (subst (λ (e : Endpoint). ConnectedSo e (after_effects (effects_of more) (noted_past turns))) (sym (after_all-append (fresh_endpoint mine) turns more))
-      (all_connected more (noted_past turns) (endpoint_after mine turns) connected (rest_turns never_resets mine turns more known) calls (rest_moves never_resets mine turns more known)
+  stand_so : AreCalls more → AllOpenFitting more → StandsSo (endpoint_after mine (turns ++ more)) (noted_past (turns ++ more))
+  stand_so calls opens =
+      subst (λ (past : List Effect). StandsSo (endpoint_after mine (turns ++ more)) past) (sym (past_more turns more))
+      (subst (λ (e : Endpoint). StandsSo e (after_effects (effects_of more) (noted_past turns))) (sym (after_all-append (fresh_endpoint mine) turns more))
+      (all_stand more (noted_past turns) (endpoint_after mine turns) stands (rest_turns never_resets mine turns more known) calls (rest_moves never_resets mine turns more known) opens
       (subst NoneRestored (past_more turns more) side.restored)))
 
   handled : (bytes : List ℕ) → IsSent (WasGood (packets_of others)) (emission_bytes (ports_of theirs)) bytes → HandleInput (endpoint_after mine turns) bytes more → ActedSide never_resets their_never mine theirs turns others more
@@ -117,10 +118,10 @@ module _ (law : Below) (never_resets their_never : ℕ → Bool) (mine theirs : 
       let opens : AllOpenFitting more = packet_opens law.offers e bytes out.emission more fits out.good.good.sendable is taken in
       let calls : AreCalls more = input_is e bytes more taken in
       record {
-        sends = sender_more never_resets mine theirs turns others more sends known matched side.performed calls opens;
-        receives = receiver_handles their_never never_resets theirs mine others turns more receives known their_known.tags matched connected side.found side.restored their_known.little bytes out.emission out.good.has
+        sends = sender_more never_resets mine theirs turns others more sends known matched stands side.performed side.found side.restored calls opens (packet_echoes e bytes out.emission more out.good.good.goes is taken);
+        receives = receiver_handles their_never never_resets theirs mine others turns more receives known their_known.tags matched stands side.found side.restored their_known.little bytes out.emission out.good.has
             out.good.good is taken calls opens;
-        connected = connected_so calls;
+        side_stands = stand_so calls opens;
       }
 
   delivered : (index : ℕ) (found : Option (List ℕ)) → slice_get (packets_shown theirs others) index ≡ found → DeliveryTurns (endpoint_after mine turns) found more → ActedSide never_resets their_never mine theirs turns others more
@@ -132,10 +133,11 @@ module _ (law : Below) (never_resets their_never : ℕ → Bool) (mine theirs : 
   side_acts : (step : StepContent) → FitsStep step → StepTurns (endpoint_after mine turns) (packets_shown theirs others) step more → ActedSide never_resets their_never mine theirs turns others more
   side_acts (call_step which call) in_memory taken =
       let calls : AreCalls more = call_is (endpoint_after mine turns) call more in_memory taken in
+      let none = call_without (endpoint_after mine turns) call more taken in
       record {
-        sends = sender_more never_resets mine theirs turns others more sends known matched side.performed calls (none_open more (call_without (endpoint_after mine turns) call more taken));
-        receives = receiver_calls their_never never_resets theirs mine others turns more receives known their_known.tags matched connected side.found side.restored their_known.little call taken calls;
-        connected = connected_so calls;
+        sends = sender_more never_resets mine theirs turns others more sends known matched stands side.performed side.found side.restored calls (none_open more none) (none_echo more none);
+        receives = receiver_calls their_never never_resets theirs mine others turns more receives known their_known.tags matched stands side.found side.restored their_known.little call taken calls;
+        side_stands = stand_so calls (none_open more none);
       }
   side_acts (delivery_step which zero) in_memory none = nothing_done none
   side_acts (delivery_step which (suc index)) in_memory taken = delivered index (slice_get (packets_shown theirs others) index) refl taken
@@ -145,33 +147,29 @@ module _ (law : Below) (never_resets their_never : ℕ → Bool) (mine theirs : 
 record BothStand (never_resets : Both (ℕ → Bool)) (options : Both Options) (turns : Both (List Transition)) : Type 0 where
   to_b : Stand never_resets.a options.a options.b turns.a turns.b
   to_a : Stand never_resets.b options.b options.a turns.b turns.a
-  connected_a : ConnectedSo (endpoint_after options.a turns.a) (noted_past turns.a)
-  connected_b : ConnectedSo (endpoint_after options.b turns.b) (noted_past turns.b)
+  a_stands : StandsSo (endpoint_after options.a turns.a) (noted_past turns.a)
+  b_stands : StandsSo (endpoint_after options.b turns.b) (noted_past turns.b)
 
 stepped : Below → (never_resets : Both (ℕ → Bool)) (options : Both Options) (turns : Both (List Transition)) (step : StepContent) (more : List Transition) (side : Side) → AreUsable options → Joined options turns → BothKnown never_resets options (side_turns_added side more turns)
     → BothPerformed (side_turns_added side more turns) → FitsStep step → BothStand never_resets options turns → StepTurns (endpoint_after (of_side side options) (of_side side turns)) (packets_shown (of_other side options) (of_other side turns)) step more
     → BothStand never_resets options (side_turns_added side more turns)
 stepped law never_resets options turns step more sides.A are j known performed in_memory h taken =
-    let done = side_acts law never_resets.a never_resets.b options.a options.b turns.a turns.b more j.a.fits (are sides.B).fits known.a known.b known.matched performed.a h.connected_a h.to_b h.to_a step in_memory taken in
-    record { to_b = done.sends; to_a = done.receives; connected_a = done.connected; connected_b = h.connected_b }
+    let done = side_acts law never_resets.a never_resets.b options.a options.b turns.a turns.b more j.a.fits (are sides.B).fits known.a known.b known.matched performed.a h.a_stands h.to_b h.to_a step in_memory taken in
+    record { to_b = done.sends; to_a = done.receives; a_stands = done.side_stands; b_stands = h.b_stands }
 stepped law never_resets options turns step more sides.B are j known performed in_memory h taken =
     let done = side_acts law never_resets.b never_resets.a options.b options.a turns.b turns.a more j.b.fits (are sides.A).fits known.b known.a
-    (match_swapped options.a options.b (noted_past turns.a) (noted_past (turns.b ++ more)) known.matched) performed.b h.connected_b h.to_a h.to_b step in_memory taken in
-    record { to_b = done.receives; to_a = done.sends; connected_a = h.connected_a; connected_b = done.connected }
+    (match_swapped options.a options.b (noted_past turns.a) (noted_past (turns.b ++ more)) known.matched) performed.b h.b_stands h.to_a h.to_b step in_memory taken in
+    record { to_b = done.receives; to_a = done.sends; a_stands = h.a_stands; b_stands = done.side_stands }
 
 acted : Below → (never_resets : Both (ℕ → Bool)) (options : Both Options) (turns : Both (List Transition)) (act : ActContent) (more : List Transition) → AreUsable options → IsHonestAct act → AreInMemory (act ∷ []) → Joined options turns
     → BothKnown never_resets options (side_turns_added (side_of_act act) more turns) → BothPerformed (side_turns_added (side_of_act act) more turns) → BothStand never_resets options turns → NextTurns options turns act more → BothStand never_resets options (side_turns_added (side_of_act act) more turns)
 acted law never_resets options turns (step_act step) more are honest in_memory j known performed h taken = stepped law never_resets options turns step more (side_of step) are j known performed in_memory.0 h taken
 acted law never_resets options turns (outside_act outside) more are honest in_memory j known performed h taken = absurd honest
 
--- A fresh endpoint is closed.
-fresh_connected : (options : Options) → ConnectedSo (endpoint_after options []) (noted_past [])
-fresh_connected options follows opens link linked = absurd (cc)
-
 both_stand : Below → AnswerKeepsAgreement → (never_resets : Both (ℕ → Bool)) (options : Both Options) (run : List PerformedAct) → AreUsable options → SocketRun options run → AreHonest (acts_of run) → AreFresh (turns_after run) → AreInMemory (acts_of run)
     → BothKnown never_resets options (turns_after run)
     → BothStand never_resets options (turns_after run)
-both_stand law answers never_resets options [] are runs honest fresh in_memory known = record { to_b = ends_begin never_resets.a options.a options.b; to_a = ends_begin never_resets.b options.b options.a; connected_a = fresh_connected options.a; connected_b = fresh_connected options.b }
+both_stand law answers never_resets options [] are runs honest fresh in_memory known = record { to_b = ends_begin never_resets.a options.a options.b; to_a = ends_begin never_resets.b options.b options.a; a_stands = fresh_stands options.a; b_stands = fresh_stands options.b }
 both_stand law answers never_resets options (worked ∷ earlier) are runs honest fresh in_memory known =
     let before : BothKnown never_resets options (turns_after earlier) = both_front never_resets options (turns_after earlier) (side_of_act worked.act) worked.turns known in
     acted law never_resets options (turns_after earlier) worked.act worked.turns are honest.0 (in_memory.0, tt) (joined law options earlier are runs.1 honest.1) known
@@ -311,13 +309,9 @@ module _ (never_resets : ℕ → Bool) (mine theirs : Options) (turns others : L
   -- ---- in one association
 
   module _ (tag key : ℕ) (both : HadBoth (noted_past turns) key tag) (their_link : AssociationIdentity) (their_held : HasEffect (holds their_link) (noted_past others)) (their_own : their_link.my.tag ≡ tag) where
-    -- Where the peer of the only association has the tag, that is of this key.
-    only_own : IsOnlyTag (noted_past turns) tag → IsOnlyOwn (noted_past turns) key
-    only_own only link has =
-        ap (λ (l : AssociationIdentity). l.my.tag) (peers_differ mine (noted_past others) (noted_past turns) each link both.link has both.held (only link has ∙ sym both.peer_is)) ∙ both.tag_is
-
-    only_one : IsOnlyTag (noted_past turns) tag → IsOnlyOne (noted_past turns) key
-    only_one only = (tag, λ link has. (only_own only link has, only link has))
+    -- Where the sender had no other own tag, it is this key.
+    only_own : HasOneTag (noted_past turns) → IsOnlyOwn (noted_past turns) key
+    only_own one link has = one link both.link has both.held ∙ both.tag_is
 
     interleaves_so : Interleaves (noted_past turns) tag → InterleavesUnder (noted_past turns) key
     interleaves_so interleaves = (both.link, both.held, both.tag_is, interleaves both.link both.held both.peer_is)
@@ -343,16 +337,16 @@ module _ (never_resets : ℕ → Bool) (mine theirs : Options) (turns others : L
     order_of : (endpoint_after mine turns).options.follow_rfc ≡ mine.follow_rfc → AllowsOrder mine turns tag → DeliveredInOrder (queued_of mine turns) (with_key key (reading_of theirs others).reads)
     order_of rules allows = by_order (elim allows.starts_at_zero [ inl follows ↦ inl (rules ∙ follows) | inr only ↦ inr (only_own only) ]) allows.numbering
 
-    gaps_of : ((stream : ℕ) → resets_none turns stream ≡ true → never_resets stream ≡ true) → AllowsNoGaps mine turns tag → DeliveredWithoutGaps (queued_of mine turns) (with_key key (reading_of theirs others).reads)
+    gaps_of : ((stream : ℕ) → resets_none turns stream ≡ true → never_resets stream ≡ true) → AllowsNoGaps mine turns → DeliveredWithoutGaps (queued_of mine turns) (with_key key (reading_of theirs others).reads)
     gaps_of never leaves =
         ends_deliver_without_gaps theirs h.ends (endpoint_after mine turns) (queued_of mine turns) (noted_past turns) (packets_of turns) (endpoint_after theirs others) (noted_past others) (reading_of theirs others) h.between
         (few_queued mine turns little) few_went window (are_unlimited (queued_of mine turns) sent_all sent_same leaves.unlimited)
-        (λ stream. ap (λ (n : ℕ → Bool). n stream) h.is ∙ never stream (none_reset stream turns (none_of_all stream turns leaves.never_resets))) key (only_one leaves.only_association)
+        (λ stream. ap (λ (n : ℕ → Bool). n stream) h.is ∙ never stream (none_reset stream turns (none_of_all stream turns leaves.never_resets))) key (only_own leaves.one_tag)
 
-    streams_of : IsOnlyTag (noted_past turns) tag → Interleaves (noted_past turns) tag → DeliveredByStream h.ends.never_resets (queued_of mine turns) (with_key key (reading_of theirs others).reads)
+    streams_of : HasOneTag (noted_past turns) → Interleaves (noted_past turns) tag → DeliveredByStream h.ends.never_resets (queued_of mine turns) (with_key key (reading_of theirs others).reads)
     streams_of only interleaves =
         ends_deliver_by_stream theirs h.ends (endpoint_after mine turns) (queued_of mine turns) (noted_past turns) (packets_of turns) (endpoint_after theirs others) (noted_past others) (reading_of theirs others) h.between
-        (few_queued mine turns little) few_went key (only_one only) (interleaves_so interleaves)
+        (few_queued mine turns little) few_went key (only_own only) (interleaves_so interleaves)
 
   -- What was read under a tag was read of one key of the sender, or nothing was.
   by_key : (P : List MessageContent → Type 0) (tag : ℕ) → P [] → ((key : ℕ) → HadBoth (noted_past turns) key tag → (their_link : AssociationIdentity) → HasEffect (holds their_link) (noted_past others) → their_link.my.tag ≡ tag → P (with_key key (reading_of theirs others).reads)) → P (read_under tag theirs others)
@@ -369,12 +363,12 @@ module _ (never_resets : ℕ → Bool) (mine theirs : Options) (turns others : L
       is_in_order (queued_of mine turns) sent_all (read_under tag theirs others) sent_same
       (by_key (DeliveredInOrder (queued_of mine turns)) tag (nothing_in_order (queued_of mine turns) [] refl) (λ key both their_link held own. order_of tag key both their_link held own rules allows))
 
-  one_without_gaps : ((stream : ℕ) → resets_none turns stream ≡ true → never_resets stream ≡ true) → (tag : ℕ) → AllowsNoGaps mine turns tag → IsDeliveredWithoutGaps sent_all (read_under tag theirs others)
+  one_without_gaps : ((stream : ℕ) → resets_none turns stream ≡ true → never_resets stream ≡ true) → (tag : ℕ) → AllowsNoGaps mine turns → IsDeliveredWithoutGaps sent_all (read_under tag theirs others)
   one_without_gaps never tag leaves =
       is_without_gaps (queued_of mine turns) sent_all (read_under tag theirs others) sent_same
       (by_key (DeliveredWithoutGaps (queued_of mine turns)) tag (nothing_before (queued_of mine turns) [] refl) (λ key both their_link held own. gaps_of tag key both their_link held own never leaves))
 
-  one_by_stream : ((stream : ℕ) → resets_none turns stream ≡ true → never_resets stream ≡ true) → (tag : ℕ) → IsOnlyTag (noted_past turns) tag → Interleaves (noted_past turns) tag
+  one_by_stream : ((stream : ℕ) → resets_none turns stream ≡ true → never_resets stream ≡ true) → (tag : ℕ) → HasOneTag (noted_past turns) → Interleaves (noted_past turns) tag
       → IsDeliveredByStream (IsReliable mine turns) sent_all (read_under tag theirs others)
   one_by_stream never tag only interleaves =
       is_by_stream h.ends.never_resets (IsReliable mine turns) (queued_of mine turns) sent_all (read_under tag theirs others) sent_same

@@ -5,6 +5,8 @@ pub mod Calls
 pub mod Acts
 pub mod UserMessages
 pub mod KnownPeers
+pub mod OpenFitting
+pub mod Early
 pub mod NewLinks
 pub mod Performed
 pub mod Known

@@ -34,6 +34,7 @@ use Rattle.dcsctp_theorem_sockets.proofs.SocketsAlone.{Moves, it_rests, it_moves
 use Rattle.dcsctp_delivery_turns.specs.Actions as becomes
 use Rattle.dcsctp_spec_lemmas.specs.spec.endpoint.Turn as inputs
 use Rattle.dcsctp_delivery_turns.specs.Actions.{IsOpening, came_by, IsCall, Becomes}
+use Rattle.dcsctp_delivery_turns.proofs.Connecting.{echo_connects}
 use Rattle.dcsctp_delivery_turns.proofs.Turns.{turns_are_actions}
 use Rattle.dcsctp_delivery_associations.proofs.AnsweringRests.{after_new}
 use Rattle.dcsctp_spec_lemmas.specs.spec.association.ResumeChanges.{resumed_held}
@@ -205,45 +206,6 @@ control_opens options core change follows (resumed my peer capabilities own last
 
 -- ---- one that begins connects too, where one was open
 
-established_connects : (link one : AssociationIdentity) (later effects rest : List Effect) → effects ≡ holds one ∷ connects one ∷ rest → effects ≡ holds link ∷ later → HasEffect (connects link) effects
-established_connects link one later effects rest is so =
-    let same : one ≡ link = heads (sym is ∙ so) in
-    subst (HasEffect (connects link)) (sym is) (inr (inl (ap connects (sym same))))
-  where
-    heads : {first second : AssociationIdentity} {others more : List Effect} → holds first ∷ others ≡ holds second ∷ more → first ≡ second
-    heads is = cc
-
-flush_begins_none : (link : AssociationIdentity) (later : List Effect) (begun : Option BegunReset) → begun_effects begun ≡ holds link ∷ later → ⊥
-flush_begins_none link later None is = absurd (cc)
-flush_begins_none link later (Some reset) is = absurd (cc)
-
-module _ (e : Endpoint) (cookie : Cookie) (word : ℕ) (answers : List Answer) (phase : OpenPhase) (mine : Pair) (held : Held) (link : AssociationIdentity) (later : List Effect) where
-  restart_connects : (phase' : OpenPhase) → (restart_by_in (flush_answered answers) e cookie word phase' held).effects ≡ holds link ∷ later → HasEffect (connects link) (restart_by_in (flush_answered answers) e cookie word phase' held).effects
-  restart_connects established so = established_connects link _ later _ _ refl so
-  restart_connects shutdown_pending so = established_connects link _ later _ _ refl so
-  restart_connects shutdown_sent so = established_connects link _ later _ _ refl so
-  restart_connects shutdown_received so = established_connects link _ later _ _ refl so
-  restart_connects shutdown_ack_sent so = absurd (cc)
-
-  resolved_connects : (resolution : Resolution) → ResolvedAnswers e cookie (open_in phase mine held) word resolution answers → (resolved_by (flush_answered answers) e cookie (open_in phase mine held) word resolution).effects ≡ holds link ∷ later
-      → HasEffect (connects link) (resolved_by (flush_answered answers) e cookie (open_in phase mine held) word resolution).effects
-  resolved_connects resolutions.establish_new allowed so = established_connects link _ later _ _ refl so
-  resolved_connects resolutions.restart allowed so = restart_connects phase so
-  resolved_connects resolutions.simultaneous_init allowed so = established_connects link _ later _ _ refl so
-  resolved_connects resolutions.discard allowed so = absurd (cc)
-  resolved_connects resolutions.maintain_existing allowed so =
-      absurd (flush_begins_none link later (begun_by answers) (sym (flush_keeps first_ask (packets_allowed e.options.max_burst e.core) e (cookie_ack_emission held cookie) answers allowed).effects ∙ so))
-  resolved_connects resolutions.invalid_tag allowed so = absurd (cc)
-  resolved_connects resolutions.stale allowed so =
-      by_stale_outcome (λ (x : Outcome). x.effects ≡ holds link ∷ later → HasEffect (connects link) x.effects) e cookie (λ same. absurd (cc)) (λ same. absurd (cc)) so
-
-echo_connects : (e : Endpoint) (phase : OpenPhase) (mine : Pair) (held : Held) (header : ℕ) (found : Result Cookie (List ℕ)) (word : ℕ) (answers : List Answer) (link : AssociationIdentity) (later : List Effect)
-    → EchoedAnswers e (open_in phase mine held) header found word answers → (cookie_echo_by (flush_answered answers) e (open_in phase mine held) header found word).effects ≡ holds link ∷ later
-    → HasEffect (connects link) (cookie_echo_by (flush_answered answers) e (open_in phase mine held) header found word).effects
-echo_connects e phase mine held header (Err text) word answers link later allowed so = absurd (cc)
-echo_connects e phase mine held header (Ok cookie) word answers link later allowed so =
-    resolved_connects e cookie word answers phase mine held link later (resolved_now e (open_in phase mine held) header cookie) allowed so
-
 content_connects : (e : Endpoint) (core : Core) → e.core ≡ core → is_open core ≡ true → (tag : ℕ) (content : Content) (o : Outcome) (link : AssociationIdentity) (later : List Effect) → IsOpening (Some content) → Turn e (chunk_input tag content) o
     → o.effects ≡ holds link ∷ later → HasEffect (connects link) o.effects
 content_connects e closed at opens tag content o link later opening turn so = absurd (cc)
@@ -252,9 +214,7 @@ content_connects e (cookie_echoed my held cookie) at opens tag content o link la
 content_connects e (open_in phase my held) at opens tag (init_ack theirs cookie) o link later opening turn so =
     absurd (let none : o.effects ≡ [] = ap (λ (x : Outcome). x.effects) (turn.3 ∙ ap (λ (c : Core). init_ack_by (flush_answered turn.1) e theirs cookie c turn.0) at) in cc)
 content_connects e (open_in phase my held) at opens tag (cookie_echo bytes) o link later opening turn so =
-    let is : o ≡ cookie_echo_by (flush_answered turn.1) e (open_in phase my held) tag (cookie_at bytes) turn.0 = turn.3 ∙ ap (λ (c : Core). cookie_echo_by (flush_answered turn.1) e c tag (cookie_at bytes) turn.0) at in
-    subst (λ (x : Outcome). HasEffect (connects link) x.effects) (sym is)
-    (echo_connects e phase my held tag (cookie_at bytes) turn.0 turn.1 link later (subst (λ (c : Core). EchoedAnswers e c tag (cookie_at bytes) turn.0 turn.1) at turn.2) (ap (λ (x : Outcome). x.effects) (sym is) ∙ so))
+    subst (λ (x : Outcome). HasEffect (connects link) x.effects) (sym turn.3) (echo_connects e e.core tag (cookie_at bytes) turn.0 turn.1 link later turn.2 (ap (λ (x : Outcome). x.effects) (sym turn.3) ∙ so))
 content_connects e (open_in phase my held) at opens tag (init introduction) o link later opening turn so = absurd opening
 content_connects e (open_in phase my held) at opens tag cookie_ack o link later opening turn so = absurd opening
 content_connects e (open_in phase my held) at opens tag (re_config parameters) o link later opening turn so = absurd opening

@@ -25,7 +25,8 @@ use Rattle.dcsctp_theorem_sockets.proofs.NotedLemmas.{was_performed-noted}
 use Rattle.dcsctp_theorem_sockets.proofs.OneSocket.{noted_happened}
 use Rattle.dcsctp_theorem_sockets.proofs.SocketsAgree.{Joined, joined}
 use Rattle.dcsctp_delivery_sockets.proofs.Echoes.{true_world}
-use Rattle.dcsctp_delivery_sockets.proofs.NewLinks.{AllPerformed, AllFound, NoneRestored}
+use Rattle.dcsctp_delivery_sockets.proofs.Early.{AllFound, NoneRestored}
+use Rattle.dcsctp_delivery_sockets.proofs.NewLinks.{AllPerformed}
 use Rattle.dcsctp_spec_lemmas.specs.spec.Packet.{Packet}
 
 -- ---- one side

@@ -74,7 +74,7 @@ unmatched_before link theirs more none other has = none other (after_within more
 
 rule_before : (options : Options) (theirs more : List Effect) (effect : Effect) (earlier : List Effect) → IsOfNewTagsBut options (after_effects more theirs) effect earlier → IsOfNewTagsBut options theirs effect earlier
 rule_before options theirs more (holds link) earlier rule =
-    λ old has. ((rule old has).0, elim (rule old has).1 [ inl other ↦ inl other | inr takes ↦ inr (record { follows = takes.follows; my = takes.my; capabilities = takes.capabilities; there = takes.there; unasked = takes.unasked; unmatched = unmatched_before old theirs more takes.unmatched }) ])
+    λ old has. ((rule old has).0, elim (rule old has).1 [ inl other ↦ inl other | inr takes ↦ inr (record { follows = takes.follows; my = takes.my; capabilities = takes.capabilities; there = takes.there; unmatched = unmatched_before old theirs more takes.unmatched }) ])
 rule_before options theirs more (draws pair) earlier rule = tt
 rule_before options theirs more (sends packet) earlier rule = tt
 rule_before options theirs more (connects other) earlier rule = tt

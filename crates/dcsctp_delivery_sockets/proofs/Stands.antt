@@ -28,7 +28,9 @@ use Rattle.dcsctp_delivery_sockets.specs.UserMessages.{message_sent, messages_se
 use Rattle.dcsctp_delivery_sockets.specs.Delivery.{IsOfNewTagsBut, MatchOrUnmatched, SendsLittle}
 use Rattle.dcsctp_delivery_sockets.proofs.Acts.{senders_act, receivers_act, receivers_handle}
 use Rattle.dcsctp_delivery_sockets.proofs.Calls.{NoChunks, AreCalls, call_without}
-use Rattle.dcsctp_delivery_sockets.proofs.NewLinks.{AllOpenFitting, none_open, AllPerformed, AllFound, NoneRestored, ConnectedSo, new_peers, new_tags}
+use Rattle.dcsctp_delivery_sockets.proofs.OpenFitting.{AllOpenFitting, none_open}
+use Rattle.dcsctp_delivery_sockets.proofs.Early.{AllFound, NoneRestored, StandsSo, AllEcho}
+use Rattle.dcsctp_delivery_sockets.proofs.NewLinks.{AllPerformed, new_peers, new_tags}
 use Rattle.dcsctp_delivery_sockets.proofs.Known.{past_more, GoodPacket, SideKnown, rest_turns, rest_moves, rest_refused, rest_resets, ran_front}
 use Rattle.dcsctp_delivery_sockets.proofs.UserMessages.{SaysSame, nothing_same, turns_same}
 
@@ -79,15 +81,17 @@ module _ (never_resets : ℕ → Bool) (theirs : Options) (d : Endpoint) (their_
       (subst (λ (x : List Emission). AreEnds never_resets theirs e queued past x d their_past reading) same_packets h)))
 
 pub sender_more : (never_resets : ℕ → Bool) (mine theirs : Options) (turns others more : List Transition) → Stand never_resets mine theirs turns others → SideKnown never_resets mine (noted_past others) (turns ++ more)
-    → MatchOrUnmatched mine theirs (noted_past (turns ++ more)) (noted_past others) → AllPerformed (noted_past (turns ++ more)) (noted_past others) → AreCalls more → AllOpenFitting more → Stand never_resets mine theirs (turns ++ more) others
-sender_more never_resets mine theirs turns others more h known matched performed calls opens =
+    → MatchOrUnmatched mine theirs (noted_past (turns ++ more)) (noted_past others) → StandsSo (endpoint_after mine turns) (noted_past turns) → AllPerformed (noted_past (turns ++ more)) (noted_past others)
+    → AllFound (noted_past (turns ++ more)) (noted_past others) → NoneRestored (noted_past (turns ++ more)) → AreCalls more → AllOpenFitting more → AllEcho more → Stand never_resets mine theirs (turns ++ more) others
+sender_more never_resets mine theirs turns others more h known matched stands performed found restored calls opens makers =
     let e : Endpoint = endpoint_after mine turns in
     let past : List Effect = noted_past turns in
     let new : AreNewPeers past (noted_past others) e more =
-    new_peers mine theirs (noted_past others) more past e (ran_front never_resets mine turns more known) calls (rest_refused never_resets mine turns more known) (rest_moves never_resets mine turns more known) opens
+    new_peers mine theirs (noted_past others) more past e (ran_front never_resets mine turns more known) stands (rest_turns never_resets mine turns more known) calls (rest_refused never_resets mine turns more known) (rest_moves never_resets mine turns more known) opens makers
     (subst (Each (IsOfNewTagsBut mine (noted_past others))) (past_more turns more) known.tags)
     (subst (λ (p : List Effect). MatchOrUnmatched mine theirs p (noted_past others)) (past_more turns more) matched)
-    (subst (λ (p : List Effect). AllPerformed p (noted_past others)) (past_more turns more) performed) in
+    (subst (λ (p : List Effect). AllPerformed p (noted_past others)) (past_more turns more) performed)
+    (subst (λ (p : List Effect). AllFound p (noted_past others)) (past_more turns more) found) (subst NoneRestored (past_more turns more) restored) in
     let few : length (queued_through e more (queued_of mine turns)) < 2 ^ 64 =
     subst (λ (q : List Message). length q < 2 ^ 64) (queued_more (fresh_endpoint mine) turns more []) (few_queued mine (turns ++ more) known.little) in
     same_sender never_resets theirs (endpoint_after theirs others) (noted_past others) (reading_of theirs others) (after_all e more) (endpoint_after mine (turns ++ more)) (queued_through e more (queued_of mine turns)) (queued_of mine (turns ++ more))
@@ -107,12 +111,12 @@ module _ (never_resets : ℕ → Bool) (theirs : Options) (e : Endpoint) (queued
       (subst (λ (x : Reading). AreEnds never_resets theirs e queued past packets d their_past x) same_reading h))
 
 module _ (never_resets their_never : ℕ → Bool) (mine theirs : Options) (turns others more : List Transition) (h : Stand never_resets mine theirs turns others) (known : SideKnown their_never theirs (noted_past turns) (others ++ more))
-    (each : Each (IsOfNewTagsBut mine (noted_past (others ++ more))) (noted_past turns)) (matched : MatchOrUnmatched theirs mine (noted_past (others ++ more)) (noted_past turns)) (connected : ConnectedSo (endpoint_after theirs others) (noted_past others))
+    (each : Each (IsOfNewTagsBut mine (noted_past (others ++ more))) (noted_past turns)) (matched : MatchOrUnmatched theirs mine (noted_past (others ++ more)) (noted_past turns)) (stands : StandsSo (endpoint_after theirs others) (noted_past others))
     (found : AllFound (noted_past (others ++ more)) (noted_past turns)) (restored : NoneRestored (noted_past (others ++ more))) (little : SendsLittle mine turns) where
   their_tags : AreCalls more → AllOpenFitting more → AreNewTags theirs (noted_past others) (noted_past turns) (endpoint_after theirs others) more
   their_tags calls opens =
       let same : noted_past (others ++ more) ≡ after_effects (effects_of more) (noted_past others) = past_more others more in
-      new_tags theirs mine (noted_past turns) more (noted_past others) (endpoint_after theirs others) (ran_front their_never theirs others more known) connected (rest_turns their_never theirs others more known) calls
+      new_tags theirs mine (noted_past turns) more (noted_past others) (endpoint_after theirs others) (ran_front their_never theirs others more known) stands (rest_turns their_never theirs others more known) calls
       (rest_moves their_never theirs others more known) opens (subst (Each (IsOfNewTagsBut theirs (noted_past turns))) same known.tags)
       (subst (λ (p : List Effect). Each (IsOfNewTagsBut mine p) (noted_past turns)) same each)
       (subst (λ (p : List Effect). MatchOrUnmatched theirs mine p (noted_past turns)) same matched)

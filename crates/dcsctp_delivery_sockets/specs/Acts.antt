@@ -42,7 +42,7 @@ abbrev pub AreNewPeers : List Effect → List Effect → Endpoint → List Trans
 AreNewPeers past their_past e [] = Unit {0}
 AreNewPeers past their_past e (turn ∷ turns) =
     IsCall turn.input
-    × ((begun : Begun e turn.outcome) → IsOpening (came_by turn.input) → identity_in turn.outcome.after.core ≡ Some (identity_of begun.my begun.held) → NewPeer past their_past (identity_of begun.my begun.held) ⊎ TakesOver past their_past e (identity_of begun.my begun.held))
+    × ((begun : Begun e turn.outcome) → IsOpening (came_by turn.input) → identity_in turn.outcome.after.core ≡ Some (identity_of begun.my begun.held) → NewPeer past their_past (identity_of begun.my begun.held) ⊎ TakesOver past their_past e turn.input (identity_of begun.my begun.held))
     × RefusesNone e turn.outcome
     × CompletesPerformed their_past turn.outcome
     × (turn.outcome.after.options.follow_rfc ≡ e.options.follow_rfc)

@@ -8,7 +8,7 @@ use Rattle.dcsctp_spec_lemmas.specs.types.Schedule.{CallContent, set_call, send_
 use Rattle.dcsctp_spec_lemmas.specs.spec.endpoint.CallTurns.{Transition, AlongTurns, events_of}
 use Rattle.dcsctp_spec_lemmas.specs.spec.endpoint.Endpoint.{Endpoint, fresh_endpoint}
 use Rattle.dcsctp_spec_lemmas.specs.spec.endpoint.Event.{packets_in}
-use Rattle.dcsctp_spec_runs.specs.Past.{HasEffect, Each, current, number_to_begin}
+use Rattle.dcsctp_spec_runs.specs.Past.{HasEffect, Each, current}
 use Rattle.dcsctp_spec_runs.specs.Sockets.{PerformedAct, Both, of_side, of_other, turns_after, SocketRun, acts_of}
 use Rattle.dcsctp_spec_lemmas.specs.spec.association.Effect.{AssociationIdentity, Effect, holds}
 use Rattle.dcsctp_spec_lemmas.specs.types.queues.Messages.{MessageContent}
@@ -17,9 +17,8 @@ use Rattle.dcsctp_delivery_sending.specs.ChunkCounts.{chunks_to}
 use Rattle.dcsctp_delivery_sending.specs.Queueing.{SettingFits}
 use Rattle.dcsctp_delivery_directions.specs.Requests.{requests_to}
 use Rattle.dcsctp_delivery_turns.specs.Runs.{RefusesNone}
-use Rattle.dcsctp_delivery_associations.specs.Ends.{IsOnlyTag}
 use Rattle.dcsctp_delivery_associations.specs.InOrder.{Interleaves}
-use Rattle.dcsctp_delivery_sockets.specs.Ordered.{AllowsOrder, AllowsNoGaps, IsDeliveredInOrder, IsDeliveredWithoutGaps, IsReliable, IsDeliveredByStream, read_under}
+use Rattle.dcsctp_delivery_sockets.specs.Ordered.{HasOneTag, AllowsOrder, AllowsNoGaps, IsDeliveredInOrder, IsDeliveredWithoutGaps, IsReliable, IsDeliveredByStream, read_under}
 use Rattle.dcsctp_delivery_sockets.specs.UserMessages.{messages_sent_in, sendings_in, read_of, IsDelivered}
 
 -- ---- messages and streams in memory
@@ -74,14 +73,12 @@ abbrev pub IsUnmatched : AssociationIdentity → List Effect → Type 0
 IsUnmatched link theirs = (other : AssociationIdentity) → HasEffect (holds other) theirs → other.my.tag ≢ link.peer.tag
 
 -- With `follow_rfc` the association takes the place of the old one, under the same own pair and with the same capabilities: both
--- sides connect (RFC 9260, section 5.2.4, action B). The old one, of which no request to reset streams was begun, is there when the
--- new one begins.
+-- sides connect (RFC 9260, section 5.2.4, action B). The old one is there when the new one begins.
 pub record TakesPlace (options : Options) (theirs earlier : List Effect) (old link : AssociationIdentity) : Type 0 where
   pub follows : options.follow_rfc ≡ true
   pub my : old.my ≡ link.my
   pub capabilities : old.capabilities ≡ link.capabilities
   pub there : current earlier ≡ Some old
-  pub unasked : number_to_begin earlier ≡ Some old.my.first_tsn
   pub unmatched : IsUnmatched old theirs
 
 -- An association that begins at a side with these options has another peer's tag than each earlier one of this side. It has
@@ -150,15 +147,15 @@ pub record TurnsAllowDelivery (options : Both Options) (turns : Both (List Trans
 
 -- What this side's user read is what the other's user sent, and no message was read twice, in any association or after it has
 -- ended. What it read in one association came in the order in which it was sent, stream by stream, where the other side allows
--- it, and is a prefix of that where the other side allows no gaps. Where messages interleave in the other side's only association,
+-- it, and is a prefix of that where the other side allows no gaps. Where messages interleave and the other side had no other own tag,
 -- it is a prefix on each reliable stream, whatever happens on other streams.
 pub record Delivers (options : Both Options) (turns : Both (List Transition)) (side : Side) : Type 0 where
   pub once : IsDelivered (messages_sent_in (fresh_endpoint (of_other side options)) (of_other side turns)) (read_of (fresh_endpoint (of_side side options)) (of_side side turns))
   pub in_order : (tag : ℕ) → AllowsOrder (of_other side options) (of_other side turns) tag
       → IsDeliveredInOrder (sendings_in (fresh_endpoint (of_other side options)) (of_other side turns)) (read_under tag (of_side side options) (of_side side turns))
-  pub no_gaps : (tag : ℕ) → AllowsNoGaps (of_other side options) (of_other side turns) tag
+  pub no_gaps : (tag : ℕ) → AllowsNoGaps (of_other side options) (of_other side turns)
       → IsDeliveredWithoutGaps (sendings_in (fresh_endpoint (of_other side options)) (of_other side turns)) (read_under tag (of_side side options) (of_side side turns))
-  pub by_stream : (tag : ℕ) → IsOnlyTag (noted_past (of_other side turns)) tag → Interleaves (noted_past (of_other side turns)) tag
+  pub by_stream : (tag : ℕ) → HasOneTag (noted_past (of_other side turns)) → Interleaves (noted_past (of_other side turns)) tag
       → IsDeliveredByStream (IsReliable (of_other side options) (of_other side turns)) (sendings_in (fresh_endpoint (of_other side options)) (of_other side turns))
       (read_under tag (of_side side options) (of_side side turns))
 

@@ -1,21 +1,15 @@
 -- Where the COOKIE ECHO of a socket goes, and what its packets have after their first chunk (RFC
 -- 9260, section 5.1).
-use Rattle.std.specs.Prelude.{◌≡◌, ℕ, List, [], ◌∷◌, Ok}
+use Rattle.std.specs.Prelude.{ℕ, List, [], ◌∷◌}
 use Rattle.dcsctp_spec_lemmas.specs.types.declared.options.Options.{Options}
 use Rattle.dcsctp_spec_lemmas.specs.types.declared.schedule.Side.{Side}
 use Rattle.dcsctp_spec_lemmas.specs.types.Schedule.{AreHonest}
-use Rattle.dcsctp_spec_lemmas.specs.spec.Cookie.{Cookie, cookie_at}
 use Rattle.dcsctp_spec_lemmas.specs.spec.Packet.{Content, re_config, cookie_echo, plain, Emission}
 use Rattle.dcsctp_spec_lemmas.specs.spec.endpoint.CallTurns.{events_of}
 use Rattle.dcsctp_spec_runs.specs.Fitting.{AllSent}
 use Rattle.dcsctp_spec_runs.specs.Sockets.{PerformedAct, Both, of_side, turns_after, SocketRun, acts_of}
 use Rattle.dcsctp_theorem_sockets.specs.Agreement.{AreUsable, AreFresh}
-
--- The cookie reads back, and this is the tag that its maker had drawn.
-pub record IsOfMaker (tag : ℕ) (bytes : List ℕ) : Type 0 where
-  pub cookie : Cookie
-  pub reads : cookie_at bytes ≡ Ok cookie
-  pub under : tag ≡ cookie.maker.tag
+use Rattle.dcsctp_delivery_turns.specs.Untouched.{IsOfMaker}
 
 -- This holds for a chunk that is a COOKIE ECHO.
 abbrev pub FrontGoes : ℕ → Content → Type 0

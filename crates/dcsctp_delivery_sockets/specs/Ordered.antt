@@ -11,11 +11,12 @@ use Rattle.dcsctp_delivery_sending.specs.Places.{HasEntry}
 use Rattle.dcsctp_delivery_receiving.specs.Ready.{AreDistinct}
 use Rattle.dcsctp_delivery_associations.specs.Reads.{nothing_read, with_tag}
 use Rattle.dcsctp_delivery_associations.specs.InOrder.{Interleaves}
-use Rattle.dcsctp_delivery_associations.specs.Ends.{IsOnlyTag}
 use Rattle.dcsctp_delivery_sending.specs.Queueing.{has_limits}
 use Rattle.dcsctp_delivery_directions.specs.Requests.{requests_to}
 use Rattle.dcsctp_delivery_turns.specs.Actions.{resets_streams, resets_stream}
 use Rattle.std.specs.List.{AllByRecursion}
+use Rattle.dcsctp_spec_lemmas.specs.spec.association.Effect.{AssociationIdentity, Effect, holds}
+use Rattle.dcsctp_spec_runs.specs.Past.{HasEffect}
 use Rattle.dcsctp_spec_lemmas.specs.spec.endpoint.Event.{packets_in}
 use Rattle.dcsctp_delivery_sockets.specs.Packets.{reading_through}
 use Rattle.dcsctp_delivery_sockets.specs.UserMessages.{message_sent, sendings_in, WereSent}
@@ -80,17 +81,22 @@ pub record AllowsDataOrder (options : Options) (turns : List Transition) (tag : 
   pub unambiguous : SetsNoLimits options turns ⊎ SendsFew options turns
   pub no_requests : requests_to tag (packets_in (events_of turns)) ≡ 0
 
+-- All associations of the sender have one own tag: it had one, or each later one took the place of the one before, where both ends
+-- began at the same time (RFC 9260, section 5.2.4, action B).
+abbrev pub HasOneTag : List Effect → Type 0
+HasOneTag past = (one other : AssociationIdentity) → HasEffect (holds one) past → HasEffect (holds other) past → one.my.tag ≡ other.my.tag
+
 -- All that order asks of the sender and its association whose peer has this tag, beside what delivery asks. It follows the RFC,
--- or had no other association, so that the numbers of each stream begin at 0 (RFC 9260, section 6.5). And either messages interleave
+-- or had no other own tag, so that the numbers of each stream begin at 0 (RFC 9260, section 6.5). And either messages interleave
 -- (RFC 8260), or what order asks of DATA is so (`AllowsDataOrder`).
 pub record AllowsOrder (options : Options) (turns : List Transition) (tag : ℕ) : Type 0 where
-  pub starts_at_zero : (options.follow_rfc ≡ true) ⊎ IsOnlyTag (noted_past turns) tag
+  pub starts_at_zero : (options.follow_rfc ≡ true) ⊎ HasOneTag (noted_past turns)
   pub numbering : Interleaves (noted_past turns) tag ⊎ AllowsDataOrder options turns tag
 
--- All that it takes for nothing to be missing: the association is the sender's only one, no message may be abandoned, and its user
--- has never called `reset_streams`. A call that is refused counts.
-pub record AllowsNoGaps (options : Options) (turns : List Transition) (tag : ℕ) : Type 0 where
-  pub only_association : IsOnlyTag (noted_past turns) tag
+-- All that it takes for nothing to be missing: the sender had no other own tag, no message may be abandoned, and its user has never
+-- called `reset_streams`. A call that is refused counts.
+pub record AllowsNoGaps (options : Options) (turns : List Transition) : Type 0 where
+  pub one_tag : HasOneTag (noted_past turns)
   pub unlimited : SetsNoLimits options turns
   pub never_resets : AllByRecursion (λ turn. resets_streams turn.input ≡ false) turns
 

@@ -104,7 +104,7 @@ action_addressed came to old _ addressed (resends_nothing now room transfer left
 action_addressed came to old _ addressed (speaks emission no_data stale) = both_addressed to old.sent (emission ∷ []) addressed (inl no_data, tt)
 action_addressed came to old _ addressed (asks_again emission begun tag known contents) =
     both_addressed to old.sent (emission ∷ []) addressed (inr (tag, subst NoEnd (sym contents) tt), tt)
-action_addressed came to old _ addressed (acknowledges now sack transfer new known valid does) = addressed
+action_addressed came to old _ addressed (acknowledges now sack transfer new may known valid does) = addressed
 action_addressed came to old _ addressed (loses now transfer known) = addressed
 action_addressed came to old _ addressed (receives chunk transfer new is some known does) = addressed
 action_addressed came to old _ addressed (receives_interleaved chunk transfer new is some known does) = addressed

@@ -20,7 +20,7 @@ use Rattle.dcsctp_spec_lemmas.specs.spec.endpoint.DataOutcomes.{DataWhere, with_
 use Rattle.dcsctp_spec_lemmas.specs.spec.endpoint.FlushOutcomes.{own_sack, Answer, goes_out, draft_to, flush_of, room_in}
 use Rattle.dcsctp_spec_lemmas.specs.spec.endpoint.TransferMoves.{ReceivesData, MovesForward}
 use Rattle.dcsctp_theorem_sockets.proofs.Bursts.{packets_in-append}
-use Rattle.dcsctp_delivery_turns.specs.Actions.{IsCalm, inside, ledger_of, queues_with_transfer, Actions, nothing, further, MakesPackets, MakesAlso, Becomes, goes_on, queued_where, queued_together, with_first, read_where}
+use Rattle.dcsctp_delivery_turns.specs.Actions.{IsCalm, MayAcknowledge, inside, ledger_of, queues_with_transfer, Actions, nothing, further, MakesPackets, MakesAlso, Becomes, goes_on, queued_where, queued_together, with_first, read_where}
 use Rattle.dcsctp_spec_lemmas.specs.spec.association.Effect.{identity_in}
 use Rattle.dcsctp_delivery_turns.proofs.Tags.{flush_link}
 use Rattle.dcsctp_delivery_turns.specs.Tags.{IsPeerTag}
@@ -114,15 +114,15 @@ module _ (came : Option Content) (calm : IsCalm came) (to : ℕ) where
     pub makes : MakesTo came to (inside e) o
 
   pub acknowledged : (e : Endpoint) (held : Held) (transfer : Transfer) (sack : SackContent) (o : Outcome) → IsPeerTag e.core to → held_in e.core ≡ Some held → e.queues.transfer ≡ Some transfer
-      → is_sack_valid transfer.retransmission sack.cumulative_tsn_ack ≡ true → AcknowledgesBy e held transfer sack o → Continues e o
-  acknowledged e held transfer sack o at holds known valid turn =
+      → is_sack_valid transfer.retransmission sack.cumulative_tsn_ack ≡ true → MayAcknowledge came → AcknowledgesBy e held transfer sack o → Continues e o
+  acknowledged e held transfer sack o at holds known valid may turn =
       let tag : held.peer.tag ≡ to = held_tag e.core held to holds at in
       let later : IsPeerTag turn.stepped.after.core to =
       subst (λ (x : Outcome). IsPeerTag x.after.core to) (sym turn.steps) (step_peer (sack_taken e transfer turn.left) e.core to at at) in
       let last_at : IsPeerTag turn.fast.after.core to =
       subst (λ (c : Core). IsPeerTag c to) (sym (fast_core (has_fast_retransmit turn.left.retransmission) turn.stepped.after held turn.left turn.fast turn.resends)) later in
       let taken : Endpoint = sack_taken e transfer turn.left in
-      let first : MakesPackets came to (inside e) [] (inside taken) = action_of came to (inside e) taken.queues (λ queued sent read asking. actions.acknowledges e.moment sack transfer turn.left known valid turn.takes) in
+      let first : MakesPackets came to (inside e) [] (inside taken) = action_of came to (inside e) taken.queues (λ queued sent read asking. actions.acknowledges e.moment sack transfer turn.left may known valid turn.takes) in
       let step : MakesTo came to (inside taken) turn.stepped = subst (MakesTo came to (inside taken)) (sym turn.steps) (step_makes came calm to taken e.core refl) in
       let same : turn.stepped.after.queues ≡ taken.queues = ap (λ (x : Outcome). x.after.queues) turn.steps ∙ step_below taken e.core in
       let fast : MakesTo came to (inside turn.stepped.after) turn.fast =
@@ -150,17 +150,17 @@ module _ (came : Option Content) (calm : IsCalm came) (to : ℕ) where
       })
 
   sack_where_goes : (b : Bool) (e : Endpoint) (held : Held) (transfer : Transfer) (sack : SackContent) (o : Outcome) → IsPeerTag e.core to → held_in e.core ≡ Some held → e.queues.transfer ≡ Some transfer
-      → is_sack_valid transfer.retransmission sack.cumulative_tsn_ack ≡ b → SackWhere b e held transfer sack o → Goes came to e o
-  sack_where_goes false e held transfer sack o at holds known valid turn = subst (Goes came to e) (sym turn) (goes_on calm refl (rests came to (inside e)))
-  sack_where_goes true e held transfer sack o at holds known valid turn = (let on = acknowledged e held transfer sack o at holds known valid turn in goes_on calm on.linked on.makes)
+      → is_sack_valid transfer.retransmission sack.cumulative_tsn_ack ≡ b → MayAcknowledge came → SackWhere b e held transfer sack o → Goes came to e o
+  sack_where_goes false e held transfer sack o at holds known valid may turn = subst (Goes came to e) (sym turn) (goes_on calm refl (rests came to (inside e)))
+  sack_where_goes true e held transfer sack o at holds known valid may turn = (let on = acknowledged e held transfer sack o at holds known valid may turn in goes_on calm on.linked on.makes)
 
-  sack_by_goes : (e : Endpoint) (peer : Option Held) (transfer : Transfer) (sack : SackContent) (o : Outcome) → IsPeerTag e.core to → held_in e.core ≡ peer → e.queues.transfer ≡ Some transfer → SackBy e peer transfer sack o → Goes came to e o
-  sack_by_goes e None transfer sack o at holds known turn = subst (Goes came to e) (sym turn) (goes_on calm refl (rests came to (inside e)))
-  sack_by_goes e (Some held) transfer sack o at holds known turn = sack_where_goes (is_sack_valid transfer.retransmission sack.cumulative_tsn_ack) e held transfer sack o at holds known refl turn
+  sack_by_goes : (e : Endpoint) (peer : Option Held) (transfer : Transfer) (sack : SackContent) (o : Outcome) → IsPeerTag e.core to → held_in e.core ≡ peer → e.queues.transfer ≡ Some transfer → MayAcknowledge came → SackBy e peer transfer sack o → Goes came to e o
+  sack_by_goes e None transfer sack o at holds known may turn = subst (Goes came to e) (sym turn) (goes_on calm refl (rests came to (inside e)))
+  sack_by_goes e (Some held) transfer sack o at holds known may turn = sack_where_goes (is_sack_valid transfer.retransmission sack.cumulative_tsn_ack) e held transfer sack o at holds known refl may turn
 
-  pub sack_goes : (e : Endpoint) (transfer : Option Transfer) (sack : SackContent) (o : Outcome) → IsPeerTag e.core to → e.queues.transfer ≡ transfer → SackTurn e transfer sack o → Goes came to e o
-  sack_goes e None sack o at known turn = subst (Goes came to e) (sym turn) (goes_on calm refl (rests came to (inside e)))
-  sack_goes e (Some transfer) sack o at known turn = sack_by_goes e (held_in e.core) transfer sack o at refl known turn
+  pub sack_goes : (e : Endpoint) (transfer : Option Transfer) (sack : SackContent) (o : Outcome) → IsPeerTag e.core to → e.queues.transfer ≡ transfer → MayAcknowledge came → SackTurn e transfer sack o → Goes came to e o
+  sack_goes e None sack o at known may turn = subst (Goes came to e) (sym turn) (goes_on calm refl (rests came to (inside e)))
+  sack_goes e (Some transfer) sack o at known may turn = sack_by_goes e (held_in e.core) transfer sack o at refl known may turn
 
   -- ---- the end of a packet
 

@@ -26,7 +26,8 @@ use Rattle.dcsctp_spec_lemmas.specs.spec.association.HandshakeChanges.{held_by_i
 use Rattle.std.proofs.lemmas.Bool.{eqb-true}
 use Rattle.dcsctp_delivery_turns.specs.Tags.{IsPeerTag}
 use Rattle.dcsctp_spec_lemmas.specs.spec.association.Effect.{identity_of, identity_in}
-use Rattle.dcsctp_delivery_turns.specs.Actions.{IsOpening, IsCalm, Inside, inside, goes_on, ends, begins, collides}
+use Rattle.dcsctp_delivery_turns.specs.Actions.{IsOpening, IsCalm, Inside, inside, kept_inside, MakesPackets, Collides, goes_on, ends, begins, collides}
+use Rattle.dcsctp_spec_lemmas.specs.spec.Reconfiguration.{RequestedReset}
 use Rattle.dcsctp_delivery_turns.specs.Asking.{Own, own_with, own_in, own_of}
 use Rattle.dcsctp_spec_lemmas.specs.spec.queues.Transfer.{Transfer, EndpointQueues, transfer_kept}
 use Rattle.dcsctp_spec_lemmas.specs.spec.endpoint.ReconfigurationOutcomes.{reset_again}
@@ -74,6 +75,12 @@ pub kept_or_anew : (b : Bool) (e : Endpoint) (cookie : Cookie)
     → ((queue_where b e cookie ≡ numbered_for (interleaves e cookie) e.queues.queue) × (b ≡ false)) ⊎ (queue_where b e cookie ≡ numbered_for (interleaves e cookie) (queue_restarted e.queues.queue))
 kept_or_anew true e cookie = inr refl
 kept_or_anew false e cookie = inl (refl, refl)
+
+-- Both ends began at the same time, and what was sent goes on.
+pub record GoesThere (came : Option Content) (e : Endpoint) (o : Outcome) : Type 0 where
+  pub collision : Collides came e o
+  pub again : RequestedReset
+  pub makes : MakesPackets came collision.opened.link.peer.tag (kept_inside collision again) (packets_in o.events) (inside o.after)
 
 module _ (came : Option Content) (calm : IsCalm came) (to : ℕ) where
   -- ---- the handshake
@@ -189,37 +196,44 @@ module _ (came : Option Content) (calm : IsCalm came) (to : ℕ) where
       (flushed came cookie.addressee.tag (established_by e cookie (queues_begun e cookie) tie) (cookie_ack_emission (held_by_cookie e.options cookie) cookie) answers refl refl (tt, tt) tt (tt, tt) allowed))
 
   -- What was sent in the one association goes on in the other.
-  other_goes : IsOpening came → (e : Endpoint) (mine : Pair) (held : Held) (echoed : List ℕ) (cookie : Cookie) (tie : ℕ) (transfer : Transfer) (answers : List Answer) → e.core ≡ cookie_echoed mine held echoed → e.queues.transfer ≡ Some transfer
+  pub other_there : IsOpening came → (e : Endpoint) (mine : Pair) (held : Held) (echoed : List ℕ) (cookie : Cookie) (tie : ℕ) (transfer : Transfer) (answers : List Answer) → e.core ≡ cookie_echoed mine held echoed → e.queues.transfer ≡ Some transfer
       → outlasts e mine held cookie transfer ≡ true → EstablishAnswers e cookie (queues_by true e cookie transfer) tie answers
-      → Goes came to e (establish_by (flush_answered answers) e cookie (queues_by true e cookie transfer) tie (connected ∷ []))
-  other_goes opening e mine held echoed cookie tie transfer answers same there lasts allowed =
+      → GoesThere came e (establish_by (flush_answered answers) e cookie (queues_by true e cookie transfer) tie (connected ∷ []))
+  other_there opening e mine held echoed cookie tie transfer answers same there lasts allowed =
       let queues : EndpointQueues = queues_by true e cookie transfer in
       let after : Held = held_by_cookie e.options cookie in
       let window : ℕ = window_by_cookie e.options cookie in
-      collides (record {
-        opened = record {
-          opening = opening;
-          link = identity_of cookie.maker after;
-          linked = flush_link (established_by e cookie queues tie) (cookie_ack_emission after cookie) answers allowed;
-          later = _;
-          noted = refl;
+      record {
+        collision = record {
+          opened = record {
+            opening = opening;
+            link = identity_of cookie.maker after;
+            linked = flush_link (established_by e cookie queues tie) (cookie_ack_emission after cookie) answers allowed;
+            later = _;
+            noted = refl;
+          };
+          connected = inr (inl refl);
+          old = identity_of mine held;
+          was = ap identity_in same;
+          tag = sym (eqb-true mine.tag cookie.maker.tag (second_holds e.options.follow_rfc _ _ lasts));
+          unasked = unasked_by e mine held echoed cookie transfer same lasts;
+          transfer = transfer;
+          there = there;
+          kept = transfer_kept e.moment e.options cookie.addressee.first_tsn window transfer;
+          kept_is = (e.moment, window, refl);
         };
-        old = identity_of mine held;
-        was = ap identity_in same;
-        tag = sym (eqb-true mine.tag cookie.maker.tag (second_holds e.options.follow_rfc _ _ lasts));
-        unasked = unasked_by e mine held echoed cookie transfer same lasts;
-        transfer = transfer;
-        there = there;
-        kept = transfer_kept e.moment e.options cookie.addressee.first_tsn window transfer;
-        kept_is = (e.moment, window, refl);
-      }) (λ queued. refl) (λ read. refl) (reset_again None)
-      (flushed came cookie.addressee.tag (established_by e cookie queues tie) (cookie_ack_emission after cookie) answers refl refl (tt, tt) tt (tt, tt) allowed)
+        again = reset_again None;
+        makes = flushed came cookie.addressee.tag (established_by e cookie queues tie) (cookie_ack_emission after cookie) answers refl refl (tt, tt) tt (tt, tt) allowed;
+      }
+
+  there_goes : (e : Endpoint) (o : Outcome) → GoesThere came e o → Goes came to e o
+  there_goes e o there = collides there.collision (λ queued. refl) (λ read. refl) there.again there.makes
 
   by_goes : IsOpening came → (b : Bool) (e : Endpoint) (mine : Pair) (held : Held) (echoed : List ℕ) (cookie : Cookie) (tie : ℕ) (transfer : Transfer) (answers : List Answer) → e.core ≡ cookie_echoed mine held echoed → e.queues.transfer ≡ Some transfer
       → outlasts e mine held cookie transfer ≡ b → EstablishAnswers e cookie (queues_by b e cookie transfer) tie answers
       → Goes came to e (establish_by (flush_answered answers) e cookie (queues_by b e cookie transfer) tie (connected ∷ []))
   by_goes opening true e mine held echoed cookie tie transfer answers same there is allowed =
-      other_goes opening e mine held echoed cookie tie transfer answers same there is allowed
+      there_goes e _ (other_there opening e mine held echoed cookie tie transfer answers same there is allowed)
   by_goes opening false e mine held echoed cookie tie transfer answers same there is allowed = anew_goes opening e cookie tie (connected ∷ []) answers refl allowed
 
   by_transfer_goes : IsOpening came → (e : Endpoint) (mine : Pair) (held : Held) (echoed : List ℕ) (cookie : Cookie) (tie : ℕ) (transfer : Option Transfer) (answers : List Answer) → e.core ≡ cookie_echoed mine held echoed → e.queues.transfer ≡ transfer

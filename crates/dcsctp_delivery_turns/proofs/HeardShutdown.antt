@@ -11,7 +11,7 @@ use Rattle.dcsctp_spec_lemmas.specs.spec.endpoint.Outcome.{Outcome}
 use Rattle.dcsctp_spec_lemmas.specs.spec.endpoint.ShutdownOutcomes.{phase_at}
 use Rattle.dcsctp_spec_lemmas.specs.spec.queues.Acknowledging.{is_sack_valid}
 use Rattle.dcsctp_spec_lemmas.specs.spec.queues.Transfer.{Transfer}
-use Rattle.dcsctp_delivery_turns.specs.Actions.{IsCalm, Inside, goes_on}
+use Rattle.dcsctp_delivery_turns.specs.Actions.{MayAcknowledge, IsCalm, Inside, goes_on}
 use Rattle.dcsctp_delivery_turns.specs.Asking.{own_in}
 use Rattle.dcsctp_delivery_turns.specs.Tags.{IsPeerTag}
 use Rattle.dcsctp_delivery_turns.proofs.Actions.{Goes, MakesTo}
@@ -29,14 +29,14 @@ heeded_is_valid options phase transfer tsn heeds = go options.follow_rfc (may_ha
 inside_with : Endpoint → Core → Inside
 inside_with e core = record { queues = e.queues; own = own_in core e.outstanding }
 
-module _ (came : Option Content) (calm : IsCalm came) (to : ℕ) where
+module _ (came : Option Content) (calm : IsCalm came) (may : MayAcknowledge came) (to : ℕ) where
   where_goes : (b : Bool) (e : Endpoint) (phase : OpenPhase) (my : Pair) (held : Held) (transfer : Transfer) (tsn : ℕ) (o : Outcome) → e.core ≡ open_in phase my held → held.peer.tag ≡ to → e.queues.transfer ≡ Some transfer
       → heeds_shutdown e.options phase transfer tsn ≡ b → ShutdownWhere b e phase my held transfer tsn o → Goes came to e o
   unfolding inside_with
   where_goes true e phase my held transfer tsn o at peer known heeds turn =
       let base : Endpoint = phase_at e shutdown_received my held in
       let on : Continues came calm to base o =
-      acknowledged came calm to base held transfer (said_by_shutdown tsn transfer.retransmission) o peer refl known (heeded_is_valid e.options phase transfer tsn heeds) turn in
+      acknowledged came calm to base held transfer (said_by_shutdown tsn transfer.retransmission) o peer refl known (heeded_is_valid e.options phase transfer tsn heeds) may turn in
       goes_on calm (on.linked ∙ sym (ap identity_in at)) (subst (λ (i : Inside). MakesTo came to i o) (sym (ap (inside_with e) at)) on.makes)
   where_goes false e phase my held transfer tsn o at peer known heeds turn = subst (Goes came to e) (sym turn) (shutdown_goes came calm to e (open_in phase my held) at)
 

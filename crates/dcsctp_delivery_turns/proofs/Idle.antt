@@ -35,7 +35,7 @@ action_none came to old _ (resends now room transfer left tsns chunks emission t
 action_none came to old _ (resends_nothing now room transfer left tsns known does) none = absurd (cc)
 action_none came to old _ (speaks emission no_data stale) none = none
 action_none came to old _ (asks_again emission begun tag was contents) none = none
-action_none came to old _ (acknowledges now sack transfer new known valid does) none = absurd (cc)
+action_none came to old _ (acknowledges now sack transfer new may known valid does) none = absurd (cc)
 action_none came to old _ (loses now transfer known) none = absurd (cc)
 action_none came to old _ (receives chunk transfer new is some known does) none = absurd (cc)
 action_none came to old _ (receives_interleaved chunk transfer new is some known does) none = absurd (cc)

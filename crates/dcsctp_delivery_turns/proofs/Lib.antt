@@ -13,6 +13,7 @@ pub mod Resets
 pub mod Others
 pub mod Turns
 pub mod Received
+pub mod Untouched
 pub mod Sides
 pub mod Idle
 pub mod Numbering
@@ -21,6 +22,9 @@ pub mod Beginnings
 pub mod Outlasts
 pub mod SenderRuns
 pub mod ReceiverRuns
+pub mod EchoedStays
+pub mod Connecting
+pub mod Keeping
 pub mod Runs
 pub mod Completing
 pub mod Holding

@@ -16,7 +16,7 @@ action_kind came to old _ (resends now room transfer left tsns chunks emission t
 action_kind came to old _ (resends_nothing now room transfer left tsns known does) = refl
 action_kind came to old _ (speaks emission no_data stale) = refl
 action_kind came to old _ (asks_again emission begun tag was contents) = refl
-action_kind came to old _ (acknowledges now sack transfer new known valid does) = refl
+action_kind came to old _ (acknowledges now sack transfer new may known valid does) = refl
 action_kind came to old _ (loses now transfer known) = refl
 action_kind came to old _ (receives chunk transfer new is some known does) = refl
 action_kind came to old _ (receives_interleaved chunk transfer new is some known does) = refl

@@ -52,7 +52,7 @@ module _ (came : Option Content) (to : ℕ) (tracker : TrackerState) (reassembly
   action_sends old _ acknowledged (resends_nothing now room transfer left tsns known sends) = by old _ acknowledged acknowledged (directions.resends_nothing now room transfer left tsns known sends)
   action_sends old _ acknowledged (speaks emission no_data stale) = by old _ acknowledged acknowledged (directions.speaks emission no_data)
   action_sends old _ acknowledged (asks_again emission begun tag was contents) = by old _ acknowledged acknowledged (directions.asks_again emission begun was contents)
-  action_sends old _ acknowledged (acknowledges now sack transfer new known valid does) =
+  action_sends old _ acknowledged (acknowledges now sack transfer new may known valid does) =
       by old _ acknowledged (acknowledged + acknowledged_count transfer.retransmission.outstanding sack.cumulative_tsn_ack) (directions.acknowledges now sack transfer new known valid does)
   action_sends old _ acknowledged (loses now transfer known) = by old _ acknowledged acknowledged (directions.loses now transfer known)
   action_sends old _ acknowledged (receives chunk transfer new is some known does) = by old _ acknowledged acknowledged (directions.turns_aside transfer new known (flight_same transfer new (data_where _ _ transfer new does)))
@@ -119,7 +119,7 @@ module _ (came : Option Content) (to : ℕ) (direction : Direction) (was : WasSe
     where
       like : found ≡ transfer → Alike transfer (record found { retransmission = left })
       like same = subst (λ (t : Transfer). Alike t (record found { retransmission = left })) same (record { cumulative = refl; ranges = refl; reassembly = refl })
-  action_receives old _ transfer is (acknowledges now sack found new known valid does) =
+  action_receives old _ transfer is (acknowledges now sack found new may known valid does) =
       alike_receives old _ transfer new refl refl (like (same_transfer old.queues.transfer found transfer known is))
     where
       like : found ≡ transfer → Alike transfer new

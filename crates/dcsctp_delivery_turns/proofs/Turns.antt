@@ -39,7 +39,7 @@ content_goes e tag (re_config parameters) o turn =
     content_by e tag (re_config parameters) o (λ dropped. subst (Goes _ (peer_tag e.core) e) (sym dropped) (idle_goes (peer_tag e.core) e parameters))
     (λ handled. reset_goes (peer_tag e.core) e e.core parameters o refl (own_peer e.core) (own_peer e.core) handled) turn
 content_goes e tag (abort reflected causes) o turn = subst (Goes _ (peer_tag e.core) e) (sym turn) (abort_goes _ (λ parameters is. absurd (cc)) (peer_tag e.core) e causes e.core)
-content_goes e tag (shutdown tsn) o turn = heard_goes _ (λ parameters is. absurd (cc)) (peer_tag e.core) e e.core tsn o refl (own_peer e.core) turn
+content_goes e tag (shutdown tsn) o turn = heard_goes (Some (shutdown tsn)) (λ parameters is. absurd (cc)) tt (peer_tag e.core) e e.core tsn o refl (own_peer e.core) turn
 content_goes e tag shutdown_ack o turn = subst (Goes _ (peer_tag e.core) e) (sym turn) (shutdown_ack_goes _ (λ parameters is. absurd (cc)) (peer_tag e.core) e e.core tag)
 content_goes e tag (shutdown_complete reflected) o turn = subst (Goes _ (peer_tag e.core) e) (sym turn) (shutdown_complete_goes _ (λ parameters is. absurd (cc)) (peer_tag e.core) e e.core)
 content_goes e tag (plain chunk) o turn =

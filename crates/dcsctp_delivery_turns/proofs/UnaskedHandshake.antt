@@ -1,5 +1,5 @@
 -- The turns of the handshake: no request of the peer is accepted or performed.
-use Rattle.std.proofs.Common.{◌≡◌, ◌⊎◌, ℕ, Bool, true, false, cond, Option, None, Some, Result, Ok, Err, List, [], ◌∷◌, refl, sym, ap, inr}
+use Rattle.std.proofs.Common.{◌≡◌, ◌⊎◌, ℕ, Bool, true, false, cond, Option, None, Some, Result, Ok, Err, List, [], ◌∷◌, refl, sym, ap, inl, inr}
 use Rattle.dcsctp_spec_lemmas.specs.spec.Cookie.{Cookie}
 use Rattle.dcsctp_spec_lemmas.specs.types.declared.association.Pair.{Pair}
 use Rattle.dcsctp_spec_lemmas.specs.types.declared.word.Word.{Word}
@@ -137,6 +137,7 @@ module _ (came : Option Content) (opening : IsOpening came) (e : Endpoint) where
           later = _;
           noted = refl;
         };
+        connected = inr (inl refl);
         old = identity_of mine held;
         was = ap identity_in same;
         tag = sym (eqb-true mine.tag cookie.maker.tag (second_holds e.options.follow_rfc _ _ lasts));

@@ -127,7 +127,7 @@ action_unbegun came to old _ (resends now room transfer left tsns chunks emissio
 action_unbegun came to old _ (resends_nothing now room transfer left tsns known does) u = clash old.queues transfer known u
 action_unbegun came to old _ (speaks emission no_data stale) u = u
 action_unbegun came to old _ (asks_again emission begun tag was contents) u = u
-action_unbegun came to old _ (acknowledges now sack transfer new known valid does) u = clash old.queues transfer known u
+action_unbegun came to old _ (acknowledges now sack transfer new may known valid does) u = clash old.queues transfer known u
 action_unbegun came to old _ (loses now transfer known) u = clash old.queues transfer known u
 action_unbegun came to old _ (receives chunk transfer new is some known does) u = clash old.queues transfer known u
 action_unbegun came to old _ (receives_interleaved chunk transfer new is some known does) u = clash old.queues transfer known u

@@ -104,7 +104,7 @@ action_waits_on id came to old _ (resends now room transfer left tsns chunks emi
 action_waits_on id came to old _ (resends_nothing now room transfer left tsns known does) w = clash id old.queued old.queues transfer known w
 action_waits_on id came to old _ (speaks emission no_data stale) w = w
 action_waits_on id came to old _ (asks_again emission begun tag was contents) w = w
-action_waits_on id came to old _ (acknowledges now sack transfer new known valid does) w = clash id old.queued old.queues transfer known w
+action_waits_on id came to old _ (acknowledges now sack transfer new may known valid does) w = clash id old.queued old.queues transfer known w
 action_waits_on id came to old _ (loses now transfer known) w = clash id old.queued old.queues transfer known w
 action_waits_on id came to old _ (receives chunk transfer new is some known does) w = clash id old.queued old.queues transfer known w
 action_waits_on id came to old _ (receives_interleaved chunk transfer new is some known does) w = clash id old.queued old.queues transfer known w

@@ -2,18 +2,19 @@
 -- direction on which the socket sends, and of the one on which it receives (specs/Sides).
 use Rattle.std.specs.Prelude.{◌≡◌, ◌≢◌, ◌<◌, ◌⊎◌, ◌^◌, ℕ, Bool, true, false, Option, None, Some, List, [], ◌∷◌, ◌++◌, length}
 use Rattle.std.specs.List.{AllByRecursion}
-use Rattle.dcsctp_spec_lemmas.specs.wire.Content.{DataContent, IDataContent, SackContent, data_chunk, i_data_chunk, error_chunk, forward_tsn_chunk, i_forward_tsn_chunk}
+use Rattle.dcsctp_spec_lemmas.specs.wire.Content.{DataContent, IDataContent, SackContent, data_chunk, i_data_chunk, sack_chunk, error_chunk, forward_tsn_chunk, i_forward_tsn_chunk}
 use Rattle.dcsctp_spec_lemmas.specs.types.declared.association.Held.{Held}
 use Rattle.dcsctp_spec_lemmas.specs.types.declared.association.Pair.{Pair}
 use Rattle.dcsctp_spec_lemmas.specs.spec.endpoint.Endpoint.{Endpoint, Core, closed, cookie_wait, cookie_echoed, open_in}
 use Rattle.dcsctp_spec_lemmas.specs.spec.endpoint.Event.{packets_in}
 use Rattle.dcsctp_spec_lemmas.specs.spec.endpoint.Outcome.{Outcome}
 use Rattle.dcsctp_spec_lemmas.specs.spec.endpoint.Cause.{has_stale_cookie}
-use Rattle.dcsctp_spec_lemmas.specs.spec.Packet.{Content, re_config, init, init_ack, cookie_echo, abort, shutdown_complete, Plain, unworked, plain, Emission}
+use Rattle.dcsctp_spec_lemmas.specs.spec.Packet.{Content, re_config, init, init_ack, cookie_echo, abort, shutdown, shutdown_complete, Plain, unworked, plain, Emission}
+use Rattle.dcsctp_spec_runs.specs.Past.{HasEffect}
 use Rattle.dcsctp_spec_lemmas.specs.spec.endpoint.Turn.{Input, chunk_input, act_input, user_sets, user_sends, user_resets, user_takes, restores, Turn}
 use Rattle.dcsctp_spec_lemmas.specs.spec.association.Acts.{request_again, request_renewed}
 use Rattle.dcsctp_spec_lemmas.specs.spec.association.Choices.{plain_contents}
-use Rattle.dcsctp_spec_lemmas.specs.spec.association.Effect.{AssociationIdentity, Effect, holds, fails, identity_of, identity_in}
+use Rattle.dcsctp_spec_lemmas.specs.spec.association.Effect.{AssociationIdentity, Effect, holds, connects, fails, identity_of, identity_in}
 use Rattle.dcsctp_spec_lemmas.specs.spec.queues.Acknowledging.{is_sack_valid}
 use Rattle.dcsctp_spec_lemmas.specs.spec.queues.Arrivals.{data_arrival, i_data_arrival, skipped_in, messages_skipped_in}
 use Rattle.dcsctp_spec_lemmas.specs.spec.queues.AtOnce.{SendsAtOnce}
@@ -82,6 +83,12 @@ NoEnd (abort reflected causes ∷ contents) = ⊥
 NoEnd (shutdown_complete reflected ∷ contents) = ⊥
 NoEnd (content ∷ contents) = NoEnd contents
 
+-- A SACK is handled, or a SHUTDOWN, which acknowledges too (RFC 9260, section 9.2).
+abbrev pub MayAcknowledge : Option Content → Type 0
+MayAcknowledge (Some (plain (unworked (sack_chunk sack)))) = Unit {0}
+MayAcknowledge (Some (shutdown tsn)) = Unit {0}
+MayAcknowledge came = ⊥
+
 -- One action of a turn in which the chunk `came` is handled, if one is, and in whose association the peer has the tag `to`.
 pub data Action (came : Option Content) (to : ℕ) (old : Ledger) : Ledger → Type 0 where
   queues : (now : ℕ) (sending : Sending) → Fits (message_of sending) → 0 < length sending.message.payload
@@ -97,7 +104,7 @@ pub data Action (came : Option Content) (to : ℕ) (old : Ledger) : Ledger → T
   speaks : (emission : Emission) → NoData emission.packet.contents → IsStaleFirst emission.packet.contents → Action came to old (record old { sent = old.sent ++ emission ∷ [] })
   asks_again : (emission : Emission) (begun : BegunReset) → emission.packet.tag ≡ to → HasEntry begun old.asking.requests → emission.packet.contents ≡ reset_request begun.number begun.reset ∷ []
       → Action came to old (record old { sent = old.sent ++ emission ∷ [] })
-  acknowledges : (now : ℕ) (sack : SackContent) (transfer new : Transfer) → old.queues.transfer ≡ Some transfer → is_sack_valid transfer.retransmission sack.cumulative_tsn_ack ≡ true
+  acknowledges : (now : ℕ) (sack : SackContent) (transfer new : Transfer) → MayAcknowledge came → old.queues.transfer ≡ Some transfer → is_sack_valid transfer.retransmission sack.cumulative_tsn_ack ≡ true
       → TakesSack now sack transfer new → Action came to old (record old { queues = queues_with_transfer new old.queues })
   loses : (now : ℕ) (transfer : Transfer) → old.queues.transfer ≡ Some transfer → Action came to old (record old { queues = queues_with_transfer (lost_all now transfer) old.queues })
   receives : (chunk : DataContent) (transfer new : Transfer) → came ≡ Some (plain (unworked (data_chunk chunk))) → chunk.payload ≢ [] → old.queues.transfer ≡ Some transfer
@@ -277,6 +284,7 @@ pub record Opened (came : Option Content) (o : Outcome) : Type 0 where
 -- Both ends began at the same time. Our own tag serves another association, and what was sent in the one goes on in the other.
 pub record Collides (came : Option Content) (e : Endpoint) (o : Outcome) : Type 0 where
   pub opened : Opened came o
+  pub connected : HasEffect (connects opened.link) o.effects
   pub old : AssociationIdentity
   pub was : identity_in e.core ≡ Some old
   pub tag : opened.link.my.tag ≡ old.my.tag

@@ -1,6 +1,7 @@
 pub mod Asking
 pub mod Tags
 pub mod Actions
+pub mod Untouched
 pub mod Sides
 pub mod Addressed
 pub mod Runs
