@@ -22,14 +22,14 @@ use Rattle.dcsctp_delivery_sending.specs.Losing.{AreUnlimited, AreUnlimitedOn}
 use Rattle.dcsctp_spec_lemmas.proofs.MarkedItemLemmas.{le_or_lt}
 use Rattle.dcsctp_delivery_order.specs.Delivered.{DeliveredInOrder, DeliveredWithoutGaps}
 use Rattle.dcsctp_delivery_order.specs.Queue.{IsOrderedOn, ComeInOrder, LeaveNoGap}
-use Rattle.dcsctp_delivery_order.specs.Streams.{DeliveredByStream}
+use Rattle.dcsctp_delivery_order.specs.Streams.{DeliveredByStream, DeliveredOn}
 use Rattle.dcsctp_delivery_order.proofs.Directions.{directions_deliver_in_order}
 use Rattle.dcsctp_delivery_order.proofs.PlainDirections.{plain_directions_deliver_in_order}
 use Rattle.dcsctp_delivery_order.proofs.StreamDirections.{streams_deliver_without_gaps, directions_deliver_without_gaps}
 use Rattle.dcsctp_delivery_order.proofs.FewDirections.{plain_few_deliver_in_order}
 use Rattle.dcsctp_delivery_order.specs.PlainDirections.{FewOnEachStream}
 use Rattle.dcsctp_delivery_associations.proofs.FewMarks.{few_marks}
-use Rattle.dcsctp_delivery_order.proofs.PlainFront.{plain_directions_deliver_without_gaps}
+use Rattle.dcsctp_delivery_order.proofs.PlainFront.{plain_streams_deliver_without_gaps, plain_directions_deliver_without_gaps}
 use Rattle.dcsctp_delivery_associations.specs.Ends.{ReceivingEnd, joined, Ends, HadKind, IsOnlyOwn, BeginsAnew, Awaits, chunks_before, Between}
 use Rattle.dcsctp_delivery_associations.specs.InOrder.{InterleavesUnder}
 use Rattle.dcsctp_delivery_associations.specs.Reads.{Reading, with_key}
@@ -146,6 +146,15 @@ by_stream_unmarked keeps never_resets marks queued contents found kept d =
           no_gap_unmarked marks queued contents d.ordered.delivered.places id found d.ordered.delivered.were_queued (d.no_gap id (kept id never) (unlimited_on_marks id marks queued found are));
     }
 
+on_unmarked : (keeps never_resets : ℕ → Bool) (marks queued : List Message) (contents : List MessageContent) → AllFound marks queued → ((id : ℕ) → never_resets id ≡ true → keeps id ≡ true)
+    → DeliveredOn keeps marks contents → DeliveredOn never_resets queued contents
+on_unmarked keeps never_resets marks queued contents found kept d =
+    record {
+      delivered = record { places = d.delivered.places; were_queued = were_unmarked marks queued d.delivered.places contents found d.delivered.were_queued; once = d.delivered.once };
+      in_order = λ id never. order_unmarked marks queued id d.delivered.places contents found d.delivered.were_queued (d.in_order id (kept id never));
+      no_gap = λ id never. no_gap_unmarked marks queued contents d.delivered.places id found d.delivered.were_queued (d.no_gap id (kept id never));
+    }
+
 -- ---- one association
 
 pub nothing_in_order : (queued : List Message) (contents : List MessageContent) → contents ≡ [] → DeliveredInOrder queued contents
@@ -159,6 +168,10 @@ nothing_before queued contents none =
 pub nothing_by_stream : (never_resets : ℕ → Bool) (queued : List Message) (contents : List MessageContent) → contents ≡ [] → DeliveredByStream never_resets queued contents
 nothing_by_stream never_resets queued contents none =
     let d = nothing_before queued contents none in record { ordered = d.ordered; no_gap = λ id never are. d.no_gap id }
+
+pub nothing_on : (never_resets : ℕ → Bool) (queued : List Message) (contents : List MessageContent) → contents ≡ [] → DeliveredOn never_resets queued contents
+nothing_on never_resets queued contents none =
+    let d = nothing_before queued contents none in record { delivered = d.ordered.delivered; in_order = λ id never. d.ordered.in_order id; no_gap = λ id never. d.no_gap id }
 
 -- Nothing is read where nothing was queued.
 pub read_none : (queued : List Message) → queued ≡ [] → (contents : List MessageContent) (places : List ℕ) → WereQueued queued places contents → contents ≡ []
@@ -249,6 +262,25 @@ module _ (options : Options) (ends : Ends) (e : Endpoint) (queued : List Message
     ends_deliver_data_in_order which tag anew none =
         by_begun tag (nothing_in_order queued (with_key tag reading.reads))
         (λ some had. in_order_so tag (own_data tag (ends.sends tag).queues.queue.is_interleaved refl (h.numbered tag some anew) (unasked tag none) which))
+
+    -- Either way of numbering leaves no gap on a stream that is kept.
+    own_on : AreUnlimited queued → (tag : ℕ) → tag ≢ 0 → IsOnlyOwn past tag → (kind : Bool) → (ends.sends tag).queues.queue.is_interleaved ≡ kind → DeliveredOn (ends.sends tag).beginning.keeps (ends.sends tag).queued (ends.gets tag).read
+    own_on are tag some only true is =
+        let d = streams_deliver_without_gaps options (ends.firsts tag) options.max_receiver_window_buffer_size (own tag) (h.runs tag) (h.small tag) (little tag) (short tag) is (h.numbered tag some (inr only)) in
+        record {
+          delivered = d.ordered.delivered;
+          in_order = λ id keeps. d.ordered.in_order id;
+          no_gap = λ id keeps. d.no_gap id keeps (unlimited_on_of id (ends.sends tag).queued (λ place mark at on. unlimited_at (ends.sends tag).queued place mark (unlimited are tag) at));
+        }
+    own_on are tag some only false is =
+        plain_streams_deliver_without_gaps options (ends.firsts tag) options.max_receiver_window_buffer_size (own tag) (h.runs tag) (h.small tag) (little tag) (short tag) room is
+        (h.numbered tag some (inr only)) (unlimited are tag)
+
+    pub ends_deliver_data_by_stream : AreUnlimited queued → (tag : ℕ) → IsOnlyOwn past tag → DeliveredOn ends.never_resets queued (with_key tag reading.reads)
+    ends_deliver_data_by_stream are tag only =
+        by_begun tag (nothing_on ends.never_resets queued (with_key tag reading.reads))
+        (λ some had. on_unmarked (ends.sends tag).beginning.keeps ends.never_resets (ends.sends tag).queued queued (with_key tag reading.reads) (h.sender.marks tag) (h.kept tag some only)
+        (subst (DeliveredOn (ends.sends tag).beginning.keeps (ends.sends tag).queued) (sym (h.receiver.were_read tag)) (own_on are tag some only (ends.sends tag).queues.queue.is_interleaved refl)))
 
     -- Either way of numbering leaves no gap.
     own_front : AreUnlimited queued → (tag : ℕ) → tag ≢ 0 → ((id : ℕ) → ends.never_resets id ≡ true) → IsOnlyOwn past tag → (kind : Bool) → (ends.sends tag).queues.queue.is_interleaved ≡ kind

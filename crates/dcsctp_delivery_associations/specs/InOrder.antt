@@ -12,7 +12,7 @@ use Rattle.dcsctp_delivery_sending.specs.Losing.{AreUnlimited}
 use Rattle.dcsctp_delivery_directions.specs.Requests.{requests_to}
 use Rattle.dcsctp_delivery_order.specs.PlainDirections.{FewOnEachStream}
 use Rattle.dcsctp_delivery_order.specs.Delivered.{DeliveredInOrder, DeliveredWithoutGaps}
-use Rattle.dcsctp_delivery_order.specs.Streams.{DeliveredByStream}
+use Rattle.dcsctp_delivery_order.specs.Streams.{DeliveredByStream, DeliveredOn}
 use Rattle.dcsctp_delivery_associations.specs.Ends.{Ends, IsOnlyOwn, BeginsAnew, chunks_before, Between}
 use Rattle.dcsctp_delivery_associations.specs.Reads.{Reading, with_key}
 
@@ -47,8 +47,14 @@ EndsDeliverByStream =
     → Between options ends e queued past packets other their_past reading → length queued < 2 ^ 64 → ((tag : ℕ) → chunks_before (ends.former tag) packets + chunks_to (ends.latest tag) packets < 2 ^ 30)
     → (tag : ℕ) → IsOnlyOwn past tag → InterleavesUnder past tag → DeliveredByStream ends.never_resets queued (with_key tag reading.reads)
 
--- Also where they don't it is so of each stream, if no message may be abandoned, no stream is reset, and the sender has had no other
--- own tag.
+-- Also where they don't it is so of each such stream, in the order of that stream, if no message of any may be abandoned.
+abbrev pub EndsDeliverDataByStream : Type 0
+EndsDeliverDataByStream =
+    (options : Options) (ends : Ends) (e : Endpoint) (queued : List Message) (past : List Effect) (packets : List Emission) (other : Endpoint) (their_past : List Effect) (reading : Reading)
+    → Between options ends e queued past packets other their_past reading → length queued < 2 ^ 64 → ((tag : ℕ) → chunks_before (ends.former tag) packets + chunks_to (ends.latest tag) packets < 2 ^ 30) → options.max_receiver_window_buffer_size < 2 ^ 32
+    → AreUnlimited queued → (tag : ℕ) → IsOnlyOwn past tag → DeliveredOn ends.never_resets queued (with_key tag reading.reads)
+
+-- So it is of all, if no stream is reset.
 abbrev pub EndsDeliverWithoutGaps : Type 0
 EndsDeliverWithoutGaps =
     (options : Options) (ends : Ends) (e : Endpoint) (queued : List Message) (past : List Effect) (packets : List Emission) (other : Endpoint) (their_past : List Effect) (reading : Reading)

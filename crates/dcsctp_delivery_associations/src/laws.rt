@@ -1,6 +1,6 @@
 //! The laws of this crate.
 
-ghost use Rattle.dcsctp_delivery_associations.specs.InOrder.{EndsDeliverByStream, EndsDeliverDataInOrder, EndsDeliverWithoutGaps, EndsDeliverInOrder};
+ghost use Rattle.dcsctp_delivery_associations.specs.InOrder.{EndsDeliverByStream, EndsDeliverDataByStream, EndsDeliverDataInOrder, EndsDeliverWithoutGaps, EndsDeliverInOrder};
 ghost use Rattle.dcsctp_delivery_associations.specs.Laws.{EndsBegin, EndsDeliver, ReceiversTurn, SendersTurn};
 
 /// Two sockets that were just made have nothing between them.
@@ -38,9 +38,10 @@ pub fn ends_deliver_in_order()
 {}
 
 /// Where the sender had one association, what was read of a stream's ordered messages is a prefix of what was queued:
-/// none is missing before one that was read. With interleaving that takes no limits on messages of the stream, and no
-/// reset of it. Without it takes this of all streams.
+/// none is missing before one that was read. That takes no reset of the stream, and no limits on its messages, or
+/// without interleaving on those of any.
 pub fn ends_deliver_without_gaps()
     ensures streams { EndsDeliverByStream }
+    ensures data { EndsDeliverDataByStream }
     ensures all { EndsDeliverWithoutGaps }
 {}

@@ -14,6 +14,7 @@ use Rattle.dcsctp_spec.specs.queues.Tracker.{TrackerState, new_tracker}
 use Rattle.dcsctp_spec.specs.queues.Transfer.{Transfer, part_overhead, transfer_kept}
 use Rattle.dcsctp_delivery_sending.specs.Places.{HasEntry}
 use Rattle.dcsctp_delivery_sending.specs.Flushes.{reset_begun_by}
+use Rattle.dcsctp_delivery_directions.proofs.Calm.{none_has}
 use Rattle.dcsctp_delivery_directions.specs.Directions.{Direction, Asking, asking_with, BeginsDirection, DirectionStep, queues, sets, prepares, commits, rolls_back, flushes, resends, resends_nothing, speaks, asks_again, renews, turns_aside, acknowledges, loses, receives, forwards, receives_interleaved, forwards_interleaved, tracks, defers, performs, performs_earlier, resets, takes, DirectionRun, begins, goes_on, starts}
 
 -- ---- nothing was received
@@ -104,10 +105,10 @@ module _ (options : Options) (first size : ℕ) where
   nothing_after old _ (receives_interleaved emission chunk theirs new was holds some same same' does) s h = absurd (no_entry old emission s.sent was)
   nothing_after old _ (forwards_interleaved emission tsn streams theirs new was holds same same' does) s h = absurd (no_entry old emission s.sent was)
   nothing_after old _ (tracks new cumulative ranges) s h = record { cumulative = cumulative ∙ h.cumulative; ranges = ranges ∙ h.ranges; reassembly = h.reassembly; read = h.read }
-  nothing_after old _ (defers last_tsn streams some) s h = absurd (some s.asked)
+  nothing_after old _ (defers last_tsn streams some) s h = absurd (none_has old.asking.requests streams some s.asked)
   nothing_after old _ (performs newest earlier new asks kept reached own does) s h = absurd (none_asked newest earlier old.asking.requests s.asked asks)
   nothing_after old _ (performs_earlier newest earlier new asks kept reached own does) s h = absurd (none_asked newest earlier old.asking.requests s.asked asks)
-  nothing_after old _ (resets streams new unmixed some does) s h = absurd (some s.asked)
+  nothing_after old _ (resets streams new unmixed some does) s h = absurd (none_has old.asking.requests streams some s.asked)
   nothing_after old _ (takes message messages ready) s h = absurd (none_ready message messages old h ready)
 
   begun_nothing : (direction : Direction) → BeginsDirection options first size direction → Nothing direction

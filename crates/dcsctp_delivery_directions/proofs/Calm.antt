@@ -10,13 +10,13 @@ use Rattle.dcsctp_delivery_sending.specs.Log.{Slot, Mark, History}
 use Rattle.dcsctp_delivery_sending.specs.Flushes.{SendsLogged, reset_begun_by}
 use Rattle.dcsctp_delivery_sending.specs.Numbers.{AreCurrent}
 use Rattle.dcsctp_delivery_directions.specs.Calm.{ResetsNothing}
-use Rattle.dcsctp_delivery_directions.specs.Directions.{Direction, Asking, asking_with, DirectionStep, queues, sets, prepares, commits, rolls_back, flushes, resends, resends_nothing, speaks, asks_again, renews, turns_aside, acknowledges, loses, receives, forwards, receives_interleaved, forwards_interleaved, tracks, defers, performs, performs_earlier, resets, takes}
+use Rattle.dcsctp_delivery_directions.specs.Directions.{Direction, Asking, HasAsked, asking_with, DirectionStep, queues, sets, prepares, commits, rolls_back, flushes, resends, resends_nothing, speaks, asks_again, renews, turns_aside, acknowledges, loses, receives, forwards, receives_interleaved, forwards_interleaved, tracks, defers, performs, performs_earlier, resets, takes}
 use Rattle.dcsctp_delivery_sending.proofs.Extended.{IsAsOne, as_itself, extends_grown, extends_noted, extends_renewed}
 use Rattle.dcsctp_delivery_directions.proofs.Queued.{commits_by, commits_plain, stepped_commits, stepped_rolls_back, stepped_queues, stepped_sets, stepped_queue, stepped_prepares}
-use Rattle.dcsctp_delivery_directions.proofs.Receiving.{stepped_defers, stepped_receives, stepped_receives_interleaved, stepped_forwards, stepped_forwards_interleaved, stepped_tracks, stepped_takes, takes_data, stepped_arrived, skips}
+use Rattle.dcsctp_delivery_directions.proofs.Receiving.{stepped_defers, stepped_receives, stepped_receives_interleaved, stepped_forwards, stepped_forwards_interleaved, stepped_tracks, stepped_takes, takes_data, stepped_arrived, skips, stepped_resets}
 use Rattle.dcsctp_delivery_directions.proofs.Sending.{stepped_resends, stepped_resends_nothing, stepped_speaks, stepped_asks_again, stepped_turns_aside, stepped_acknowledges, stepped_loses, stepped_sent, stepped_stays, stepped_transfer, at_once}
 use Rattle.dcsctp_delivery_directions.proofs.Flushing.{flushed, stepped_flushes}
-use Rattle.dcsctp_delivery_directions.proofs.Performing.{newest_of}
+use Rattle.dcsctp_delivery_directions.proofs.Performing.{newest_of, stepped_performs}
 use Rattle.dcsctp_delivery_directions.proofs.Renewing.{stepped_renews}
 use Rattle.dcsctp_delivery_directions.proofs.Standing.{Stands}
 use Rattle.dcsctp_delivery_directions.proofs.Steps.{stepped}
@@ -43,29 +43,29 @@ module _ (first : ℕ) (old : Direction) (s : Stands first old) (below : Endpoin
 
 -- The sender ends a reset. With interleaving the receiver has performed it.
 ended_continues : (first : ℕ) (old : Direction) (s : Stands first old) (b : Bool) (is : old.queues.queue.is_interleaved ≡ b) (go_on : old.queues.queue.is_interleaved ≡ true → (old.asking.out ≤ 1) × (old.asking.is_performed ≡ true))
-    → old.asking.is_performed ≡ false → Continues s.history (commits_by first old s b is go_on).history
+    → (old.queues.queue.is_interleaved ≡ true → old.asking.is_performed ≡ false) → Continues s.history (commits_by first old s b is go_on).history
 unfolding commits_by commits_plain stepped_queue
-ended_continues first old s true is go_on unperformed = absurd (let clash : true ≡ false = sym (go_on is).1 ∙ unperformed in cc)
+ended_continues first old s true is go_on unperformed = absurd (let clash : true ≡ false = sym (go_on is).1 ∙ unperformed is in cc)
 ended_continues first old s false is go_on unperformed = continues_same s.history
 
-pub calm_continues : (first : ℕ) (old : Direction) (small : first < 2 ^ 32) (s : Stands first old) (direction : Direction) (few : length direction.queued < 2 ^ 64) (step : DirectionStep old direction) → ResetsNothing old direction step → old.asking.is_performed ≡ false
-    → Continues s.history (stepped first old small s direction few step).history
-unfolding stepped stepped_commits stepped_rolls_back stepped_defers stepped_queues stepped_sets stepped_queue stepped_prepares stepped_receives stepped_receives_interleaved stepped_forwards stepped_forwards_interleaved stepped_tracks stepped_takes takes_data stepped_arrived skips stepped_resends stepped_resends_nothing stepped_speaks stepped_asks_again stepped_turns_aside stepped_acknowledges stepped_loses stepped_sent stepped_stays stepped_transfer stepped_flushes stepped_renews
-calm_continues first old small s _ few (queues now sending fits some) calm unperformed = continues_same s.history
-calm_continues first old small s _ few (sets setting fits) calm unperformed = continues_same s.history
-calm_continues first old small s _ few (prepares ids fit kept) calm unperformed = continues_same s.history
-calm_continues first old small s _ few (commits go_on) calm unperformed = ended_continues first old s old.queues.queue.is_interleaved refl go_on unperformed
-calm_continues first old small s _ few (rolls_back unmixed) calm unperformed = continues_same s.history
-calm_continues first old small s _ few (flushes e draft answers same no_data allowed) calm unperformed = flushed_continues first old s _ _ _ _ _ _
-calm_continues first old small s _ few (resends now room transfer left tsns chunks emission known sends are contents) calm unperformed =
+pub calm_continues : (first : ℕ) (old : Direction) (small : first < 2 ^ 32) (s : Stands first old) (direction : Direction) (few : length direction.queued < 2 ^ 64) (step : DirectionStep old direction)
+    → (old.queues.queue.is_interleaved ≡ true → old.asking.is_performed ≡ false) → Continues s.history (stepped first old small s direction few step).history
+unfolding stepped stepped_commits stepped_rolls_back stepped_defers stepped_queues stepped_sets stepped_queue stepped_prepares stepped_receives stepped_receives_interleaved stepped_forwards stepped_forwards_interleaved stepped_tracks stepped_takes takes_data stepped_arrived skips stepped_resets stepped_performs stepped_resends stepped_resends_nothing stepped_speaks stepped_asks_again stepped_turns_aside stepped_acknowledges stepped_loses stepped_sent stepped_stays stepped_transfer stepped_flushes stepped_renews
+calm_continues first old small s _ few (queues now sending fits some) unperformed = continues_same s.history
+calm_continues first old small s _ few (sets setting fits) unperformed = continues_same s.history
+calm_continues first old small s _ few (prepares ids fit kept) unperformed = continues_same s.history
+calm_continues first old small s _ few (commits go_on) unperformed = ended_continues first old s old.queues.queue.is_interleaved refl go_on unperformed
+calm_continues first old small s _ few (rolls_back unmixed) unperformed = continues_same s.history
+calm_continues first old small s _ few (flushes e draft answers same no_data allowed) unperformed = flushed_continues first old s _ _ _ _ _ _
+calm_continues first old small s _ few (resends now room transfer left tsns chunks emission known sends are contents) unperformed =
     let stays = at_once first old s now room transfer left tsns known sends in
     record { more = stays.more; log = refl; floors = refl; current = stays.current; marks = (extends_grown stays.more s.history).later }
-calm_continues first old small s _ few (resends_nothing now room transfer left tsns known sends) calm unperformed =
+calm_continues first old small s _ few (resends_nothing now room transfer left tsns known sends) unperformed =
     let stays = at_once first old s now room transfer left tsns known sends in
     record { more = stays.more; log = refl; floors = refl; current = stays.current; marks = (extends_grown stays.more s.history).later }
-calm_continues first old small s _ few (speaks emission no_data) calm unperformed = continues_same s.history
-calm_continues first old small s _ few (asks_again emission begun was contents) calm unperformed = continues_same s.history
-calm_continues first old small s _ few (renews emission newest earlier number asks out contents) calm unperformed =
+calm_continues first old small s _ few (speaks emission no_data) unperformed = continues_same s.history
+calm_continues first old small s _ few (asks_again emission begun was contents) unperformed = continues_same s.history
+calm_continues first old small s _ few (renews emission newest earlier number asks out contents) unperformed =
     let m = newest_of s.history.marks newest earlier (sym s.asked ∙ asks) in
     record {
       more = [];
@@ -74,19 +74,19 @@ calm_continues first old small s _ few (renews emission newest earlier number as
       current = λ n f at kind. absurd (cc);
       marks = (extends_renewed number m.mark s.history (subst (λ (l : List Mark). HasEntry m.mark l) (sym m.is) (inl refl))).later;
     }
-calm_continues first old small s _ few (turns_aside transfer new known same) calm unperformed = continues_same s.history
-calm_continues first old small s _ few (acknowledges now sack transfer new known valid does) calm unperformed = continues_same s.history
-calm_continues first old small s _ few (loses now transfer known) calm unperformed = continues_same s.history
-calm_continues first old small s _ few (receives emission chunk theirs new was holds some same same' does) calm unperformed = continues_same s.history
-calm_continues first old small s _ few (forwards emission tsn streams theirs new was holds same same' does) calm unperformed = continues_same s.history
-calm_continues first old small s _ few (receives_interleaved emission chunk theirs new was holds some same same' does) calm unperformed = continues_same s.history
-calm_continues first old small s _ few (forwards_interleaved emission tsn streams theirs new was holds same same' does) calm unperformed = continues_same s.history
-calm_continues first old small s _ few (tracks new cumulative ranges) calm unperformed = continues_same s.history
-calm_continues first old small s _ few (defers last_tsn streams some) calm unperformed = continues_same s.history
-calm_continues first old small s _ few (performs newest earlier new asks unknown reached own leaves) calm unperformed = absurd calm
-calm_continues first old small s _ few (resets streams new unmixed some leaves) calm unperformed = absurd calm
-calm_continues first old small s _ few (performs_earlier newest earlier new asks unknown reached own leaves) calm unperformed = absurd calm
-calm_continues first old small s _ few (takes message messages is) calm unperformed = continues_same s.history
+calm_continues first old small s _ few (turns_aside transfer new known same) unperformed = continues_same s.history
+calm_continues first old small s _ few (acknowledges now sack transfer new known valid does) unperformed = continues_same s.history
+calm_continues first old small s _ few (loses now transfer known) unperformed = continues_same s.history
+calm_continues first old small s _ few (receives emission chunk theirs new was holds some same same' does) unperformed = continues_same s.history
+calm_continues first old small s _ few (forwards emission tsn streams theirs new was holds same same' does) unperformed = continues_same s.history
+calm_continues first old small s _ few (receives_interleaved emission chunk theirs new was holds some same same' does) unperformed = continues_same s.history
+calm_continues first old small s _ few (forwards_interleaved emission tsn streams theirs new was holds same same' does) unperformed = continues_same s.history
+calm_continues first old small s _ few (tracks new cumulative ranges) unperformed = continues_same s.history
+calm_continues first old small s _ few (defers last_tsn streams some) unperformed = continues_same s.history
+calm_continues first old small s _ few (performs newest earlier new asks unknown reached own leaves) unperformed = continues_same s.history
+calm_continues first old small s _ few (resets streams new unmixed some leaves) unperformed = continues_same s.history
+calm_continues first old small s _ few (performs_earlier newest earlier new asks unknown reached own leaves) unperformed = continues_same s.history
+calm_continues first old small s _ few (takes message messages is) unperformed = continues_same s.history
 
 -- ---- the receiver has performed no reset
 
@@ -153,6 +153,10 @@ none_asked old _ (resets streams new unmixed some leaves) none = none
 none_asked old _ (performs_earlier newest earlier new asks unknown reached own leaves) none = none
 none_asked old _ (takes message messages is) none = none
 
+-- Where none was begun, there are no streams of one.
+pub none_has : (requests : List BegunReset) (streams : List ℕ) → HasAsked requests streams → requests ≡ [] → ⊥
+none_has requests streams asked none = subst (λ (l : List BegunReset). HasEntry asked.begun l) none asked.has
+
 -- So its receiver resets nothing.
 pub unasked_calm : (old direction : Direction) (step : DirectionStep old direction) → old.asking.requests ≡ [] → ResetsNothing old direction step
 unasked_calm old _ (queues now sending fits some) none = tt
@@ -176,6 +180,6 @@ unasked_calm old _ (forwards_interleaved emission tsn streams theirs new was hol
 unasked_calm old _ (tracks new cumulative ranges) none = tt
 unasked_calm old _ (defers last_tsn streams some) none = tt
 unasked_calm old _ (performs newest earlier new asks unknown reached own leaves) none = absurd (let clash : newest ∷ earlier ≡ [] = sym asks ∙ none in cc)
-unasked_calm old _ (resets streams new unmixed some leaves) none = absurd (some none)
+unasked_calm old _ (resets streams new unmixed some leaves) none = absurd (none_has old.asking.requests streams some none)
 unasked_calm old _ (performs_earlier newest earlier new asks unknown reached own leaves) none = absurd (let clash : newest ∷ earlier ≡ [] = sym asks ∙ none in cc)
 unasked_calm old _ (takes message messages is) none = tt

@@ -1,5 +1,5 @@
 -- A flush of the sender, which may begin a reset of streams.
-use Rattle.std.proofs.Common.{◌≡◌, ℕ, ◌<◌, ◌^◌, List, [], ◌∷◌, ◌++◌, length, sym, ◌∙◌, ap, arith, subst, inl, inr}
+use Rattle.std.proofs.Common.{◌≡◌, ℕ, true, ◌<◌, ◌^◌, List, [], ◌∷◌, ◌++◌, length, sym, ◌∙◌, ap, arith, subst, inl, inr}
 use Rattle.std.specs.Prelude.{Option, None, Some}
 use Rattle.std.proofs.lemmas.List.{length-append}
 use Rattle.dcsctp_spec.specs.endpoint.Endpoint.{Endpoint}
@@ -9,7 +9,9 @@ use Rattle.dcsctp_spec.specs.queues.Transfer.{EndpointQueues}
 use Rattle.dcsctp_spec.specs.endpoint.BegunResets.{BegunReset}
 use Rattle.dcsctp_spec.specs.endpoint.FlushOutcomes.{first_ask, packets_allowed, Answer, FlushAnswers, flush_of}
 use Rattle.dcsctp_delivery_sending.specs.Log.{History, Slot, log_extended, with_mark}
-use Rattle.dcsctp_delivery_sending.specs.Flushes.{NoData, QueuesFollowLog, SendsLogged, reset_begun_by}
+use Rattle.dcsctp_delivery_sending.specs.Flushes.{NoData, QueuesFollowLog, SendsLogged, AreHandedFor, reset_begun_by}
+use Rattle.dcsctp_delivery_sending.specs.Numbers.{is_handed_out, stream_named}
+use Rattle.dcsctp_spec.specs.queues.Reassembly.{names_stream}
 use Rattle.dcsctp_delivery_directions.specs.Directions.{Direction, asking_with}
 use Rattle.dcsctp_delivery_sending.proofs.Packets.{none_said}
 use Rattle.dcsctp_delivery_sending.proofs.Flushes.{flush_sends}
@@ -87,3 +89,12 @@ module _ (first : ℕ) (old : Direction) (s : Stands first old) where
       flush_sends old.queued s.history first old.acknowledged e draft answers (subst (λ (b : EndpointQueues). QueuesFollowLog old.queued s.history first old.acknowledged b) (sym same) s.queues) (none_said s.history first draft.packet.contents no_data) allowed in
       flushed after events (flush_next first_ask (packets_allowed e.options.max_burst e.core) e draft answers allowed ∙ ap (λ (b : EndpointQueues). b.queue.next_message_id) same) (flush_kind first_ask (packets_allowed e.options.max_burst e.core) e draft answers allowed ∙ ap (λ (b : EndpointQueues). b.queue.is_interleaved) same) (reset_begun_by answers)
       (subst (λ (b : EndpointQueues). SendsLogged old.queued s.history first old.acknowledged b.queue (reset_begun_by answers) after events) same sends)
+
+  -- The streams that the request of a flush names are handed out then.
+  pub flush_hands : (e : Endpoint) (draft : Emission) (answers : List Answer) → e.queues ≡ old.queues → NoData draft.packet.contents → FlushAnswers e draft answers → (begun : BegunReset) → reset_begun_by answers ≡ Some begun
+      → (id : ℕ) → names_stream begun.reset.streams id ≡ true → is_handed_out (stream_named id (flush_of e draft answers).after.queues.queue.streams).pause ≡ true
+  flush_hands e draft answers same no_data allowed begun is id names =
+      let after : EndpointQueues = (flush_of e draft answers).after.queues in
+      let sends : SendsLogged old.queued s.history first old.acknowledged e.queues.queue (reset_begun_by answers) after (flush_of e draft answers).events =
+      flush_sends old.queued s.history first old.acknowledged e draft answers (subst (λ (b : EndpointQueues). QueuesFollowLog old.queued s.history first old.acknowledged b) (sym same) s.queues) (none_said s.history first draft.packet.contents no_data) allowed in
+      (subst (λ (b : Option BegunReset). AreHandedFor b sends.ids after.queue.streams) is sends.named id names).1

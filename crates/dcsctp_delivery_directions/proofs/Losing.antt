@@ -214,7 +214,7 @@ run_loses_none options first size _ small few are (goes_on old direction run ste
     let kept : KeepsAll old.beginning = keeps_before old direction step keeps in
     let earlier = run_loses_none options first size old small (omega (arith, few, more_queued old direction step)) (unlimited_before old direction step are) run kept before in
     let s = stepped first old small earlier.stands direction few step in
-    let c : Continues earlier.stands.history s.history = calm_continues first old small earlier.stands direction few step calm earlier.unperformed in
+    let c : Continues earlier.stands.history s.history = calm_continues first old small earlier.stands direction few step (λ interleaved. earlier.unperformed) in
     record {
       stands = s;
       unperformed = stays_unperformed old direction step calm earlier.unperformed;

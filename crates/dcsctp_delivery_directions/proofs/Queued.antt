@@ -156,24 +156,24 @@ module _ (first : ℕ) (old : Direction) (s : Stands first old) where
       stepped_queue (queue_rolled_back old.queues.queue) refl refl (λ id handed. absurd (rolled_back_handed old.queues.queue id handed)) 0 (λ id handed. absurd (rolled_back_handed old.queues.queue id handed))
       (rolling_back_hold old.queued s.history old.queues.queue now_queues)
 
-  -- a stream that is handed out was never used in the association, if no reset was begun in it
-  unused_so : s.history.marks ≡ [] → (id : ℕ) → is_handed_out (stream_named id old.queues.queue.streams).pause ≡ true → begun_on id s.history.log ≡ 0
-  unused_so none id handed =
+  -- a stream that is handed out was never used in the association, if no reset of it was begun in that
+  unused_so : (id : ℕ) → ((mark : Mark) → HasEntry mark s.history.marks → Resets mark id → ⊥) → is_handed_out (stream_named id old.queues.queue.streams).pause ≡ true → begun_on id s.history.log ≡ 0
+  unused_so id none handed =
       elim (s.quiet id handed) [
         | inl unsent ↦ none_begun id s.history.log unsent
-        | inr behind ↦ absurd (no_mark (behind.mark) old.asking.out s.history.marks none behind.has)
+        | inr behind ↦ absurd (none behind.mark (among behind.mark old.asking.out s.history.marks behind.has) behind.names)
       ]
     where
-      no_mark : (mark : Mark) (out : ℕ) (marks : List Mark) → marks ≡ [] → HasEntry mark (take out marks) → ⊥
-      no_mark mark zero [] is has = has
-      no_mark mark (suc out) [] is has = has
-      no_mark mark out (m ∷ marks) is has = absurd (cc)
+      among : (mark : Mark) (out : ℕ) (marks : List Mark) → HasEntry mark (take out marks) → HasEntry mark marks
+      among mark zero marks has = absurd has
+      among mark (suc out) [] has = absurd has
+      among mark (suc out) (m ∷ marks) has = elim has [ inl e ↦ inl e | inr rest ↦ inr (among mark out marks rest) ]
 
   -- SSNs are counted on
   pub ssns_ended : CountsSsns s.history old.queues.queue.streams old.queues.queue.under_way → CountsSsns s.history (queue_committed old.queues.queue).streams old.queues.queue.under_way
   ssns_ended c =
       record {
-        turns = λ id start. ssns_committed id s.history.log old.queues.queue.streams old.queues.queue.under_way s.queues.numbers.kept (unused_so start.none id) (c.turns id start);
+        turns = λ id start. ssns_committed id s.history.log old.queues.queue.streams old.queues.queue.under_way s.queues.numbers.kept (unused_so id start.none) (c.turns id start);
         closes = c.closes;
         rests = c.rests;
       }

@@ -82,6 +82,12 @@ pub record Direction : Type 0 where
   pub asking : Asking
   pub beginning : Beginning
 
+-- A request that was begun names these streams.
+pub record HasAsked (requests : List BegunReset) (streams : List ℕ) : Type 0 where
+  pub begun : BegunReset
+  pub has : HasEntry begun requests
+  pub is : begun.reset.streams ≡ streams
+
 -- once this reset was begun, if one was
 abbrev pub asking_with : Option BegunReset → Asking → Asking
 asking_with None asking = asking
@@ -172,9 +178,8 @@ pub data DirectionStep (old : Direction) : Direction → Type 0 where
       → DirectionStep old (record old { tracker = new.tracker; reassembly = new.reassembly })
   -- The receiver acknowledges, now or later.
   tracks : (new : TrackerState) → new.cumulative ≡ old.tracker.cumulative → new.ranges ≡ old.tracker.ranges → DirectionStep old (record old { tracker = new })
-  -- Streams are to be reset once all up to a TSN was received, whichever they are, and whatever it is, where the sender has
-  -- begun a request.
-  defers : (last_tsn : ℕ) (streams : List ℕ) → old.asking.requests ≢ [] → DirectionStep old (record old { reassembly = deferring last_tsn streams old.reassembly })
+  -- The streams of a request that the sender has begun are to be reset once all up to a TSN was received, whatever that is.
+  defers : (last_tsn : ℕ) (streams : List ℕ) → HasAsked old.asking.requests streams → DirectionStep old (record old { reassembly = deferring last_tsn streams old.reassembly })
   -- The newest reset is performed: all that was sent before it was received, and what waits, waits for it. With interleaving it
   -- wasn't performed before under its number.
   performs : (newest : BegunReset) (earlier : List BegunReset) (new : ReassemblyState) → old.asking.requests ≡ newest ∷ earlier
@@ -185,8 +190,8 @@ pub data DirectionStep (old : Direction) : Direction → Type 0 where
   performs_earlier : (newest : BegunReset) (earlier : List BegunReset) (new : ReassemblyState) → old.asking.requests ≡ newest ∷ earlier
       → (old.queues.queue.is_interleaved ≡ true → old.asking.is_performed ≡ false) → is_reset_reached newest.reset old.tracker ≡ true → IsOwn newest.reset old.reassembly.deferral
       → EndsDeferral newest.reset.streams old.reassembly new → DirectionStep old (record old { reassembly = new })
-  -- Without interleaving streams are reset, whichever, where the sender has begun a request.
-  resets : (streams : List ℕ) (new : ReassemblyState) → old.queues.queue.is_interleaved ≡ false → old.asking.requests ≢ [] → EndsDeferral streams old.reassembly new → DirectionStep old (record old { reassembly = new })
+  -- Without interleaving the streams of any request that the sender has begun are reset.
+  resets : (streams : List ℕ) (new : ReassemblyState) → old.queues.queue.is_interleaved ≡ false → HasAsked old.asking.requests streams → EndsDeferral streams old.reassembly new → DirectionStep old (record old { reassembly = new })
   -- Its user reads a message.
   takes : (message : MessageContent) (messages : List MessageContent) → old.reassembly.incoming.ready ≡ message ∷ messages
       → DirectionStep old (record old { reassembly = with_ready messages old.reassembly; read = old.read ++ message ∷ [] })

@@ -28,7 +28,7 @@ use Rattle.dcsctp_delivery_receiving.proofs.Growing.{were_more}
 use Rattle.dcsctp_delivery_receiving.proofs.Waiting.{both_queued}
 use Rattle.dcsctp_delivery_directions.specs.Calm.{ResetsNothing}
 use Rattle.dcsctp_delivery_directions.specs.Directions.{Beginning, BeginsAs, Direction, Asking, assigned, BeginsDirection, IsAwaited, NoneInFlight, DirectionRun, begins, goes_on, starts, DirectionStep, queues, sets, prepares, commits, rolls_back, flushes, resends, resends_nothing, speaks, asks_again, renews, turns_aside, acknowledges, loses, receives, forwards, receives_interleaved, forwards_interleaved, tracks, defers, performs, resets, performs_earlier, takes}
-use Rattle.dcsctp_delivery_directions.proofs.Calm.{Continues, continues_same, calm_continues, stays_unperformed, none_asked, unasked_calm}
+use Rattle.dcsctp_delivery_directions.proofs.Calm.{none_has, Continues, continues_same, calm_continues, stays_unperformed, none_asked, unasked_calm}
 use Rattle.dcsctp_delivery_directions.proofs.Continuing.{begun_history, started_history}
 use Rattle.dcsctp_delivery_directions.proofs.Directions.{begun_stands, started_stands}
 use Rattle.dcsctp_delivery_directions.proofs.Standing.{Stands, cut_queued, content_said, packet_said}
@@ -40,6 +40,8 @@ use Rattle.dcsctp_delivery_directions.proofs.Losing.{same_beginning}
 use Rattle.dcsctp_delivery_order.proofs.Beginning.{waits_from}
 use Rattle.dcsctp_delivery_order.proofs.FewGrowing.{takes_few, few_before, received_more, received_nothing}
 use Rattle.dcsctp_delivery_order.proofs.PlainDirections.{counts_plain, in_order_front}
+use Rattle.dcsctp_spec_lemmas.specs.spec.endpoint.BegunResets.{BegunReset}
+use Rattle.dcsctp_delivery_order.specs.Plain.{CountsPlain}
 use Rattle.dcsctp_delivery_order.proofs.PlainReceived.{stays_idle}
 use Rattle.dcsctp_delivery_order.proofs.FewTurns.{CountsFew, counts_few}
 use Rattle.dcsctp_delivery_order.proofs.FewLeaving.{IncomingFew}
@@ -67,7 +69,7 @@ pub record GoesFew (first : ℕ) (direction : Direction) : Type 0 where
 arrives_none : (first : ℕ) (direction : Direction) (s : Stands first direction) (floors : ℕ → Bool → ℕ) → s.history ≡ new_history floors → CountsFew s.history
     → ArrivesFew first s.history direction.queued direction.read direction.tracker direction.reassembly
 arrives_none first direction s floors is counts =
-    let a = s.arrived counts.plain.few in
+    let a = s.arrived (counts.plain 0).few in
     record { places = a.places; were = a.were; once = a.once; received = received_nothing direction.queued s.history (ap (λ (h : History). h.log) is) first a.places direction.tracker direction.reassembly a.received }
 
 -- ---- the history continues
@@ -120,7 +122,7 @@ module _ (first : ℕ) (old : Direction) (small : first < 2 ^ 32) (unasked : old
   idle_on _ (receives_interleaved emission chunk theirs new was holds some same same' does) calm = (stays_idle (i_data_arrival chunk) theirs new does (idle_then theirs new same')).0
   idle_on _ (forwards_interleaved emission tsn streams theirs new was holds same same' does) calm = forward_stays_idle tsn (messages_skipped_in streams) theirs new does (idle_then theirs new same')
   idle_on _ (tracks new cumulative ranges) calm = idle
-  idle_on _ (defers last_tsn streams some) calm = absurd (some unasked)
+  idle_on _ (defers last_tsn streams some) calm = absurd (none_has old.asking.requests streams some unasked)
   idle_on _ (performs newest earlier new asks unknown reached own leaves) calm = absurd calm
   idle_on _ (resets streams new unmixed some leaves) calm = absurd calm
   idle_on _ (performs_earlier newest earlier new asks unknown reached own leaves) calm = absurd calm
@@ -152,7 +154,7 @@ module _ (first : ℕ) (old : Direction) (small : first < 2 ^ 32) (unasked : old
     -- no I-FORWARD-TSN names a message
     none_interleaved : (passed : ℕ) (streams : List ℕ) (entries : List ((ℕ × Bool) × ℕ)) → streams ≡ flat_map (entry_bytes true) entries → AreForwardEntries true s.history passed entries → SkipTurns s.history passed (messages_skipped_in streams)
     none_interleaved passed streams [] is names = subst (λ (l : List ℕ). SkipTurns s.history passed (messages_skipped_in l)) (sym is) tt
-    none_interleaved passed streams (entry ∷ entries) is names = absurd (let clash : true ≡ false = sym names.0.kind ∙ counts.plain.kinds names.0.number names.0.piece names.0.at in cc)
+    none_interleaved passed streams (entry ∷ entries) is names = absurd (let clash : true ≡ false = sym names.0.kind ∙ (counts.plain 0).kinds names.0.number names.0.piece names.0.at in cc)
 
     arrives_on : (direction : Direction) (step : DirectionStep old direction) → ResetsNothing old direction step → ArrivesFew first s.history old.queued old.read old.tracker old.reassembly
         → ArrivesFew first s.history direction.queued direction.read direction.tracker direction.reassembly
@@ -187,7 +189,7 @@ module _ (first : ℕ) (old : Direction) (small : first < 2 ^ 32) (unasked : old
         skips_arrive a theirs new same same' tsn (messages_skipped_in streams) is.passed (none_interleaved is.passed.passed streams is.entries is.is is.names) does
     arrives_on _ (tracks new cumulative ranges) calm a =
         record { places = a.places; were = a.were; once = a.once; received = tracked_few old.queued s.history first a.places old.tracker new old.reassembly.incoming cumulative ranges a.received }
-    arrives_on _ (defers last_tsn streams some) calm a = absurd (some unasked)
+    arrives_on _ (defers last_tsn streams some) calm a = absurd (none_has old.asking.requests streams some unasked)
     arrives_on _ (performs newest earlier new asks unknown reached own leaves) calm a = absurd calm
     arrives_on _ (resets streams new unmixed some leaves) calm a = absurd calm
     arrives_on _ (performs_earlier newest earlier new asks unknown reached own leaves) calm a = absurd calm
@@ -204,7 +206,7 @@ steps_few : (first : ℕ) (old : Direction) → first < 2 ^ 32 → GoesFew first
     → GoesFew first direction
 steps_few first old small g unasked direction few step calm =
     let s = stepped first old small g.stands direction few step in
-    let c : Continues g.stands.history s.history = calm_continues first old small g.stands direction few step calm g.unperformed in
+    let c : Continues g.stands.history s.history = calm_continues first old small g.stands direction few step (λ interleaved. g.unperformed) in
     record {
       stands = s;
       unperformed = stays_unperformed old direction step calm g.unperformed;
@@ -276,7 +278,8 @@ plain_few_deliver_in_order options first size direction run small little few kin
     let g = run_few options first size direction small few run unasked in
     let s = g.stands in
     let count = s.count in
-    let counts = counts_plain first direction s kind (g.zero from kind) unasked (omega (arith, count, little)) in
+    let counts : (id : ℕ) → CountsPlain id s.history =
+    λ id. counts_plain first direction s kind (g.zero from kind) (omega (arith, count, little)) id (λ begun has. absurd (subst (λ (l : List BegunReset). HasEntry begun l) unasked has)) in
     let a = g.arrives (counts_few direction.queued s.history s.queues.cut counts low) in
     record {
       delivered = record { places = a.places; were_queued = a.were; once = a.once };

@@ -91,7 +91,7 @@ takes_few queued history first read tracker incoming message messages is r = go 
 pub few_before : (history later : History) (slots : List Slot) → later.log ≡ slots ++ history.log → ((n : ℕ) (slot : Slot) → at_place n history.log ≡ Some slot → at_place n later.log ≡ Some slot) → CountsFew later → CountsFew history
 few_before history later slots is stays counts =
     record {
-      plain = counts_before history later slots is counts.plain;
+      plain = λ id. counts_before history later slots is id (counts.plain id);
       low = λ id n f of. (
           let low = counts.low id n f (record { at = stays n (Some f) of.at; stream = of.stream; ordered = of.ordered }) in
           let same : turn_at id n later.log ≡ turn_at id n history.log = ap (λ (l : List Slot). turn_at id n l) is ∙ turn_more id n slots history.log (at_below n (Some f) history.log of.at) in
@@ -113,12 +113,12 @@ module _ (queued more : List Message) (history later : History) (cut : Cut (more
 
   -- what comes before the next one was sent before
   before_then : (id next n : ℕ) (f : Piece) → EndedBefore history id next → CarriesOrdered later.log id n f → number_at id n later.log < next → n < length history.log
-  before_then id next n f (inl e) of less = absurd (let some = some_turn (more ++ queued) later cut counts.plain id n f of in omega (arith, e, some, less))
+  before_then id next n f (inl e) of less = absurd (let some = some_turn (more ++ queued) later cut id (counts.plain id) n f of in omega (arith, e, some, less))
   before_then id next n f (inr c) of less =
       let below = at_below c.offset c.slot history.log c.at in
       let same = turn_stays id c.offset below in
       let reached = c.reached in
-      let some = some_turn (more ++ queued) later cut counts.plain id n f of in
+      let some = some_turn (more ++ queued) later cut id (counts.plain id) n f of in
       let after = none_after (more ++ queued) later cut counts.plain id (next - 2 ^ 32) n f (record { offset = c.offset; slot = c.slot; at = goes.stays c.offset c.slot c.at; ends = c.ends; reached = omega (arith, same, reached) }) of
       (omega (arith, less, some)) in
       omega (arith, after, below)

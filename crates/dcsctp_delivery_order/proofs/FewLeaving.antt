@@ -85,7 +85,7 @@ module _ (queued : List Message) (history : History) (now : List ℕ) (known : �
 
 -- ---- an ordered part
 
-module _ (queued : List Message) (history : History) (cut : Cut queued history.log) (counts : CountsPlain history) (got : List ℕ) (known : ℕ → Bool) (id : ℕ) (n : ℕ) (f : Piece) (is : CarriesOrdered history.log id n f) (has_known : (k : ℕ) → HasEntry k (n ∷ got) → known k ≡ true)
+module _ (queued : List Message) (history : History) (cut : Cut queued history.log) (counts : (id : ℕ) → CountsPlain id history) (got : List ℕ) (known : ℕ → Bool) (id : ℕ) (n : ℕ) (f : Piece) (is : CarriesOrdered history.log id n f) (has_known : (k : ℕ) → HasEntry k (n ∷ got) → known k ≡ true)
     (part : PartModel) (number_is : part.number ≡ number_at id n history.log)
     (old new : StreamModel) (before after : List MessageContent) (taken : Taken) (does : TakesOrdered part old before taken new after)
     (all places waits : List ℕ) (s : FewStream queued history known id all waits old)
@@ -98,7 +98,7 @@ module _ (queued : List Message) (history : History) (cut : Cut queued history.l
   row = parts_deliver_rows part old before taken new after s.order.ahead ahead does
 
   its : IsReadAs (with_turns history) id f.place part.number
-  its = subst (λ (k : ℕ). IsReadAs (with_turns history) id f.place k) (sym number_is) (read_as queued history cut counts id n f is)
+  its = subst (λ (k : ℕ). IsReadAs (with_turns history) id f.place k) (sym number_is) (read_as queued history cut id (counts id) n f is)
 
   -- the stream once these are delivered
   then_few : (more later : List ℕ) (delivered : List WholeModel) → DeliversRow old before new after delivered → AreReadAs (with_turns history) id more delivered → AreReadAs (with_turns history) id later new.waiting

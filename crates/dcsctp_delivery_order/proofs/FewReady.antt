@@ -35,7 +35,7 @@ use Rattle.dcsctp_delivery_order.proofs.FewLeaving.{apart_left, ordered_left, Ho
 
 module _ (queued : List Message) (history : History) (cut : Cut queued history.log) (counts : CountsFew history) (got : List ℕ) (known later_known : ℕ → Bool) (base : ℕ) (read : List ℕ) (grows : (k : ℕ) → known k ≡ true → later_known k ≡ true) where
   abbrev told : IsUnambiguous history
-  told = plain counts.plain.kinds
+  told = plain (counts.plain 0).kinds
 
   -- ---- the number of its message
 
@@ -43,7 +43,7 @@ module _ (queued : List Message) (history : History) (cut : Cut queued history.l
   pub ssn_is_read : (id n : ℕ) (f : Piece) (all waits : List ℕ) (stream : StreamModel) → FewStream queued history known id all waits stream → CarriesOrdered history.log id n f → (known n ≡ true → ⊥)
       → (stream.next ≤ number_at id n history.log) × (short_number_from stream.next (f.ssn % 2 ^ 16) ≡ number_at id n history.log)
   ssn_is_read id n f all waits stream s is unknown =
-      let turn : IsSsnOfTurn f.ssn (turn_at id n history.log) = subst (λ (k : ℕ). IsSsnOfTurn f.ssn (turn_at k n history.log)) is.stream (counts.plain.sent n f is.at is.ordered) in
+      let turn : IsSsnOfTurn f.ssn (turn_at id n history.log) = (counts.plain id).sent n f is in
       let some = turn.some in
       let low = counts.low id n f is in
       let from = s.from in
@@ -106,13 +106,13 @@ module _ (queued : List Message) (history : History) (cut : Cut queued history.l
         let part : IsPart history.log (ordered_base base) (IsOn history chunk.stream) (data_part chunk (fragment_place own_number tsn_number) own_number) =
         part_of history base (ordered_base base) (IsOn history chunk.stream) tsn_number (fragment_place own_number tsn_number) own_number chunk bears (ordered_placed history base tsn_number own_number chunk bears kind)
         (sym bears.stream, λ i. absurd (let clash : true ≡ false = sym i ∙ kind in cc)) in
-        let some = some_turn queued history cut counts.plain chunk.stream bears.offset bears.piece is in
+        let some = some_turn queued history cut chunk.stream (counts.plain chunk.stream) bears.offset bears.piece is in
         let low = counts.low chunk.stream bears.offset bears.piece is in
         let ahead_of : IsAhead (data_part chunk (fragment_place own_number tsn_number) own_number) (streams chunk.stream) =
         record {
           from = from;
           counted = omega (arith, some, low);
-          fresh = none_waits queued history cut counts.plain chunk.stream bears.offset bears.piece is (o.holds.waits chunk.stream) (streams chunk.stream).waiting (o.order chunk.stream).order.waiting
+          fresh = none_waits queued history cut chunk.stream (counts.plain chunk.stream) bears.offset bears.piece is (o.holds.waits chunk.stream) (streams chunk.stream).waiting (o.order chunk.stream).order.waiting
               (λ h. fresh chunk.stream (has_right bears.piece.place all (o.holds.waits chunk.stream) h));
         } in
         let does = takes.fresh ahead_of.fresh in
@@ -179,9 +179,9 @@ module _ (queued : List Message) (history : History) (cut : Cut queued history.l
       (ap (λ (s : List (ℕ × StreamModel)). λ id. stream_on id s) takes.streams) rows.0
       (makes_on tsn_number chunk bears is_new has_known (λ id. stream_on id old.streams) old.unordered old.ready o takes.does.outcome rows.1 (of_message (data_part chunk tsn_number chunk.stream) old.unordered new.unordered takes.does.outcome takes.does.parts)) takes.does.does
   by_numbering tsn_number (InterleavedOrdered mid fsn) chunk old new is bears numbered is_new unknown has_known o takes =
-      absurd (let clash : true ≡ false = sym numbered.0 ∙ counts.plain.kinds bears.offset bears.piece bears.at in cc)
+      absurd (let clash : true ≡ false = sym numbered.0 ∙ (counts.plain 0).kinds bears.offset bears.piece bears.at in cc)
   by_numbering tsn_number (InterleavedUnordered mid fsn) chunk old new is bears numbered is_new unknown has_known o takes =
-      absurd (let clash : true ≡ false = sym numbered.0 ∙ counts.plain.kinds bears.offset bears.piece bears.at in cc)
+      absurd (let clash : true ≡ false = sym numbered.0 ∙ (counts.plain 0).kinds bears.offset bears.piece bears.at in cc)
 
   pub ready_few : (tsn : ℕ) (chunk : ChunkModel) (old new : IncomingModel) → (bears : BearsPiece history base (number_near old.last_tsn_number tsn) chunk) → (HasEntry bears.offset got → ⊥) → (known bears.offset ≡ true → ⊥)
       → ((k : ℕ) → HasEntry k (bears.offset ∷ got) → later_known k ≡ true) → IncomingFew queued history got known base read old → TakesIncomingChunk tsn chunk old new → IncomingFew queued history (bears.offset ∷ got) later_known base read new

@@ -79,14 +79,14 @@ module _ (queued : List Message) (history : History) (first : ℕ) (cut : Cut qu
   unfolding bears_of
   data_few got known later offset tsn chunk old new grows c is_new unknown has_known (some_handled base is holds) takes =
       let below = at_below offset (Some c.carries.piece) history.log c.carries.at in
-      let all = counts.plain.few in
+      let all = (counts.plain 0).few in
       let few : offset < 2 ^ 31 = omega (arith, below, all) in
       let number = number_read first base old.last_tsn_number offset tsn is few c.carries.is in
       some_handled base (record { same = is.same; near = is.near; worked = offset; few = few; is = takes.last ∙ number })
       (ready_few queued history cut counts got known later base read grows tsn chunk old new (bears_of history first base offset tsn (number_near old.last_tsn_number tsn) chunk c number) is_new unknown has_known holds takes)
   data_few got known later offset tsn chunk old new grows c is_new unknown has_known (none_handled none last empty) takes =
       let below = at_below offset (Some c.carries.piece) history.log c.carries.at in
-      let all = counts.plain.few in
+      let all = (counts.plain 0).few in
       let few : offset < 2 ^ 31 = omega (arith, below, all) in
       let base : ℕ = number_near (2 ^ 32) ((first + offset) % 2 ^ 32) - offset in
       let up = first_number first offset small few in
@@ -105,13 +105,13 @@ module _ (queued : List Message) (history : History) (first : ℕ) (cut : Cut qu
     now = observed arrival.tsn arrival.immediate_ack old.tracker
 
     here : nearest_number old.tracker.cumulative ((first + offset) % 2 ^ 32) ≡ tracked first offset
-    here = number_is first (length history.log) offset old.tracker.cumulative small counts.plain.few below r.tracks.reached r.tracks.started
+    here = number_is first (length history.log) offset old.tracker.cumulative small (counts.plain 0).few below r.tracks.reached r.tracks.started
 
     its_tracks : Tracks first (length history.log) (offset ∷ r.got) now
     unfolding now
     its_tracks =
         subst (λ (t : ℕ). Tracks first (length history.log) (offset ∷ r.got) (observed t arrival.immediate_ack old.tracker)) (sym c.is)
-        (new_is_new first (length history.log) offset arrival.immediate_ack r.got old.tracker small counts.plain.few below r.tracks).0
+        (new_is_new first (length history.log) offset arrival.immediate_ack r.got old.tracker small (counts.plain 0).few below r.tracks).0
 
     still : (a b : Bool) → a ≡ true → (a || b) ≡ true
     still true b e = refl
@@ -131,7 +131,7 @@ module _ (queued : List Message) (history : History) (first : ℕ) (cut : Cut qu
         absurd (cc)
 
     current : CarriesCurrent history first offset arrival.tsn arrival.chunk
-    current = record { carries = c; current = λ i. absurd (let clash : true ≡ false = sym i ∙ counts.plain.kinds offset c.piece c.at in cc) }
+    current = record { carries = c; current = λ i. absurd (let clash : true ≡ false = sym i ∙ (counts.plain 0).kinds offset c.piece c.at in cc) }
 
     not_deferred : (o : Option DeferralModel) → o ≡ None → is_data_deferred arrival.tsn arrival.chunk.stream o ≡ false
     not_deferred None is = refl
@@ -151,7 +151,7 @@ module _ (queued : List Message) (history : History) (first : ℕ) (cut : Cut qu
         counted is adds false e = subst (λ (s : ReassemblyState). HasReceivedFew queued history first read (observed arrival.tsn arrival.immediate_ack old.tracker) s.incoming) (sym (adds.too_much e)) alone
         counted is adds true e =
             let taken = adds.taken e (not_deferred old.reassembly.deferral idle) in
-            let is_new = (new_is_new first (length history.log) offset arrival.immediate_ack r.got old.tracker small counts.plain.few below r.tracks).1 (subst (λ (t : ℕ). is_new_tsn t old.tracker ≡ true) c.is is) in
+            let is_new = (new_is_new first (length history.log) offset arrival.immediate_ack r.got old.tracker small (counts.plain 0).few below r.tracks).1 (subst (λ (t : ℕ). is_new_tsn t old.tracker ≡ true) c.is is) in
             record {
               got = offset ∷ r.got;
               tracks = its_tracks;
@@ -180,14 +180,14 @@ module _ (queued : List Message) (history : History) (first : ℕ) (cut : Cut qu
   forward_few : (got : List ℕ) (known : ℕ → Bool) (tsn : ℕ) (entries : List SkippedTo) (old new : IncomingModel) → (t : IsTsn history.log first tsn) → SkipTurns history (t.offset + 1) entries
       → ((k : ℕ) → HasEntry k got → known k ≡ true) → ((k : ℕ) → k < t.offset + 1 → known k ≡ true) → ReassemblesFew queued history known first got read old → MovesOn tsn entries old new → ReassemblesFew queued history known first got read new
   forward_few got known tsn entries old new t skip has_known passed (some_handled base is holds) moves =
-      let all = counts.plain.few in
+      let all = (counts.plain 0).few in
       let below = t.below in
       let few : t.offset < 2 ^ 31 = omega (arith, all, below) in
       let number = number_read first base old.last_tsn_number t.offset tsn is few t.is in
       some_handled base (record { same = is.same; near = is.near; worked = t.offset; few = few; is = moves.last ∙ number })
       (skipping_few queued history cut counts got known has_known (t.offset + 1) base passed read tsn entries old new skip holds moves)
   forward_few got known tsn entries old new t skip has_known passed (none_handled none last empty) moves =
-      let all = counts.plain.few in
+      let all = (counts.plain 0).few in
       let below = t.below in
       let few : t.offset < 2 ^ 31 = omega (arith, all, below) in
       let base : ℕ = number_near (2 ^ 32) ((first + t.offset) % 2 ^ 32) - t.offset in
@@ -219,17 +219,17 @@ module _ (queued : List Message) (history : History) (first : ℕ) (cut : Cut qu
         by_offset is = subst (λ (n : ℕ). is_forward old.tracker.cumulative n ≡ true) t.is is
 
         here : nearest_number old.tracker.cumulative tsn ≡ tracked first t.offset
-        here = ap (nearest_number old.tracker.cumulative) t.is ∙ number_is first (length history.log) t.offset old.tracker.cumulative small counts.plain.few t.below r.tracks.reached r.tracks.started
+        here = ap (nearest_number old.tracker.cumulative) t.is ∙ number_is first (length history.log) t.offset old.tracker.cumulative small (counts.plain 0).few t.below r.tracks.reached r.tracks.started
 
         tracks : is_forward old.tracker.cumulative tsn ≡ true → Tracks first (length history.log) r.got (after_forward tsn old.tracker)
-        tracks is = subst (λ (n : ℕ). Tracks first (length history.log) r.got (after_forward n old.tracker)) (sym t.is) (passing_keeps first (length history.log) t.offset r.got old.tracker small counts.plain.few t.below r.tracks (by_offset is))
+        tracks is = subst (λ (n : ℕ). Tracks first (length history.log) r.got (after_forward n old.tracker)) (sym t.is) (passing_keeps first (length history.log) t.offset r.got old.tracker small (counts.plain 0).few t.below r.tracks (by_offset is))
 
         moved : is_forward old.tracker.cumulative tsn ≡ true → after_forward tsn old.tracker ≡ moved_forward tsn old.tracker
         moved is = subst (λ (c : Bool). (if c then moved_forward tsn old.tracker else delay_over old.tracker) ≡ moved_forward tsn old.tracker) (sym is) refl
 
         members : is_forward old.tracker.cumulative tsn ≡ true → (k : ℕ) → known_by first (after_forward tsn old.tracker) k ≡ (known_by first old.tracker k || nat_le (tracked first k) (nearest_number old.tracker.cumulative tsn))
         members is k =
-            let ahead = forward_beyond first (length history.log) t.offset r.got old.tracker small counts.plain.few t.below r.tracks (by_offset is) in
+            let ahead = forward_beyond first (length history.log) t.offset r.got old.tracker small (counts.plain 0).few t.below r.tracks (by_offset is) in
             ap (λ (s : TrackerState). has_received s (tracked first k)) (moved is)
             ∙ forwarded_members (nearest_number old.tracker.cumulative tsn) old.tracker.cumulative old.tracker.ranges (omega (arith, ahead, here)) r.tracks.beyond (tracked first k)
 
@@ -267,7 +267,7 @@ module _ (queued : List Message) (history : History) (first : ℕ) (cut : Cut qu
     nothing_few is moves = go (is_valid_tsn old.tracker.cumulative tsn) moves
       where
         none : is_forward old.tracker.cumulative tsn ≡ false
-        none = nothing_passed first (length history.log) old.tracker.cumulative tsn small counts.plain.few r.tracks.reached r.tracks.started is
+        none = nothing_passed first (length history.log) old.tracker.cumulative tsn small (counts.plain 0).few r.tracks.reached r.tracks.started is
 
         go : (b : Bool) → MovesWhere b tsn entries old new → HasReceivedFew queued history first read new.tracker new.reassembly.incoming
         go false same = same_transfer same

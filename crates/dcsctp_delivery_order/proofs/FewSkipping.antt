@@ -95,7 +95,7 @@ module _ (queued : List Message) (history : History) (cut : Cut queued history.l
     -- its number is read right
     number_is : short_number_near stream.next ssn ≡ number
     number_is =
-        let turn : IsSsnOfTurn skips.piece.ssn (turn_at id skips.number history.log) = subst (λ (k : ℕ). IsSsnOfTurn skips.piece.ssn (turn_at k skips.number history.log)) (sym skips.stream) (counts.plain.sent skips.number skips.piece skips.at skips.ordered) in
+        let turn : IsSsnOfTurn skips.piece.ssn (turn_at id skips.number history.log) = (counts.plain id).sent skips.number skips.piece its in
         let some = turn.some in
         let low = counts.low id skips.number skips.piece its in
         let from = s.from in
@@ -110,7 +110,7 @@ module _ (queued : List Message) (history : History) (cut : Cut queued history.l
     start_is : (stream.next ≤ start) × ((start ≡ stream.next) ⊎ (start ≡ number + 1))
     start_is =
         let low = counts.low id skips.number skips.piece its in
-        let some = some_turn queued history cut counts.plain id skips.number skips.piece its in
+        let some = some_turn queued history cut id (counts.plain id) skips.number skips.piece its in
         go stream.next number (omega (arith, low, some))
       where
         go : (next k : ℕ) → k + 1 < 2 ^ 64 → (next ≤ next_past k next) × ((next_past k next ≡ next) ⊎ (next_past k next ≡ k + 1))
@@ -127,7 +127,7 @@ module _ (queued : List Message) (history : History) (cut : Cut queued history.l
         closed e =
             let o = skips.over in
             let up = (turn_up id skips.number o.offset history.log o.from (at_below o.offset o.slot history.log o.at)).0 in
-            let some = some_turn queued history cut counts.plain id skips.number skips.piece its in
+            let some = some_turn queued history cut id (counts.plain id) skips.number skips.piece its in
             record { offset = o.offset; slot = o.slot; at = o.at; ends = o.ends; reached = omega (arith, up, e, some) }
 
     known_then : KnownBefore history known id start
@@ -140,8 +140,8 @@ module _ (queued : List Message) (history : History) (cut : Cut queued history.l
         passed_so e =
             let o = skips.over in
             let up = (turn_up id skips.number o.offset history.log o.from (at_below o.offset o.slot history.log o.at)).0 in
-            let some = some_turn queued history cut counts.plain id skips.number skips.piece its in
-            let some' = some_turn queued history cut counts.plain id n f is in
+            let some = some_turn queued history cut id (counts.plain id) skips.number skips.piece its in
+            let some' = some_turn queued history cut id (counts.plain id) n f is in
             let c : IsClosed history.log id (turn_at id skips.number history.log) = record { offset = o.offset; slot = o.slot; at = o.at; ends = o.ends; reached = up } in
             let before = none_after queued history cut counts.plain id (turn_at id skips.number history.log) n f c is (omega (arith, less, e, some, some')) in
             let to = o.to in
@@ -186,7 +186,7 @@ module _ (queued : List Message) (history : History) (cut : Cut queued history.l
         is = holds.rows.is;
         ordered = rows_filter (ordered_base base) (IsOn history id) (λ run. not (nat_le run.number (short_number_near stream.next ssn))) stream.ordered holds.rows.ordered;
         unordered = holds.rows.unordered;
-        next = λ start' w. absurd (let clash : true ≡ false = sym (w.kinds skips.number skips.piece skips.at) ∙ counts.plain.kinds skips.number skips.piece skips.at in cc);
+        next = λ start' w. absurd (let clash : true ≡ false = sym (w.kinds skips.number skips.piece skips.at) ∙ (counts.plain 0).kinds skips.number skips.piece skips.at in cc);
         last = holds.rows.last;
       }
 

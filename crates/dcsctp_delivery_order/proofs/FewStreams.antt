@@ -84,13 +84,13 @@ place_of history id (p ∷ places) (v ∷ wholes) w are has =
 -- ---- what a stream has then
 
 -- a stream on which nothing was received
-pub new_few : (queued : List Message) (history : History) (cut : Cut queued history.log) (counts : CountsPlain history) (known : ℕ → Bool) (id : ℕ) → FewStream queued history known id [] [] (new_stream id)
+pub new_few : (queued : List Message) (history : History) (cut : Cut queued history.log) (counts : (id : ℕ) → CountsPlain id history) (known : ℕ → Bool) (id : ℕ) → FewStream queued history known id [] [] (new_stream id)
 new_few queued history cut counts known id =
     record {
       order = new_in_order queued (with_turns history) id;
       from = omega arith;
       ended = inl refl;
-      over = λ n f is less. absurd (let some = some_turn queued history cut counts id n f is in omega (arith, some, less));
+      over = λ n f is less. absurd (let some = some_turn queued history cut id (counts id) n f is in omega (arith, some, less));
     }
 
 -- more is known
@@ -120,7 +120,7 @@ alike_few queued history known id all waits old new next waiting s =
       over = subst (λ (k : ℕ). KnownBefore history known id k) (sym next) s.over;
     }
 
-module _ (queued : List Message) (history : History) (cut : Cut queued history.log) (counts : CountsPlain history) (got : List ℕ) (known : ℕ → Bool) (has_known : (k : ℕ) → HasEntry k got → known k ≡ true)
+module _ (queued : List Message) (history : History) (cut : Cut queued history.log) (counts : (id : ℕ) → CountsPlain id history) (got : List ℕ) (known : ℕ → Bool) (has_known : (k : ℕ) → HasEntry k got → known k ≡ true)
     (id : ℕ) (all waits : List ℕ) (old : StreamModel) (order : StreamInOrder queued (with_turns history) id all waits old) where
   -- These become ready: all from a number on, before which all messages have ended.
   pub few_then : (start : ℕ) (more later : List ℕ) (delivered : List WholeModel) (new : StreamModel) (before after : List MessageContent) → DeliversRising old before new after delivered → AreReadAs (with_turns history) id more delivered
@@ -128,7 +128,7 @@ module _ (queued : List Message) (history : History) (cut : Cut queued history.l
       → HaveNumbers start new.next delivered → FewStream queued history known id (all ++ more) later new
   few_then start more later delivered new before after rising are left spent low up ended over have =
       record {
-        order = order_then queued (with_turns history) id all waits more later old new before after delivered (turns_follow queued history cut counts) order rising are left;
+        order = order_then queued (with_turns history) id all waits more later old new before after delivered (turns_follow queued history cut id (counts id)) order rising are left;
         from = omega (arith, low, up);
         ended = elim (eqb_tells new.next start) [
           | inl e ↦ subst (λ (k : ℕ). EndedBefore history id k) (sym e.1) ended
@@ -139,7 +139,7 @@ module _ (queued : List Message) (history : History) (cut : Cut queued history.l
           | inl e ↦
               (let one = have (number_at id n history.log) e.1 less in
               let its = place_of (with_turns history) id more delivered one.0 are one.1 in
-              let same = is_it queued history cut counts id n f its.0 is (subst (λ (k : ℕ). IsReadAs (with_turns history) id its.0 k) one.2 its.2) in
+              let same = is_it queued history cut id (counts id) n f its.0 is (subst (λ (k : ℕ). IsReadAs (with_turns history) id its.0 k) one.2 its.2) in
               has_known n (was_handled queued history.log cut got its.0 (spent its.0 its.1) n f is.at (sym same)))
         ];
       }
@@ -150,7 +150,7 @@ module _ (queued : List Message) (history : History) (cut : Cut queued history.l
           let its = place_of (with_turns history) id more delivered one.0 are one.1 in
           let number = one.2 in
           let counted = its.2.counted in
-          let sent = sent_from queued history cut counts id its.0 its.2.mid its.2.sent in
+          let sent = sent_from queued history cut id (counts id) its.0 its.2.mid its.2.sent in
           let s = spent its.0 its.1 in
           let both : Some s.last.message ≡ Some sent.piece.message =
           sym (cut.pieces s.last_offset s.last s.at_last).at ∙ ap (λ (k : ℕ). at_place k queued) (s.same ∙ sym sent.place_is) ∙ (cut.pieces sent.offset sent.piece sent.is.at).at in

@@ -90,10 +90,10 @@ before_one id place message (m ∷ queued) at on =
 
 -- The SSNs of the log count its messages, of which fewer than 2^15 were begun on each stream.
 pub record CountsFew (history : History) : Type 0 where
-  pub plain : CountsPlain history
+  pub plain : (id : ℕ) → CountsPlain id history
   pub low : (id n : ℕ) (f : Piece) → CarriesOrdered history.log id n f → turn_at id n history.log < 2 ^ 15
 
-module _ (queued : List Message) (history : History) (cut : Cut queued history.log) (counts : CountsPlain history) where
+module _ (queued : List Message) (history : History) (cut : Cut queued history.log) (counts : (id : ℕ) → CountsPlain id history) where
   on_stream : (id n : ℕ) (f : Piece) → CarriesOrdered history.log id n f → is_on id f.message ≡ true
   unfolding is_on
   on_stream id n f is = elim (eqb_tells f.message.stream id) [
@@ -113,7 +113,7 @@ module _ (queued : List Message) (history : History) (cut : Cut queued history.l
             let b = first_with history.log id turn n (at_below n (Some f) history.log is.at) (omega (arith, ne)) (omega (arith, same)) in
             let turn_is = b.is in
             let rest = turn_queued id turn b.offset b.first.piece b.first.is b.is in
-            let less = later_turn queued history cut counts id b.offset n b.first.piece f b.first.is is (omega (arith, turn_is, same)) in
+            let less = later_turn queued history cut id (counts id) b.offset n b.first.piece f b.first.is is (omega (arith, turn_is, same)) in
             let up = before_up id (b.first.piece.place + 1) f.place queued (omega (arith, less)) in
             omega (arith, rest, up, one))
       ]
@@ -140,7 +140,7 @@ pub record IsClosed (log : List Slot) (id turn : ℕ) : Type 0 where
   pub ends : IsEndSlot slot ⊎ (2 ^ 31 ≤ offset + 2)
   pub reached : turn ≤ turn_at id offset log
 
-module _ (queued : List Message) (history : History) (cut : Cut queued history.log) (counts : CountsPlain history) where
+module _ (queued : List Message) (history : History) (cut : Cut queued history.log) (counts : (id : ℕ) → CountsPlain id history) where
   -- their TSNs come before that
   pub none_after : (id turn n : ℕ) (f : Piece) (c : IsClosed history.log id turn) → CarriesOrdered history.log id n f → turn_at id n history.log ≤ turn → n ≤ c.offset
   none_after id turn n f c is low =
@@ -148,7 +148,7 @@ module _ (queued : List Message) (history : History) (cut : Cut queued history.l
         | inl e ↦ e.1
         | inr e ↦ absurd (elim c.ends [
           | inl ends ↦ gone_on e.1 ends
-          | inr last ↦ (let after : c.offset < n = e.1 in let below = at_below n (Some f) history.log is.at in let few = counts.few in omega (arith, after, below, few, last))
+          | inr last ↦ (let after : c.offset < n = e.1 in let below = at_below n (Some f) history.log is.at in let few = (counts 0).few in omega (arith, after, below, few, last))
         ])
       ]
     where
@@ -156,7 +156,7 @@ module _ (queued : List Message) (history : History) (cut : Cut queued history.l
       gone_on after ends =
           let up = (turn_up id c.offset n history.log (omega (arith, after)) (at_below n (Some f) history.log is.at)).0 in
           let reached = c.reached in
-          let row = row_of queued history cut counts id n f is in
+          let row = row_of queued history cut id (counts id) n f is in
           let turn_is = row.turn in
           let from : row.from ≤ c.offset = elim (leb_tells row.from c.offset) [
             | inl t ↦ t.1
@@ -183,9 +183,9 @@ module _ (queued : List Message) (history : History) (cut : Cut queued history.l
   pub one_turn : (id m n : ℕ) (f g : Piece) → CarriesOrdered history.log id m f → CarriesOrdered history.log id n g → f.place ≡ g.place → turn_at id m history.log ≡ turn_at id n history.log
   one_turn id m n f g is is' same =
       elim (leb_tells (turn_at id m history.log) (turn_at id n history.log)) [
-        | inr e ↦ absurd (let up = later_turn queued history cut counts id n m g f is' is e.1 in omega (arith, up, same))
+        | inr e ↦ absurd (let up = later_turn queued history cut id (counts id) n m g f is' is e.1 in omega (arith, up, same))
         | inl e ↦ elim (leb_tells (turn_at id n history.log) (turn_at id m history.log)) [
-          | inr e' ↦ absurd (let up = later_turn queued history cut counts id m n f g is is' e'.1 in omega (arith, up, same))
+          | inr e' ↦ absurd (let up = later_turn queued history cut id (counts id) m n f g is is' e'.1 in omega (arith, up, same))
           | inl e' ↦ (let a : turn_at id m history.log ≤ turn_at id n history.log = e.1 in let b : turn_at id n history.log ≤ turn_at id m history.log = e'.1 in omega (arith, a, b))
         ]
       ]

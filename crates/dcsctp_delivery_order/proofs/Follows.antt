@@ -107,7 +107,7 @@ pub counts_from_zero : (queued : List Message) (history : History) (id : ℕ) �
 counts_from_zero queued history id cut (interleaved kinds small few apart) are floor =
     record {
       kinds = kinds;
-      follows = follows_queue queued history.log cut kinds;
+      follows = λ m n f g at at' on on'. follows_queue queued history.log cut kinds m n f g at at' (on ∙ sym on');
       apart = apart;
       floor = floor;
       few = λ n f at on ordered. (
@@ -120,7 +120,7 @@ counts_from_zero queued history id cut (interleaved kinds small few apart) are f
 counts_from_zero queued history id cut (plain kinds) are floor =
     record {
       kinds = are;
-      follows = follows_queue queued history.log cut are;
+      follows = λ m n f g at at' on on'. follows_queue queued history.log cut are m n f g at at' (on ∙ sym on');
       apart = λ m n f g at at' on kind same. absurd (let clash : true ≡ false = sym (are m f at) ∙ kinds m f at in cc);
       floor = floor;
       few = λ n f at on ordered. absurd (let clash : true ≡ false = sym (are n f at) ∙ kinds n f at in cc);

@@ -6,7 +6,7 @@ use Rattle.dcsctp_spec_lemmas.specs.spec.queues.IncomingStreams.{StreamModel, ne
 use Rattle.dcsctp_delivery_sending.specs.Places.{HasEntry}
 use Rattle.dcsctp_delivery_sending.specs.Log.{Message, History}
 use Rattle.dcsctp_delivery_receiving.proofs.Distinct.{has_left, has_right}
-use Rattle.dcsctp_delivery_order.specs.Queue.{FollowsQueue, LeaveNoGap}
+use Rattle.dcsctp_delivery_order.specs.Queue.{FollowsOn, LeaveNoGap}
 use Rattle.dcsctp_delivery_order.specs.Rising.{FillRow}
 use Rattle.dcsctp_delivery_order.specs.Order.{IsSentAs, IsReadAs, AreReadAs, StreamInOrder, HasNumber, AreFilled}
 use Rattle.dcsctp_delivery_order.specs.Reading.{CountsFromZero}
@@ -42,7 +42,7 @@ rows_fill history id next end all more delivered are row filled number low less 
 -- ---- no gap
 
 -- Numbers of the stream follow the queue and tell its messages apart: then there is none.
-module _ (queued : List Message) (history : History) (id : ℕ) (follows : FollowsQueue history.log)
+module _ (queued : List Message) (history : History) (id : ℕ) (follows : FollowsOn id history.log)
     (apart : (p q m n : ℕ) → IsSentAs history id p m → IsSentAs history id q n → m ≡ n → p ≡ q) where
   lower : (earlier later mid : ℕ) → earlier < later → IsSentAs history id earlier mid → (other : ℕ) → IsSentAs history id later other → mid < other
   lower earlier later mid less one other two = elim (leb_tells other mid) [
@@ -54,7 +54,7 @@ module _ (queued : List Message) (history : History) (id : ℕ) (follows : Follo
           (let differ : other ≡ mid → ⊥ = ne.1 in
           let down : other ≤ mid = e.1 in
           let above : two.piece.mid < one.piece.mid = (let a = one.under in let b = two.under in omega (arith, a, b, differ, down)) in
-          let up = follows two.offset one.offset two.piece one.piece two.at one.at (two.stream ∙ sym one.stream) (two.ordered ∙ sym one.ordered) above in
+          let up = follows two.offset one.offset two.piece one.piece two.at one.at two.stream one.stream (two.ordered ∙ sym one.ordered) above in
           let p = one.is in
           let q = two.is in
           omega (arith, up, p, q, less))

@@ -1,7 +1,6 @@
 -- Streams that are reset, what the user reads, and more that the peer sends.
 use Rattle.std.proofs.Common.{◌≡◌, ℕ, Bool, true, false, ◌%◌, ◌^◌, List, [], ◌∷◌, ◌++◌, refl, sym, ◌∙◌, ap, subst, inl, inr, arith}
 use Rattle.std.specs.Prelude.{◌||◌, Some, not, if◌then◌else◌}
-use Rattle.std.specs.List.{filter}
 use Rattle.dcsctp_spec_lemmas.specs.types.queues.Messages.{MessageContent}
 use Rattle.dcsctp_spec_lemmas.specs.spec.queues.Runs.{RunModel, WholeModel}
 use Rattle.dcsctp_spec_lemmas.specs.spec.queues.IncomingStreams.{StreamModel, new_stream}
@@ -11,9 +10,9 @@ use Rattle.dcsctp_delivery_sending.specs.Places.{HasEntry, at_place}
 use Rattle.dcsctp_delivery_sending.specs.Log.{Message, History}
 use Rattle.dcsctp_delivery_sending.proofs.Extended.{at_more}
 use Rattle.dcsctp_delivery_receiving.specs.Rows.{AreRows}
-use Rattle.dcsctp_delivery_receiving.specs.Ready.{IsOfStream, unordered_base, AreDistinct, WereQueued, StreamHolds}
-use Rattle.dcsctp_delivery_receiving.proofs.Distinct.{has_right, appended, distinct_left, distinct_front}
-use Rattle.dcsctp_delivery_receiving.proofs.Skipping.{new_rows}
+use Rattle.dcsctp_delivery_receiving.specs.Ready.{IsOfStream, unordered_base, AreDistinct, WereQueued}
+use Rattle.dcsctp_delivery_receiving.proofs.Distinct.{has_right, appended, distinct_left}
+use Rattle.dcsctp_delivery_receiving.proofs.Skipping.{rows_filter, new_rows, holds_renewed}
 use Rattle.dcsctp_delivery_order.specs.Queue.{IsOrderedOn, ComeInOrder}
 use Rattle.dcsctp_delivery_order.specs.Order.{IsSentAs, AreReadAs, IsBetweenResets}
 use Rattle.dcsctp_delivery_order.specs.Reading.{CountsFromZero}
@@ -49,40 +48,17 @@ quiet_where gapless queued history false id all waits stream o = come_between qu
 quiet_where gapless queued history true id all waits stream between = between
 
 module _ (gapless : ℕ → Bool) (queued : List Message) (history : History) (quiet : ℕ → Bool) (got : List ℕ) (base : ℕ) (read : List ℕ) where
-  rows_left : (test : RunModel → Bool) (runs : List RunModel) → AreRows history.log got (unordered_base base) IsOfStream runs → AreRows history.log got (unordered_base base) IsOfStream (filter test runs)
-  rows_left test [] are = tt
-  rows_left test (r ∷ runs) are = go (test r) (rows_left test runs are.1)
-    where
-      go : (b : Bool) → AreRows history.log got (unordered_base base) IsOfStream (filter test runs) → AreRows history.log got (unordered_base base) IsOfStream (if b then r ∷ filter test runs else filter test runs)
-      go true rest = (are.0, rest)
-      go false rest = rest
-
   renewed : (named : ℕ → Bool) (streams later : ℕ → StreamModel) (unordered others : List RunModel) (ready : List MessageContent) → ((id : ℕ) → later id ≡ (if named id then new_stream id else streams id))
       → AreRows history.log got (unordered_base base) IsOfStream others → HoldsOrdered gapless queued history quiet got base read streams unordered ready
       → HoldsOrdered gapless queued history (λ id. quiet id || named id) got base read later others ready
+  unfolding holds_renewed
   renewed named streams later unordered others ready are rows o =
       record {
-        holds = record {
-          waits = λ id. if named id then [] else o.holds.waits id;
-          streams_hold = λ id. subst (λ (s : StreamModel). StreamHolds queued history got base id (if named id then [] else o.holds.waits id) s) (sym (are id)) (left_stream id (named id));
-          rows = rows;
-          places = o.holds.places;
-          were_queued = o.holds.were_queued;
-          spent = o.holds.spent;
-          once = λ id. left_once id (named id);
-        };
+        holds = holds_renewed queued history got base read named streams later unordered others ready are rows o.holds;
         order = λ id counts. subst (λ (s : StreamModel). OrderWhere (gapless id) (quiet id || named id) queued history id (read ++ o.holds.places) (if named id then [] else o.holds.waits id) s) (sym (are id))
             (left_order id (quiet id) (named id) (o.order id counts));
       }
     where
-      left_stream : (id : ℕ) (b : Bool) → StreamHolds queued history got base id (if b then [] else o.holds.waits id) (if b then new_stream id else streams id)
-      left_stream id true = record { rows = new_rows history got base id; wait = tt }
-      left_stream id false = o.holds.streams_hold id
-
-      left_once : (id : ℕ) (b : Bool) → AreDistinct ((read ++ o.holds.places) ++ (if b then [] else o.holds.waits id))
-      left_once id true = distinct_front (read ++ o.holds.places) (o.holds.waits id) (o.holds.once id)
-      left_once id false = o.holds.once id
-
       left_order : (id : ℕ) (was b : Bool) → OrderWhere (gapless id) was queued history id (read ++ o.holds.places) (o.holds.waits id) (streams id)
           → OrderWhere (gapless id) (was || b) queued history id (read ++ o.holds.places) (if b then [] else o.holds.waits id) (if b then new_stream id else streams id)
       left_order id true true between = between
@@ -98,7 +74,7 @@ module _ (gapless : ℕ → Bool) (queued : List Message) (history : History) (q
   resetting_in_order (reset ∷ others) old new o resets =
       subst (λ (l : List MessageContent). HoldsOrdered gapless queued history (λ id. quiet id || is_named (reset ∷ others) id) got base read (λ id. stream_on id new.streams) new.unordered l) (sym resets.kept.ready)
       (renewed (is_named (reset ∷ others)) (λ id. stream_on id old.streams) (λ id. stream_on id new.streams) old.unordered new.unordered old.ready resets.streams
-      (subst (λ (l : List RunModel). AreRows history.log got (unordered_base base) IsOfStream l) (sym resets.unordered) (rows_left (λ run. not (is_named (reset ∷ others) run.number)) old.unordered o.holds.rows)) o)
+      (subst (λ (l : List RunModel). AreRows history.log got (unordered_base base) IsOfStream l) (sym resets.unordered) (rows_filter queued history got base read (unordered_base base) IsOfStream (λ run. not (is_named (reset ∷ others) run.number)) old.unordered o.holds.rows)) o)
 
   -- ---- what the user reads
 

@@ -30,6 +30,7 @@ pub mod Steps
 pub mod Beginning
 pub mod PlainReceived
 pub mod PlainGrowing
+pub mod PlainEnding
 pub mod FewGrowing
 pub mod PlainSteps
 pub mod PlainDirections

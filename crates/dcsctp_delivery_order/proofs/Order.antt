@@ -12,7 +12,7 @@ use Rattle.dcsctp_delivery_sending.specs.Places.{HasEntry, at_place}
 use Rattle.dcsctp_delivery_sending.specs.Log.{Message, Piece, History}
 use Rattle.dcsctp_delivery_receiving.proofs.Distinct.{has_either}
 use Rattle.dcsctp_delivery_receiving.proofs.SpentRows.{of_message, IsOfMessage}
-use Rattle.dcsctp_delivery_order.specs.Queue.{IsOrderedOn, ComeInOrder, FollowsQueue}
+use Rattle.dcsctp_delivery_order.specs.Queue.{IsOrderedOn, ComeInOrder, FollowsOn}
 use Rattle.dcsctp_delivery_order.specs.Rising.{Rise, DeliversRising, IsAhead, ready_by, ready_past}
 use Rattle.dcsctp_delivery_order.specs.Order.{IsSentAs, IsReadAs, IsReadBelow, AreReadAs, StreamInOrder, StaysInOrder, IsBetweenResets}
 use Rattle.dcsctp_delivery_order.proofs.Rising.{parts_deliver_rows, skips_deliver_rising}
@@ -38,9 +38,9 @@ module _ (queued : List Message) (id : ℕ) where
 
 module _ (history : History) (id : ℕ) where
   -- the message with the higher number was queued later
-  sent_in_order : FollowsQueue history.log → (p q m n : ℕ) → IsSentAs history id p m → IsSentAs history id q n → m < n → p < q
+  sent_in_order : FollowsOn id history.log → (p q m n : ℕ) → IsSentAs history id p m → IsSentAs history id q n → m < n → p < q
   sent_in_order follows p q m n one two less =
-      let up = follows one.offset two.offset one.piece two.piece one.at two.at (one.stream ∙ sym two.stream) (one.ordered ∙ sym two.ordered) (omega (arith, one.under, two.under, less)) in
+      let up = follows one.offset two.offset one.piece two.piece one.at two.at one.stream two.stream (one.ordered ∙ sym two.ordered) (omega (arith, one.under, two.under, less)) in
       omega (arith, up, one.is, two.is)
 
   read_below : (place number end : ℕ) → IsReadAs history id place number → number < end → IsReadBelow history id place end
@@ -64,7 +64,7 @@ module _ (history : History) (id : ℕ) where
       ]
 
   -- one that is read below the first was queued before each of them
-  each_later : FollowsQueue history.log → (from end place earlier : ℕ) (places : List ℕ) (wholes : List WholeModel) → AreReadAs history id places wholes → Rise from end wholes → IsReadBelow history id earlier from → HasEntry place places
+  each_later : FollowsOn id history.log → (from end place earlier : ℕ) (places : List ℕ) (wholes : List WholeModel) → AreReadAs history id places wholes → Rise from end wholes → IsReadBelow history id earlier from → HasEntry place places
       → earlier < place
   each_later follows from end place earlier [] wholes are rise before has = absurd has
   each_later follows from end place earlier (p ∷ places) [] are rise before has = absurd are
@@ -80,7 +80,7 @@ module _ (history : History) (id : ℕ) where
             each_later follows (w.number + 1) end place earlier places wholes are.1 rise.1 (read_further earlier from (w.number + 1) before (omega (arith, low))) t)
       ]
 
-  rise_in_order : (queued : List Message) → FollowsQueue history.log → (from end : ℕ) (places : List ℕ) (wholes : List WholeModel) → AreReadAs history id places wholes → Rise from end wholes → ComeInOrder queued id places
+  rise_in_order : (queued : List Message) → FollowsOn id history.log → (from end : ℕ) (places : List ℕ) (wholes : List WholeModel) → AreReadAs history id places wholes → Rise from end wholes → ComeInOrder queued id places
   rise_in_order queued follows from end [] wholes are rise = tt
   rise_in_order queued follows from end (p ∷ places) [] are rise = absurd are
   rise_in_order queued follows from end (p ∷ places) (w ∷ wholes) are rise = (
@@ -119,7 +119,7 @@ module _ (history : History) (id : ℕ) where
 
 module _ (queued : List Message) (history : History) (id : ℕ) (all : List ℕ) where
   -- it delivers these
-  pub order_then : (waits more later : List ℕ) (old new : StreamModel) (before after : List MessageContent) (delivered : List WholeModel) → FollowsQueue history.log → StreamInOrder queued history id all waits old
+  pub order_then : (waits more later : List ℕ) (old new : StreamModel) (before after : List MessageContent) (delivered : List WholeModel) → FollowsOn id history.log → StreamInOrder queued history id all waits old
       → DeliversRising old before new after delivered → AreReadAs history id more delivered → AreReadAs history id later new.waiting → StreamInOrder queued history id (all ++ more) later new
   order_then waits more later old new before after delivered follows order rising are left =
       record {
@@ -133,13 +133,13 @@ module _ (queued : List Message) (history : History) (id : ℕ) (all : List ℕ)
         ahead = rising.waits;
       }
 
-  then_in_order : (waits more later : List ℕ) (old new : StreamModel) (before after : List MessageContent) (delivered : List WholeModel) → FollowsQueue history.log → StreamInOrder queued history id all waits old
+  then_in_order : (waits more later : List ℕ) (old new : StreamModel) (before after : List MessageContent) (delivered : List WholeModel) → FollowsOn id history.log → StreamInOrder queued history id all waits old
       → DeliversRising old before new after delivered → AreReadAs history id more delivered → AreReadAs history id later new.waiting → StaysInOrder queued history id all delivered new
   then_in_order waits more later old new before after delivered follows order rising are left =
       record { more = more; waits = later; are = are; order = order_then waits more later old new before after delivered follows order rising are left }
 
   pub parts_stay : (place : ℕ) (waits : List ℕ) (part : PartModel) (old : StreamModel) (before : List MessageContent) (taken : Taken) (new : StreamModel) (after : List MessageContent)
-      → FollowsQueue history.log → StreamInOrder queued history id all waits old → IsReadAs history id place part.number → IsAhead part old → (does : TakesOrdered part old before taken new after)
+      → FollowsOn id history.log → StreamInOrder queued history id all waits old → IsReadAs history id place part.number → IsAhead part old → (does : TakesOrdered part old before taken new after)
       → StaysInOrder queued history id all (ready_by old does.outcome) new
   parts_stay place waits part old before taken new after follows order is ahead does =
       by_outcome does.outcome does.does (of_message part old.ordered new.ordered does.outcome does.parts) (parts_deliver_rows part old before taken new after order.ahead ahead does).rising
@@ -166,7 +166,7 @@ module _ (queued : List Message) (history : History) (id : ℕ) (all : List ℕ)
               then_in_order waits [] (take among.at waits ++ place ∷ drop among.at waits) old new before after [] follows order rising' tt
               (subst (λ (l : List WholeModel). AreReadAs history id (take among.at waits ++ place ∷ drop among.at waits) l) (sym among.waiting) (read_among history id place among.at whole waits old.waiting its order.waiting))
 
-  pub skips_stay : (waits : List ℕ) (entry : SkippedTo) (old : StreamModel) → FollowsQueue history.log → StreamInOrder queued history id all waits old → StaysInOrder queued history id all (ready_past entry old) (skipped entry old)
+  pub skips_stay : (waits : List ℕ) (entry : SkippedTo) (old : StreamModel) → FollowsOn id history.log → StreamInOrder queued history id all waits old → StaysInOrder queued history id all (ready_past entry old) (skipped entry old)
   skips_stay waits (Ssn on ssn) old follows order =
       let split = parts_due history id (next_past (short_number_near old.next ssn) old.next) waits old.waiting order.waiting in
       then_in_order waits split.front split.back old (skipped (Ssn on ssn) old) [] ([] ++ skip_deliveries (Ssn on ssn) old) (ready_past (Ssn on ssn) old) follows order (skips_deliver_rising (Ssn on ssn) old [] order.ahead) split.are split.rest

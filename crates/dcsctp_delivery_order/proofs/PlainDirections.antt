@@ -1,85 +1,98 @@
--- Without interleaving order holds throughout a run of a direction.
-use Rattle.std.proofs.Common.{◌≡◌, ℕ, Bool, true, false, ◌<◌, ◌≤◌, ◌+◌, ◌^◌, List, [], ◌∷◌, ◌++◌, length, map, refl, sym, ◌∙◌, ap, arith, subst, inl, inr}
-use Rattle.std.specs.Prelude.{None, Some}
+-- Without interleaving order holds throughout a run of a direction on each stream that isn't reset.
+use Rattle.std.proofs.Common.{◌≡◌, ◌==◌, ℕ, Bool, true, false, ◌<◌, ◌≤◌, ◌^◌, List, [], ◌∷◌, ◌++◌, length, map, refl, sym, ◌∙◌, ap, arith, subst, inl, inr}
+use Rattle.std.specs.Prelude.{◌||◌, Option, Some}
 use Rattle.std.specs.List.{AllByRecursion}
 use Rattle.std.proofs.lemmas.List.{append-nil, length-append}
+use Rattle.std.proofs.lemmas.Bool.{eq-eqb}
+use Rattle.std.proofs.lemmas.Bool.Decides.{eqb_tells}
+use Rattle.dcsctp_spec_lemmas.specs.spec.endpoint.BegunResets.{BegunReset, stream_field}
+use Rattle.dcsctp_spec_lemmas.specs.spec.queues.Incoming.{is_named}
 use Rattle.dcsctp_spec_lemmas.specs.types.declared.options.Options.{Options}
 use Rattle.dcsctp_spec_lemmas.specs.types.queues.Messages.{MessageContent}
 use Rattle.dcsctp_spec_lemmas.specs.wire.Content.{data_chunk, i_data_chunk}
 use Rattle.dcsctp_spec_lemmas.specs.spec.Packet.{unworked, plain}
 use Rattle.dcsctp_spec_lemmas.specs.spec.queues.Arrivals.{Arrival, data_arrival, i_data_arrival}
-use Rattle.dcsctp_spec_lemmas.specs.spec.queues.Reassembly.{ReassemblyState}
+use Rattle.dcsctp_spec_lemmas.specs.spec.queues.Reassembly.{ReassemblyState, DeferralModel, names_stream, new_reassembly, deferring, EndsDeferral}
 use Rattle.dcsctp_spec_lemmas.specs.spec.queues.Tracker.{TrackerState}
-use Rattle.dcsctp_spec_lemmas.specs.spec.queues.Transfer.{Transfer, EndpointQueues}
+use Rattle.dcsctp_spec_lemmas.specs.spec.queues.Transfer.{Transfer, EndpointQueues, part_overhead}
 use Rattle.dcsctp_spec_lemmas.specs.spec.endpoint.TransferMoves.{ReceivesData}
 use Rattle.dcsctp_delivery_sending.specs.Places.{HasEntry, at_place}
-use Rattle.dcsctp_delivery_sending.specs.Log.{Fits, Message, Mark, Slot, History, new_history}
+use Rattle.dcsctp_delivery_sending.specs.Log.{Fits, Message, Mark, Slot, History, Resets, new_history}
 use Rattle.dcsctp_delivery_sending.specs.Flushes.{IsData, IsInterleaved}
-use Rattle.dcsctp_delivery_sending.specs.Losing.{AreUnlimited, NoneLost}
+use Rattle.dcsctp_delivery_sending.specs.Losing.{IsOpenOn, AreUnlimitedOn}
 use Rattle.dcsctp_delivery_sending.specs.Numbers.{CountsSsns, CountsWhere}
 use Rattle.dcsctp_delivery_sending.specs.Queueing.{QueueWaits, message_of}
 use Rattle.dcsctp_delivery_sending.proofs.Extended.{at_more}
 use Rattle.dcsctp_delivery_sending.proofs.Places.{at_cases}
 use Rattle.dcsctp_delivery_receiving.specs.Ready.{AreDistinct, WereQueued}
 use Rattle.dcsctp_delivery_receiving.specs.Received.{Carries}
-use Rattle.dcsctp_delivery_receiving.proofs.Arriving.{carries_piece, carries_interleaved}
+use Rattle.dcsctp_delivery_receiving.proofs.Arriving.{fits_at, carries_piece, carries_interleaved}
 use Rattle.dcsctp_delivery_receiving.proofs.Distinct.{distinct_with}
 use Rattle.dcsctp_delivery_receiving.proofs.Growing.{were_more}
 use Rattle.dcsctp_delivery_receiving.proofs.Waiting.{both_queued}
-use Rattle.dcsctp_delivery_directions.specs.Calm.{ResetsNothing}
-use Rattle.dcsctp_delivery_directions.specs.Directions.{Beginning, KeepsAll, BeginsAs, Direction, Asking, assigned, BeginsDirection, IsAwaited, NoneInFlight, DirectionRun, begins, goes_on, starts, DirectionStep, queues, sets, prepares, commits, rolls_back, flushes, resends, resends_nothing, speaks, asks_again, renews, turns_aside, acknowledges, loses, receives, forwards, receives_interleaved, forwards_interleaved, tracks, defers, performs, resets, performs_earlier, takes}
-use Rattle.dcsctp_delivery_directions.proofs.Calm.{Continues, continues_same, calm_continues, stays_unperformed, none_asked, unasked_calm}
+use Rattle.dcsctp_delivery_directions.specs.Directions.{Beginning, BeginsAs, Direction, Asking, HasAsked, nothing_asked, assigned, BeginsDirection, IsAwaited, NoneInFlight, DirectionRun, begins, goes_on, starts, DirectionStep, queues, sets, prepares, commits, rolls_back, flushes, resends, resends_nothing, speaks, asks_again, renews, turns_aside, acknowledges, loses, receives, forwards, receives_interleaved, forwards_interleaved, tracks, defers, performs, resets, performs_earlier, takes}
+use Rattle.dcsctp_delivery_directions.proofs.Calm.{Continues, continues_same, calm_continues}
+use Rattle.dcsctp_delivery_directions.proofs.Awaited.{unsent_nothing}
 use Rattle.dcsctp_delivery_directions.proofs.Continuing.{begun_history, started_history}
-use Rattle.dcsctp_delivery_directions.proofs.Directions.{begun_stands, started_stands, direction_queues}
+use Rattle.dcsctp_delivery_directions.proofs.Directions.{begun_stands, started_stands, run_stands, direction_queues}
 use Rattle.dcsctp_delivery_directions.proofs.Standing.{Stands, content_said, packet_said}
 use Rattle.dcsctp_delivery_directions.proofs.Steps.{stepped, more_queued}
 use Rattle.dcsctp_delivery_order.specs.Queue.{ComeInOrder}
 use Rattle.dcsctp_delivery_order.specs.Delivered.{DeliveredInOrder}
-use Rattle.dcsctp_delivery_order.specs.Plain.{CountsPlain, IncomingPlain}
+use Rattle.dcsctp_delivery_order.specs.Plain.{CountsPlain, CountsThese, IncomingPlain}
+use Rattle.dcsctp_delivery_order.specs.Streams.{NoneLostOn}
 use Rattle.dcsctp_delivery_directions.specs.Forwards.{NoneForwards}
 use Rattle.dcsctp_delivery_directions.proofs.Forwards.{forwards_never, i_forwards_never}
-use Rattle.dcsctp_delivery_directions.proofs.Losing.{same_beginning, keeps_before, unlimited_before, none_lost_yet, step_loses_none}
+use Rattle.dcsctp_delivery_directions.proofs.Losing.{same_beginning}
 use Rattle.dcsctp_delivery_order.proofs.Beginning.{waits_from}
-use Rattle.dcsctp_delivery_order.proofs.PlainGrowing.{takes_plain, counts_before, received_more, received_nothing}
-use Rattle.dcsctp_delivery_order.proofs.PlainReceived.{ReassemblesPlain, none_handled, some_handled, HasReceivedPlain, tracked_plain, received_plain, IsIdleAs, stays_idle}
-use Rattle.dcsctp_delivery_order.proofs.PlainSteps.{IsCounted, CanBeCounted, can_count, same_kind, none_before, counted_before}
+use Rattle.dcsctp_delivery_order.proofs.PlainGrowing.{takes_plain, these_before, received_more, received_nothing}
+use Rattle.dcsctp_delivery_order.proofs.PlainEnding.{AreUnnamed, ends_plain, deferring_beside, deferring_plain}
+use Rattle.dcsctp_delivery_order.proofs.StreamDirections.{not_handed, unlimited_earlier, step_open, step_keeps_on}
+use Rattle.dcsctp_delivery_order.proofs.PlainReceived.{ReassemblesPlain, none_handled, some_handled, HasReceivedPlain, DefersBeside, tracked_plain, received_plain, IsSteadyAs, stays_steady}
+use Rattle.dcsctp_delivery_order.proofs.PlainSteps.{IsCounted, CanBeCounted, can_count, same_kind, none_before, counted_before, asked_before, stays_unnamed}
 
 -- ---- what holds throughout
 
-pub record Arrives (first : ℕ) (history : History) (queued : List Message) (read : List MessageContent) (tracker : TrackerState) (reassembly : ReassemblyState) : Type 0 where
+pub record Arrives (these : ℕ → Bool) (first : ℕ) (history : History) (queued : List Message) (read : List MessageContent) (tracker : TrackerState) (reassembly : ReassemblyState) : Type 0 where
   pub places : List ℕ
   pub were : WereQueued queued places read
   pub once : AreDistinct places
-  pub received : HasReceivedPlain queued history first places tracker reassembly.incoming
+  pub received : HasReceivedPlain these queued history first places tracker reassembly
 
--- the history, in which none is left out if no message has limits, and what the receiver has of a log of DATA whose sender
--- skips nothing
-pub record GoesPlain (first size : ℕ) (direction : Direction) : Type 0 where
+-- No request that was begun names one of these streams.
+abbrev pub AreUnasked : (ℕ → Bool) → Direction → Type 0
+AreUnasked these direction = (begun : BegunReset) → HasEntry begun direction.asking.requests → AreUnnamed these begun.reset.streams
+
+-- The history, and what the receiver has of a log of DATA whose sender skips nothing, of streams that no request names. The
+-- streams that the sender keeps are open, no request names them, and none of their messages is left out if none has limits.
+pub record GoesPlain (these : ℕ → Bool) (first size : ℕ) (direction : Direction) : Type 0 where
   pub stands : Stands first direction
-  pub unperformed : direction.asking.is_performed ≡ false
-  pub zero : direction.beginning.from_zero ≡ true → direction.queues.queue.is_interleaved ≡ false → (id : ℕ) → stands.history.floors id false ≡ 0
-  pub kept : KeepsAll direction.beginning → AreUnlimited direction.queued → NoneLost direction.queued stands.history.log direction.queues.queue.streams
-  pub idle : NoneForwards direction.sent → (direction.reassembly.deferral ≡ None) × (direction.reassembly.max_size ≡ size)
-  pub arrives : CountsPlain stands.history → CanBeCounted size direction.queued → NoneForwards direction.sent → Arrives first stands.history direction.queued direction.read direction.tracker direction.reassembly
+  pub zero : direction.beginning.from_zero ≡ true → (id : ℕ) → stands.history.floors id false ≡ 0
+  pub unpaused : (id : ℕ) → direction.beginning.keeps id ≡ true → IsOpenOn id direction.queues.queue.streams
+  pub unnamed : (id : ℕ) → direction.beginning.keeps id ≡ true → (begun : BegunReset) → HasEntry begun direction.asking.requests → names_stream begun.reset.streams id ≡ false
+  pub kept : (id : ℕ) → direction.beginning.keeps id ≡ true → AreUnlimitedOn id direction.queued → NoneLostOn id direction.queued stands.history.log direction.queues.queue.streams
+  pub steady : AreUnasked these direction → NoneForwards direction.sent → DefersBeside these direction.reassembly.deferral × (direction.reassembly.max_size ≡ size)
+  pub arrives : AreUnasked these direction → CountsThese these stands.history → CanBeCounted size direction.queued → NoneForwards direction.sent
+      → Arrives these first stands.history direction.queued direction.read direction.tracker direction.reassembly
 
-arrives_none : (first : ℕ) (direction : Direction) (s : Stands first direction) (floors : ℕ → Bool → ℕ) → s.history ≡ new_history floors → CountsPlain s.history
-    → Arrives first s.history direction.queued direction.read direction.tracker direction.reassembly
-arrives_none first direction s floors is counts =
+arrives_none : (these : ℕ → Bool) (first : ℕ) (direction : Direction) (s : Stands first direction) (floors : ℕ → Bool → ℕ) → s.history ≡ new_history floors → CountsThese these s.history
+    → Arrives these first s.history direction.queued direction.read direction.tracker direction.reassembly
+arrives_none these first direction s floors is counts =
     let a = s.arrived counts.few in
-    record { places = a.places; were = a.were; once = a.once; received = received_nothing direction.queued s.history (ap (λ (h : History). h.log) is) first a.places direction.tracker direction.reassembly a.received }
+    record { places = a.places; were = a.were; once = a.once; received = received_nothing direction.queued s.history (ap (λ (h : History). h.log) is) these first a.places direction.tracker direction.reassembly a.received }
 
 -- ---- the history continues
 
-arrives_later : (first : ℕ) (history later : History) (queued more : List Message) (read : List MessageContent) (tracker : TrackerState) (reassembly : ReassemblyState) → Continues history later
-    → Arrives first history queued read tracker reassembly → Arrives first later (more ++ queued) read tracker reassembly
-arrives_later first history later queued more read tracker reassembly c a =
+arrives_later : (these : ℕ → Bool) (first : ℕ) (history later : History) (queued more : List Message) (read : List MessageContent) (tracker : TrackerState) (reassembly : ReassemblyState) → Continues history later
+    → Arrives these first history queued read tracker reassembly → Arrives these first later (more ++ queued) read tracker reassembly
+arrives_later these first history later queued more read tracker reassembly c a =
     record {
       places = a.places;
       were = were_more queued more a.places read a.were;
       once = a.once;
       received = received_more queued more history later c.more c.log
           (record { stays = stays; current = λ n f at is. subst (λ (floors : ℕ → Bool → ℕ). floors f.message.stream f.message.is_unordered ≤ f.mid) (sym c.floors) is; longer = longer; marks = c.marks })
-          a.places read a.were first tracker reassembly.incoming a.received;
+          a.places read a.were these first tracker reassembly a.received;
     }
   where
     stays : (n : ℕ) (slot : Slot) → at_place n history.log ≡ Some slot → at_place n later.log ≡ Some slot
@@ -99,85 +112,99 @@ counted_at size (m ∷ queued) place message can at =
       | inr old ↦ counted_at size queued place message can.1 old
     ]
 
-module _ (first size : ℕ) (old : Direction) (small : first < 2 ^ 32) (unasked : old.asking.requests ≡ []) (none : NoneForwards old.sent) (idle : old.reassembly.deferral ≡ None) where
-  idle_then : (theirs new : Transfer) → theirs.reassembly ≡ old.reassembly → IsIdleAs theirs.reassembly new.reassembly → IsIdleAs old.reassembly new.reassembly
-  idle_then theirs new same is = (is.0, is.1 ∙ ap (λ (r : ReassemblyState). r.max_size) same)
+module _ (these : ℕ → Bool) (first size : ℕ) (old : Direction) (small : first < 2 ^ 32) (unasked : AreUnasked these old) (none : NoneForwards old.sent) (beside : DefersBeside these old.reassembly.deferral) where
+  steady_then : (theirs new : Transfer) → theirs.reassembly ≡ old.reassembly → IsSteadyAs these theirs.reassembly new.reassembly → IsSteadyAs these old.reassembly new.reassembly
+  steady_then theirs new same is = (is.0, is.1 ∙ ap (λ (r : ReassemblyState). r.max_size) same)
 
-  pub idle_on : (direction : Direction) (step : DirectionStep old direction) → ResetsNothing old direction step → IsIdleAs old.reassembly direction.reassembly
-  idle_on _ (queues now sending fits some) calm = (idle, refl)
-  idle_on _ (sets setting fits) calm = (idle, refl)
-  idle_on _ (prepares ids fit kept) calm = (idle, refl)
-  idle_on _ (commits go_on) calm = (idle, refl)
-  idle_on _ (rolls_back unmixed) calm = (idle, refl)
-  idle_on _ (flushes e draft answers same no_data allowed) calm = (idle, refl)
-  idle_on _ (resends now room transfer left tsns chunks emission known sends are contents) calm = (idle, refl)
-  idle_on _ (resends_nothing now room transfer left tsns known sends) calm = (idle, refl)
-  idle_on _ (speaks emission no_data) calm = (idle, refl)
-  idle_on _ (asks_again emission begun was contents) calm = (idle, refl)
-  idle_on _ (renews emission newest earlier number asks out contents) calm = (idle, refl)
-  idle_on _ (turns_aside transfer new known same) calm = (idle, refl)
-  idle_on _ (acknowledges now sack transfer new known valid does) calm = (idle, refl)
-  idle_on _ (loses now transfer known) calm = (idle, refl)
-  idle_on _ (receives emission chunk theirs new was holds some same same' does) calm = idle_then theirs new same' (stays_idle (data_arrival chunk) theirs new does (ap (λ (r : ReassemblyState). r.deferral) same' ∙ idle))
-  idle_on _ (forwards emission tsn streams theirs new was holds same same' does) calm = absurd (forwards_never emission tsn streams old.sent none was holds)
-  idle_on _ (receives_interleaved emission chunk theirs new was holds some same same' does) calm = idle_then theirs new same' (stays_idle (i_data_arrival chunk) theirs new does (ap (λ (r : ReassemblyState). r.deferral) same' ∙ idle))
-  idle_on _ (forwards_interleaved emission tsn streams theirs new was holds same same' does) calm = absurd (i_forwards_never emission tsn streams old.sent none was holds)
-  idle_on _ (tracks new cumulative ranges) calm = (idle, refl)
-  idle_on _ (defers last_tsn streams some) calm = absurd (some unasked)
-  idle_on _ (performs newest earlier new asks unknown reached own leaves) calm = absurd calm
-  idle_on _ (resets streams new unmixed some leaves) calm = absurd calm
-  idle_on _ (performs_earlier newest earlier new asks unknown reached own leaves) calm = absurd calm
-  idle_on _ (takes message messages ready) calm = (idle, refl)
+  -- what is asked for names none of these
+  asked_none : (streams : List ℕ) → HasAsked old.asking.requests streams → AreUnnamed these streams
+  asked_none streams asked id mine = ap (λ (l : List ℕ). names_stream l id) (sym asked.is) ∙ unasked asked.begun asked.has id mine
 
-  module _ (s : Stands first old) (counts : CountsPlain s.history) (window : old.reassembly.max_size ≡ size) (can : CanBeCounted size old.queued) where
-    data_arrives : (a : Arrives first s.history old.queued old.read old.tracker old.reassembly) (theirs new : Transfer) → theirs.tracker ≡ old.tracker → theirs.reassembly ≡ old.reassembly
-        → (offset : ℕ) (arrival : Arrival) → Carries s.history.log first offset arrival.tsn arrival.chunk → ReceivesData arrival theirs new → Arrives first s.history old.queued old.read new.tracker new.reassembly
+  newest_none : (newest : BegunReset) (earlier : List BegunReset) → old.asking.requests ≡ newest ∷ earlier → AreUnnamed these newest.reset.streams
+  newest_none newest earlier asks = unasked newest (subst (λ (l : List BegunReset). HasEntry newest l) (sym asks) (inl refl))
+
+  ended_steady : (streams : List ℕ) (new : ReassemblyState) → EndsDeferral streams old.reassembly new → IsSteadyAs these old.reassembly new
+  ended_steady streams new leaves = (subst (λ (d : Option DeferralModel). DefersBeside these d) (sym leaves.deferral) tt, leaves.window)
+
+  pub steady_on : (direction : Direction) → DirectionStep old direction → IsSteadyAs these old.reassembly direction.reassembly
+  steady_on _ (queues now sending fits some) = (beside, refl)
+  steady_on _ (sets setting fits) = (beside, refl)
+  steady_on _ (prepares ids fit kept) = (beside, refl)
+  steady_on _ (commits go_on) = (beside, refl)
+  steady_on _ (rolls_back unmixed) = (beside, refl)
+  steady_on _ (flushes e draft answers same no_data allowed) = (beside, refl)
+  steady_on _ (resends now room transfer left tsns chunks emission known sends are contents) = (beside, refl)
+  steady_on _ (resends_nothing now room transfer left tsns known sends) = (beside, refl)
+  steady_on _ (speaks emission no_data) = (beside, refl)
+  steady_on _ (asks_again emission begun was contents) = (beside, refl)
+  steady_on _ (renews emission newest earlier number asks out contents) = (beside, refl)
+  steady_on _ (turns_aside transfer new known same) = (beside, refl)
+  steady_on _ (acknowledges now sack transfer new known valid does) = (beside, refl)
+  steady_on _ (loses now transfer known) = (beside, refl)
+  steady_on _ (receives emission chunk theirs new was holds some same same' does) = steady_then theirs new same' (stays_steady these (data_arrival chunk) theirs new does (subst (λ (r : ReassemblyState). DefersBeside these r.deferral) (sym same') beside))
+  steady_on _ (forwards emission tsn streams theirs new was holds same same' does) = absurd (forwards_never emission tsn streams old.sent none was holds)
+  steady_on _ (receives_interleaved emission chunk theirs new was holds some same same' does) = steady_then theirs new same' (stays_steady these (i_data_arrival chunk) theirs new does (subst (λ (r : ReassemblyState). DefersBeside these r.deferral) (sym same') beside))
+  steady_on _ (forwards_interleaved emission tsn streams theirs new was holds same same' does) = absurd (i_forwards_never emission tsn streams old.sent none was holds)
+  steady_on _ (tracks new cumulative ranges) = (beside, refl)
+  steady_on _ (defers last_tsn streams some) = (deferring_beside these last_tsn streams old.reassembly.deferral (asked_none streams some) beside, refl)
+  steady_on _ (performs newest earlier new asks unknown reached own leaves) = ended_steady newest.reset.streams new leaves
+  steady_on _ (resets streams new unmixed some leaves) = ended_steady streams new leaves
+  steady_on _ (performs_earlier newest earlier new asks unknown reached own leaves) = ended_steady newest.reset.streams new leaves
+  steady_on _ (takes message messages ready) = (beside, refl)
+
+  module _ (s : Stands first old) (counts : CountsThese these s.history) (window : old.reassembly.max_size ≡ size) (can : CanBeCounted size old.queued) where
+    with_received : (a : Arrives these first s.history old.queued old.read old.tracker old.reassembly) (read : List MessageContent) (tracker : TrackerState) (reassembly : ReassemblyState) → WereQueued old.queued a.places read
+        → HasReceivedPlain these old.queued s.history first a.places tracker reassembly → Arrives these first s.history old.queued read tracker reassembly
+    with_received a read tracker reassembly were received = record { places = a.places; were = were; once = a.once; received = received }
+
+    data_arrives : (a : Arrives these first s.history old.queued old.read old.tracker old.reassembly) (theirs new : Transfer) → theirs.tracker ≡ old.tracker → theirs.reassembly ≡ old.reassembly
+        → (offset : ℕ) (arrival : Arrival) → Carries s.history.log first offset arrival.tsn arrival.chunk → ReceivesData arrival theirs new → Arrives these first s.history old.queued old.read new.tracker new.reassembly
     data_arrives a theirs new same same' offset arrival carries does =
-        let before : HasReceivedPlain old.queued s.history first a.places theirs.tracker theirs.reassembly.incoming =
-        subst (λ (t : TrackerState). HasReceivedPlain old.queued s.history first a.places t theirs.reassembly.incoming) (sym same)
-        (subst (λ (r : ReassemblyState). HasReceivedPlain old.queued s.history first a.places old.tracker r.incoming) (sym same') a.received) in
+        let before : HasReceivedPlain these old.queued s.history first a.places theirs.tracker theirs.reassembly =
+        subst (λ (t : TrackerState). HasReceivedPlain these old.queued s.history first a.places t theirs.reassembly) (sym same)
+        (subst (λ (r : ReassemblyState). HasReceivedPlain these old.queued s.history first a.places old.tracker r) (sym same') a.received) in
         let fits = counted_at size old.queued carries.piece.place carries.piece.message can (s.queues.cut.pieces offset carries.piece carries.at).at in
-        record {
-          places = a.places;
-          were = a.were;
-          once = a.once;
-          received = received_plain old.queued s.history first size s.queues.cut counts small a.places offset arrival theirs new carries before (ap (λ (r : ReassemblyState). r.deferral) same' ∙ idle)
-              (ap (λ (r : ReassemblyState). r.max_size) same' ∙ window) fits does;
-        }
+        with_received a old.read new.tracker new.reassembly a.were
+        (received_plain old.queued s.history first size s.queues.cut these counts small a.places offset arrival theirs new carries before (subst (λ (r : ReassemblyState). DefersBeside these r.deferral) (sym same') beside)
+        (ap (λ (r : ReassemblyState). r.max_size) same' ∙ window) fits does)
 
-    arrives_on : (direction : Direction) (step : DirectionStep old direction) → ResetsNothing old direction step → Arrives first s.history old.queued old.read old.tracker old.reassembly
-        → Arrives first s.history direction.queued direction.read direction.tracker direction.reassembly
-    arrives_on _ (queues now sending fits some) calm a =
-        arrives_later first s.history s.history old.queued (message_of sending ∷ []) old.read old.tracker old.reassembly (continues_same s.history) a
-    arrives_on _ (sets setting fits) calm a = a
-    arrives_on _ (prepares ids fit kept) calm a = a
-    arrives_on _ (commits go_on) calm a = a
-    arrives_on _ (rolls_back unmixed) calm a = a
-    arrives_on _ (flushes e draft answers same no_data allowed) calm a = a
-    arrives_on _ (resends now room transfer left tsns chunks emission known sends are contents) calm a = a
-    arrives_on _ (resends_nothing now room transfer left tsns known sends) calm a = a
-    arrives_on _ (speaks emission no_data) calm a = a
-    arrives_on _ (asks_again emission begun was contents) calm a = a
-    arrives_on _ (renews emission newest earlier number asks out contents) calm a = a
-    arrives_on _ (turns_aside transfer new known same) calm a = a
-    arrives_on _ (acknowledges now sack transfer new known valid does) calm a = a
-    arrives_on _ (loses now transfer known) calm a = a
-    arrives_on _ (receives emission chunk theirs new was holds some same same' does) calm a =
+    ended_arrives : (a : Arrives these first s.history old.queued old.read old.tracker old.reassembly) (streams : List ℕ) (new : ReassemblyState) → AreUnnamed these streams → EndsDeferral streams old.reassembly new
+        → Arrives these first s.history old.queued old.read old.tracker new
+    ended_arrives a streams new apart leaves =
+        with_received a old.read old.tracker new a.were (ends_plain old.queued s.history first size s.queues.cut these counts small a.places streams old.tracker old.reassembly new apart beside a.received leaves)
+
+    arrives_on : (direction : Direction) → DirectionStep old direction → Arrives these first s.history old.queued old.read old.tracker old.reassembly
+        → Arrives these first s.history direction.queued direction.read direction.tracker direction.reassembly
+    arrives_on _ (queues now sending fits some) a =
+        arrives_later these first s.history s.history old.queued (message_of sending ∷ []) old.read old.tracker old.reassembly (continues_same s.history) a
+    arrives_on _ (sets setting fits) a = a
+    arrives_on _ (prepares ids fit kept) a = a
+    arrives_on _ (commits go_on) a = a
+    arrives_on _ (rolls_back unmixed) a = a
+    arrives_on _ (flushes e draft answers same no_data allowed) a = a
+    arrives_on _ (resends now room transfer left tsns chunks emission known sends are contents) a = a
+    arrives_on _ (resends_nothing now room transfer left tsns known sends) a = a
+    arrives_on _ (speaks emission no_data) a = a
+    arrives_on _ (asks_again emission begun was contents) a = a
+    arrives_on _ (renews emission newest earlier number asks out contents) a = a
+    arrives_on _ (turns_aside transfer new known same) a = a
+    arrives_on _ (acknowledges now sack transfer new known valid does) a = a
+    arrives_on _ (loses now transfer known) a = a
+    arrives_on _ (receives emission chunk theirs new was holds some same same' does) a =
         let is : IsData s.history.log first chunk = content_said s.history first (plain (unworked (data_chunk chunk))) emission.packet.contents (packet_said s.history first emission old.sent s.packets was) holds in
         data_arrives a theirs new same same' is.number (data_arrival chunk) (carries_piece old.queued s.history.log first chunk s.queues.cut s.fit is some) does
-    arrives_on _ (forwards emission tsn streams theirs new was holds same same' does) calm a = absurd (forwards_never emission tsn streams old.sent none was holds)
-    arrives_on _ (receives_interleaved emission chunk theirs new was holds some same same' does) calm a =
+    arrives_on _ (forwards emission tsn streams theirs new was holds same same' does) a = absurd (forwards_never emission tsn streams old.sent none was holds)
+    arrives_on _ (receives_interleaved emission chunk theirs new was holds some same same' does) a =
         let is : IsInterleaved s.history.log first chunk = content_said s.history first (plain (unworked (i_data_chunk chunk))) emission.packet.contents (packet_said s.history first emission old.sent s.packets was) holds in
         data_arrives a theirs new same same' is.number (i_data_arrival chunk) (carries_interleaved old.queued s.history.log first chunk s.queues.cut s.fit is some) does
-    arrives_on _ (forwards_interleaved emission tsn streams theirs new was holds same same' does) calm a = absurd (i_forwards_never emission tsn streams old.sent none was holds)
-    arrives_on _ (tracks new cumulative ranges) calm a =
-        record { places = a.places; were = a.were; once = a.once; received = tracked_plain old.queued s.history first a.places old.tracker new old.reassembly.incoming cumulative ranges a.received }
-    arrives_on _ (defers last_tsn streams some) calm a = absurd (some unasked)
-    arrives_on _ (performs newest earlier new asks unknown reached own leaves) calm a = absurd calm
-    arrives_on _ (resets streams new unmixed some leaves) calm a = absurd calm
-    arrives_on _ (performs_earlier newest earlier new asks unknown reached own leaves) calm a = absurd calm
-    arrives_on _ (takes message messages ready) calm a =
-        let t = takes_plain old.queued s.history first a.places old.tracker old.reassembly.incoming message messages ready a.received in
+    arrives_on _ (forwards_interleaved emission tsn streams theirs new was holds same same' does) a = absurd (i_forwards_never emission tsn streams old.sent none was holds)
+    arrives_on _ (tracks new cumulative ranges) a = with_received a old.read new old.reassembly a.were (tracked_plain these old.queued s.history first a.places old.tracker new old.reassembly cumulative ranges a.received)
+    arrives_on _ (defers last_tsn streams some) a = with_received a old.read old.tracker (deferring last_tsn streams old.reassembly) a.were (deferring_plain these old.queued s.history first a.places last_tsn streams old.tracker old.reassembly a.received)
+    arrives_on _ (performs newest earlier new asks unknown reached own leaves) a = ended_arrives a newest.reset.streams new (newest_none newest earlier asks) leaves
+    arrives_on _ (resets streams new unmixed some leaves) a = ended_arrives a streams new (asked_none streams some) leaves
+    arrives_on _ (performs_earlier newest earlier new asks unknown reached own leaves) a = ended_arrives a newest.reset.streams new (newest_none newest earlier asks) leaves
+    arrives_on _ (takes message messages ready) a =
+        let t = takes_plain these old.queued s.history first a.places old.tracker old.reassembly message messages ready a.received in
         record {
           places = a.places ++ t.place ∷ [];
           were = both_queued old.queued a.places (t.place ∷ []) old.read (message ∷ []) a.were (t.was, tt);
@@ -185,74 +212,87 @@ module _ (first size : ℕ) (old : Direction) (small : first < 2 ^ 32) (unasked 
           received = t.received;
         }
 
-steps_plain : (first size : ℕ) (old : Direction) → first < 2 ^ 32 → GoesPlain first size old → old.asking.requests ≡ [] → (direction : Direction) → length direction.queued < 2 ^ 64 → (step : DirectionStep old direction) → ResetsNothing old direction step
-    → GoesPlain first size direction
-steps_plain first size old small g unasked direction few step calm =
+steps_plain : (these : ℕ → Bool) (first size : ℕ) (old : Direction) → first < 2 ^ 32 → GoesPlain these first size old → (direction : Direction) → length direction.queued < 2 ^ 64 → old.queues.queue.is_interleaved ≡ false → DirectionStep old direction
+    → GoesPlain these first size direction
+steps_plain these first size old small g direction few kind step =
     let s = stepped first old small g.stands direction few step in
-    let c : Continues g.stands.history s.history = calm_continues first old small g.stands direction few step calm g.unperformed in
+    let c : Continues g.stands.history s.history = calm_continues first old small g.stands direction few step (λ mixed. absurd (let clash : true ≡ false = sym mixed ∙ kind in cc)) in
+    let keeps : (id : ℕ) → direction.beginning.keeps id ≡ true → old.beginning.keeps id ≡ true = λ id kept. sym (ap (λ (b : Beginning). b.keeps id) (same_beginning old direction step)) ∙ kept in
+    let open_now : (id : ℕ) → direction.beginning.keeps id ≡ true → IsOpenOn id direction.queues.queue.streams = λ id kept. step_open id old direction step (keeps id kept) (g.unpaused id (keeps id kept)) in
+    let before : AreUnasked these direction → AreUnasked these old = λ unasked begun has. unasked begun (asked_before old direction step begun has) in
     record {
       stands = s;
-      unperformed = stays_unperformed old direction step calm g.unperformed;
-      zero = λ from kind id. ap (λ (floors : ℕ → Bool → ℕ). floors id false) c.floors ∙ g.zero (sym (ap (λ (b : Beginning). b.from_zero) (same_beginning old direction step)) ∙ from) (sym (same_kind old direction step) ∙ kind) id;
-      kept = λ keeps are. (
-          let kept : KeepsAll old.beginning = keeps_before old direction step keeps in
-          step_loses_none first old g.stands direction step kept are s c.more c.log (g.kept kept (unlimited_before old direction step are))
-          );
-      idle = λ none. (
+      zero = λ from id. ap (λ (floors : ℕ → Bool → ℕ). floors id false) c.floors ∙ g.zero (sym (ap (λ (b : Beginning). b.from_zero) (same_beginning old direction step)) ∙ from) id;
+      unpaused = open_now;
+      unnamed = λ id kept. stays_unnamed id first old g.stands (g.unnamed id (keeps id kept)) direction step (not_handed id direction.queues.queue.streams (open_now id kept));
+      kept = λ id kept are. step_keeps_on id first old g.stands direction step (keeps id kept) are s c.more c.log (g.kept id (keeps id kept) (unlimited_earlier id old direction step are));
+      steady = λ unasked none. (
           let none' = none_before old direction step none in
-          let was = g.idle none' in
-          let is = idle_on first size old small unasked none' was.0 direction step calm in
+          let was = g.steady (before unasked) none' in
+          let is = steady_on these first size old small (before unasked) none' was.0 direction step in
           (is.0, is.1 ∙ was.1)
           );
-      arrives = λ counts can none. (
-          let counts' = counts_before g.stands.history s.history c.more c.log counts in
+      arrives = λ unasked counts can none. (
+          let counts' = these_before g.stands.history s.history c.more c.log these counts in
           let none' = none_before old direction step none in
           let can' = counted_before size old direction step can in
-          let was = g.idle none' in
-          arrives_later first g.stands.history s.history direction.queued [] direction.read direction.tracker direction.reassembly c
-          (arrives_on first size old small unasked none' was.0 g.stands counts' was.1 can' direction step calm (g.arrives counts' can' none'))
+          let was = g.steady (before unasked) none' in
+          arrives_later these first g.stands.history s.history direction.queued [] direction.read direction.tracker direction.reassembly c
+          (arrives_on these first size old small (before unasked) none' was.0 g.stands counts' was.1 can' direction step (g.arrives (before unasked) counts' can' none'))
           );
     }
 
 -- ---- a run
 
-begins_plain : (options : Options) (first size : ℕ) (direction : Direction) → first < 2 ^ 32 → BeginsDirection options first size direction → GoesPlain first size direction
-begins_plain options first size direction small b =
+-- a receiver that has received nothing
+new_steady : (these : ℕ → Bool) (size overhead : ℕ) (reassembly : ReassemblyState) → reassembly ≡ new_reassembly size overhead → DefersBeside these reassembly.deferral × (reassembly.max_size ≡ size)
+new_steady these size overhead reassembly is = (subst (λ (r : ReassemblyState). DefersBeside these r.deferral) (sym is) tt, ap (λ (r : ReassemblyState). r.max_size) is)
+
+none_named : (id : ℕ) (asking : Asking) → asking ≡ nothing_asked → (begun : BegunReset) → HasEntry begun asking.requests → names_stream begun.reset.streams id ≡ false
+none_named id asking is begun has = absurd (subst (λ (a : Asking). HasEntry begun a.requests) is has)
+
+begins_plain : (these : ℕ → Bool) (options : Options) (first size : ℕ) (direction : Direction) → first < 2 ^ 32 → direction.queues.queue.is_interleaved ≡ false → BeginsDirection options first size direction → GoesPlain these first size direction
+begins_plain these options first size direction small kind b =
     let w = waits_from direction.queued direction.queues.queue b.queues in
     let b' : BeginsDirection options first size direction = record b { queues = w.waits } in
     let is = begun_history options first size direction small b' in
     record {
       stands = begun_stands options first size direction small b';
-      unperformed = ap (λ (a : Asking). a.is_performed) b.asking;
-      zero = λ from kind id. ap (λ (h : History). h.floors id false) is ∙ w.plain kind (b.begun.zero from) id;
-      kept = λ keeps are. subst (λ (h : History). NoneLost direction.queued h.log direction.queues.queue.streams) (sym is) (none_lost_yet direction.queued direction.queues.queue.streams (λ id. b.begun.all id (keeps id)));
-      idle = λ none. (ap (λ (r : ReassemblyState). r.deferral) b.reassembly, ap (λ (r : ReassemblyState). r.max_size) b.reassembly);
-      arrives = λ counts can none. arrives_none first direction (begun_stands options first size direction small b') w.waits.floors is counts;
+      zero = λ from id. ap (λ (h : History). h.floors id false) is ∙ w.plain kind (b.begun.zero from) id;
+      unpaused = λ id kept. (b.begun.all id kept).unpaused;
+      unnamed = λ id kept. none_named id direction.asking b.asking;
+      kept = λ id kept are place message at on. inr ((b.begun.all id kept).waits place message at on);
+      steady = λ unasked none. new_steady these size (part_overhead options) direction.reassembly b.reassembly;
+      arrives = λ unasked counts can none. arrives_none these first direction (begun_stands options first size direction small b') w.waits.floors is counts;
     }
 
-starts_plain : (first size : ℕ) (old : Direction) (queued : List Message) (below : EndpointQueues) (beginning : Beginning) → first < 2 ^ 32 → (g : GoesPlain first size old) → (awaited : IsAwaited old) → AllByRecursion Fits queued → QueueWaits queued below.queue
-    → NoneInFlight first below.queue.is_interleaved below.transfer → BeginsAs beginning queued below.queue → GoesPlain first size (record old { queued = queued; queues = below; beginning = beginning })
-starts_plain first size old queued below beginning small g awaited fit waits none begun =
+starts_plain : (these : ℕ → Bool) (options : Options) (first size : ℕ) (old : Direction) (queued : List Message) (below : EndpointQueues) (beginning : Beginning) → first < 2 ^ 32 → DirectionRun options first size old → Stands first old → (awaited : IsAwaited old)
+    → AllByRecursion Fits queued → QueueWaits queued below.queue → NoneInFlight first below.queue.is_interleaved below.transfer → BeginsAs beginning queued below.queue → below.queue.is_interleaved ≡ false
+    → GoesPlain these first size (record old { queued = queued; queues = below; beginning = beginning })
+starts_plain these options first size old queued below beginning small run stands awaited fit waits none begun kind =
     let w = waits_from queued below.queue waits in
-    let s = started_stands first old queued below beginning g.stands awaited small fit w.waits none in
-    let is = started_history first old queued below beginning g.stands awaited small fit w.waits none in
+    let s = started_stands first old queued below beginning stands awaited small fit w.waits none in
+    let is = started_history first old queued below beginning stands awaited small fit w.waits none in
+    let nothing = unsent_nothing options first size old run (record { sent = awaited.sent; asked = ap (λ (a : Asking). a.requests) awaited.asking }) in
     record {
       stands = s;
-      unperformed = ap (λ (a : Asking). a.is_performed) awaited.asking;
-      zero = λ from kind id. ap (λ (h : History). h.floors id false) is ∙ w.plain kind (begun.zero from) id;
-      kept = λ keeps are. subst (λ (h : History). NoneLost queued h.log below.queue.streams) (sym is) (none_lost_yet queued below.queue.streams (λ id. begun.all id (keeps id)));
-      idle = g.idle;
-      arrives = λ counts can none'. arrives_none first (record old { queued = queued; queues = below; beginning = beginning }) s w.waits.floors is counts;
+      zero = λ from id. ap (λ (h : History). h.floors id false) is ∙ w.plain kind (begun.zero from) id;
+      unpaused = λ id kept. (begun.all id kept).unpaused;
+      unnamed = λ id kept. none_named id old.asking awaited.asking;
+      kept = λ id kept are place message at on. inr ((begun.all id kept).waits place message at on);
+      steady = λ unasked none'. new_steady these size (part_overhead options) old.reassembly nothing.reassembly;
+      arrives = λ unasked counts can none'. arrives_none these first (record old { queued = queued; queues = below; beginning = beginning }) s w.waits.floors is counts;
     }
 
-pub run_plain : (options : Options) (first size : ℕ) (direction : Direction) → first < 2 ^ 32 → length direction.queued < 2 ^ 64 → DirectionRun options first size direction → direction.asking.requests ≡ [] → GoesPlain first size direction
-run_plain options first size _ small few (begins direction b) none = begins_plain options first size direction small b
-run_plain options first size _ small few (goes_on old direction run step) none =
-    let before = none_asked old direction step none in
-    steps_plain first size old small (run_plain options first size old small (omega (arith, few, more_queued old direction step)) run before) before direction few step (unasked_calm old direction step before)
-run_plain options first size _ small few (starts old queued below beginning run awaited fit waits idle begun) none =
+pub run_plain : (these : ℕ → Bool) (options : Options) (first size : ℕ) (direction : Direction) → first < 2 ^ 32 → length direction.queued < 2 ^ 64 → DirectionRun options first size direction → direction.queues.queue.is_interleaved ≡ false
+    → GoesPlain these first size direction
+run_plain these options first size _ small few (begins direction b) kind = begins_plain these options first size direction small kind b
+run_plain these options first size _ small few (goes_on old direction run step) kind =
+    let was : old.queues.queue.is_interleaved ≡ false = sym (same_kind old direction step) ∙ kind in
+    steps_plain these first size old small (run_plain these options first size old small (omega (arith, few, more_queued old direction step)) run was) direction few was step
+run_plain these options first size _ small few (starts old queued below beginning run awaited fit waits idle begun) kind =
     let none_queued : length old.queued ≡ 0 = ap (λ (l : List Message). length l) awaited.queued in
-    starts_plain first size old queued below beginning small (run_plain options first size old small (omega (arith, none_queued)) run none) awaited fit waits idle begun
+    starts_plain these options first size old queued below beginning small run (run_stands options first size old small (omega (arith, none_queued)) run) awaited fit waits idle begun kind
 
 -- ---- what was read
 
@@ -264,31 +304,65 @@ in_order_front queued id (x ∷ xs) ys are = (λ later has on on'. are.0 later (
     among p [] h = absurd h
     among p (z ∷ zs) h = elim h [ inl e ↦ inl e | inr t ↦ inr (among p zs t) ]
 
--- the SSNs of the log count its messages
-pub counts_plain : (first : ℕ) (direction : Direction) (s : Stands first direction) → direction.queues.queue.is_interleaved ≡ false → ((id : ℕ) → s.history.floors id false ≡ 0) → direction.asking.requests ≡ [] → length s.history.log < 2 ^ 31 → CountsPlain s.history
-counts_plain first direction s kind floors unasked few =
-    let c : CountsSsns s.history direction.queues.queue.streams direction.queues.queue.under_way =
-    subst (λ (b : Bool). CountsWhere b s.history direction.queues.queue.streams direction.queues.queue.under_way) kind s.queues.numbers.counts in
-    record {
-      kinds = λ n f at. s.queues.numbers.kinds n f at ∙ kind;
-      sent = λ n f at ordered. (c.turns f.message.stream (record { floor = floors f.message.stream; none = no_mark s.history.marks (sym s.asked ∙ unasked) })).sent n f at refl ordered;
-      closes = c.closes;
-      few = few;
-    }
-  where
-    no_mark : (marks : List Mark) → map (λ (mark : Mark). mark.begun) marks ≡ [] → marks ≡ []
-    no_mark [] is = refl
-    no_mark (m ∷ marks) is = absurd (cc)
+-- ---- the SSNs of the log count its messages
 
--- the ordered messages of a stream that were read come in order
-pub arrived_in_order : (first : ℕ) (history : History) (queued : List Message) (read : List MessageContent) (tracker : TrackerState) (reassembly : ReassemblyState)
-    (a : Arrives first history queued read tracker reassembly) (id : ℕ) → ComeInOrder queued id a.places
-arrived_in_order first history queued read tracker reassembly a id = go a.received.got a.received.holds
+named_fields : (id : ℕ) (ids : List ℕ) → id < 2 ^ 16 → is_named ids id ≡ true → is_named (map stream_field ids) id ≡ true
+named_fields id [] small named = absurd (cc)
+named_fields id (i ∷ ids) small named =
+    elim (eqb_tells i id) [
+      | inl e ↦ (let same : i ≡ id = e.1 in rw (eq-eqb (stream_field i) id (omega (arith, same, small))) refl)
+      | inr e ↦ behind (stream_field i == id) (named_fields id ids small (subst (λ (b : Bool). (b || is_named ids id) ≡ true) e.0 named))
+    ]
   where
-    front : (got : List ℕ) (base : ℕ) → IncomingPlain queued history got base a.places reassembly.incoming → ComeInOrder queued id a.places
-    front got base o = in_order_front queued id a.places o.holds.places (o.order id).order.in_order
+    behind : (b : Bool) → is_named (map stream_field ids) id ≡ true → (b || is_named (map stream_field ids) id) ≡ true
+    behind true is = refl
+    behind false is = is
 
-    go : (got : List ℕ) → ReassemblesPlain queued history first got a.places reassembly.incoming → ComeInOrder queued id a.places
+fields_name : (id : ℕ) (ids : List ℕ) → is_named (map stream_field ids) id ≡ true → names_stream (map stream_field ids) id ≡ true
+fields_name id [] named = refl
+fields_name id (i ∷ ids) named = named
+
+has_begun : (mark : Mark) (marks : List Mark) → HasEntry mark marks → HasEntry mark.begun (map (λ (m : Mark). m.begun) marks)
+has_begun mark [] has = absurd has
+has_begun mark (m ∷ marks) has = elim has [ inl e ↦ inl (ap (λ (x : Mark). x.begun) e) | inr t ↦ inr (has_begun mark marks t) ]
+
+module _ (first : ℕ) (direction : Direction) (s : Stands first direction) (kind : direction.queues.queue.is_interleaved ≡ false) (floors : (id : ℕ) → s.history.floors id false ≡ 0) (few : length s.history.log < 2 ^ 31) where
+  -- no mark names the stream
+  unmarked : (id : ℕ) → id < 2 ^ 16 → ((begun : BegunReset) → HasEntry begun direction.asking.requests → names_stream begun.reset.streams id ≡ false) → (mark : Mark) → HasEntry mark s.history.marks → Resets mark id → ⊥
+  unmarked id small unnamed mark has names =
+      let fields = (s.queues.marks mark has).fields in
+      let named : names_stream mark.begun.reset.streams id ≡ true = subst (λ (l : List ℕ). names_stream l id ≡ true) (sym fields) (fields_name id mark.ids (named_fields id mark.ids small names)) in
+      let shut = unnamed mark.begun (subst (λ (l : List BegunReset). HasEntry mark.begun l) (sym s.asked) (has_begun mark s.history.marks has)) in
+      absurd (let clash : true ≡ false = sym named ∙ shut in cc)
+
+  pub counts_plain : (id : ℕ) → ((begun : BegunReset) → HasEntry begun direction.asking.requests → names_stream begun.reset.streams id ≡ false) → CountsPlain id s.history
+  counts_plain id unnamed =
+      let c : CountsSsns s.history direction.queues.queue.streams direction.queues.queue.under_way =
+      subst (λ (b : Bool). CountsWhere b s.history direction.queues.queue.streams direction.queues.queue.under_way) kind s.queues.numbers.counts in
+      record {
+        kinds = λ n f at. s.queues.numbers.kinds n f at ∙ kind;
+        sent = λ n f of. (
+            let fits = fits_at direction.queued f.place f.message s.fit (s.queues.cut.pieces n f of.at).at in
+            let small : id < 2 ^ 16 = (let low = fits.stream in let on = of.stream in omega (arith, low, on)) in
+            (c.turns id (record { floor = floors id; none = unmarked id small unnamed })).sent n f of.at of.stream of.ordered
+            );
+        closes = c.closes;
+        few = few;
+      }
+
+  pub counts_these : (these : ℕ → Bool) → AreUnasked these direction → CountsThese these s.history
+  counts_these these unasked =
+      record { kinds = λ n f at. s.queues.numbers.kinds n f at ∙ kind; few = few; each = λ id mine. counts_plain id (λ begun has. unasked begun has id mine) }
+
+-- the ordered messages of such a stream that were read come in order
+pub arrived_in_order : (these : ℕ → Bool) (first : ℕ) (history : History) (queued : List Message) (read : List MessageContent) (tracker : TrackerState) (reassembly : ReassemblyState)
+    (a : Arrives these first history queued read tracker reassembly) (id : ℕ) → these id ≡ true → ComeInOrder queued id a.places
+arrived_in_order these first history queued read tracker reassembly a id mine = go a.received.got a.received.holds
+  where
+    front : (got : List ℕ) (base : ℕ) → IncomingPlain these queued history got base a.places reassembly.incoming → ComeInOrder queued id a.places
+    front got base o = in_order_front queued id a.places o.holds.places (o.order id mine).order.in_order
+
+    go : (got : List ℕ) → ReassemblesPlain these queued history first got a.places reassembly.incoming → ComeInOrder queued id a.places
     go got (none_handled none last empty) = front [] 0 (empty 0)
     go got (some_handled base at o) = front got base o
 
@@ -296,12 +370,13 @@ pub plain_directions_deliver_in_order : (options : Options) (first size : ℕ) (
     → first < 2 ^ 32 → assigned direction < 2 ^ 31 → length direction.queued < 2 ^ 64 → size ≤ 2 ^ 63 → direction.queues.queue.is_interleaved ≡ false
     → direction.beginning.from_zero ≡ true → direction.asking.requests ≡ [] → NoneForwards direction.sent → DeliveredInOrder direction.queued direction.read
 plain_directions_deliver_in_order options first size direction run small little few window kind from unasked none =
-    let g = run_plain options first size direction small few run unasked in
+    let g = run_plain (λ id. true) options first size direction small few run kind in
     let can = can_count size direction.queued window (direction_queues options first size direction run small few).1 in
     let s = g.stands in
     let count = s.count in
-    let a = g.arrives (counts_plain first direction s kind (g.zero from kind) unasked (omega (arith, count, little))) can none in
+    let nothing : AreUnasked (λ id. true) direction = λ begun has. absurd (subst (λ (l : List BegunReset). HasEntry begun l) unasked has) in
+    let a = g.arrives nothing (counts_these first direction s kind (g.zero from) (omega (arith, count, little)) (λ id. true) nothing) can none in
     record {
       delivered = record { places = a.places; were_queued = a.were; once = a.once };
-      in_order = arrived_in_order first s.history direction.queued direction.read direction.tracker direction.reassembly a;
+      in_order = λ id. arrived_in_order (λ other. true) first s.history direction.queued direction.read direction.tracker direction.reassembly a id refl;
     }

@@ -1,5 +1,6 @@
--- Without interleaving nothing is left out of what is read, where no message has limits.
-use Rattle.std.proofs.Common.{◌≤◌, ◌≡◌, ℕ, true, false, ◌<◌, ◌-◌, ◌^◌, List, [], ◌++◌, length, arith, subst}
+-- Without interleaving nothing is left out of what is read of a stream that isn't reset, where no
+-- message has limits.
+use Rattle.std.proofs.Common.{◌≤◌, ◌≡◌, ℕ, Bool, true, false, ◌<◌, ◌-◌, ◌^◌, List, [], ◌∷◌, ◌++◌, length, arith, subst}
 use Rattle.dcsctp_spec_lemmas.specs.types.declared.options.Options.{Options}
 use Rattle.dcsctp_spec_lemmas.specs.types.queues.Messages.{MessageContent}
 use Rattle.dcsctp_spec_lemmas.specs.spec.queues.Incoming.{stream_on}
@@ -7,7 +8,7 @@ use Rattle.dcsctp_spec_lemmas.specs.spec.queues.Reassembly.{ReassemblyState}
 use Rattle.dcsctp_spec_lemmas.specs.spec.queues.SendQueue.{SendQueueState}
 use Rattle.dcsctp_spec_lemmas.specs.spec.queues.Tracker.{TrackerState}
 use Rattle.dcsctp_delivery_sending.specs.Log.{Message, History, Cut}
-use Rattle.dcsctp_delivery_sending.specs.Losing.{AreUnlimited, NoneLost}
+use Rattle.dcsctp_delivery_sending.specs.Losing.{AreUnlimited, AreUnlimitedOn}
 use Rattle.dcsctp_delivery_sending.specs.Pieces.{HoldsQueued}
 use Rattle.dcsctp_delivery_sending.specs.Turns.{turn_at}
 use Rattle.dcsctp_delivery_directions.specs.Directions.{Direction, KeepsAll, DirectionRun, assigned}
@@ -17,64 +18,75 @@ use Rattle.dcsctp_delivery_order.specs.Delivered.{DeliveredWithoutGaps}
 use Rattle.dcsctp_delivery_order.specs.Gaps.{SendsInTurn}
 use Rattle.dcsctp_delivery_order.specs.Order.{IsSentAs}
 use Rattle.dcsctp_delivery_order.specs.Plain.{with_turns, CountsPlain, IncomingPlain}
+use Rattle.dcsctp_delivery_order.specs.Streams.{NoneLostOn, DeliveredOn}
 use Rattle.dcsctp_delivery_directions.proofs.Directions.{direction_queues}
-use Rattle.dcsctp_delivery_directions.proofs.Losing.{kept_ask_nothing}
 use Rattle.dcsctp_delivery_order.proofs.PlainSteps.{can_count}
 use Rattle.dcsctp_delivery_order.proofs.Delivered.{no_gap_front}
 use Rattle.dcsctp_delivery_order.proofs.Gaps.{apart_no_gap}
-use Rattle.dcsctp_delivery_order.proofs.PlainDirections.{Arrives, run_plain, counts_plain, arrived_in_order}
+use Rattle.dcsctp_delivery_order.proofs.PlainDirections.{Arrives, AreUnasked, run_plain, counts_these, arrived_in_order}
 use Rattle.dcsctp_delivery_order.proofs.PlainReceived.{ReassemblesPlain, none_handled, some_handled}
 use Rattle.dcsctp_delivery_order.proofs.PlainRows.{sent_as, sent_from, one_message, turns_follow}
 use Rattle.dcsctp_delivery_order.proofs.Sending.{sent_before}
 
-module _ (queued : List Message) (history : History) (cut : Cut queued history.log) (counts : CountsPlain history) where
+module _ (queued : List Message) (history : History) (cut : Cut queued history.log) (id : ℕ) (counts : CountsPlain id history) where
   -- The messages of a stream are sent in turn where none is left out.
-  plain_in_turn : (id : ℕ) (queue : SendQueueState) → HoldsQueued queued history.log queue.streams queue.under_way → NoneLost queued history.log queue.streams
-      → SendsInTurn queued (with_turns history) id
-  plain_in_turn id queue holds lost earlier later mid on sent less =
-      let s = sent_from queued history cut counts id later mid sent in
+  plain_in_turn : (queue : SendQueueState) → HoldsQueued queued history.log queue.streams queue.under_way → NoneLostOn id queued history.log queue.streams → SendsInTurn queued (with_turns history) id
+  plain_in_turn queue holds lost earlier later mid on sent less =
+      let s = sent_from queued history cut id counts later mid sent in
       let before : earlier < s.piece.place = (let is = s.place_is in omega (arith, is, less)) in
-      let was = sent_before queued history.log queue cut holds id earlier s.offset (λ place message at on. lost place message at) s.piece on s.is.at s.is.stream before in (
+      let was = sent_before queued history.log queue cut holds id earlier s.offset lost s.piece on s.is.at s.is.stream before in (
         turn_at id was.offset history.log - 1,
         subst (λ (k : ℕ). IsSentAs (with_turns history) id k (turn_at id was.offset history.log - 1)) was.is
-            (sent_as queued history cut counts id was.offset was.piece (record { at = was.at; stream = was.stream; ordered = was.ordered })),
+            (sent_as queued history cut id counts was.offset was.piece (record { at = was.at; stream = was.stream; ordered = was.ordered })),
         omega arith,
       )
 
   -- Then what was read has no gap.
-  module _ (sends : (id : ℕ) → SendsInTurn queued (with_turns history) id)
-      (first : ℕ) (read : List MessageContent) (tracker : TrackerState) (reassembly : ReassemblyState) (a : Arrives first history queued read tracker reassembly) (id : ℕ) where
-    no_gap_of : (got : List ℕ) (base : ℕ) → IncomingPlain queued history got base a.places reassembly.incoming → LeaveNoGap queued id a.places
+  module _ (sends : SendsInTurn queued (with_turns history) id) (these : ℕ → Bool) (mine : these id ≡ true)
+      (first : ℕ) (read : List MessageContent) (tracker : TrackerState) (reassembly : ReassemblyState) (a : Arrives these first history queued read tracker reassembly) where
+    no_gap_of : (got : List ℕ) (base : ℕ) → IncomingPlain these queued history got base a.places reassembly.incoming → LeaveNoGap queued id a.places
     no_gap_of got base o =
-        let s = o.order id in
+        let s = o.order id mine in
         no_gap_front queued id a.places o.holds.places s.order.in_order
-        (apart_no_gap queued (with_turns history) id (turns_follow queued history cut counts) (one_message queued history cut counts id)
-        (a.places ++ o.holds.places) (o.holds.waits id) (stream_on id reassembly.incoming.streams) (sends id) s.order s.filled)
+        (apart_no_gap queued (with_turns history) id (turns_follow queued history cut id counts) (one_message queued history cut id counts)
+        (a.places ++ o.holds.places) (o.holds.waits id) (stream_on id reassembly.incoming.streams) sends s.order s.filled)
 
-    by_handled : (got : List ℕ) → ReassemblesPlain queued history first got a.places reassembly.incoming → LeaveNoGap queued id a.places
+    by_handled : (got : List ℕ) → ReassemblesPlain these queued history first got a.places reassembly.incoming → LeaveNoGap queued id a.places
     by_handled got (none_handled none last empty) = no_gap_of [] 0 (empty 0)
     by_handled got (some_handled base at o) = no_gap_of got base o
 
     arrived_no_gap : LeaveNoGap queued id a.places
     arrived_no_gap = by_handled a.received.got a.received.holds
 
+-- Where none of the messages may be abandoned, none on a stream may be.
+unlimited_on : (id : ℕ) (queued : List Message) → AreUnlimited queued → AreUnlimitedOn id queued
+unlimited_on id [] are = tt
+unlimited_on id (message ∷ queued) are = (λ on. are.0, unlimited_on id queued are.1)
+
+pub plain_streams_deliver_without_gaps : (options : Options) (first size : ℕ) (direction : Direction) → DirectionRun options first size direction
+    → first < 2 ^ 32 → assigned direction < 2 ^ 31 → length direction.queued < 2 ^ 64 → size ≤ 2 ^ 63 → direction.queues.queue.is_interleaved ≡ false
+    → direction.beginning.from_zero ≡ true → AreUnlimited direction.queued → DeliveredOn direction.beginning.keeps direction.queued direction.read
+plain_streams_deliver_without_gaps options first size direction run small little few window kind from are =
+    let g = run_plain direction.beginning.keeps options first size direction small few run kind in
+    let s = g.stands in
+    let count = s.count in
+    let low : length s.history.log < 2 ^ 31 = omega (arith, count, little) in
+    let unasked : AreUnasked direction.beginning.keeps direction = λ begun has id kept. g.unnamed id kept begun has in
+    let counts = counts_these first direction s kind (g.zero from) low direction.beginning.keeps unasked in
+    let can = can_count size direction.queued window (direction_queues options first size direction run small few).1 in
+    let a = g.arrives unasked counts can (unlimited_forward_nothing options first size direction run small few are) in
+    record {
+      delivered = record { places = a.places; were_queued = a.were; once = a.once };
+      in_order = arrived_in_order direction.beginning.keeps first s.history direction.queued direction.read direction.tracker direction.reassembly a;
+      no_gap = λ id kept.
+          arrived_no_gap direction.queued s.history s.queues.cut id (counts.each id kept)
+          (plain_in_turn direction.queued s.history s.queues.cut id (counts.each id kept) direction.queues.queue s.queues.queue_holds (g.kept id kept (unlimited_on id direction.queued are)))
+          direction.beginning.keeps kept first direction.read direction.tracker direction.reassembly a;
+    }
+
 pub plain_directions_deliver_without_gaps : (options : Options) (first size : ℕ) (direction : Direction) → DirectionRun options first size direction
     → first < 2 ^ 32 → assigned direction < 2 ^ 31 → length direction.queued < 2 ^ 64 → size ≤ 2 ^ 63 → direction.queues.queue.is_interleaved ≡ false
     → direction.beginning.from_zero ≡ true → KeepsAll direction.beginning → AreUnlimited direction.queued → DeliveredWithoutGaps direction.queued direction.read
 plain_directions_deliver_without_gaps options first size direction run small little few window kind from keeps are =
-    let unasked = kept_ask_nothing options first size direction run keeps in
-    let g = run_plain options first size direction small few run unasked in
-    let s = g.stands in
-    let count = s.count in
-    let counts = counts_plain first direction s kind (g.zero from kind) unasked (omega (arith, count, little)) in
-    let can = can_count size direction.queued window (direction_queues options first size direction run small few).1 in
-    let a = g.arrives counts can (unlimited_forward_nothing options first size direction run small few are) in
-    let sends : (id : ℕ) → SendsInTurn direction.queued (with_turns s.history) id =
-    λ id. plain_in_turn direction.queued s.history s.queues.cut counts id direction.queues.queue s.queues.queue_holds (g.kept keeps are) in
-    record {
-      ordered = record {
-        delivered = record { places = a.places; were_queued = a.were; once = a.once };
-        in_order = arrived_in_order first s.history direction.queued direction.read direction.tracker direction.reassembly a;
-      };
-      no_gap = arrived_no_gap direction.queued s.history s.queues.cut counts sends first direction.read direction.tracker direction.reassembly a;
-    }
+    let d = plain_streams_deliver_without_gaps options first size direction run small little few window kind from are in
+    record { ordered = record { delivered = d.delivered; in_order = λ id. d.in_order id (keeps id) }; no_gap = λ id. d.no_gap id (keeps id) }

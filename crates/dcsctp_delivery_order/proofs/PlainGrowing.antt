@@ -1,5 +1,5 @@
 -- What is received of DATA stays in order as the user reads, and as the peer goes on.
-use Rattle.std.proofs.Common.{◌≡◌, ℕ, true, ◌<◌, ◌+◌, ◌-◌, ◌^◌, List, [], ◌∷◌, ◌++◌, length, refl, sym, ◌∙◌, ap, arith, subst, inl, inr}
+use Rattle.std.proofs.Common.{◌≡◌, ℕ, Bool, true, ◌<◌, ◌+◌, ◌-◌, ◌^◌, List, [], ◌∷◌, ◌++◌, length, refl, sym, ◌∙◌, ap, arith, subst, inl, inr}
 use Rattle.std.specs.Prelude.{◌⊎◌, Some}
 use Rattle.std.proofs.lemmas.List.{length-append}
 use Rattle.dcsctp_spec_lemmas.specs.types.queues.Messages.{MessageContent}
@@ -8,7 +8,7 @@ use Rattle.dcsctp_spec_lemmas.specs.spec.queues.Runs.{RunModel, WholeModel}
 use Rattle.dcsctp_spec_lemmas.specs.spec.queues.IncomingStreams.{StreamModel, is_number_waiting}
 use Rattle.dcsctp_spec_lemmas.specs.spec.queues.Incoming.{IncomingModel, stream_on}
 use Rattle.dcsctp_spec_lemmas.specs.spec.queues.Tracker.{TrackerState, has_received}
-use Rattle.dcsctp_spec_lemmas.specs.spec.queues.Reassembly.{ReassemblyState}
+use Rattle.dcsctp_spec_lemmas.specs.spec.queues.Reassembly.{ReassemblyState, waiting_of, with_ready}
 use Rattle.dcsctp_delivery_sending.specs.Places.{HasEntry, at_place}
 use Rattle.dcsctp_delivery_sending.specs.Log.{Message, Piece, Slot, History}
 use Rattle.dcsctp_delivery_sending.specs.Turns.{turn_at, IsSsnOfTurn}
@@ -19,7 +19,7 @@ use Rattle.dcsctp_delivery_receiving.specs.Rows.{AreRows}
 use Rattle.dcsctp_delivery_receiving.specs.Ready.{IsOn, ordered_base, AreDistinct, WasQueued, WereQueued, WaitQueued, IsNear, fresh, near, HoldsIncoming}
 use Rattle.dcsctp_delivery_receiving.specs.Received.{Reassembles, untouched, placed, HasReceived}
 use Rattle.dcsctp_delivery_receiving.specs.Tracked.{tracked}
-use Rattle.dcsctp_delivery_receiving.proofs.Continuing.{GoesOn}
+use Rattle.dcsctp_delivery_receiving.proofs.Continuing.{GoesOn, defers_more}
 use Rattle.dcsctp_delivery_receiving.proofs.Distinct.{appended, distinct_left, has_left, has_right}
 use Rattle.dcsctp_delivery_receiving.proofs.Growing.{holds_more}
 use Rattle.dcsctp_delivery_receiving.proofs.Tracked.{more_given_out}
@@ -29,7 +29,7 @@ use Rattle.dcsctp_delivery_order.specs.Rising.{AscendFrom}
 use Rattle.dcsctp_delivery_order.specs.Runs.{LieApart, HeldAs}
 use Rattle.dcsctp_delivery_order.specs.Order.{AreReadAs}
 use Rattle.dcsctp_delivery_order.specs.Incoming.{IsWithin}
-use Rattle.dcsctp_delivery_order.specs.Plain.{turned, with_turns, number_at, CountsPlain, CarriesOrdered, PlainStream, IncomingPlain}
+use Rattle.dcsctp_delivery_order.specs.Plain.{turned, with_turns, number_at, CountsPlain, CountsThese, CarriesOrdered, PlainStream, IncomingPlain}
 use Rattle.dcsctp_delivery_order.proofs.Incoming.{queued_so, in_order_more, sent_more, read_more}
 use Rattle.dcsctp_delivery_order.proofs.PlainRows.{turned_slots}
 use Rattle.dcsctp_delivery_order.proofs.PlainReceived.{ReassemblesPlain, none_handled, some_handled, HasReceivedPlain}
@@ -37,11 +37,11 @@ use Rattle.dcsctp_delivery_order.proofs.PlainReceived.{ReassemblesPlain, none_ha
 -- ---- what the user reads
 
 -- The message was queued, and wasn't read before.
-pub record TakesPlain (queued : List Message) (history : History) (first : ℕ) (read : List ℕ) (tracker : TrackerState) (incoming : IncomingModel) (message : MessageContent) (messages : List MessageContent) : Type 0 where
+pub record TakesPlain (these : ℕ → Bool) (queued : List Message) (history : History) (first : ℕ) (read : List ℕ) (tracker : TrackerState) (reassembly : ReassemblyState) (message : MessageContent) (messages : List MessageContent) : Type 0 where
   pub place : ℕ
   pub was : WasQueued queued place message
   pub fresh : HasEntry place read → ⊥
-  pub received : HasReceivedPlain queued history first (read ++ place ∷ []) tracker (record incoming { ready = messages })
+  pub received : HasReceivedPlain these queued history first (read ++ place ∷ []) tracker (with_ready messages reassembly)
 
 pub not_twice : (p : ℕ) (xs ys : List ℕ) → AreDistinct (xs ++ (p ∷ ys)) → HasEntry p xs → ⊥
 not_twice p [] ys distinct h = h
@@ -52,17 +52,17 @@ not_twice p (x ∷ xs) ys distinct h =
     ]
 
 -- the first that is ready is read
-record ReadsPlain (queued : List Message) (history : History) (got : List ℕ) (base : ℕ) (read : List ℕ) (incoming : IncomingModel) (message : MessageContent) (messages : List MessageContent) : Type 0 where
+record ReadsPlain (these : ℕ → Bool) (queued : List Message) (history : History) (got : List ℕ) (base : ℕ) (read : List ℕ) (incoming : IncomingModel) (message : MessageContent) (messages : List MessageContent) : Type 0 where
   place : ℕ
   was : WasQueued queued place message
   fresh : HasEntry place read → ⊥
-  plain : IncomingPlain queued history got base (read ++ place ∷ []) (record incoming { ready = messages })
+  plain : IncomingPlain these queued history got base (read ++ place ∷ []) (record incoming { ready = messages })
 
-reads_plain : (queued : List Message) (history : History) (got : List ℕ) (base : ℕ) (read : List ℕ) (incoming : IncomingModel) (message : MessageContent) (messages : List MessageContent) → incoming.ready ≡ message ∷ messages
-    → IncomingPlain queued history got base read incoming → ReadsPlain queued history got base read incoming message messages
-reads_plain queued history got base read incoming message messages is o = go o.holds.places refl (subst (λ (l : List MessageContent). WereQueued queued o.holds.places l) is o.holds.were_queued)
+reads_plain : (these : ℕ → Bool) (queued : List Message) (history : History) (got : List ℕ) (base : ℕ) (read : List ℕ) (incoming : IncomingModel) (message : MessageContent) (messages : List MessageContent) → incoming.ready ≡ message ∷ messages
+    → IncomingPlain these queued history got base read incoming → ReadsPlain these queued history got base read incoming message messages
+reads_plain these queued history got base read incoming message messages is o = go o.holds.places refl (subst (λ (l : List MessageContent). WereQueued queued o.holds.places l) is o.holds.were_queued)
   where
-    go : (places : List ℕ) → o.holds.places ≡ places → WereQueued queued places (message ∷ messages) → ReadsPlain queued history got base read incoming message messages
+    go : (places : List ℕ) → o.holds.places ≡ places → WereQueued queued places (message ∷ messages) → ReadsPlain these queued history got base read incoming message messages
     go [] e were = absurd were
     go (p ∷ places) e were =
         let all : read ++ o.holds.places ≡ (read ++ p ∷ []) ++ places = ap (λ (l : List ℕ). read ++ l) e ∙ sym (appended read (p ∷ []) places) in
@@ -80,40 +80,67 @@ reads_plain queued history got base read incoming message messages is o = go o.h
               spent = λ q h. o.holds.spent q (subst (λ (l : List ℕ). HasEntry q l) (sym all) h);
               once = λ id. subst (λ (l : List ℕ). AreDistinct (l ++ o.holds.waits id)) all (o.holds.once id);
             };
-            order = λ id. subst (λ (l : List ℕ). PlainStream queued history got base id l (o.holds.waits id) (stream_on id incoming.streams)) all (o.order id);
+            order = λ id kept. subst (λ (l : List ℕ). PlainStream queued history got base id l (o.holds.waits id) (stream_on id incoming.streams)) all (o.order id kept);
           };
         }
 
-pub takes_plain : (queued : List Message) (history : History) (first : ℕ) (read : List ℕ) (tracker : TrackerState) (incoming : IncomingModel) (message : MessageContent) (messages : List MessageContent) → incoming.ready ≡ message ∷ messages
-    → HasReceivedPlain queued history first read tracker incoming → TakesPlain queued history first read tracker incoming message messages
-takes_plain queued history first read tracker incoming message messages is r = go r.holds
+pub takes_plain : (these : ℕ → Bool) (queued : List Message) (history : History) (first : ℕ) (read : List ℕ) (tracker : TrackerState) (reassembly : ReassemblyState) (message : MessageContent) (messages : List MessageContent)
+    → reassembly.incoming.ready ≡ message ∷ messages → HasReceivedPlain these queued history first read tracker reassembly → TakesPlain these queued history first read tracker reassembly message messages
+takes_plain these queued history first read tracker reassembly message messages is r = go r.holds
   where
-    go : ReassemblesPlain queued history first r.got read incoming → TakesPlain queued history first read tracker incoming message messages
+    later : (place : ℕ) → ReassemblesPlain these queued history first r.got (read ++ place ∷ []) (record reassembly.incoming { ready = messages }) → HasReceivedPlain these queued history first (read ++ place ∷ []) tracker (with_ready messages reassembly)
+    later place holds =
+        record {
+          taken = r.taken;
+          got = r.got;
+          later = r.later;
+          tracks = r.tracks;
+          exact = r.exact;
+          pieces = r.pieces;
+          got_taken = r.got_taken;
+          later_taken = r.later_taken;
+          either = r.either;
+          apart = r.apart;
+          distinct = r.distinct;
+          holds = holds;
+          defers = r.defers;
+          others = r.others;
+        }
+
+    go : ReassemblesPlain these queued history first r.got read reassembly.incoming → TakesPlain these queued history first read tracker reassembly message messages
     go (some_handled base at o) =
-        let t = reads_plain queued history r.got base read incoming message messages is o in
-        record { place = t.place; was = t.was; fresh = t.fresh; received = record { got = r.got; tracks = r.tracks; exact = r.exact; pieces = r.pieces; holds = some_handled base at t.plain } }
+        let t = reads_plain these queued history r.got base read reassembly.incoming message messages is o in
+        record { place = t.place; was = t.was; fresh = t.fresh; received = later t.place (some_handled base at t.plain) }
     go (none_handled none last empty) =
-        let t = reads_plain queued history [] 0 read incoming message messages is (empty 0) in
+        let t = reads_plain these queued history [] 0 read reassembly.incoming message messages is (empty 0) in
         let spent = t.plain.holds.spent t.place (has_left t.place (read ++ t.place ∷ []) t.plain.holds.places (has_right t.place read (t.place ∷ []) (inl refl))) in
         absurd (spent.covered spent.offset (omega arith) spent.order)
 
 -- ---- the peer goes on
 
 -- a log of DATA was one before
-pub counts_before : (history later : History) (slots : List Slot) → later.log ≡ slots ++ history.log → CountsPlain later → CountsPlain history
-counts_before history later slots is counts =
-    record {
-      kinds = λ n f at. counts.kinds n f (stays n (Some f) at);
-      sent = λ n f at ordered. subst (λ (k : ℕ). IsSsnOfTurn f.ssn k) (same f.message.stream n (at_below n (Some f) history.log at)) (counts.sent n f (stays n (Some f) at) ordered);
-      closes = λ n f g at at'. counts.closes n f g (stays n (Some f) at) (stays (n + 1) (Some g) at');
-      few = (let few = counts.few in let sizes : length later.log ≡ length (slots ++ history.log) = ap (λ (l : List Slot). length l) is in omega (arith, few, sizes, length-append slots history.log));
-    }
-  where
-    stays : (n : ℕ) (slot : Slot) → at_place n history.log ≡ Some slot → at_place n later.log ≡ Some slot
-    stays n slot at = ap (λ (l : List Slot). at_place n l) is ∙ at_more slots history.log n slot at
+module _ (history later : History) (slots : List Slot) (is : later.log ≡ slots ++ history.log) where
+  stays_before : (n : ℕ) (slot : Slot) → at_place n history.log ≡ Some slot → at_place n later.log ≡ Some slot
+  stays_before n slot at = ap (λ (l : List Slot). at_place n l) is ∙ at_more slots history.log n slot at
 
-    same : (id n : ℕ) → n < length history.log → turn_at id n later.log ≡ turn_at id n history.log
-    same id n below = ap (λ (l : List Slot). turn_at id n l) is ∙ turn_more id n slots history.log below
+  fewer_before : length later.log < 2 ^ 31 → length history.log < 2 ^ 31
+  fewer_before few = (let sizes : length later.log ≡ length (slots ++ history.log) = ap (λ (l : List Slot). length l) is in omega (arith, few, sizes, length-append slots history.log))
+
+  pub counts_before : (id : ℕ) → CountsPlain id later → CountsPlain id history
+  counts_before id counts =
+      record {
+        kinds = λ n f at. counts.kinds n f (stays_before n (Some f) at);
+        sent = λ n f of. subst (λ (k : ℕ). IsSsnOfTurn f.ssn k) (same n (at_below n (Some f) history.log of.at)) (counts.sent n f (record { at = stays_before n (Some f) of.at; stream = of.stream; ordered = of.ordered }));
+        closes = λ n f g at at'. counts.closes n f g (stays_before n (Some f) at) (stays_before (n + 1) (Some g) at');
+        few = fewer_before counts.few;
+      }
+    where
+      same : (n : ℕ) → n < length history.log → turn_at id n later.log ≡ turn_at id n history.log
+      same n below = ap (λ (l : List Slot). turn_at id n l) is ∙ turn_more id n slots history.log below
+
+  pub these_before : (these : ℕ → Bool) → CountsThese these later → CountsThese these history
+  these_before these counts =
+      record { kinds = λ n f at. counts.kinds n f (stays_before n (Some f) at); few = fewer_before counts.few; each = λ id mine. counts_before id (counts.each id mine) }
 
 module _ (queued more : List Message) (history later : History) (slots : List Slot) (is : later.log ≡ slots ++ history.log) (goes : GoesOn history later) (read : List ℕ) (contents : List MessageContent) (were : WereQueued queued read contents) where
   number_more : (id n : ℕ) → n < length history.log → number_at id n later.log ≡ number_at id n history.log
@@ -172,28 +199,44 @@ module _ (queued more : List Message) (history later : History) (slots : List Sl
             );
       }
 
-  incoming_more : (got : List ℕ) (base : ℕ) (incoming : IncomingModel) → ((k : ℕ) → HasEntry k got → (f : Piece) × (at_place k history.log ≡ Some (Some f))) → IncomingPlain queued history got base read incoming → IncomingPlain (more ++ queued) later got base read incoming
+  incoming_more : (these : ℕ → Bool) (got : List ℕ) (base : ℕ) (incoming : IncomingModel) → ((k : ℕ) → HasEntry k got → (f : Piece) × (at_place k history.log ≡ Some (Some f))) → IncomingPlain these queued history got base read incoming
+      → IncomingPlain these (more ++ queued) later got base read incoming
   unfolding holds_more
-  incoming_more got base incoming pieces o =
+  incoming_more these got base incoming pieces o =
       record {
         holds = holds_more queued more history later goes got base read incoming o.holds;
-        order = λ id. stream_more got base id (read ++ o.holds.places) (o.holds.waits id) (contents ++ incoming.ready) (stream_on id incoming.streams) pieces
-            (both_queued queued read o.holds.places contents incoming.ready were o.holds.were_queued) (o.order id);
+        order = λ id kept. stream_more got base id (read ++ o.holds.places) (o.holds.waits id) (contents ++ incoming.ready) (stream_on id incoming.streams) pieces
+            (both_queued queued read o.holds.places contents incoming.ready were o.holds.were_queued) (o.order id kept);
       }
 
-  pub received_more : (first : ℕ) (tracker : TrackerState) (incoming : IncomingModel) → HasReceivedPlain queued history first read tracker incoming → HasReceivedPlain (more ++ queued) later first read tracker incoming
-  received_more first tracker incoming r =
+  pub received_more : (these : ℕ → Bool) (first : ℕ) (tracker : TrackerState) (reassembly : ReassemblyState) → HasReceivedPlain these queued history first read tracker reassembly
+      → HasReceivedPlain these (more ++ queued) later first read tracker reassembly
+  received_more these first tracker reassembly r =
       record {
+        taken = r.taken;
         got = r.got;
-        tracks = more_given_out first (length history.log) (length later.log) r.got tracker goes.longer r.tracks;
+        later = r.later;
+        tracks = more_given_out first (length history.log) (length later.log) r.taken tracker goes.longer r.tracks;
         exact = r.exact;
         pieces = λ k h. (let (f, at) = r.pieces k h in (f, goes.stays k (Some f) at));
+        got_taken = r.got_taken;
+        later_taken = r.later_taken;
+        either = r.either;
+        apart = r.apart;
+        distinct = r.distinct;
         holds = go r.holds;
+        defers = defers_more history later goes first r.later (waiting_of reassembly.deferral) r.defers;
+        others = λ k h f at. (
+            let (g, was) = r.pieces k (r.later_taken k h) in
+            let both : Some (Some f) ≡ Some (Some g) = sym at ∙ goes.stays k (Some g) was in
+            let same : f ≡ g = cc in
+            ap (λ (x : Piece). these x.message.stream) same ∙ r.others k h g was
+            );
       }
     where
-      go : ReassemblesPlain queued history first r.got read incoming → ReassemblesPlain (more ++ queued) later first r.got read incoming
-      go (none_handled none last empty) = none_handled none last (λ base. incoming_more [] base incoming (λ k h. absurd h) (empty base))
-      go (some_handled base at o) = some_handled base at (incoming_more r.got base incoming r.pieces o)
+      go : ReassemblesPlain these queued history first r.got read reassembly.incoming → ReassemblesPlain these (more ++ queued) later first r.got read reassembly.incoming
+      go (none_handled none last empty) = none_handled none last (λ base. incoming_more these [] base reassembly.incoming (λ k h. absurd h) (empty base))
+      go (some_handled base at o) = some_handled base at (incoming_more these r.got base reassembly.incoming (λ k h. r.pieces k (r.got_taken k h)) o)
 
 -- ---- nothing was sent yet
 
@@ -223,11 +266,11 @@ module _ (queued : List Message) (history : History) (empty : history.log ≡ []
   is_first next (fresh e) = e
   is_first next (near base same small low high) = absurd (omega (arith, same, low, high))
 
-  holds_none : (got : List ℕ) (base : ℕ) (read : List ℕ) (incoming : IncomingModel) → HoldsIncoming queued history got base read incoming → IncomingPlain queued history got base read incoming
-  holds_none got base read incoming holds =
+  holds_none : (these : ℕ → Bool) (got : List ℕ) (base : ℕ) (read : List ℕ) (incoming : IncomingModel) → HoldsIncoming queued history got base read incoming → IncomingPlain these queued history got base read incoming
+  holds_none these got base read incoming holds =
       record {
         holds = holds;
-        order = λ id. (
+        order = λ id kept. (
             let here = holds.streams_hold id in
             let stream : StreamModel = stream_on id incoming.streams in
             let waits = waits_none got id (holds.waits id) (stream_on id incoming.streams).waiting here.wait ((stream_on id incoming.streams).next + 1) in
@@ -249,14 +292,24 @@ module _ (queued : List Message) (history : History) (empty : history.log ≡ []
       none : (p : ℕ) → HasEntry p (read ++ holds.places) → ⊥
       none p has = (let spent = holds.spent p has in nowhere spent.offset (Some spent.head) spent.at_head)
 
-  pub received_nothing : (first : ℕ) (read : List ℕ) (tracker : TrackerState) (reassembly : ReassemblyState) → HasReceived queued history first read tracker reassembly → HasReceivedPlain queued history first read tracker reassembly.incoming
-  received_nothing first read tracker reassembly r =
+  pub received_nothing : (these : ℕ → Bool) (first : ℕ) (read : List ℕ) (tracker : TrackerState) (reassembly : ReassemblyState) → HasReceived queued history first read tracker reassembly
+      → HasReceivedPlain these queued history first read tracker reassembly
+  received_nothing these first read tracker reassembly r =
       record {
+        taken = r.taken;
         got = r.got;
-        tracks = record { beyond = r.tracks.beyond; reached = r.tracks.reached; started = r.tracks.started; sent = r.tracks.sent; received = λ k h. r.tracks.received k (r.got_taken k h) };
+        later = r.later;
+        tracks = r.tracks;
         exact = λ k is. absurd (unknown k is);
-        pieces = λ k h. absurd (unknown k (r.tracks.received k (r.got_taken k h)));
+        pieces = λ k h. absurd (unknown k (r.tracks.received k h));
+        got_taken = r.got_taken;
+        later_taken = r.later_taken;
+        either = λ k h. absurd (unknown k (r.tracks.received k h));
+        apart = r.apart;
+        distinct = r.distinct;
         holds = go r.holds;
+        defers = r.defers;
+        others = λ k h f at. absurd (nowhere k (Some f) at);
       }
     where
       unknown : (k : ℕ) → has_received tracker (tracked first k) ≡ true → ⊥
@@ -265,6 +318,6 @@ module _ (queued : List Message) (history : History) (empty : history.log ≡ []
           let sent = r.tracks.sent (tracked first k) is in
           omega (arith, none, sent)
 
-      go : Reassembles queued history first r.got read reassembly.incoming → ReassemblesPlain queued history first r.got read reassembly.incoming
-      go (untouched none last all) = none_handled none last (λ base. holds_none [] base read reassembly.incoming (all base))
-      go (placed base at holds) = some_handled base at (holds_none r.got base read reassembly.incoming holds)
+      go : Reassembles queued history first r.got read reassembly.incoming → ReassemblesPlain these queued history first r.got read reassembly.incoming
+      go (untouched none last all) = none_handled none last (λ base. holds_none these [] base read reassembly.incoming (all base))
+      go (placed base at holds) = some_handled base at (holds_none these r.got base read reassembly.incoming holds)

@@ -145,7 +145,7 @@ record BeginsAt (log : List Slot) (base id first number : ℕ) : Type 0 where
   number_is : number ≡ number_at id offset log
   first_is : first ≡ fragment_place number base + offset
 
-module _ (history : History) (counts : CountsPlain history) (got : List ℕ) (base id : ℕ) (small : base + 2 ^ 32 < 2 ^ 64)
+module _ (history : History) (id : ℕ) (counts : CountsPlain id history) (got : List ℕ) (base : ℕ) (small : base + 2 ^ 32 < 2 ^ 64)
     (old : StreamModel) (rows : AreRows history.log got (ordered_base base) (IsOn history id) old.ordered) (runs : (run : RunModel) → HasEntry run old.ordered → IsNumberedRun history.log base id run)
     (n : ℕ) (f : Piece) (is : CarriesOrdered history.log id n f)
     (part : PartModel) (number_is : part.number ≡ number_at id n history.log) (place_is : part.place ≡ fragment_place part.number base + n) where

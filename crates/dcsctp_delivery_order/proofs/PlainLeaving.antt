@@ -105,7 +105,7 @@ module _ (queued : List Message) (history : History) (now : List ℕ) (base : �
 
 -- ---- an ordered part
 
-module _ (queued : List Message) (history : History) (cut : Cut queued history.log) (counts : CountsPlain history) (got : List ℕ) (base id : ℕ) (small : base + 2 ^ 32 < 2 ^ 64) (n : ℕ) (f : Piece) (is : CarriesOrdered history.log id n f) (is_new : HasEntry n got → ⊥)
+module _ (queued : List Message) (history : History) (cut : Cut queued history.log) (id : ℕ) (counts : CountsPlain id history) (got : List ℕ) (base : ℕ) (small : base + 2 ^ 32 < 2 ^ 64) (n : ℕ) (f : Piece) (is : CarriesOrdered history.log id n f) (is_new : HasEntry n got → ⊥)
     (part : PartModel) (number_is : part.number ≡ number_at id n history.log) (place_is : part.place ≡ fragment_place part.number base + n)
     (old new : StreamModel) (rows : AreRows history.log got (ordered_base base) (IsOn history id) old.ordered) (before after : List MessageContent) (taken : Taken) (does : TakesOrdered part old before taken new after)
     (all places waits : List ℕ) (s : PlainStream queued history got base id all waits old) (from : old.next ≤ part.number)
@@ -118,7 +118,7 @@ module _ (queued : List Message) (history : History) (cut : Cut queued history.l
   row = parts_deliver_rows part old before taken new after s.order.ahead ahead does
 
   its : IsReadAs (with_turns history) id f.place part.number
-  its = subst (λ (k : ℕ). IsReadAs (with_turns history) id f.place k) (sym number_is) (read_as queued history cut counts id n f is)
+  its = subst (λ (k : ℕ). IsReadAs (with_turns history) id f.place k) (sym number_is) (read_as queued history cut id counts n f is)
 
   -- the stream once these are delivered
   then_plain : (more later : List ℕ) (delivered : List WholeModel) → DeliversRow old before new after delivered → AreReadAs (with_turns history) id more delivered → AreReadAs (with_turns history) id later new.waiting
@@ -126,12 +126,12 @@ module _ (queued : List Message) (history : History) (cut : Cut queued history.l
   unfolding row
   then_plain more later delivered delivers are left =
       record {
-        order = order_then queued (with_turns history) id all waits more later old new before after delivered (turns_follow queued history cut counts) s.order delivers.rising are left;
+        order = order_then queued (with_turns history) id all waits more later old new before after delivered (turns_follow queued history cut id counts) s.order delivers.rising are left;
         filled = rows_fill (with_turns history) id old.next new.next all more delivered are delivers.row s.filled;
         from = (let low = s.from in let up = rise_end old.next new.next delivered delivers.rising.rise in omega (arith, low, up));
         apart = parts_lie_apart part old.ordered new.ordered does.outcome does.parts s.apart;
-        runs = runs_stay history counts got base id small old rows s.runs n f is part number_is place_is does.outcome new.ordered does.parts;
-        held = held_stays history counts got base id small old rows s.runs n f is part number_is place_is new before after taken is_new from s.held does row;
+        runs = runs_stay history id counts got base small old rows s.runs n f is part number_is place_is does.outcome new.ordered does.parts;
+        held = held_stays history id counts got base small old rows s.runs n f is part number_is place_is new before after taken is_new from s.held does row;
       }
 
   whole_left : (whole : WholeModel) → whole.number ≡ part.number → (b : Bool) → after ≡ (if b then before ++ ready_with old whole else before) → MatchBool b (new.waiting ≡ not_due (next_after old.next whole) old.waiting) (WaitsAmong whole old.waiting new.waiting)

@@ -37,7 +37,13 @@ row_in log got base Named run (r ∷ runs) are has =
       | inr t ↦ row_in log got base Named run runs are.1 t
     ]
 
-module _ (queued : List Message) (history : History) (cut : Cut queued history.log) (counts : CountsPlain history) where
+-- The TSN carries a piece, which was handled if it is of the stream.
+pub record PassedOn (log : List Slot) (got : List ℕ) (id n : ℕ) : Type 0 where
+  pub piece : Piece
+  pub at : at_place n log ≡ Some (Some piece)
+  pub handled : piece.message.stream ≡ id → HasEntry n got
+
+module _ (queued : List Message) (history : History) (cut : Cut queued history.log) (id : ℕ) (counts : CountsPlain id history) where
   -- pieces of one message say so
   one_text : (m n : ℕ) (f g : Piece) → at_place m history.log ≡ Some (Some f) → at_place n history.log ≡ Some (Some g) → f.place ≡ g.place → f.message ≡ g.message
   one_text m n f g at at' same =
@@ -47,7 +53,7 @@ module _ (queued : List Message) (history : History) (cut : Cut queued history.l
   one_piece : (m n : ℕ) (f g : Piece) → at_place m history.log ≡ Some (Some f) → at_place n history.log ≡ Some (Some g) → m ≡ n → f ≡ g
   one_piece m n f g at at' same = (let both : Some (Some f) ≡ Some (Some g) = sym at ∙ ap (λ (k : ℕ). at_place k history.log) same ∙ at' in cc)
 
-  module _ (id b : ℕ) (first : IsFirstAt history.log id b) where
+  module _ (b : ℕ) (first : IsFirstAt history.log id b) where
     head : Piece
     head = first.piece
 
@@ -160,7 +166,7 @@ module _ (queued : List Message) (history : History) (cut : Cut queued history.l
 
       -- rows of one message begin at one TSN
       rows_agree : (k m : ℕ) (f g : Piece) (one : RowOf history.log id f.place k) (other : RowOf history.log id g.place m) → g.place ≡ f.place → other.from ≡ one.from
-      rows_agree k m f g one other same = one_beginning queued history cut counts id other.from one.from other.first one.first (other.is ∙ same ∙ sym one.is)
+      rows_agree k m f g one other same = one_beginning queued history cut id counts other.from one.from other.first one.first (other.is ∙ same ∙ sym one.is)
 
       -- ---- a run of it
 
@@ -192,8 +198,8 @@ module _ (queued : List Message) (history : History) (cut : Cut queued history.l
 
         turn_of : (k : ℕ) (f : Piece) → CarriesOrdered history.log id k f → number_at id k history.log ≡ stream.next → turn_at id k history.log ≡ turn_at id b history.log
         turn_of k f is number =
-            let some = some_turn queued history cut counts id k f is in
-            let some_b = some_turn queued history cut counts id b first.piece first.is in
+            let some = some_turn queued history cut id counts k f is in
+            let some_b = some_turn queued history cut id counts b first.piece first.is in
             omega (arith, number, number_is, some, some_b)
 
         run_at : (run : RunModel) → HasEntry run stream.ordered → run.number ≡ stream.next → RunAt run
@@ -207,8 +213,8 @@ module _ (queued : List Message) (history : History) (cut : Cut queued history.l
             let is_last : CarriesOrdered history.log id w.last_offset w.last = record { at = w.at_last; stream = ap (λ (m : Message). m.stream) w.message ∙ is.stream; ordered = ap (λ (m : Message). m.is_unordered) w.message ∙ is.ordered } in
             let turn : turn_at id w.offset history.log ≡ turn_at id b history.log =
             turn_of w.offset w.head is (ap (λ (k : ℕ). number_at id k history.log) (sym same) ∙ sym n.number ∙ named) in
-            let one_row = row_of queued history cut counts id w.offset w.head is in
-            let last_row = row_of queued history cut counts id w.last_offset w.last is_last in
+            let one_row = row_of queued history cut id counts w.offset w.head is in
+            let last_row = row_of queued history cut id counts w.last_offset w.last is_last in
             let from : one_row.from ≡ b = first_at w.offset w.head one_row turn in
             let both_rows : last_row.from ≡ one_row.from = rows_agree w.offset w.last_offset w.head w.last one_row last_row w.place in
             let first_place : w.head.place ≡ first.piece.place = of_first w.offset w.head one_row from in
@@ -315,8 +321,10 @@ module _ (queued : List Message) (history : History) (cut : Cut queued history.l
         → AreRows history.log got (ordered_base base) (IsOn history id) stream.ordered → ((run : RunModel) → HasEntry run stream.ordered → IsNumberedRun history.log base id run)
         → number_at id b history.log ≡ stream.next → LieApart 0 stream.ordered → AscendFrom (stream.next + 1) stream.waiting
         → ((n : ℕ) (f : Piece) → CarriesOrdered history.log id n f → HasEntry n got → stream.next ≤ number_at id n history.log → IsHeldOrWaits history.log base id stream n)
-        → ((k : ℕ) → HasEntry k got → (f : Piece) × (at_place k history.log ≡ Some (Some f)))
-        → ((k : ℕ) → b ≤ k → k < end → HasEntry k got) → ⊥
-    incomplete end later got base stream less rows runs number apart waits held pieces all =
-        let r = row end later (λ m low up. pieces m (all m low up)) less in
-        not_all end r got base stream rows runs number apart waits held (λ k low up. all k low (let to = r.to in omega (arith, to, up)))
+        → ((k : ℕ) → b ≤ k → k < end → PassedOn history.log got id k) → ⊥
+    incomplete end later got base stream less rows runs number apart waits held all =
+        let r = row end later (λ m low up. (let p = all m low up in (p.piece, p.at))) less in
+        not_all end r got base stream rows runs number apart waits held (λ k low up. (
+        let p = all k low (let to = r.to in omega (arith, to, up)) in
+        let mine = part end r k low up in
+        p.handled (ap (λ (x : Piece). x.message.stream) (one_piece k k p.piece mine.piece p.at mine.is.at refl) ∙ mine.is.stream)))

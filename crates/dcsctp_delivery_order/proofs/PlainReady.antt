@@ -1,5 +1,5 @@
 -- A chunk of data whose TSN is new, in order, without interleaving.
-use Rattle.std.proofs.Common.{◌≡◌, ◌≢◌, ◌<◌, ◌≤◌, ◌+◌, ◌^◌, ℕ, true, false, List, ◌∷◌, ◌++◌, refl, sym, ◌∙◌, ap, arith, subst, inl, inr}
+use Rattle.std.proofs.Common.{◌≡◌, ◌≢◌, ◌<◌, ◌≤◌, ◌+◌, ◌^◌, ℕ, Bool, true, false, List, ◌∷◌, ◌++◌, refl, sym, ◌∙◌, ap, arith, subst, inl, inr}
 use Rattle.std.specs.Prelude.{Some}
 use Rattle.dcsctp_spec_lemmas.specs.types.queues.Messages.{MessageContent}
 use Rattle.dcsctp_spec_lemmas.specs.types.declared.arrivals.Numbering.{Numbering}
@@ -9,7 +9,7 @@ use Rattle.dcsctp_spec_lemmas.specs.spec.queues.Numbers.{number_near, short_numb
 use Rattle.dcsctp_spec_lemmas.specs.spec.queues.Runs.{RunModel, Assembled, part_dropped, part_kept, message_whole}
 use Rattle.dcsctp_spec_lemmas.specs.spec.queues.IncomingStreams.{StreamModel, ChunkModel, data_part, delivered_as, UnorderedOutcome, TakesAhead, TakesNumbered}
 use Rattle.dcsctp_spec_lemmas.specs.spec.queues.Incoming.{IncomingModel, stream_on, TakesChunk, TakesIncomingChunk}
-use Rattle.dcsctp_delivery_sending.specs.Places.{HasEntry, at_place, set_at}
+use Rattle.dcsctp_delivery_sending.specs.Places.{HasEntry, set_at}
 use Rattle.dcsctp_delivery_sending.specs.Log.{Message, Piece, History, Cut}
 use Rattle.dcsctp_delivery_sending.specs.Numbers.{IsUnambiguous, plain}
 use Rattle.dcsctp_delivery_sending.proofs.Places.{decide, set_same, set_other}
@@ -23,20 +23,21 @@ use Rattle.dcsctp_delivery_receiving.proofs.Reading.{tells_as, tells_plain, orde
 use Rattle.dcsctp_delivery_receiving.proofs.Parts.{part_of, ordered_placed, unordered_placed}
 use Rattle.dcsctp_delivery_order.specs.Queue.{IsOrderedOn}
 use Rattle.dcsctp_delivery_order.specs.Rising.{IsAhead}
-use Rattle.dcsctp_delivery_order.specs.Plain.{number_at, CountsPlain, CarriesOrdered, PlainStream, HoldsPlain, IncomingPlain}
+use Rattle.dcsctp_delivery_order.specs.Plain.{number_at, CountsThese, CarriesOrdered, PlainStream, HoldsPlain, IncomingPlain}
+use Rattle.dcsctp_delivery_order.proofs.PlainMissing.{PassedOn}
+use Rattle.dcsctp_delivery_receiving.proofs.Ready.{HoldsBeside, holds_beside}
 use Rattle.dcsctp_delivery_order.proofs.Leaving.{IsOnIt, one_stream, wait_on_it}
 use Rattle.dcsctp_delivery_order.proofs.PlainReading.{plain_ahead, ssn_is_read}
 use Rattle.dcsctp_delivery_order.proofs.PlainLeaving.{others_plain, LeavesPlain, apart_left, ordered_left}
 
 -- ---- a chunk
 
-module _ (queued : List Message) (history : History) (cut : Cut queued history.log) (counts : CountsPlain history) (got : List ℕ) (base : ℕ) (small : base + 2 ^ 32 < 2 ^ 64) (read : List ℕ)
-    (pieces : (k : ℕ) → HasEntry k got → (f : Piece) × (at_place k history.log ≡ Some (Some f))) (cumulative : ℕ) (passed : (k : ℕ) → k < cumulative → HasEntry k got) where
+module _ (queued : List Message) (history : History) (cut : Cut queued history.log) (these : ℕ → Bool) (counts : CountsThese these history) (got : List ℕ) (base : ℕ) (small : base + 2 ^ 32 < 2 ^ 64) (read : List ℕ) where
   abbrev told : IsUnambiguous history
   told = plain counts.kinds
 
-  module _ (tsn_number : ℕ) (chunk : ChunkModel) (bears : BearsPiece history base tsn_number chunk) (is_new : HasEntry bears.offset got → ⊥) (window : bears.offset < cumulative + 2 ^ 16)
-      (streams : ℕ → StreamModel) (unordered : List RunModel) (ready : List MessageContent) (o : HoldsPlain queued history got base read streams unordered ready) where
+  module _ (tsn_number : ℕ) (chunk : ChunkModel) (bears : BearsPiece history base tsn_number chunk) (is_new : HasEntry bears.offset got → ⊥)
+      (streams : ℕ → StreamModel) (unordered : List RunModel) (ready : List MessageContent) (o : HoldsPlain these queued history got base read streams unordered ready) where
     all : List ℕ
     all = read ++ o.holds.places
 
@@ -66,18 +67,18 @@ module _ (queued : List Message) (history : History) (cut : Cut queued history.l
         ne (sym is.stream ∙ ap (λ (x : Piece). x.message.stream) same ∙ sym bears.stream)
 
     -- other streams stay in order
-    others_then : (other : ℕ) (more : List ℕ) → ((q : ℕ) → HasEntry q more → IsOnIt queued chunk.stream q) → other ≢ chunk.stream
+    others_then : (other : ℕ) → these other ≡ true → (more : List ℕ) → ((q : ℕ) → HasEntry q more → IsOnIt queued chunk.stream q) → other ≢ chunk.stream
         → PlainStream queued history now base other (read ++ (o.holds.places ++ more)) (o.holds.waits other) (streams other)
     unfolding all
-    others_then other more on ne =
+    others_then other kept more on ne =
         subst (λ (l : List ℕ). PlainStream queued history now base other l (o.holds.waits other) (streams other)) (all_then more)
         (others_plain queued history got bears.offset base other all (o.holds.waits other) more (streams other) (not_of other ne)
-        (λ place h is. ne (sym (one_stream queued chunk.stream other place (on place h) (is.message, is.at, is.stream)))) (o.order other))
+        (λ place h is. ne (sym (one_stream queued chunk.stream other place (on place h) (is.message, is.at, is.stream)))) (o.order other kept))
 
     -- the invariant once its stream is left so
     holds_then : (later : ℕ → StreamModel) (runs : List RunModel) (after : List MessageContent) → StreamRows history now base chunk.stream (later chunk.stream)
         → AreRows history.log now (unordered_base base) IsOfStream runs → ((other : ℕ) → other ≢ chunk.stream → later other ≡ streams other) → LeavesPlain queued history now base all o.holds.places chunk.stream (later chunk.stream) after
-        → HoldsPlain queued history now base read later runs after
+        → HoldsPlain these queued history now base read later runs after
     unfolding all
     holds_then later runs after rows apart others leaves =
         record {
@@ -109,14 +110,14 @@ module _ (queued : List Message) (history : History) (cut : Cut queued history.l
                       (λ q l r. ne (sym (one_stream queued chunk.stream other q (leaves.on q l) (wait_on_it queued history got other q (o.holds.waits other) (streams other).waiting (o.holds.streams_hold other).wait r)))))
                 ]);
           };
-          order = λ other. elim (decide other chunk.stream) [
+          order = λ other kept. elim (decide other chunk.stream) [
             | inl e ↦
                 subst (λ (k : ℕ). PlainStream queued history now base k (read ++ (o.holds.places ++ leaves.more)) (set_at chunk.stream leaves.waits o.holds.waits k) (later k)) (sym e)
                 (subst (λ (l : List ℕ). PlainStream queued history now base chunk.stream (read ++ (o.holds.places ++ leaves.more)) l (later chunk.stream)) (sym (set_same chunk.stream leaves.waits o.holds.waits))
                 (subst (λ (l : List ℕ). PlainStream queued history now base chunk.stream l leaves.waits (later chunk.stream)) (all_then leaves.more) leaves.order))
             | inr ne ↦
                 subst (λ (l : List ℕ). PlainStream queued history now base other (read ++ (o.holds.places ++ leaves.more)) l (later other)) (sym (set_other chunk.stream other leaves.waits o.holds.waits ne))
-                (subst (λ (s : StreamModel). PlainStream queued history now base other (read ++ (o.holds.places ++ leaves.more)) (o.holds.waits other) s) (sym (others other ne)) (others_then other leaves.more leaves.on ne))
+                (subst (λ (s : StreamModel). PlainStream queued history now base other (read ++ (o.holds.places ++ leaves.more)) (o.holds.waits other) s) (sym (others other ne)) (others_then other kept leaves.more leaves.on ne))
           ];
         }
 
@@ -124,9 +125,9 @@ module _ (queued : List Message) (history : History) (cut : Cut queued history.l
     here : StreamHolds queued history got base chunk.stream (o.holds.waits chunk.stream) (streams chunk.stream)
     here = o.holds.streams_hold chunk.stream
 
-    here_order : PlainStream queued history got base chunk.stream all (o.holds.waits chunk.stream) (streams chunk.stream)
+    here_order : these chunk.stream ≡ true → PlainStream queued history got base chunk.stream all (o.holds.waits chunk.stream) (streams chunk.stream)
     unfolding all
-    here_order = o.order chunk.stream
+    here_order mine = o.order chunk.stream mine
 
     here_rows : StreamRows history now base chunk.stream (streams chunk.stream)
     unfolding here
@@ -148,16 +149,16 @@ module _ (queued : List Message) (history : History) (cut : Cut queued history.l
     abbrev own_number : ℕ
     own_number = number_at chunk.stream bears.offset history.log
 
-    ahead : (later : ℕ → StreamModel) (runs : List RunModel) (after : List MessageContent) (taken : Taken) → bears.piece.is_interleaved ≡ false → bears.piece.message.is_unordered ≡ false → (streams chunk.stream).next ≤ own_number
+    ahead : these chunk.stream ≡ true → (later : ℕ → StreamModel) (runs : List RunModel) (after : List MessageContent) (taken : Taken) → bears.piece.is_interleaved ≡ false → bears.piece.message.is_unordered ≡ false → (streams chunk.stream).next ≤ own_number
         → runs ≡ unordered → ((other : ℕ) → other ≢ chunk.stream → later other ≡ streams other)
-        → TakesAhead (data_part chunk (fragment_place own_number tsn_number) own_number) (streams chunk.stream) ready taken (later chunk.stream) after → HoldsPlain queued history now base read later runs after
+        → TakesAhead (data_part chunk (fragment_place own_number tsn_number) own_number) (streams chunk.stream) ready taken (later chunk.stream) after → HoldsPlain these queued history now base read later runs after
     unfolding here all
-    ahead later runs after taken kind ordered from kept others takes =
+    ahead mine later runs after taken kind ordered from kept others takes =
         let part : IsPart history.log (ordered_base base) (IsOn history chunk.stream) (data_part chunk (fragment_place own_number tsn_number) own_number) =
         part_of history base (ordered_base base) (IsOn history chunk.stream) tsn_number (fragment_place own_number tsn_number) own_number chunk bears (ordered_placed history base tsn_number own_number chunk bears kind)
         (sym bears.stream, λ i. absurd (let clash : true ≡ false = sym i ∙ kind in cc)) in
         let ahead_of : IsAhead (data_part chunk (fragment_place own_number tsn_number) own_number) (streams chunk.stream) =
-        plain_ahead queued history cut counts got base chunk.stream all (o.holds.waits chunk.stream) (streams chunk.stream) here_order bears.offset bears.piece (data_part chunk (fragment_place own_number tsn_number) own_number) (is_ordered ordered) refl from
+        plain_ahead queued history cut chunk.stream (counts.each chunk.stream mine) got base all (o.holds.waits chunk.stream) (streams chunk.stream) (here_order mine) bears.offset bears.piece (data_part chunk (fragment_place own_number tsn_number) own_number) (is_ordered ordered) refl from
         (λ h. fresh chunk.stream (has_right bears.piece.place all (o.holds.waits chunk.stream) h)) in
         let does = takes.fresh ahead_of.fresh in
         let rows = stay_rows queued history.log cut (one_kind history told) got (ordered_base base) (IsOn history chunk.stream) (λ m n f g k. tells_as history told false chunk.stream m n f g k) (data_part chunk (fragment_place own_number tsn_number) own_number)
@@ -170,8 +171,8 @@ module _ (queued : List Message) (history : History) (cut : Cut queued history.l
           next = ordered_reads queued history now chunk.stream bears.piece.place (o.holds.waits chunk.stream) (data_part chunk (fragment_place own_number tsn_number) own_number) (streams chunk.stream) (later chunk.stream) ready after does.outcome taken here_wait rows.1 does.does here.rows.next;
           last = subst (λ (k : ℕ). ReadsMids history chunk.stream true k) (sym does.unordered.0) here.rows.last;
         }) (rows_kept runs kept) others
-        (ordered_left queued history cut counts got base chunk.stream small bears.offset bears.piece (is_ordered ordered) is_new (data_part chunk (fragment_place own_number tsn_number) own_number) refl
-        (let of = bears.number in omega (arith, of)) (streams chunk.stream) (later chunk.stream) here.rows.ordered ready after taken does all o.holds.places (o.holds.waits chunk.stream) here_order from
+        (ordered_left queued history cut chunk.stream (counts.each chunk.stream mine) got base small bears.offset bears.piece (is_ordered ordered) is_new (data_part chunk (fragment_place own_number tsn_number) own_number) refl
+        (let of = bears.number in omega (arith, of)) (streams chunk.stream) (later chunk.stream) here.rows.ordered ready after taken does all o.holds.places (o.holds.waits chunk.stream) (here_order mine) from
         (sym here.rows.is) o.holds.were_queued here_wait (o.holds.once chunk.stream) (fresh chunk.stream) ahead_of rows.1)
 
     -- ---- an unordered one
@@ -197,42 +198,78 @@ module _ (queued : List Message) (history : History) (cut : Cut queued history.l
     makes_on (message_whole whole) makes of =
         record { offset = makes.offset; head = makes.head; at = makes.at; is = makes.is; queued_at = makes.queued_at; number = makes.number.0 ∙ of; ppid = makes.ppid; payload = makes.payload; spent = makes.spent }
 
-    unordered_chunk : (later : ℕ → StreamModel) (runs : List RunModel) (after : List MessageContent) (outcome : Assembled) (taken : Taken) → bears.piece.message.is_unordered ≡ true → later ≡ streams
+    unordered_chunk : these chunk.stream ≡ true → (later : ℕ → StreamModel) (runs : List RunModel) (after : List MessageContent) (outcome : Assembled) (taken : Taken) → bears.piece.message.is_unordered ≡ true → later ≡ streams
         → AreRows history.log now (unordered_base base) IsOfStream runs → MakesQueued queued history.log now (OfStream chunk.stream) bears.piece.place outcome
-        → UnorderedOutcome (data_part chunk tsn_number chunk.stream) (delivered_as chunk.stream) ready outcome taken after → HoldsPlain queued history now base read later runs after
+        → UnorderedOutcome (data_part chunk tsn_number chunk.stream) (delivered_as chunk.stream) ready outcome taken after → HoldsPlain these queued history now base read later runs after
     unfolding all
-    unordered_chunk later runs after outcome taken unordered_is same rows makes does =
-        subst (λ (s : ℕ → StreamModel). HoldsPlain queued history now base read s runs after) (sym same)
+    unordered_chunk mine later runs after outcome taken unordered_is same rows makes does =
+        subst (λ (s : ℕ → StreamModel). HoldsPlain these queued history now base read s runs after) (sym same)
         (holds_then streams runs after here_rows rows (λ other ne. refl)
         (apart_left queued history now base all o.holds.places (o.holds.waits chunk.stream) chunk.stream bears.piece.place (data_part chunk tsn_number chunk.stream) (streams chunk.stream) ready after outcome taken
         o.holds.were_queued here_wait makes (o.holds.once chunk.stream) (fresh chunk.stream)
         (λ more each. others_plain queued history got bears.offset base chunk.stream all (o.holds.waits chunk.stream) more (streams chunk.stream) (not_at chunk.stream unordered_is)
-        (λ place h on. not_ordered chunk.stream unordered_is (subst (λ (k : ℕ). IsOrderedOn queued chunk.stream k) (each place h) on)) here_order) does))
+        (λ place h on. not_ordered chunk.stream unordered_is (subst (λ (k : ℕ). IsOrderedOn queued chunk.stream k) (each place h) on)) (here_order mine)) does))
+
+    -- ---- one of another stream
+
+    besides : (later : ℕ → StreamModel) (runs : List RunModel) (after : List MessageContent) → these chunk.stream ≡ false → ((other : ℕ) → other ≢ chunk.stream → later other ≡ streams other)
+        → HoldsBeside queued history now base read chunk.stream o.holds.waits o.holds.places later runs after → HoldsPlain these queued history now base read later runs after
+    besides later runs after apart others b =
+        record {
+          holds = b.holds;
+          order = λ other kept. (
+              let ne : other ≢ chunk.stream = λ same. absurd (let clash : true ≡ false = sym kept ∙ ap these same ∙ apart in cc) in
+              subst (λ (l : List ℕ). PlainStream queued history now base other (read ++ l) (b.holds.waits other) (later other)) (sym b.places_are)
+              (subst (λ (l : List ℕ). PlainStream queued history now base other (read ++ (o.holds.places ++ b.more)) l (later other)) (sym (b.others other ne))
+              (subst (λ (x : StreamModel). PlainStream queued history now base other (read ++ (o.holds.places ++ b.more)) (o.holds.waits other) x) (sym (others other ne))
+              (others_then other kept b.more b.on ne)))
+              );
+        }
+
+  -- what a chunk leaves on other streams
+  others_stay : (tsn_number : ℕ) (numbering : Numbering) (chunk : ChunkModel) (old new : IncomingModel) → TakesChunk tsn_number numbering chunk old new → (other : ℕ) → other ≢ chunk.stream → stream_on other new.streams ≡ stream_on other old.streams
+  others_stay tsn_number (Ordered ssn) chunk old new takes = takes.others
+  others_stay tsn_number Unordered chunk old new takes = λ other ne. ap (λ (s : List (ℕ × StreamModel)). stream_on other s) takes.streams
+  others_stay tsn_number (InterleavedOrdered mid fsn) chunk old new takes = takes.others
+  others_stay tsn_number (InterleavedUnordered mid fsn) chunk old new takes = takes.others
+
+  -- One of another stream, whatever it is, leaves these in order.
+  pub beside_plain : (tsn : ℕ) (chunk : ChunkModel) (old new : IncomingModel) → (bears : BearsPiece history base (number_near old.last_tsn_number tsn) chunk) → (HasEntry bears.offset got → ⊥) → these chunk.stream ≡ false
+      → IncomingPlain these queued history got base read old → TakesIncomingChunk tsn chunk old new → IncomingPlain these queued history (bears.offset ∷ got) base read new
+  beside_plain tsn chunk old new bears is_new apart o takes =
+      besides (number_near old.last_tsn_number tsn) chunk bears is_new (λ id. stream_on id old.streams) old.unordered old.ready o (λ id. stream_on id new.streams) new.unordered new.ready apart
+      (others_stay (number_near old.last_tsn_number tsn) chunk.numbering chunk old new takes.takes) (holds_beside queued history cut told got base tsn read chunk old new bears is_new o.holds takes)
 
   -- ---- whichever it is
 
-  by_numbering : (tsn_number : ℕ) (numbering : Numbering) (chunk : ChunkModel) (old new : IncomingModel) → chunk.numbering ≡ numbering → (bears : BearsPiece history base tsn_number chunk) → IsNumbered bears.piece numbering
-      → (HasEntry bears.offset got → ⊥) → bears.offset < cumulative + 2 ^ 16 → IncomingPlain queued history got base read old → TakesChunk tsn_number numbering chunk old new → IncomingPlain queued history (bears.offset ∷ got) base read new
-  by_numbering tsn_number (Ordered ssn) chunk old new is bears numbered is_new window o takes =
-      let reads = ssn_is_read queued history cut counts got base chunk.stream (read ++ o.holds.places) (o.holds.waits chunk.stream) (stream_on chunk.stream old.streams) (o.order chunk.stream)
-      (o.holds.streams_hold chunk.stream).rows.ordered pieces (λ p h. o.holds.spent p h) cumulative passed bears.offset bears.piece (record { at = bears.at; stream = sym bears.stream; ordered = numbered.1 }) is_new window in
-      let number : short_number_from (stream_on chunk.stream old.streams).next ssn ≡ number_at chunk.stream bears.offset history.log = ap (short_number_from (stream_on chunk.stream old.streams).next) numbered.2 ∙ reads.1 in
-      let does : TakesAhead (data_part chunk (fragment_place (short_number_from (stream_on chunk.stream old.streams).next ssn) tsn_number) (short_number_from (stream_on chunk.stream old.streams).next ssn))
-      (stream_on chunk.stream old.streams) old.ready takes.taken (stream_on chunk.stream new.streams) new.ready =
-      subst (λ (n : Numbering). TakesNumbered tsn_number chunk n (stream_on chunk.stream old.streams) old.ready takes.taken (stream_on chunk.stream new.streams) new.ready) is takes.does in
-      ahead tsn_number chunk bears is_new window (λ id. stream_on id old.streams) old.unordered old.ready o (λ id. stream_on id new.streams) new.unordered new.ready takes.taken numbered.0 numbered.1 reads.0 takes.unordered takes.others
-      (subst (λ (k : ℕ). TakesAhead (data_part chunk (fragment_place k tsn_number) k) (stream_on chunk.stream old.streams) old.ready takes.taken (stream_on chunk.stream new.streams) new.ready) number does)
-  by_numbering tsn_number Unordered chunk old new is bears numbered is_new window o takes =
-      let part = part_of history base (unordered_base base) IsOfStream tsn_number tsn_number chunk.stream chunk bears (unordered_placed history base tsn_number chunk.stream chunk bears numbered.0) (sym bears.stream, numbered.0) in
-      let rows = stay_rows queued history.log cut (one_kind history told) got (unordered_base base) IsOfStream (λ m n f g k. tells_plain history.log m n f g k) (data_part chunk tsn_number chunk.stream) old.unordered new.unordered takes.does.outcome part o.holds.rows takes.does.parts in
-      unordered_chunk tsn_number chunk bears is_new window (λ id. stream_on id old.streams) old.unordered old.ready o (λ id. stream_on id new.streams) new.unordered new.ready takes.does.outcome takes.taken numbered.1
-      (ap (λ (s : List (ℕ × StreamModel)). λ id. stream_on id s) takes.streams) rows.0
-      (makes_on tsn_number chunk bears is_new window (λ id. stream_on id old.streams) old.unordered old.ready o takes.does.outcome rows.1 (of_message (data_part chunk tsn_number chunk.stream) old.unordered new.unordered takes.does.outcome takes.does.parts)) takes.does.does
-  by_numbering tsn_number (InterleavedOrdered mid fsn) chunk old new is bears numbered is_new window o takes =
-      absurd (let clash : true ≡ false = sym numbered.0 ∙ counts.kinds bears.offset bears.piece bears.at in cc)
-  by_numbering tsn_number (InterleavedUnordered mid fsn) chunk old new is bears numbered is_new window o takes =
-      absurd (let clash : true ≡ false = sym numbered.0 ∙ counts.kinds bears.offset bears.piece bears.at in cc)
+  module _ (cumulative : ℕ) (passed : (id : ℕ) → these id ≡ true → (k : ℕ) → k < cumulative → PassedOn history.log got id k) where
+    by_numbering : (tsn_number : ℕ) (numbering : Numbering) (chunk : ChunkModel) (old new : IncomingModel) → chunk.numbering ≡ numbering → (bears : BearsPiece history base tsn_number chunk) → IsNumbered bears.piece numbering
+        → (HasEntry bears.offset got → ⊥) → bears.offset < cumulative + 2 ^ 16 → these chunk.stream ≡ true → IncomingPlain these queued history got base read old → TakesChunk tsn_number numbering chunk old new
+        → IncomingPlain these queued history (bears.offset ∷ got) base read new
+    by_numbering tsn_number (Ordered ssn) chunk old new is bears numbered is_new window mine o takes =
+        let reads = ssn_is_read queued history cut chunk.stream (counts.each chunk.stream mine) got base (read ++ o.holds.places) (o.holds.waits chunk.stream) (stream_on chunk.stream old.streams) (o.order chunk.stream mine)
+        (o.holds.streams_hold chunk.stream).rows.ordered (λ p h. o.holds.spent p h) cumulative (passed chunk.stream mine) bears.offset bears.piece (record { at = bears.at; stream = sym bears.stream; ordered = numbered.1 }) is_new window in
+        let number : short_number_from (stream_on chunk.stream old.streams).next ssn ≡ number_at chunk.stream bears.offset history.log = ap (short_number_from (stream_on chunk.stream old.streams).next) numbered.2 ∙ reads.1 in
+        let does : TakesAhead (data_part chunk (fragment_place (short_number_from (stream_on chunk.stream old.streams).next ssn) tsn_number) (short_number_from (stream_on chunk.stream old.streams).next ssn))
+        (stream_on chunk.stream old.streams) old.ready takes.taken (stream_on chunk.stream new.streams) new.ready =
+        subst (λ (n : Numbering). TakesNumbered tsn_number chunk n (stream_on chunk.stream old.streams) old.ready takes.taken (stream_on chunk.stream new.streams) new.ready) is takes.does in
+        ahead tsn_number chunk bears is_new (λ id. stream_on id old.streams) old.unordered old.ready o mine (λ id. stream_on id new.streams) new.unordered new.ready takes.taken numbered.0 numbered.1 reads.0 takes.unordered takes.others
+        (subst (λ (k : ℕ). TakesAhead (data_part chunk (fragment_place k tsn_number) k) (stream_on chunk.stream old.streams) old.ready takes.taken (stream_on chunk.stream new.streams) new.ready) number does)
+    by_numbering tsn_number Unordered chunk old new is bears numbered is_new window mine o takes =
+        let part = part_of history base (unordered_base base) IsOfStream tsn_number tsn_number chunk.stream chunk bears (unordered_placed history base tsn_number chunk.stream chunk bears numbered.0) (sym bears.stream, numbered.0) in
+        let rows = stay_rows queued history.log cut (one_kind history told) got (unordered_base base) IsOfStream (λ m n f g k. tells_plain history.log m n f g k) (data_part chunk tsn_number chunk.stream) old.unordered new.unordered takes.does.outcome part o.holds.rows takes.does.parts in
+        unordered_chunk tsn_number chunk bears is_new (λ id. stream_on id old.streams) old.unordered old.ready o mine (λ id. stream_on id new.streams) new.unordered new.ready takes.does.outcome takes.taken numbered.1
+        (ap (λ (s : List (ℕ × StreamModel)). λ id. stream_on id s) takes.streams) rows.0
+        (makes_on tsn_number chunk bears is_new (λ id. stream_on id old.streams) old.unordered old.ready o takes.does.outcome rows.1 (of_message (data_part chunk tsn_number chunk.stream) old.unordered new.unordered takes.does.outcome takes.does.parts)) takes.does.does
+    by_numbering tsn_number (InterleavedOrdered mid fsn) chunk old new is bears numbered is_new window mine o takes =
+        absurd (let clash : true ≡ false = sym numbered.0 ∙ counts.kinds bears.offset bears.piece bears.at in cc)
+    by_numbering tsn_number (InterleavedUnordered mid fsn) chunk old new is bears numbered is_new window mine o takes =
+        absurd (let clash : true ≡ false = sym numbered.0 ∙ counts.kinds bears.offset bears.piece bears.at in cc)
 
-  pub ready_plain : (tsn : ℕ) (chunk : ChunkModel) (old new : IncomingModel) → (bears : BearsPiece history base (number_near old.last_tsn_number tsn) chunk) → (HasEntry bears.offset got → ⊥) → bears.offset < cumulative + 2 ^ 16
-      → IncomingPlain queued history got base read old → TakesIncomingChunk tsn chunk old new → IncomingPlain queued history (bears.offset ∷ got) base read new
-  ready_plain tsn chunk old new bears is_new window o takes = by_numbering (number_near old.last_tsn_number tsn) chunk.numbering chunk old new refl bears bears.numbered is_new window o takes.takes
+    pub ready_plain : (tsn : ℕ) (chunk : ChunkModel) (old new : IncomingModel) → (bears : BearsPiece history base (number_near old.last_tsn_number tsn) chunk) → (HasEntry bears.offset got → ⊥) → bears.offset < cumulative + 2 ^ 16
+        → IncomingPlain these queued history got base read old → TakesIncomingChunk tsn chunk old new → IncomingPlain these queued history (bears.offset ∷ got) base read new
+    ready_plain tsn chunk old new bears is_new window o takes = go (these chunk.stream) refl
+      where
+        go : (b : Bool) → these chunk.stream ≡ b → IncomingPlain these queued history (bears.offset ∷ got) base read new
+        go true mine = by_numbering (number_near old.last_tsn_number tsn) chunk.numbering chunk old new refl bears bears.numbered is_new window mine o takes.takes
+        go false apart = beside_plain tsn chunk old new bears is_new apart o takes

@@ -1,5 +1,5 @@
 -- Without interleaving the pieces of an ordered message have one number, and no other message has it.
-use Rattle.std.proofs.Common.{◌≡◌, ℕ, zero, suc, Bool, true, false, ◌<◌, ◌≤◌, ◌+◌, ◌-◌, List, [], ◌∷◌, ◌++◌, length, refl, sym, ◌∙◌, ap, arith, subst, inl, inr}
+use Rattle.std.proofs.Common.{◌≡◌, ℕ, zero, suc, Bool, true, false, ◌<◌, ◌≤◌, ◌+◌, ◌-◌, List, [], ◌∷◌, ◌++◌, length, refl, sym, ◌∙◌, ap, arith, inl, inr}
 use Rattle.std.specs.Prelude.{None, Some, if◌then◌else◌}
 use Rattle.std.proofs.lemmas.Bool.Decides.{eqb_tells, leb_tells}
 use Rattle.dcsctp_delivery_sending.specs.Places.{at_place}
@@ -7,7 +7,7 @@ use Rattle.dcsctp_delivery_sending.specs.Log.{Message, Piece, Slot, History, Cut
 use Rattle.dcsctp_delivery_sending.specs.Turns.{begun_on, turn_at}
 use Rattle.dcsctp_delivery_sending.proofs.Places.{at_below, at_cases, at_stays}
 use Rattle.dcsctp_delivery_sending.proofs.Turns.{turn_new, turn_old}
-use Rattle.dcsctp_delivery_order.specs.Queue.{FollowsQueue}
+use Rattle.dcsctp_delivery_order.specs.Queue.{FollowsOn}
 use Rattle.dcsctp_delivery_order.specs.Order.{IsSentAs}
 use Rattle.dcsctp_delivery_order.specs.Plain.{turned_piece, turned_slot, turned, with_turns, CountsPlain, CarriesOrdered}
 use Rattle.dcsctp_delivery_order.proofs.PlainTurns.{turn_up, turn_inside, turn_none, IsFirstAt, one_first}
@@ -88,30 +88,30 @@ pub record RowOf (log : List Slot) (id place n : ℕ) : Type 0 where
   pub turn : turn_at id from log ≡ turn_at id n log
   pub inside : (k : ℕ) → from < k → k ≤ n → ContinuesAt log place k
 
-module _ (queued : List Message) (history : History) (cut : Cut queued history.log) (counts : CountsPlain history) where
+module _ (queued : List Message) (history : History) (cut : Cut queued history.log) (id : ℕ) (counts : CountsPlain id history) where
   -- it was counted
-  pub some_turn : (id n : ℕ) (f : Piece) → CarriesOrdered history.log id n f → 0 < turn_at id n history.log
-  some_turn id n f is = subst (λ (k : ℕ). 0 < turn_at k n history.log) is.stream (counts.sent n f is.at is.ordered).some
+  pub some_turn : (n : ℕ) (f : Piece) → CarriesOrdered history.log id n f → 0 < turn_at id n history.log
+  some_turn n f is = (counts.sent n f is).some
 
-  row_alone : (id n : ℕ) (f : Piece) → CarriesOrdered history.log id n f → f.start ≡ 0 → RowOf history.log id f.place n
-  row_alone id n f is start =
+  row_alone : (n : ℕ) (f : Piece) → CarriesOrdered history.log id n f → f.start ≡ 0 → RowOf history.log id f.place n
+  row_alone n f is start =
       record { from = n; first = record { piece = f; is = is; start = start }; up_to = omega arith; is = refl; turn = refl; inside = λ k low high. absurd (omega (arith, low, high)) }
 
-  pub row_of : (id n : ℕ) (f : Piece) → CarriesOrdered history.log id n f → RowOf history.log id f.place n
-  row_of id zero f is =
+  pub row_of : (n : ℕ) (f : Piece) → CarriesOrdered history.log id n f → RowOf history.log id f.place n
+  row_of zero f is =
       elim (eqb_tells f.start 0) [
-        | inl e ↦ row_alone id 0 f is e.1
+        | inl e ↦ row_alone 0 f is e.1
         | inr e ↦
             absurd
             (let ne : f.start ≡ 0 → ⊥ = e.1 in
-            let some = some_turn id 0 f is in
+            let some = some_turn 0 f is in
             let none = turn_none id f history.log is.at (omega (arith, ne)) in
             omega (arith, some, none))
       ]
-  row_of id (suc n) f is =
+  row_of (suc n) f is =
       elim (eqb_tells f.start 0) [
-        | inl e ↦ row_alone id (suc n) f is e.1
-        | inr e ↦ later (λ g is'. row_of id n g is') (let ne : f.start ≡ 0 → ⊥ = e.1 in omega (arith, ne))
+        | inl e ↦ row_alone (suc n) f is e.1
+        | inr e ↦ later (λ g is'. row_of n g is') (let ne : f.start ≡ 0 → ⊥ = e.1 in omega (arith, ne))
       ]
     where
       later : ((g : Piece) → CarriesOrdered history.log id n g → RowOf history.log id g.place n) → 0 < f.start → RowOf history.log id f.place (suc n)
@@ -137,9 +137,9 @@ module _ (queued : List Message) (history : History) (cut : Cut queued history.l
           }
 
   -- of two messages the one with the higher count was queued later
-  pub later_turn : (id m n : ℕ) (f g : Piece) → CarriesOrdered history.log id m f → CarriesOrdered history.log id n g → turn_at id m history.log < turn_at id n history.log → f.place < g.place
-  later_turn id m n f g is is' less =
-      let row = row_of id n g is' in
+  pub later_turn : (m n : ℕ) (f g : Piece) → CarriesOrdered history.log id m f → CarriesOrdered history.log id n g → turn_at id m history.log < turn_at id n history.log → f.place < g.place
+  later_turn m n f g is is' less =
+      let row = row_of n g is' in
       let before : m < row.from = elim (leb_tells row.from m) [
         | inr e ↦ e.1
         | inl e ↦ absurd (let up = (turn_up id row.from m history.log e.1 (at_below m (Some f) history.log is.at)).0 in let turn = row.turn in omega (arith, up, turn, less))
@@ -149,18 +149,18 @@ module _ (queued : List Message) (history : History) (cut : Cut queued history.l
       omega (arith, up, same)
 
   -- those with one count are one
-  pub same_turn : (id m n : ℕ) (f g : Piece) → CarriesOrdered history.log id m f → CarriesOrdered history.log id n g → turn_at id m history.log ≡ turn_at id n history.log → f.place ≡ g.place
-  same_turn id m n f g is is' same =
-      let one = row_of id m f is in
-      let two = row_of id n g is' in
+  pub same_turn : (m n : ℕ) (f g : Piece) → CarriesOrdered history.log id m f → CarriesOrdered history.log id n g → turn_at id m history.log ≡ turn_at id n history.log → f.place ≡ g.place
+  same_turn m n f g is is' same =
+      let one = row_of m f is in
+      let two = row_of n g is' in
       let at : one.from ≡ two.from = one_first history.log id one.from two.from one.first two.first (one.turn ∙ same ∙ sym two.turn) in
       let both : Some (Some one.first.piece) ≡ Some (Some two.first.piece) = sym one.first.is.at ∙ ap (λ (k : ℕ). at_place k history.log) at ∙ two.first.is.at in
       let piece : one.first.piece ≡ two.first.piece = cc in
       sym one.is ∙ ap (λ (x : Piece). x.place) piece ∙ two.is
 
   -- one message begins once
-  pub one_beginning : (id m n : ℕ) (f : IsFirstAt history.log id m) (g : IsFirstAt history.log id n) → f.piece.place ≡ g.piece.place → m ≡ n
-  one_beginning id m n f g same = elim (leb_tells m n) [
+  pub one_beginning : (m n : ℕ) (f : IsFirstAt history.log id m) (g : IsFirstAt history.log id n) → f.piece.place ≡ g.piece.place → m ≡ n
+  one_beginning m n f g same = elim (leb_tells m n) [
     | inl e ↦ elim (leb_tells n m) [
       | inl e' ↦ (let a : m ≤ n = e.1 in let b : n ≤ m = e'.1 in omega (arith, a, b))
       | inr e' ↦ absurd (let less : m < n = e'.1 in let up = cut.ascends m n f.piece g.piece less f.is.at g.is.at g.start (f.is.stream ∙ sym g.is.stream) in omega (arith, up, same))
@@ -170,8 +170,8 @@ module _ (queued : List Message) (history : History) (cut : Cut queued history.l
 
   -- ---- as the receiver has it
 
-  pub sent_as : (id n : ℕ) (f : Piece) → CarriesOrdered history.log id n f → IsSentAs (with_turns history) id f.place (turn_at id n history.log - 1)
-  sent_as id n f is =
+  pub sent_as : (n : ℕ) (f : Piece) → CarriesOrdered history.log id n f → IsSentAs (with_turns history) id f.place (turn_at id n history.log - 1)
+  sent_as n f is =
       record {
         offset = n;
         piece = turned_piece f (turn_at f.message.stream n history.log);
@@ -183,15 +183,15 @@ module _ (queued : List Message) (history : History) (cut : Cut queued history.l
       }
 
   -- A message of this number is one of the log.
-  pub record SentFrom (id place mid : ℕ) : Type 0 where
+  pub record SentFrom (place mid : ℕ) : Type 0 where
     pub offset : ℕ
     pub piece : Piece
     pub is : CarriesOrdered history.log id offset piece
     pub place_is : piece.place ≡ place
     pub turn : turn_at id offset history.log ≡ mid + 1
 
-  pub sent_from : (id place mid : ℕ) → IsSentAs (with_turns history) id place mid → SentFrom id place mid
-  sent_from id place mid sent =
+  pub sent_from : (place mid : ℕ) → IsSentAs (with_turns history) id place mid → SentFrom place mid
+  sent_from place mid sent =
       let t = at_turned sent.offset sent.piece history.log sent.at in
       let on : t.piece.message.stream ≡ id = ap (λ (x : Piece). x.message.stream) t.is ∙ sent.stream in
       let ordered : t.piece.message.is_unordered ≡ false = ap (λ (x : Piece). x.message.is_unordered) t.is ∙ sent.ordered in
@@ -199,17 +199,17 @@ module _ (queued : List Message) (history : History) (cut : Cut queued history.l
       let number : turn_at id sent.offset history.log - 1 ≡ mid =
       ap (λ (k : ℕ). turn_at k sent.offset history.log - 1) (sym on) ∙ ap (λ (b : Bool). if b then 0 else turn_at t.piece.message.stream sent.offset history.log - 1) (sym ordered)
       ∙ ap (λ (x : Piece). x.mid) t.is ∙ sent.under in
-      let some = some_turn id sent.offset t.piece is in
+      let some = some_turn sent.offset t.piece is in
       record { offset = sent.offset; piece = t.piece; is = is; place_is = ap (λ (x : Piece). x.place) t.is ∙ sent.is; turn = omega (arith, number, some) }
 
-  pub one_message : (id p q m n : ℕ) → IsSentAs (with_turns history) id p m → IsSentAs (with_turns history) id q n → m ≡ n → p ≡ q
-  one_message id p q m n one two same =
-      let a = sent_from id p m one in
-      let b = sent_from id q n two in
-      sym a.place_is ∙ same_turn id a.offset b.offset a.piece b.piece a.is b.is (a.turn ∙ ap (λ (k : ℕ). k + 1) same ∙ sym b.turn) ∙ b.place_is
+  pub one_message : (p q m n : ℕ) → IsSentAs (with_turns history) id p m → IsSentAs (with_turns history) id q n → m ≡ n → p ≡ q
+  one_message p q m n one two same =
+      let a = sent_from p m one in
+      let b = sent_from q n two in
+      sym a.place_is ∙ same_turn a.offset b.offset a.piece b.piece a.is b.is (a.turn ∙ ap (λ (k : ℕ). k + 1) same ∙ sym b.turn) ∙ b.place_is
 
-  pub turns_follow : FollowsQueue (turned history.log)
-  turns_follow m n f g at at' on kind less = go (at_turned m f history.log at) (at_turned n g history.log at')
+  pub turns_follow : FollowsOn id (turned history.log)
+  turns_follow m n f g at at' of of' kind less = go (at_turned m f history.log at) (at_turned n g history.log at')
     where
       go : IsTurnedAt history.log m f → IsTurnedAt history.log n g → f.place < g.place
       go a b = by_kind a.piece.message.is_unordered refl
@@ -217,8 +217,11 @@ module _ (queued : List Message) (history : History) (cut : Cut queued history.l
           same_kind : a.piece.message.is_unordered ≡ b.piece.message.is_unordered
           same_kind = ap (λ (x : Piece). x.message.is_unordered) a.is ∙ kind ∙ ap (λ (x : Piece). x.message.is_unordered) (sym b.is)
 
-          same_stream : a.piece.message.stream ≡ b.piece.message.stream
-          same_stream = ap (λ (x : Piece). x.message.stream) a.is ∙ on ∙ ap (λ (x : Piece). x.message.stream) (sym b.is)
+          on_a : a.piece.message.stream ≡ id
+          on_a = ap (λ (x : Piece). x.message.stream) a.is ∙ of
+
+          on_b : b.piece.message.stream ≡ id
+          on_b = ap (λ (x : Piece). x.message.stream) b.is ∙ of'
 
           f_mid : f.mid ≡ (if a.piece.message.is_unordered then 0 else turn_at a.piece.message.stream m history.log - 1)
           f_mid = ap (λ (x : Piece). x.mid) (sym a.is)
@@ -232,11 +235,11 @@ module _ (queued : List Message) (history : History) (cut : Cut queued history.l
               let two : g.mid ≡ 0 = g_mid ∙ ap (λ (c : Bool). if c then 0 else turn_at b.piece.message.stream n history.log - 1) (sym same_kind ∙ unordered) in
               absurd (omega (arith, one, two, less))
           by_kind false ordered =
-              let one : f.mid ≡ turn_at a.piece.message.stream m history.log - 1 = f_mid ∙ ap (λ (c : Bool). if c then 0 else turn_at a.piece.message.stream m history.log - 1) ordered in
-              let two : g.mid ≡ turn_at a.piece.message.stream n history.log - 1 =
-              g_mid ∙ ap (λ (c : Bool). if c then 0 else turn_at b.piece.message.stream n history.log - 1) (sym same_kind ∙ ordered) ∙ ap (λ (k : ℕ). turn_at k n history.log - 1) (sym same_stream) in
-              let up = later_turn a.piece.message.stream m n a.piece b.piece (record { at = a.at; stream = refl; ordered = ordered }) (record { at = b.at; stream = sym same_stream; ordered = sym same_kind ∙ ordered })
-              (omega (arith, one, two, less)) in
+              let one : f.mid ≡ turn_at id m history.log - 1 =
+              f_mid ∙ ap (λ (c : Bool). if c then 0 else turn_at a.piece.message.stream m history.log - 1) ordered ∙ ap (λ (k : ℕ). turn_at k m history.log - 1) on_a in
+              let two : g.mid ≡ turn_at id n history.log - 1 =
+              g_mid ∙ ap (λ (c : Bool). if c then 0 else turn_at b.piece.message.stream n history.log - 1) (sym same_kind ∙ ordered) ∙ ap (λ (k : ℕ). turn_at k n history.log - 1) on_b in
+              let up = later_turn m n a.piece b.piece (record { at = a.at; stream = on_a; ordered = ordered }) (record { at = b.at; stream = on_b; ordered = sym same_kind ∙ ordered }) (omega (arith, one, two, less)) in
               let p : a.piece.place ≡ f.place = ap (λ (x : Piece). x.place) a.is in
               let q : b.piece.place ≡ g.place = ap (λ (x : Piece). x.place) b.is in
               omega (arith, up, p, q)

@@ -1,5 +1,14 @@
 -- What a step of a direction leaves as it is.
-use Rattle.std.proofs.Common.{◌≤◌, ◌+◌, ◌^◌, length, arith, ◌≡◌, ℕ, List, [], ◌∷◌, ◌++◌, refl, ◌∙◌, ap}
+use Rattle.std.proofs.Common.{◌≤◌, ◌+◌, ◌^◌, length, arith, ◌≡◌, ℕ, Bool, true, false, List, [], ◌∷◌, ◌++◌, refl, sym, ◌∙◌, ap, subst, inl, inr}
+use Rattle.std.specs.Prelude.{Option, None, Some}
+use Rattle.dcsctp_spec_lemmas.specs.types.queues.SendStreams.{Stream}
+use Rattle.dcsctp_spec_lemmas.specs.spec.endpoint.BegunResets.{BegunReset}
+use Rattle.dcsctp_spec_lemmas.specs.spec.queues.Reassembly.{names_stream}
+use Rattle.dcsctp_delivery_sending.specs.Places.{HasEntry}
+use Rattle.dcsctp_delivery_sending.specs.Flushes.{reset_begun_by}
+use Rattle.dcsctp_delivery_sending.specs.Numbers.{is_handed_out, stream_named}
+use Rattle.dcsctp_delivery_directions.proofs.Flushing.{flush_hands}
+use Rattle.dcsctp_delivery_directions.proofs.Standing.{Stands}
 use Rattle.dcsctp_spec_lemmas.specs.spec.Packet.{Emission}
 use Rattle.dcsctp_spec_lemmas.specs.spec.endpoint.Event.{packets_in}
 use Rattle.dcsctp_spec_lemmas.specs.spec.endpoint.FlushOutcomes.{first_ask, packets_allowed, flush_of}
@@ -9,7 +18,7 @@ use Rattle.dcsctp_delivery_sending.specs.Log.{Fits, Message}
 use Rattle.dcsctp_delivery_sending.proofs.NextIdentifiers.{flush_kind}
 use Rattle.dcsctp_delivery_sending.proofs.Prepared.{preparing_kind}
 use Rattle.dcsctp_delivery_sending.proofs.Settings.{setting_kind}
-use Rattle.dcsctp_delivery_directions.specs.Directions.{Direction, DirectionStep, queues, sets, prepares, commits, rolls_back, flushes, resends, resends_nothing, speaks, asks_again, renews, turns_aside, acknowledges, loses, receives, forwards, receives_interleaved, forwards_interleaved, tracks, defers, performs, resets, performs_earlier, takes}
+use Rattle.dcsctp_delivery_directions.specs.Directions.{Direction, Asking, asking_with, DirectionStep, queues, sets, prepares, commits, rolls_back, flushes, resends, resends_nothing, speaks, asks_again, renews, turns_aside, acknowledges, loses, receives, forwards, receives_interleaved, forwards_interleaved, tracks, defers, performs, resets, performs_earlier, takes}
 use Rattle.dcsctp_delivery_directions.specs.Forwards.{NoneForwards}
 
 -- So many bytes can be counted (64 bits) beside a receive window of this size, and beside twice its size or 2^63 bytes, whichever is
@@ -112,3 +121,74 @@ counted_before size old _ (performs newest earlier new asks unknown reached own 
 counted_before size old _ (resets streams new unmixed some leaves) can = can
 counted_before size old _ (performs_earlier newest earlier new asks unknown reached own leaves) can = can
 counted_before size old _ (takes message messages ready) can = can
+
+-- a request that was begun before is among those that were
+asked_with : (answer : Option BegunReset) (asking : Asking) (begun : BegunReset) → HasEntry begun asking.requests → HasEntry begun (asking_with answer asking).requests
+asked_with None asking begun has = has
+asked_with (Some one) asking begun has = inr has
+
+pub asked_before : (old direction : Direction) → DirectionStep old direction → (begun : BegunReset) → HasEntry begun old.asking.requests → HasEntry begun direction.asking.requests
+asked_before old _ (queues now sending fits some) begun has = has
+asked_before old _ (sets setting fits) begun has = has
+asked_before old _ (prepares ids fit kept) begun has = has
+asked_before old _ (commits go_on) begun has = has
+asked_before old _ (rolls_back unmixed) begun has = has
+asked_before old _ (flushes e draft answers same no_data allowed) begun has = asked_with (reset_begun_by answers) old.asking begun has
+asked_before old _ (resends now room transfer left tsns chunks emission known sends are contents) begun has = has
+asked_before old _ (resends_nothing now room transfer left tsns known sends) begun has = has
+asked_before old _ (speaks emission no_data) begun has = has
+asked_before old _ (asks_again emission begun' was contents) begun has = has
+asked_before old _ (renews emission newest earlier number asks out contents) begun has = inr has
+asked_before old _ (turns_aside transfer new known same) begun has = has
+asked_before old _ (acknowledges now sack transfer new known valid does) begun has = has
+asked_before old _ (loses now transfer known) begun has = has
+asked_before old _ (receives emission chunk theirs new was holds some same same' does) begun has = has
+asked_before old _ (forwards emission tsn streams theirs new was holds same same' does) begun has = has
+asked_before old _ (receives_interleaved emission chunk theirs new was holds some same same' does) begun has = has
+asked_before old _ (forwards_interleaved emission tsn streams theirs new was holds same same' does) begun has = has
+asked_before old _ (tracks new cumulative ranges) begun has = has
+asked_before old _ (defers last_tsn streams some) begun has = has
+asked_before old _ (performs newest earlier new asks unknown reached own leaves) begun has = has
+asked_before old _ (resets streams new unmixed some leaves) begun has = has
+asked_before old _ (performs_earlier newest earlier new asks unknown reached own leaves) begun has = has
+asked_before old _ (takes message messages ready) begun has = has
+
+-- Where a stream is open, a step begins no request that names it.
+module _ (id first : ℕ) (old : Direction) (s : Stands first old) (unnamed : (begun : BegunReset) → HasEntry begun old.asking.requests → names_stream begun.reset.streams id ≡ false) where
+  none_begun : (begun : Option BegunReset) (asking : Asking) → ((one : BegunReset) → HasEntry one asking.requests → names_stream one.reset.streams id ≡ false) → ((one : BegunReset) → begun ≡ Some one → names_stream one.reset.streams id ≡ false)
+      → (one : BegunReset) → HasEntry one (asking_with begun asking).requests → names_stream one.reset.streams id ≡ false
+  none_begun None asking before now one has = before one has
+  none_begun (Some new) asking before now one has = elim has [ inl e ↦ now one (ap (λ (b : BegunReset). Some b) (sym e)) | inr t ↦ before one t ]
+
+  not_handed_out : (b : Bool) (streams : List Stream) → is_handed_out (stream_named id streams).pause ≡ false → (b ≡ true → is_handed_out (stream_named id streams).pause ≡ true) → b ≡ false
+  not_handed_out false streams shut handed = refl
+  not_handed_out true streams shut handed = absurd (let clash : true ≡ false = sym (handed refl) ∙ shut in cc)
+
+  pub stays_unnamed : (direction : Direction) → DirectionStep old direction → is_handed_out (stream_named id direction.queues.queue.streams).pause ≡ false
+      → (begun : BegunReset) → HasEntry begun direction.asking.requests → names_stream begun.reset.streams id ≡ false
+  stays_unnamed _ (queues now sending fits some) shut begun has = unnamed begun has
+  stays_unnamed _ (sets setting fits) shut begun has = unnamed begun has
+  stays_unnamed _ (prepares ids fit kept) shut begun has = unnamed begun has
+  stays_unnamed _ (commits go_on) shut begun has = unnamed begun has
+  stays_unnamed _ (rolls_back unmixed) shut begun has = unnamed begun has
+  stays_unnamed _ (flushes e draft answers same no_data allowed) shut begun has =
+      none_begun (reset_begun_by answers) old.asking unnamed
+      (λ one is. not_handed_out (names_stream one.reset.streams id) (flush_of e draft answers).after.queues.queue.streams shut (flush_hands first old s e draft answers same no_data allowed one is id)) begun has
+  stays_unnamed _ (resends now room transfer left tsns chunks emission known sends are contents) shut begun has = unnamed begun has
+  stays_unnamed _ (resends_nothing now room transfer left tsns known sends) shut begun has = unnamed begun has
+  stays_unnamed _ (speaks emission no_data) shut begun has = unnamed begun has
+  stays_unnamed _ (asks_again emission begun' was contents) shut begun has = unnamed begun has
+  stays_unnamed _ (renews emission newest earlier number asks out contents) shut begun has = elim has [ inl e ↦ ap (λ (b : BegunReset). names_stream b.reset.streams id) e ∙ unnamed newest (subst (λ (l : List BegunReset). HasEntry newest l) (sym asks) (inl refl)) | inr t ↦ unnamed begun t ]
+  stays_unnamed _ (turns_aside transfer new known same) shut begun has = unnamed begun has
+  stays_unnamed _ (acknowledges now sack transfer new known valid does) shut begun has = unnamed begun has
+  stays_unnamed _ (loses now transfer known) shut begun has = unnamed begun has
+  stays_unnamed _ (receives emission chunk theirs new was holds some same same' does) shut begun has = unnamed begun has
+  stays_unnamed _ (forwards emission tsn streams theirs new was holds same same' does) shut begun has = unnamed begun has
+  stays_unnamed _ (receives_interleaved emission chunk theirs new was holds some same same' does) shut begun has = unnamed begun has
+  stays_unnamed _ (forwards_interleaved emission tsn streams theirs new was holds same same' does) shut begun has = unnamed begun has
+  stays_unnamed _ (tracks new cumulative ranges) shut begun has = unnamed begun has
+  stays_unnamed _ (defers last_tsn streams some) shut begun has = unnamed begun has
+  stays_unnamed _ (performs newest earlier new asks unknown reached own leaves) shut begun has = unnamed begun has
+  stays_unnamed _ (resets streams new unmixed some leaves) shut begun has = unnamed begun has
+  stays_unnamed _ (performs_earlier newest earlier new asks unknown reached own leaves) shut begun has = unnamed begun has
+  stays_unnamed _ (takes message messages ready) shut begun has = unnamed begun has

@@ -74,7 +74,7 @@ not_named keeps id (other ∷ ids) kept dropped =
     ]
 
 -- It isn't handed out.
-not_handed : (id : ℕ) (streams : List Stream) → IsOpenOn id streams → is_handed_out (stream_named id streams).pause ≡ false
+pub not_handed : (id : ℕ) (streams : List Stream) → IsOpenOn id streams → is_handed_out (stream_named id streams).pause ≡ false
 not_handed id [] are = refl
 not_handed id (s ∷ streams) are =
     elim (eqb_tells s.id id) [
@@ -83,7 +83,7 @@ not_handed id (s ∷ streams) are =
     ]
 
 -- Where no message of the later queue on the stream has limits, none of the earlier one has.
-unlimited_earlier : (id : ℕ) (old direction : Direction) → DirectionStep old direction → AreUnlimitedOn id direction.queued → AreUnlimitedOn id old.queued
+pub unlimited_earlier : (id : ℕ) (old direction : Direction) → DirectionStep old direction → AreUnlimitedOn id direction.queued → AreUnlimitedOn id old.queued
 unlimited_earlier id old _ (queues now sending fits some) are = are.1
 unlimited_earlier id old _ (sets setting fits) are = are
 unlimited_earlier id old _ (prepares ids fit dropped) are = are
@@ -111,7 +111,7 @@ unlimited_earlier id old _ (takes message messages ready) are = are
 
 -- ---- one step
 
-step_open : (id : ℕ) (old direction : Direction) (step : DirectionStep old direction) → old.beginning.keeps id ≡ true → IsOpenOn id old.queues.queue.streams → IsOpenOn id direction.queues.queue.streams
+pub step_open : (id : ℕ) (old direction : Direction) (step : DirectionStep old direction) → old.beginning.keeps id ≡ true → IsOpenOn id old.queues.queue.streams → IsOpenOn id direction.queues.queue.streams
 step_open id old _ (queues now sending fits some) keeps are = queueing_open_on id now sending old.queues.queue are
 step_open id old _ (sets setting fits) keeps are = setting_open_on id setting old.queues.queue are
 step_open id old _ (prepares ids fit dropped) keeps are = preparing_open_on id ids old.queues.queue (not_named old.beginning.keeps id ids keeps dropped) are
@@ -196,7 +196,7 @@ module _ (id first : ℕ) (old : Direction) (s : Stands first old) (are : AreUnl
   keeps_on _ (performs_earlier newest earlier next asks unknown reached own leaves) keeps flight = same_waits
   keeps_on _ (takes message' messages ready) keeps flight = same_waits
 
-step_keeps_on : (id first : ℕ) (old : Direction) (s : Stands first old) (direction : Direction) (step : DirectionStep old direction) → old.beginning.keeps id ≡ true → AreUnlimitedOn id direction.queued
+pub step_keeps_on : (id first : ℕ) (old : Direction) (s : Stands first old) (direction : Direction) (step : DirectionStep old direction) → old.beginning.keeps id ≡ true → AreUnlimitedOn id direction.queued
     → (after : Stands first direction) (more : List Slot) → after.history.log ≡ more ++ s.history.log → NoneLostOn id old.queued s.history.log old.queues.queue.streams → NoneLostOn id direction.queued after.history.log direction.queues.queue.streams
 step_keeps_on id first old s direction step keeps are after more grows none place message at on =
     elim (was_before first old s direction step place message at) [

@@ -1,6 +1,6 @@
 -- A stream without interleaving: the sender's numbers of its ordered messages are counts, which the
 -- log has, and the receiver reads them right (RFC 9260, section 6.6).
-use Rattle.std.specs.Prelude.{◌≡◌, ◌⊎◌, ◌<◌, ◌≤◌, ◌+◌, ◌-◌, ◌^◌, if◌then◌else◌, ℕ, false, true, None, Some, List, [], ◌∷◌, ◌++◌, length}
+use Rattle.std.specs.Prelude.{◌≡◌, ◌⊎◌, ◌<◌, ◌≤◌, ◌+◌, ◌-◌, ◌^◌, if◌then◌else◌, ℕ, Bool, false, true, None, Some, List, [], ◌∷◌, ◌++◌, length}
 use Rattle.dcsctp_spec_lemmas.specs.types.queues.Messages.{MessageContent}
 use Rattle.dcsctp_spec_lemmas.specs.spec.queues.Numbers.{fragment_place}
 use Rattle.dcsctp_spec_lemmas.specs.spec.queues.Runs.{RunModel}
@@ -36,21 +36,27 @@ with_turns history = record { log = turned history.log; marks = []; floors = λ 
 abbrev pub number_at : ℕ → ℕ → List Slot → ℕ
 number_at id n log = 2 ^ 32 + turn_at id n log - 1
 
--- The log is one of DATA, in which SSNs count the ordered messages of each stream from 0 on, and a message is begun only once
--- the one before has ended, or is abandoned. Fewer than 2^31 TSNs were assigned.
-pub record CountsPlain (history : History) : Type 0 where
-  pub kinds : AreOfKind false history.log
-  pub sent : (n : ℕ) (f : Piece) → at_place n history.log ≡ Some (Some f) → f.message.is_unordered ≡ false → IsSsnOfTurn f.ssn (turn_at f.message.stream n history.log)
-  pub closes : (n : ℕ) (f g : Piece) → at_place n history.log ≡ Some (Some f) → at_place (n + 1) history.log ≡ Some (Some g) → g.start ≡ 0 → is_end f ≡ true
-  pub few : length history.log < 2 ^ 31
-
--- ---- what a receiver has of a stream
-
 -- The TSN carries a piece of an ordered message of the stream.
 pub record CarriesOrdered (log : List Slot) (id n : ℕ) (piece : Piece) : Type 0 where
   pub at : at_place n log ≡ Some (Some piece)
   pub stream : piece.message.stream ≡ id
   pub ordered : piece.message.is_unordered ≡ false
+
+-- The log is one of DATA, in which SSNs count the ordered messages of the stream from 0 on, and a message is begun only once
+-- the one before has ended, or is abandoned. Fewer than 2^31 TSNs were assigned.
+pub record CountsPlain (id : ℕ) (history : History) : Type 0 where
+  pub kinds : AreOfKind false history.log
+  pub sent : (n : ℕ) (f : Piece) → CarriesOrdered history.log id n f → IsSsnOfTurn f.ssn (turn_at id n history.log)
+  pub closes : (n : ℕ) (f g : Piece) → at_place n history.log ≡ Some (Some f) → at_place (n + 1) history.log ≡ Some (Some g) → g.start ≡ 0 → is_end f ≡ true
+  pub few : length history.log < 2 ^ 31
+
+-- So it is on these streams.
+pub record CountsThese (these : ℕ → Bool) (history : History) : Type 0 where
+  pub kinds : AreOfKind false history.log
+  pub few : length history.log < 2 ^ 31
+  pub each : (id : ℕ) → these id ≡ true → CountsPlain id history
+
+-- ---- what a receiver has of a stream
 
 -- A run has the number of the message of its first part, and begins at that part's place.
 pub record IsNumberedRun (log : List Slot) (base id : ℕ) (run : RunModel) : Type 0 where
@@ -77,10 +83,10 @@ pub record PlainStream (queued : List Message) (history : History) (got : List �
 
 -- ---- what a receiver has of all streams
 
--- All that is held was queued, and each stream is in order.
-pub record HoldsPlain (queued : List Message) (history : History) (got : List ℕ) (base : ℕ) (read : List ℕ) (streams : ℕ → StreamModel) (unordered : List RunModel) (ready : List MessageContent) : Type 0 where
+-- All that is held was queued, and each of these streams is in order.
+pub record HoldsPlain (these : ℕ → Bool) (queued : List Message) (history : History) (got : List ℕ) (base : ℕ) (read : List ℕ) (streams : ℕ → StreamModel) (unordered : List RunModel) (ready : List MessageContent) : Type 0 where
   pub holds : HoldsAll queued history got base read streams unordered ready
-  pub order : (id : ℕ) → PlainStream queued history got base id (read ++ holds.places) (holds.waits id) (streams id)
+  pub order : (id : ℕ) → these id ≡ true → PlainStream queued history got base id (read ++ holds.places) (holds.waits id) (streams id)
 
-abbrev pub IncomingPlain : List Message → History → List ℕ → ℕ → List ℕ → IncomingModel → Type 0
-IncomingPlain queued history got base read incoming = HoldsPlain queued history got base read (λ id. stream_on id incoming.streams) incoming.unordered incoming.ready
+abbrev pub IncomingPlain : (ℕ → Bool) → List Message → History → List ℕ → ℕ → List ℕ → IncomingModel → Type 0
+IncomingPlain these queued history got base read incoming = HoldsPlain these queued history got base read (λ id. stream_on id incoming.streams) incoming.unordered incoming.ready

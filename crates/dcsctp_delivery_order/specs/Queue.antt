@@ -38,6 +38,12 @@ FollowsQueue log =
     (m n : ℕ) (f g : Piece) → at_place m log ≡ Some (Some f) → at_place n log ≡ Some (Some g) → f.message.stream ≡ g.message.stream → f.message.is_unordered ≡ g.message.is_unordered → f.mid < g.mid
     → f.place < g.place
 
+-- So it is of those of this stream.
+abbrev pub FollowsOn : ℕ → List Slot → Type 0
+FollowsOn id log =
+    (m n : ℕ) (f g : Piece) → at_place m log ≡ Some (Some f) → at_place n log ≡ Some (Some g) → f.message.stream ≡ id → g.message.stream ≡ id → f.message.is_unordered ≡ g.message.is_unordered → f.mid < g.mid
+    → f.place < g.place
+
 -- With interleaving the next piece that is handed out leaves it so.
 abbrev pub HandingFollows : Type 0
 HandingFollows =

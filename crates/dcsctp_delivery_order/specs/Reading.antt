@@ -11,7 +11,7 @@ use Rattle.dcsctp_spec_lemmas.specs.spec.queues.IncomingStreams.{StreamModel, Ta
 use Rattle.dcsctp_delivery_sending.specs.Places.{HasEntry, at_place}
 use Rattle.dcsctp_delivery_sending.specs.Log.{Message, Piece, History}
 use Rattle.dcsctp_delivery_sending.specs.Numbers.{AreOfKind, IsCurrent}
-use Rattle.dcsctp_delivery_order.specs.Queue.{FollowsQueue}
+use Rattle.dcsctp_delivery_order.specs.Queue.{FollowsOn}
 use Rattle.dcsctp_delivery_order.specs.Rising.{IsAhead}
 use Rattle.dcsctp_delivery_order.specs.Order.{IsReadAs, StreamInOrder, AreFilled}
 
@@ -19,7 +19,7 @@ use Rattle.dcsctp_delivery_order.specs.Order.{IsReadAs, StreamInOrder, AreFilled
 -- stream begin at a multiple of 2^32, and fewer than 2^31 were given since its last reset.
 pub record CountsFromZero (history : History) (id : ℕ) : Type 0 where
   pub kinds : AreOfKind true history.log
-  pub follows : FollowsQueue history.log
+  pub follows : FollowsOn id history.log
   pub apart : (m n : ℕ) (f g : Piece) → at_place m history.log ≡ Some (Some f) → at_place n history.log ≡ Some (Some g) → f.message.stream ≡ g.message.stream → f.message.is_unordered ≡ g.message.is_unordered
       → f.mid ≡ g.mid → f.place ≡ g.place
   pub floor : history.floors id false % 2 ^ 32 ≡ 0

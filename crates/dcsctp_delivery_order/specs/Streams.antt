@@ -1,17 +1,17 @@
 -- The streams of a direction that their user never resets, and on which no message may be abandoned:
 -- what is read of the ordered messages of each is a prefix of what was queued on it, whatever happens
 -- on other streams (RFC 9260, section 6.6; RFC 6525; RFC 3758).
-use Rattle.std.specs.Prelude.{◌≡◌, ◌<◌, ◌^◌, ℕ, Bool, true, Some, List, length}
+use Rattle.std.specs.Prelude.{◌≡◌, ◌<◌, ◌≤◌, ◌^◌, ℕ, Bool, true, false, Some, List, length}
 use Rattle.dcsctp_spec_lemmas.specs.types.declared.options.Options.{Options}
 use Rattle.dcsctp_spec_lemmas.specs.types.queues.Messages.{MessageContent}
 use Rattle.dcsctp_spec_lemmas.specs.types.queues.SendStreams.{Stream}
 use Rattle.dcsctp_delivery_sending.specs.Places.{at_place}
 use Rattle.dcsctp_delivery_sending.specs.Log.{Message, Piece, Slot, History}
-use Rattle.dcsctp_delivery_sending.specs.Losing.{AreUnlimitedOn, IsKept}
+use Rattle.dcsctp_delivery_sending.specs.Losing.{AreUnlimited, AreUnlimitedOn, IsKept}
 use Rattle.dcsctp_delivery_sending.specs.Numbers.{IsCurrent}
-use Rattle.dcsctp_delivery_directions.specs.Directions.{Direction, DirectionRun, assigned}
+use Rattle.dcsctp_delivery_directions.specs.Directions.{Direction, DirectionRun, Delivered, assigned}
 use Rattle.dcsctp_delivery_order.specs.Delivered.{DeliveredInOrder}
-use Rattle.dcsctp_delivery_order.specs.Queue.{LeaveNoGap}
+use Rattle.dcsctp_delivery_order.specs.Queue.{ComeInOrder, LeaveNoGap}
 
 -- Each message that was queued on it was sent, or waits.
 abbrev pub NoneLostOn : ℕ → List Message → List Slot → List Stream → Type 0
@@ -33,3 +33,17 @@ StreamsDeliverWithoutGaps =
     (options : Options) (first size : ℕ) (direction : Direction) → DirectionRun options first size direction
     → first < 2 ^ 32 → assigned direction < 2 ^ 31 → length direction.queued < 2 ^ 64 → direction.queues.queue.is_interleaved ≡ true
     → direction.beginning.from_zero ≡ true → DeliveredByStream direction.beginning.keeps direction.queued direction.read
+
+-- What was read was queued, none twice. Of each of these streams it comes in order, and none is left out before another.
+pub record DeliveredOn (these : ℕ → Bool) (queued : List Message) (read : List MessageContent) : Type 0 where
+  pub delivered : Delivered queued read
+  pub in_order : (id : ℕ) → these id ≡ true → ComeInOrder queued id delivered.places
+  pub no_gap : (id : ℕ) → these id ≡ true → LeaveNoGap queued id delivered.places
+
+-- Without interleaving it is so of the streams that the sender keeps, whatever others are reset, where no message may be
+-- abandoned.
+abbrev pub PlainStreamsDeliverWithoutGaps : Type 0
+PlainStreamsDeliverWithoutGaps =
+    (options : Options) (first size : ℕ) (direction : Direction) → DirectionRun options first size direction
+    → first < 2 ^ 32 → assigned direction < 2 ^ 31 → length direction.queued < 2 ^ 64 → size ≤ 2 ^ 63 → direction.queues.queue.is_interleaved ≡ false
+    → direction.beginning.from_zero ≡ true → AreUnlimited direction.queued → DeliveredOn direction.beginning.keeps direction.queued direction.read

@@ -8,7 +8,8 @@ use Rattle.dcsctp_spec_lemmas.specs.spec.queues.Numbers.{number_near, short_numb
 use Rattle.dcsctp_spec_lemmas.specs.spec.queues.Runs.{RunModel, WholeModel, Assembled, part_dropped, part_kept, message_whole}
 use Rattle.dcsctp_spec_lemmas.specs.spec.queues.IncomingStreams.{StreamModel, ChunkModel, data_part, delivered_as, UnorderedOutcome, TakesAhead, TakesInOrder, TakesOutOfOrder, is_number_waiting, TakesNumbered}
 use Rattle.dcsctp_spec_lemmas.specs.spec.queues.Incoming.{IncomingModel, stream_on, TakesChunk, TakesIncomingChunk}
-use Rattle.dcsctp_delivery_sending.specs.Places.{HasEntry, set_at}
+use Rattle.std.specs.Prelude.{Some}
+use Rattle.dcsctp_delivery_sending.specs.Places.{HasEntry, at_place, set_at}
 use Rattle.dcsctp_delivery_sending.specs.Log.{Message, History, Cut}
 use Rattle.dcsctp_delivery_receiving.specs.Rows.{IsPiecePlaced, IsPart, AreRows, Spent, MakesQueued}
 use Rattle.dcsctp_delivery_receiving.specs.Ready.{IsOn, IsApart, IsOfStream, ReadsMids, ordered_base, unordered_base, StreamRows, AreDistinct, WaitQueued, StreamHolds, HoldsAll, HoldsIncoming, IsNumbered, BearsPiece}
@@ -16,13 +17,26 @@ use Rattle.dcsctp_delivery_sending.proofs.Places.{decide, set_same, set_other}
 use Rattle.dcsctp_delivery_receiving.proofs.Chaining.{one_kind}
 use Rattle.dcsctp_delivery_receiving.proofs.SpentRows.{stay_rows, rows_got, spent_got, was_handled, of_message, IsOfMessage}
 use Rattle.dcsctp_delivery_receiving.proofs.Distinct.{distinct_left, distinct_apart, appended, has_either}
-use Rattle.dcsctp_delivery_receiving.proofs.Waiting.{OfStream, renamed, wait_on_stream, wait_spent, leaves_none, leaves_ordered, wait_got, leaves_repeated, other_streams, Leaves, stream_rows_got, stream_got}
+use Rattle.dcsctp_delivery_receiving.proofs.Waiting.{OfStream, renamed, wait_on_stream, wait_spent, its_message, leaves_none, leaves_ordered, wait_got, leaves_repeated, other_streams, Leaves, stream_rows_got, stream_got}
 use Rattle.dcsctp_delivery_receiving.proofs.Reading.{tells_as, tells_plain, ordered_reads}
 use Rattle.dcsctp_delivery_sending.specs.Numbers.{IsUnambiguous}
 use Rattle.std.proofs.lemmas.Bool.Decides.{leb_tells}
 use Rattle.dcsctp_delivery_receiving.proofs.Parts.{part_of, ordered_placed, unordered_placed, apart_placed, named_so}
 
 -- ---- a chunk
+
+-- All of it was queued, and beside the messages of this stream nothing became ready, and the same waits.
+pub record HoldsBeside (queued : List Message) (history : History) (got : List ℕ) (base : ℕ) (read : List ℕ) (id : ℕ) (waits : ℕ → List ℕ) (places : List ℕ)
+    (streams : ℕ → StreamModel) (unordered : List RunModel) (ready : List MessageContent) : Type 0 where
+  pub holds : HoldsAll queued history got base read streams unordered ready
+  pub more : List ℕ
+  pub places_are : holds.places ≡ places ++ more
+  pub on : (q : ℕ) → HasEntry q more → (message : Message) × (at_place q queued ≡ Some message) × (message.stream ≡ id)
+  pub others : (other : ℕ) → other ≢ id → holds.waits other ≡ waits other
+
+abbrev pub LeavesBeside : List Message → History → List ℕ → ℕ → List ℕ → ℕ → (ℕ → List ℕ) → List ℕ → IncomingModel → Type 0
+LeavesBeside queued history got base read id waits places incoming =
+    HoldsBeside queued history got base read id waits places (λ stream. stream_on stream incoming.streams) incoming.unordered incoming.ready
 
 module _ (queued : List Message) (history : History) (cut : Cut queued history.log) (told : IsUnambiguous history) (got : List ℕ) (base : ℕ) (read : List ℕ) where
   module _ (tsn_number : ℕ) (chunk : ChunkModel) (bears : BearsPiece history base tsn_number chunk) (is_new : HasEntry bears.offset got → ⊥) (streams : ℕ → StreamModel) (unordered : List RunModel) (ready : List MessageContent)
@@ -46,36 +60,42 @@ module _ (queued : List Message) (history : History) (cut : Cut queued history.l
     -- the invariant once its stream is left so
     holds_then : (id : ℕ) (later : ℕ → StreamModel) (runs : List RunModel) (after : List MessageContent) → StreamRows history now base id (later id)
         → AreRows history.log now (unordered_base base) IsOfStream runs → ((other : ℕ) → other ≢ id → later other ≡ streams other) → Leaves queued history now all holds.places id (later id).waiting after
-        → HoldsAll queued history now base read later runs after
+        → HoldsBeside queued history now base read id holds.waits holds.places later runs after
     unfolding all
     holds_then id later runs after rows apart others leaves =
         record {
-          waits = set_at id leaves.waits holds.waits;
-          streams_hold = λ other. elim (decide other id) [
-            | inl e ↦
-                subst (λ (k : ℕ). StreamHolds queued history now base k (set_at id leaves.waits holds.waits k) (later k)) (sym e)
-                (subst (λ (l : List ℕ). StreamHolds queued history now base id l (later id)) (sym (set_same id leaves.waits holds.waits)) (record { rows = rows; wait = leaves.wait }))
-            | inr ne ↦
-                subst (λ (l : List ℕ). StreamHolds queued history now base other l (later other)) (sym (set_other id other leaves.waits holds.waits ne))
-                (subst (λ (s : StreamModel). StreamHolds queued history now base other (holds.waits other) s) (sym (others other ne))
-                (stream_got queued history got bears.offset base other (holds.waits other) (streams other) (holds.streams_hold other)))
-          ];
-          rows = apart;
-          places = holds.places ++ leaves.more;
-          were_queued = leaves.were;
-          spent = λ q h. elim (has_either q (read ++ holds.places) leaves.more (subst (λ (l : List ℕ). HasEntry q l) (sym (appended read holds.places leaves.more)) h)) [
-            | inl l ↦ spent_got history.log got bears.offset q (holds.spent q l)
-            | inr r ↦ leaves.spent q r
-          ];
-          once = λ other. subst (λ (l : List ℕ). AreDistinct (l ++ set_at id leaves.waits holds.waits other)) (appended read holds.places leaves.more)
-              (elim (decide other id) [
-                | inl e ↦
-                    subst (λ (l : List ℕ). AreDistinct (((read ++ holds.places) ++ leaves.more) ++ l)) (sym (ap (set_at id leaves.waits holds.waits) e ∙ set_same id leaves.waits holds.waits)) leaves.once
-                | inr ne ↦
-                    subst (λ (l : List ℕ). AreDistinct (((read ++ holds.places) ++ leaves.more) ++ l)) (sym (set_other id other leaves.waits holds.waits ne))
-                    (distinct_apart (read ++ holds.places) leaves.more (holds.waits other) (distinct_left ((read ++ holds.places) ++ leaves.more) leaves.waits leaves.once) (holds.once other)
-                    (λ q l r. other_streams queued id other q (leaves.on q l) (wait_on_stream queued history got other q (holds.waits other) (streams other).waiting (holds.streams_hold other).wait r) (λ same'. ne (sym same'))))
-              ]);
+          holds = record {
+            waits = set_at id leaves.waits holds.waits;
+            streams_hold = λ other. elim (decide other id) [
+              | inl e ↦
+                  subst (λ (k : ℕ). StreamHolds queued history now base k (set_at id leaves.waits holds.waits k) (later k)) (sym e)
+                  (subst (λ (l : List ℕ). StreamHolds queued history now base id l (later id)) (sym (set_same id leaves.waits holds.waits)) (record { rows = rows; wait = leaves.wait }))
+              | inr ne ↦
+                  subst (λ (l : List ℕ). StreamHolds queued history now base other l (later other)) (sym (set_other id other leaves.waits holds.waits ne))
+                  (subst (λ (s : StreamModel). StreamHolds queued history now base other (holds.waits other) s) (sym (others other ne))
+                  (stream_got queued history got bears.offset base other (holds.waits other) (streams other) (holds.streams_hold other)))
+            ];
+            rows = apart;
+            places = holds.places ++ leaves.more;
+            were_queued = leaves.were;
+            spent = λ q h. elim (has_either q (read ++ holds.places) leaves.more (subst (λ (l : List ℕ). HasEntry q l) (sym (appended read holds.places leaves.more)) h)) [
+              | inl l ↦ spent_got history.log got bears.offset q (holds.spent q l)
+              | inr r ↦ leaves.spent q r
+            ];
+            once = λ other. subst (λ (l : List ℕ). AreDistinct (l ++ set_at id leaves.waits holds.waits other)) (appended read holds.places leaves.more)
+                (elim (decide other id) [
+                  | inl e ↦
+                      subst (λ (l : List ℕ). AreDistinct (((read ++ holds.places) ++ leaves.more) ++ l)) (sym (ap (set_at id leaves.waits holds.waits) e ∙ set_same id leaves.waits holds.waits)) leaves.once
+                  | inr ne ↦
+                      subst (λ (l : List ℕ). AreDistinct (((read ++ holds.places) ++ leaves.more) ++ l)) (sym (set_other id other leaves.waits holds.waits ne))
+                      (distinct_apart (read ++ holds.places) leaves.more (holds.waits other) (distinct_left ((read ++ holds.places) ++ leaves.more) leaves.waits leaves.once) (holds.once other)
+                      (λ q l r. other_streams queued id other q (leaves.on q l) (wait_on_stream queued history got other q (holds.waits other) (streams other).waiting (holds.streams_hold other).wait r) (λ same'. ne (sym same'))))
+                ]);
+          };
+          more = leaves.more;
+          places_are = refl;
+          on = λ q h. its_message queued id q (leaves.on q h);
+          others = λ other ne. set_other id other leaves.waits holds.waits ne;
         }
 
     -- what its stream has
@@ -98,7 +118,7 @@ module _ (queued : List Message) (history : History) (cut : Cut queued history.l
 
     -- nothing changes
     passed : (later : ℕ → StreamModel) (runs : List RunModel) (after : List MessageContent) → runs ≡ unordered → ((other : ℕ) → other ≢ chunk.stream → later other ≡ streams other)
-        → later chunk.stream ≡ streams chunk.stream → after ≡ ready → HoldsAll queued history now base read later runs after
+        → later chunk.stream ≡ streams chunk.stream → after ≡ ready → HoldsBeside queued history now base read chunk.stream holds.waits holds.places later runs after
     unfolding all
     passed later runs after kept others same same' =
         holds_then chunk.stream later runs after (subst (λ (s : StreamModel). StreamRows history now base chunk.stream s) (sym same) here_rows) (rows_kept runs kept) others
@@ -108,14 +128,14 @@ module _ (queued : List Message) (history : History) (cut : Cut queued history.l
     -- an ordered chunk
     ahead : (place number : ℕ) (later : ℕ → StreamModel) (runs : List RunModel) (after : List MessageContent) (taken : Taken) → IsPiecePlaced (ordered_base base) bears.offset bears.piece number place → IsOn history chunk.stream bears.piece number
         → runs ≡ unordered → ((other : ℕ) → other ≢ chunk.stream → later other ≡ streams other)
-        → TakesAhead (data_part chunk place number) (streams chunk.stream) ready taken (later chunk.stream) after → HoldsAll queued history now base read later runs after
+        → TakesAhead (data_part chunk place number) (streams chunk.stream) ready taken (later chunk.stream) after → HoldsBeside queued history now base read chunk.stream holds.waits holds.places later runs after
     unfolding all here
     ahead place number later runs after taken placed named kept others takes = go (is_number_waiting number (streams chunk.stream).waiting) refl
       where
         part : IsPart history.log (ordered_base base) (IsOn history chunk.stream) (data_part chunk place number)
         part = part_of history base (ordered_base base) (IsOn history chunk.stream) tsn_number place number chunk bears placed named
 
-        go : (b : Bool) → is_number_waiting number (streams chunk.stream).waiting ≡ b → HoldsAll queued history now base read later runs after
+        go : (b : Bool) → is_number_waiting number (streams chunk.stream).waiting ≡ b → HoldsBeside queued history now base read chunk.stream holds.waits holds.places later runs after
         go false e =
             let does = takes.fresh e in
             let rows = stay_rows queued history.log cut (one_kind history told) got (ordered_base base) (IsOn history chunk.stream) (λ m n f g k. tells_as history told false chunk.stream m n f g k) (data_part chunk place number) (streams chunk.stream).ordered (later chunk.stream).ordered does.outcome part here.rows.ordered does.parts in
@@ -147,7 +167,7 @@ module _ (queued : List Message) (history : History) (cut : Cut queued history.l
     -- one of I-DATA
     in_order : (place number : ℕ) (later : ℕ → StreamModel) (runs : List RunModel) (after : List MessageContent) (taken : Taken) → IsPiecePlaced (ordered_base base) bears.offset bears.piece number place → IsOn history chunk.stream bears.piece number
         → runs ≡ unordered → ((other : ℕ) → other ≢ chunk.stream → later other ≡ streams other)
-        → TakesInOrder (data_part chunk place number) (streams chunk.stream) ready taken (later chunk.stream) after → HoldsAll queued history now base read later runs after
+        → TakesInOrder (data_part chunk place number) (streams chunk.stream) ready taken (later chunk.stream) after → HoldsBeside queued history now base read chunk.stream holds.waits holds.places later runs after
     in_order place number later runs after taken placed named kept others takes =
         elim (leb_tells (streams chunk.stream).next number) [
           | inl e ↦ ahead place number later runs after taken placed named kept others (takes.ahead e.1)
@@ -157,7 +177,7 @@ module _ (queued : List Message) (history : History) (cut : Cut queued history.l
     -- an unordered one of I-DATA
     out_of_order : (place number : ℕ) (later : ℕ → StreamModel) (runs : List RunModel) (after : List MessageContent) (taken : Taken) → IsPiecePlaced (ordered_base base) bears.offset bears.piece number place → IsApart history chunk.stream bears.piece number
         → ReadsMids history chunk.stream true number → runs ≡ unordered → ((other : ℕ) → other ≢ chunk.stream → later other ≡ streams other)
-        → TakesOutOfOrder (data_part chunk place number) (streams chunk.stream) ready taken (later chunk.stream) after → HoldsAll queued history now base read later runs after
+        → TakesOutOfOrder (data_part chunk place number) (streams chunk.stream) ready taken (later chunk.stream) after → HoldsBeside queued history now base read chunk.stream holds.waits holds.places later runs after
     unfolding all here
     out_of_order place number later runs after taken placed named reads kept others takes =
         let part : IsPart history.log (ordered_base base) (IsApart history chunk.stream) (data_part chunk place number) = part_of history base (ordered_base base) (IsApart history chunk.stream) tsn_number place number chunk bears placed named in
@@ -182,16 +202,17 @@ module _ (queued : List Message) (history : History) (cut : Cut queued history.l
         record { offset = makes.offset; head = makes.head; at = makes.at; is = makes.is; queued_at = makes.queued_at; number = makes.number.0 ∙ of ∙ same; ppid = makes.ppid; payload = makes.payload; spent = makes.spent }
 
     unordered_chunk : (later : ℕ → StreamModel) (runs : List RunModel) (after : List MessageContent) (outcome : Assembled) (taken : Taken) → later ≡ streams → AreRows history.log now (unordered_base base) IsOfStream runs
-        → MakesQueued queued history.log now (OfStream chunk.stream) bears.piece.place outcome → UnorderedOutcome (data_part chunk tsn_number chunk.stream) (delivered_as chunk.stream) ready outcome taken after → HoldsAll queued history now base read later runs after
+        → MakesQueued queued history.log now (OfStream chunk.stream) bears.piece.place outcome → UnorderedOutcome (data_part chunk tsn_number chunk.stream) (delivered_as chunk.stream) ready outcome taken after → HoldsBeside queued history now base read chunk.stream holds.waits holds.places later runs after
     unfolding all
     unordered_chunk later runs after outcome taken same rows makes does =
-        subst (λ (f : ℕ → StreamModel). HoldsAll queued history now base read f runs after) (sym same)
+        subst (λ (f : ℕ → StreamModel). HoldsBeside queued history now base read chunk.stream holds.waits holds.places f runs after) (sym same)
         (holds_then chunk.stream streams runs after here_rows rows (λ other ne. refl)
         (leaves_repeated queued history now all holds.places (holds.waits chunk.stream) chunk.stream chunk.stream bears.piece.place (data_part chunk tsn_number chunk.stream) (streams chunk.stream).waiting ready after outcome taken
         refl holds.were_queued here_wait makes (holds.once chunk.stream) (fresh chunk.stream) does))
 
   by_numbering : (tsn_number : ℕ) (numbering : Numbering) (chunk : ChunkModel) (old new : IncomingModel) → chunk.numbering ≡ numbering
-      → (bears : BearsPiece history base tsn_number chunk) → IsNumbered bears.piece numbering → (HasEntry bears.offset got → ⊥) → HoldsIncoming queued history got base read old → TakesChunk tsn_number numbering chunk old new → HoldsIncoming queued history (bears.offset ∷ got) base read new
+      → (bears : BearsPiece history base tsn_number chunk) → IsNumbered bears.piece numbering → (HasEntry bears.offset got → ⊥) → (holds : HoldsIncoming queued history got base read old) → TakesChunk tsn_number numbering chunk old new
+      → LeavesBeside queued history (bears.offset ∷ got) base read chunk.stream holds.waits holds.places new
   by_numbering tsn_number (Ordered ssn) chunk old new is bears numbered is_new holds takes =
       let number : ℕ = short_number_from (stream_on chunk.stream old.streams).next ssn in
       let does : TakesAhead (data_part chunk (fragment_place number tsn_number) number) (stream_on chunk.stream old.streams) old.ready takes.taken (stream_on chunk.stream new.streams) new.ready =
@@ -220,10 +241,19 @@ module _ (queued : List Message) (history : History) (cut : Cut queued history.l
       out_of_order tsn_number chunk bears is_new (λ id. stream_on id old.streams) old.unordered old.ready holds (fragment_place (number_near last mid) fsn) (number_near last mid) (λ id. stream_on id new.streams) new.unordered new.ready takes.taken
       (apart_placed history base tsn_number (number_near last mid) fsn chunk bears numbered.0 numbered.3) (sym bears.stream, named.0) named.1 takes.unordered takes.others does
 
+-- It holds of these as well, and beside its stream the same.
+pub holds_beside : (queued : List Message) (history : History) → Cut queued history.log → IsUnambiguous history
+    → (got : List ℕ) (base tsn : ℕ) (read : List ℕ) (chunk : ChunkModel) (old new : IncomingModel)
+    → (bears : BearsPiece history base (number_near old.last_tsn_number tsn) chunk) → (HasEntry bears.offset got → ⊥)
+    → (holds : HoldsIncoming queued history got base read old) → TakesIncomingChunk tsn chunk old new
+    → LeavesBeside queued history (bears.offset ∷ got) base read chunk.stream holds.waits holds.places new
+holds_beside queued history cut told got base tsn read chunk old new bears is_new holds takes =
+    by_numbering queued history cut told got base read (number_near old.last_tsn_number tsn) chunk.numbering chunk old new refl bears bears.numbered is_new holds takes.takes
+
 pub holds_on : (queued : List Message) (history : History) → Cut queued history.log → IsUnambiguous history
     → (got : List ℕ) (base tsn : ℕ) (read : List ℕ) (chunk : ChunkModel) (old new : IncomingModel)
     → (bears : BearsPiece history base (number_near old.last_tsn_number tsn) chunk) → (HasEntry bears.offset got → ⊥)
     → HoldsIncoming queued history got base read old → TakesIncomingChunk tsn chunk old new
     → HoldsIncoming queued history (bears.offset ∷ got) base read new
 holds_on queued history cut told got base tsn read chunk old new bears is_new holds takes =
-    by_numbering queued history cut told got base read (number_near old.last_tsn_number tsn) chunk.numbering chunk old new refl bears bears.numbered is_new holds takes.takes
+    (holds_beside queued history cut told got base tsn read chunk old new bears is_new holds takes).holds

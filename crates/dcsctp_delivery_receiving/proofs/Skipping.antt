@@ -25,7 +25,7 @@ pub new_rows : (history : History) (got : List ℕ) (base id : ℕ) → StreamRo
 new_rows history got base id = record { is = refl; ordered = tt; unordered = tt; next = λ start w. fresh refl; last = λ start w. fresh refl }
 
 module _ (queued : List Message) (history : History) (got : List ℕ) (base : ℕ) (read : List ℕ) where
-  rows_filter : (from : ℕ → ℕ) (Named : Piece → ℕ → Type 0) (test : RunModel → Bool) (runs : List RunModel) → AreRows history.log got from Named runs → AreRows history.log got from Named (filter test runs)
+  pub rows_filter : (from : ℕ → ℕ) (Named : Piece → ℕ → Type 0) (test : RunModel → Bool) (runs : List RunModel) → AreRows history.log got from Named runs → AreRows history.log got from Named (filter test runs)
   rows_filter from Named test [] are = tt
   rows_filter from Named test (r ∷ runs) are = go (test r) (rows_filter from Named test runs are.1)
     where
@@ -196,9 +196,9 @@ module _ (queued : List Message) (history : History) (got : List ℕ) (base : �
   -- ---- streams that are reset
 
   -- these streams are new, and the others unchanged
-  renewed : (named : ℕ → Bool) (streams later : ℕ → StreamModel) (unordered others : List RunModel) (ready : List MessageContent) → ((id : ℕ) → later id ≡ (if named id then new_stream id else streams id))
+  unfoldable pub holds_renewed : (named : ℕ → Bool) (streams later : ℕ → StreamModel) (unordered others : List RunModel) (ready : List MessageContent) → ((id : ℕ) → later id ≡ (if named id then new_stream id else streams id))
       → AreRows history.log got (unordered_base base) IsOfStream others → HoldsAll queued history got base read streams unordered ready → HoldsAll queued history got base read later others ready
-  renewed named streams later unordered others ready are rows holds =
+  holds_renewed named streams later unordered others ready are rows holds =
       record {
         waits = λ id. if named id then [] else holds.waits id;
         streams_hold = λ id. subst (λ (s : StreamModel). StreamHolds queued history got base id (if named id then [] else holds.waits id) s) (sym (are id)) (left_stream id (named id));
@@ -220,9 +220,9 @@ module _ (queued : List Message) (history : History) (got : List ℕ) (base : �
   pub resets_on : (streams : List ℕ) (old new : IncomingModel) → HoldsIncoming queued history got base read old → ResetsStreams streams old new → HoldsIncoming queued history got base read new
   resets_on [] old new holds resets =
       subst (λ (l : List MessageContent). HoldsAll queued history got base read (λ id. stream_on id new.streams) new.unordered l) (sym resets.kept.ready)
-      (renewed (λ id. true) (λ id. stream_on id old.streams) (λ id. stream_on id new.streams) old.unordered new.unordered old.ready resets.streams
+      (holds_renewed (λ id. true) (λ id. stream_on id old.streams) (λ id. stream_on id new.streams) old.unordered new.unordered old.ready resets.streams
       (subst (λ (l : List RunModel). AreRows history.log got (unordered_base base) IsOfStream l) (sym resets.unordered) tt) holds)
   resets_on (reset ∷ others) old new holds resets =
       subst (λ (l : List MessageContent). HoldsAll queued history got base read (λ id. stream_on id new.streams) new.unordered l) (sym resets.kept.ready)
-      (renewed (is_named (reset ∷ others)) (λ id. stream_on id old.streams) (λ id. stream_on id new.streams) old.unordered new.unordered old.ready resets.streams
+      (holds_renewed (is_named (reset ∷ others)) (λ id. stream_on id old.streams) (λ id. stream_on id new.streams) old.unordered new.unordered old.ready resets.streams
       (subst (λ (l : List RunModel). AreRows history.log got (unordered_base base) IsOfStream l) (sym resets.unordered) (rows_filter (unordered_base base) IsOfStream (λ run. not (is_named (reset ∷ others) run.number)) old.unordered holds.rows)) holds)

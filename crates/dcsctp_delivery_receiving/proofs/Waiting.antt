@@ -26,6 +26,10 @@ module _ (queued : List Message) where
   pub OnStream : ℕ → ℕ → Type 0
   OnStream id place = (message : Message) × (at_place place queued ≡ Some message) × (message.stream ≡ id)
 
+  pub its_message : (id place : ℕ) → OnStream id place → (message : Message) × (at_place place queued ≡ Some message) × (message.stream ≡ id)
+  unfolding OnStream
+  its_message id place on = on
+
   pub other_streams : (id other place : ℕ) → OnStream id place → OnStream other place → id ≢ other → ⊥
   unfolding OnStream
   other_streams id other place (m, at, on) (n, at', on') ne =

@@ -1,5 +1,5 @@
 -- A history stays true once a reset of our streams is recorded in it.
-use Rattle.std.proofs.Common.{◌≡◌, ℕ, Bool, true, false, List, ◌++◌, ap}
+use Rattle.std.proofs.Common.{◌≡◌, ℕ, Bool, true, false, List, ◌++◌, ap, inr}
 use Rattle.std.specs.Prelude.{Option, None, Some}
 use Rattle.dcsctp_spec.specs.types.declared.sending.UnderWay.{UnderWay}
 use Rattle.dcsctp_spec.specs.queues.Filling.{Stage}
@@ -18,7 +18,7 @@ marked_twice None ids bound newer older history = grown_twice newer older histor
 marked_twice (Some begun) ids bound newer older history = ap (λ (l : List Slot). with_mark (Some begun) ids bound (record history { log = l })) (append_twice newer older history.log)
 
 counts_marked : (begun : BegunReset) (ids : List ℕ) (bound : ℕ) (history : History) (b : Bool) (streams : List Stream) (u : Option UnderWay) → CountsWhere b history streams u → CountsWhere b (with_mark (Some begun) ids bound history) streams u
-counts_marked begun ids bound history false streams u c = record { turns = λ id start. absurd (let none = start.none in cc); closes = c.closes; rests = c.rests }
+counts_marked begun ids bound history false streams u c = record { turns = λ id start. c.turns id (record { floor = start.floor; none = λ mark has names. start.none mark (inr has) names }); closes = c.closes; rests = c.rests }
 counts_marked begun ids bound history true streams u c = record { counts = c.counts; few = c.few; next = c.next; below = c.below; apart = c.apart; going = going u c.going }
   where
     going : (v : Option UnderWay) → LastIs history streams c.counts v → LastIs (with_mark (Some begun) ids bound history) streams c.counts v

@@ -67,7 +67,7 @@ module _ (history : History) (number : ℕ) (renewed : Mark) (known : HasEntry r
   last_renewed streams counts (Some under_way) l = record { waiting = l.waiting; front = l.front; mid = l.mid; is = l.is; from = l.from; last = l.last; came = l.came }
 
   counts_renewed : (is_interleaved : Bool) (streams : List Stream) (under_way : Option UnderWay) → CountsWhere is_interleaved history streams under_way → CountsWhere is_interleaved now streams under_way
-  counts_renewed false streams under_way c = record { turns = λ id start. absurd (let none = start.none in cc); closes = c.closes; rests = c.rests }
+  counts_renewed false streams under_way c = record { turns = λ id start. c.turns id (record { floor = start.floor; none = λ mark has names. start.none mark (inr has) names }); closes = c.closes; rests = c.rests }
   counts_renewed true streams under_way c =
       record { counts = c.counts; few = c.few; next = c.next; below = c.below; apart = c.apart; going = last_renewed streams c.counts under_way c.going }
 

@@ -1,5 +1,5 @@
 -- What is set, and resets of our streams, leave what waits.
-use Rattle.std.proofs.Common.{◌≡◌, ℕ, Bool, true, false, ◌<◌, ◌≤◌, ◌+◌, ◌*◌, ◌%◌, ◌^◌, List, [], length, map, refl, sym, ◌∙◌, ap, arith}
+use Rattle.std.proofs.Common.{◌≡◌, ℕ, Bool, true, false, ◌<◌, ◌≤◌, ◌+◌, ◌*◌, ◌%◌, ◌^◌, List, length, map, refl, sym, ◌∙◌, ap, arith}
 use Rattle.std.specs.Prelude.{Option, None, Some, if◌then◌else◌}
 use Rattle.dcsctp_spec.specs.types.queues.SendStreams.{Stream, front_of, unused, committed, rolled_back}
 use Rattle.dcsctp_spec.specs.types.declared.sending.UnderWay.{UnderWay}
@@ -9,7 +9,8 @@ use Rattle.dcsctp_spec.specs.queues.OwnResets.{queue_committed, queue_rolled_bac
 use Rattle.dcsctp_spec.specs.queues.SendQueue.{with_priority, with_threshold, SendQueueState, stream_changed, used}
 use Rattle.dcsctp_spec.specs.types.Setting.{Setting, stream_priority, stream_low_threshold, longest_message}
 use Rattle.dcsctp_spec.specs.endpoint.SettingOutcomes.{set_in_queue}
-use Rattle.dcsctp_delivery_sending.specs.Log.{Message, Slot, History}
+use Rattle.dcsctp_delivery_sending.specs.Places.{HasEntry}
+use Rattle.dcsctp_delivery_sending.specs.Log.{Message, Slot, Mark, History, Resets}
 use Rattle.dcsctp_delivery_sending.specs.Turns.{begun_on}
 use Rattle.dcsctp_delivery_sending.specs.Queueing.{SettingFits, floors_raised, QueueHolds}
 use Rattle.dcsctp_delivery_sending.specs.Numbers.{stream_named, next_mid, is_handed_out, KeptWhere, LastIs, CountsMessages, CountsTurns, CountsSsns, CountsWhere, Numbered}
@@ -173,7 +174,7 @@ committed_ssns : (history : History) (streams : List Stream) (u : Option UnderWa
 committed_ssns history streams u kept c =
     record { turns = λ id start. go id (is_handed_out (stream_named id streams).pause) refl start.floor start.none; closes = c.closes; rests = c.rests }
   where
-    go : (id : ℕ) (h : Bool) → is_handed_out (stream_named id streams).pause ≡ h → (if h then 2 ^ 32 * (history.floors id false + length history.log + 1) else history.floors id false) ≡ 0 → history.marks ≡ []
+    go : (id : ℕ) (h : Bool) → is_handed_out (stream_named id streams).pause ≡ h → (if h then 2 ^ 32 * (history.floors id false + length history.log + 1) else history.floors id false) ≡ 0 → ((mark : Mark) → HasEntry mark history.marks → Resets mark id → ⊥)
         → CountsTurns id history.log (map committed streams) u
     go id true is floor none = absurd (omega (arith, floor))
     go id false is floor none =

@@ -1,15 +1,15 @@
 -- How messages are numbered. With interleaving no two of a stream have one number in an association,
 -- among ordered messages and among unordered ones (RFC 8260, section 2.1); after a reset the numbers
 -- of a stream continue from a new floor. Without it SSNs count the ordered messages of a stream.
-use Rattle.std.specs.Prelude.{◌≡◌, ◌<◌, ◌≤◌, ◌+◌, ◌%◌, ◌^◌, ℕ, Bool, true, false, Option, None, Some, List, [], length}
+use Rattle.std.specs.Prelude.{◌≡◌, ◌<◌, ◌≤◌, ◌+◌, ◌%◌, ◌^◌, ℕ, Bool, true, false, Option, None, Some, List, length}
 use Rattle.dcsctp_spec.specs.types.declared.sending.UnderWay.{UnderWay}
 use Rattle.dcsctp_spec.specs.types.declared.sending.Pause.{Pause}
 use Rattle.dcsctp_spec.specs.types.declared.sending.Pause.TheVariants.{Open, Pausing, HandedOut}
 use Rattle.dcsctp_spec.specs.types.queues.SendStreams.{Waiting, Stream, front_of, next_numbers, unused}
 use Rattle.dcsctp_spec.specs.queues.SendQueue.{SendQueueState, found_in}
 use Rattle.dcsctp_spec.specs.queues.Transfer.{Transfer}
-use Rattle.dcsctp_delivery_sending.specs.Places.{at_place}
-use Rattle.dcsctp_delivery_sending.specs.Log.{Piece, Slot, newest, is_end, History}
+use Rattle.dcsctp_delivery_sending.specs.Places.{HasEntry, at_place}
+use Rattle.dcsctp_delivery_sending.specs.Log.{Piece, Slot, Mark, newest, is_end, History, Resets}
 use Rattle.dcsctp_delivery_sending.specs.Turns.{begun_on, turn_at, IsSsnOfTurn}
 
 -- the stream of this number, or one that was never used
@@ -70,10 +70,10 @@ pub record CountsMessages (history : History) (streams : List Stream) (under_way
       → f.message.is_unordered ≡ g.message.is_unordered → f.mid ≡ g.mid → f.place ≡ g.place
   pub going : LastIs history streams counts under_way
 
--- The SSNs of the stream began at 0 in the association, and no reset was begun.
+-- The SSNs of the stream began at 0 in the association, and no reset of it was begun.
 pub record IsFromStart (history : History) (id : ℕ) : Type 0 where
   pub floor : history.floors id false ≡ 0
-  pub none : history.marks ≡ []
+  pub none : (mark : Mark) → HasEntry mark history.marks → Resets mark id → ⊥
 
 -- The message under way is the last that was begun on the stream, if it is ordered.
 pub record GoesInTurn (id : ℕ) (log : List Slot) (streams : List Stream) (under_way : UnderWay) : Type 0 where

@@ -130,7 +130,7 @@ module _ (kinds : Capabilities) where
   peer_resets : (came : Option Content) (happened : List Effect) (old new : Inside) → InsideIs old → PeerResets came happened old new → InsideIs new
   peer_resets came happened old _ h (unreset none) = h
   peer_resets came happened old _ h (absent gone) = h
-  peer_resets came happened old _ h (deferred none parameters reset came_is wants transfer last_tsn streams known) = record { left = of_known kinds transfer old.queues.transfer known h.left; asks = h.asks }
+  peer_resets came happened old _ h (deferred none parameters reset came_is wants transfer known) = record { left = of_known kinds transfer old.queues.transfer known h.left; asks = h.asks }
   peer_resets came happened old _ h (reset_now done parameters reset handled asked transfer reassembly known reached leaves) =
       record { left = of_known kinds transfer old.queues.transfer known h.left; asks = h.asks }
 

@@ -44,9 +44,9 @@ use Rattle.dcsctp_spec_lemmas.specs.spec.endpoint.MessageOutcomes.{Sending}
 use Rattle.dcsctp_spec_lemmas.specs.spec.endpoint.Turn.{Input, arrival, refusal, packet_begins, chunk_input, packet_ends, act_input, user_sets, user_sends, user_resets, user_takes, timer_expires, time_passes, restores}
 use Rattle.dcsctp_delivery_order.specs.PlainDirections.{FewOnEachStream}
 use Rattle.dcsctp_delivery_sending.specs.Losing.{AreUnlimited}
-use Rattle.dcsctp_delivery_sockets.specs.Ordered.{SetsNoLimits, SendsFew}
+use Rattle.dcsctp_delivery_sockets.specs.Ordered.{SetsNoLimits, SendsFew, NeverResets, IsDeliveredOn}
 use Rattle.dcsctp_delivery_sockets.proofs.FewSent.{few_queued_on}
-use Rattle.dcsctp_delivery_associations.proofs.InOrder.{ends_deliver_in_order, ends_deliver_data_in_order, ends_deliver_by_stream, ends_deliver_without_gaps, nothing_in_order, nothing_before, nothing_by_stream}
+use Rattle.dcsctp_delivery_associations.proofs.InOrder.{ends_deliver_in_order, ends_deliver_data_in_order, ends_deliver_by_stream, ends_deliver_data_by_stream, ends_deliver_without_gaps, nothing_in_order, nothing_before, nothing_by_stream, nothing_on}
 use Rattle.dcsctp_delivery_sockets.proofs.Calls.{AreCalls, call_without, call_is, input_is}
 use Rattle.dcsctp_delivery_sockets.proofs.Echoes.{echoes_go_to_makers}
 use Rattle.dcsctp_delivery_sockets.proofs.KnownPeers.{IsMove}
@@ -56,13 +56,13 @@ use Rattle.dcsctp_delivery_sockets.proofs.Replaced.{match_swapped, peers_differ,
 use Rattle.dcsctp_delivery_sockets.proofs.Performed.{SidePerformed, BothPerformed, both_performed, fresh_front}
 use Rattle.dcsctp_delivery_sockets.proofs.Known.{past_more, rest_turns, rest_moves, same_rules_after, own_turn, IsOwn, GoodPacket, SideKnown, BothKnown, both_front}
 use Rattle.dcsctp_delivery_sockets.proofs.Stands.{Stand, queued_of, packets_of, reading_of, queued_same, sender_more, receiver_calls, receiver_handles, few_queued}
-use Rattle.dcsctp_delivery_sockets.proofs.UserMessages.{is_without_gaps, is_by_stream, SaysSame, are_unlimited, are_unlimited_on, nothing_same, turns_same, turns_read, is_delivered, is_in_order, SaysSame, is_without_gaps}
+use Rattle.dcsctp_delivery_sockets.proofs.UserMessages.{is_by_stream, is_on, SaysSame, are_unlimited, are_unlimited_on, nothing_same, turns_same, turns_read, is_delivered, is_in_order, SaysSame, is_without_gaps}
 use Rattle.dcsctp_spec_lemmas.specs.spec.association.Effect.{AssociationIdentity, Effect, holds}
 use Rattle.dcsctp_spec_runs.specs.Past.{HasEffect, Each}
 use Rattle.dcsctp_delivery_associations.proofs.Tagged.{ReadUnder, nothing_under, under_key, read_under_key}
 use Rattle.dcsctp_delivery_sending.specs.ChunkCounts.{chunks_to}
 use Rattle.dcsctp_delivery_directions.specs.Requests.{requests_to}
-use Rattle.dcsctp_delivery_order.specs.Streams.{DeliveredByStream}
+use Rattle.dcsctp_delivery_order.specs.Streams.{DeliveredByStream, DeliveredOn}
 use Rattle.dcsctp_spec_lemmas.specs.types.queues.Messages.{MessageContent}
 use Rattle.dcsctp_spec_lemmas.proofs.TurnLists.{after_all-append}
 use Rattle.dcsctp_spec_runs.specs.World.{after_effects}
@@ -348,6 +348,11 @@ module _ (never_resets : ℕ → Bool) (mine theirs : Options) (turns others : L
         ends_deliver_by_stream theirs h.ends (endpoint_after mine turns) (queued_of mine turns) (noted_past turns) (packets_of turns) (endpoint_after theirs others) (noted_past others) (reading_of theirs others) h.between
         (few_queued mine turns little) few_went key (only_own only) (interleaves_so interleaves)
 
+    data_of : HasOneTag (noted_past turns) → SetsNoLimits mine turns → DeliveredOn h.ends.never_resets (queued_of mine turns) (with_key key (reading_of theirs others).reads)
+    data_of only unlimited =
+        ends_deliver_data_by_stream theirs h.ends (endpoint_after mine turns) (queued_of mine turns) (noted_past turns) (packets_of turns) (endpoint_after theirs others) (noted_past others) (reading_of theirs others) h.between
+        (few_queued mine turns little) few_went window (are_unlimited (queued_of mine turns) sent_all sent_same unlimited) key (only_own only)
+
   -- What was read under a tag was read of one key of the sender, or nothing was.
   by_key : (P : List MessageContent → Type 0) (tag : ℕ) → P [] → ((key : ℕ) → HadBoth (noted_past turns) key tag → (their_link : AssociationIdentity) → HasEffect (holds their_link) (noted_past others) → their_link.my.tag ≡ tag → P (with_key key (reading_of theirs others).reads)) → P (read_under tag theirs others)
   by_key P tag nothing under =
@@ -378,6 +383,13 @@ module _ (never_resets : ℕ → Bool) (mine theirs : Options) (turns others : L
       ))
       (by_key (DeliveredByStream h.ends.never_resets (queued_of mine turns)) tag (nothing_by_stream h.ends.never_resets (queued_of mine turns) [] refl) (λ key both their_link held own. streams_of tag key both their_link held own only interleaves))
 
+  one_on_streams : ((stream : ℕ) → resets_none turns stream ≡ true → never_resets stream ≡ true) → (tag : ℕ) → HasOneTag (noted_past turns) → SetsNoLimits mine turns
+      → IsDeliveredOn (NeverResets turns) sent_all (read_under tag theirs others)
+  one_on_streams never tag only unlimited =
+      is_on h.ends.never_resets (NeverResets turns) (queued_of mine turns) sent_all (read_under tag theirs others) sent_same
+      (λ stream none. ap (λ (n : ℕ → Bool). n stream) h.is ∙ never stream (none_reset stream turns none))
+      (by_key (DeliveredOn h.ends.never_resets (queued_of mine turns)) tag (nothing_on h.ends.never_resets (queued_of mine turns) [] refl) (λ key both their_link held own. data_of tag key both their_link held own only unlimited))
+
 pub sockets_deliver : DeliveryLaws → SocketsDeliver
 sockets_deliver law options run are in_memory runs honest fresh allows side =
     both_deliver (both_stand law.below law.answers (both_resets_none turns) options run are runs honest fresh in_memory known) side
@@ -398,6 +410,7 @@ sockets_deliver law options run are in_memory runs honest fresh allows side =
           in_order = one_in_order (resets_none turns.b) options.b options.a turns.b turns.a (allows.little sides.B) (allows.together sides.B) h.to_a (window sides.A) known.b.tags known.a.tags (same_rules_after (resets_none turns.b) options.b turns.b known.b);
           no_gaps = one_without_gaps (resets_none turns.b) options.b options.a turns.b turns.a (allows.little sides.B) (allows.together sides.B) h.to_a (window sides.A) known.b.tags known.a.tags (λ stream is. is);
           by_stream = one_by_stream (resets_none turns.b) options.b options.a turns.b turns.a (allows.little sides.B) (allows.together sides.B) h.to_a (window sides.A) known.b.tags known.a.tags (λ stream is. is);
+          on_streams = one_on_streams (resets_none turns.b) options.b options.a turns.b turns.a (allows.little sides.B) (allows.together sides.B) h.to_a (window sides.A) known.b.tags known.a.tags (λ stream is. is);
         }
     both_deliver h sides.B =
         record {
@@ -405,4 +418,5 @@ sockets_deliver law options run are in_memory runs honest fresh allows side =
           in_order = one_in_order (resets_none turns.a) options.a options.b turns.a turns.b (allows.little sides.A) (allows.together sides.A) h.to_b (window sides.B) known.a.tags known.b.tags (same_rules_after (resets_none turns.a) options.a turns.a known.a);
           no_gaps = one_without_gaps (resets_none turns.a) options.a options.b turns.a turns.b (allows.little sides.A) (allows.together sides.A) h.to_b (window sides.B) known.a.tags known.b.tags (λ stream is. is);
           by_stream = one_by_stream (resets_none turns.a) options.a options.b turns.a turns.b (allows.little sides.A) (allows.together sides.A) h.to_b (window sides.B) known.a.tags known.b.tags (λ stream is. is);
+          on_streams = one_on_streams (resets_none turns.a) options.a options.b turns.a turns.b (allows.little sides.A) (allows.together sides.A) h.to_b (window sides.B) known.a.tags known.b.tags (λ stream is. is);
         }

@@ -24,8 +24,8 @@ use Rattle.dcsctp_delivery_sending.specs.Queueing.{has_limits}
 use Rattle.dcsctp_delivery_associations.proofs.InOrder.{MarkAt, below_at, unlimited_of, unlimited_on_of}
 use Rattle.std.specs.List.{AllByRecursion}
 use Rattle.dcsctp_delivery_order.specs.Queue.{IsOrderedOn, ComeInOrder}
-use Rattle.dcsctp_delivery_order.specs.Streams.{DeliveredByStream}
-use Rattle.dcsctp_delivery_sockets.specs.Ordered.{IsOrderedAt, RiseOn, IsDeliveredInOrder, IsDeliveredWithoutGaps, IsDeliveredByStream}
+use Rattle.dcsctp_delivery_order.specs.Streams.{DeliveredByStream, DeliveredOn}
+use Rattle.dcsctp_delivery_sockets.specs.Ordered.{IsOrderedAt, RiseOn, IsDeliveredInOrder, IsDeliveredWithoutGaps, IsDeliveredByStream, IsDeliveredOn}
 use Rattle.dcsctp_delivery_sockets.specs.UserMessages.{accepted_where, accepted_as, sent_as, all_sent_as, message_sent, first_readable, read_in, read_of, WereSent, IsDelivered}
 
 -- ---- lists
@@ -237,6 +237,17 @@ is_by_stream never_resets reliable queued sent read same which d =
           let w = which stream is in
           d.no_gap stream w.0 w.1 earlier later has (ordered_on queued sent same stream later on) (ordered_on queued sent same stream earlier on') before
           );
+    }
+
+pub is_on : (never_resets : ℕ → Bool) (streams : ℕ → Type 0) (queued : List Message) (sent : List Sending) (read : List MessageContent) → SaysSame (λ sending. sending) queued sent
+    → ((stream : ℕ) → streams stream → never_resets stream ≡ true) → DeliveredOn never_resets queued read → IsDeliveredOn streams sent read
+is_on never_resets streams queued sent read same which d =
+    record {
+      places = d.delivered.places;
+      were_sent = were_sent_so queued sent same d.delivered.places read d.delivered.were_queued;
+      once = d.delivered.once;
+      in_order = λ stream is. rise_on queued sent same stream d.delivered.places (d.in_order stream (which stream is));
+      no_gap = λ stream is earlier later has on on' before. d.no_gap stream (which stream is) earlier later has (ordered_on queued sent same stream later on) (ordered_on queued sent same stream earlier on') before;
     }
 
 -- ---- without limits

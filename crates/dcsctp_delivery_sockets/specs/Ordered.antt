@@ -55,6 +55,15 @@ pub record IsDeliveredByStream (reliable : ℕ → Type 0) (sent : List Sending)
   pub no_gap : (stream : ℕ) → reliable stream → (earlier later : ℕ) → HasEntry later delivered.places → IsOrderedAt sent stream later → IsOrderedAt sent stream earlier → earlier < later
       → HasEntry earlier delivered.places
 
+-- Each message that was read was sent, and none was read twice. What was read of the ordered messages of each of these streams is a
+-- prefix of what was sent.
+pub record IsDeliveredOn (streams : ℕ → Type 0) (sent : List Sending) (read : List MessageContent) : Type 0 where
+  pub places : List ℕ
+  pub were_sent : WereSent (map message_sent sent) places read
+  pub once : AreDistinct places
+  pub in_order : (stream : ℕ) → streams stream → RiseOn sent stream places
+  pub no_gap : (stream : ℕ) → streams stream → (earlier later : ℕ) → HasEntry later places → IsOrderedAt sent stream later → IsOrderedAt sent stream earlier → earlier < later → HasEntry earlier places
+
 -- the messages that the user of this socket read in these turns in the association with this own tag, or after it had ended
 abbrev pub read_under : ℕ → Options → List Transition → List MessageContent
 read_under tag options turns = with_tag tag (reading_through (fresh_endpoint options) turns nothing_read).reads
@@ -105,8 +114,12 @@ abbrev pub SetsNoLimitsOn : ℕ → Options → List Transition → Type 0
 SetsNoLimitsOn stream options turns =
     AllByRecursion (λ sending. sending.message.stream ≡ stream → has_limits sending.options ≡ false) (sendings_in (fresh_endpoint options) turns)
 
+-- The user has never called `reset_streams` for the stream. A call that is refused counts.
+abbrev pub NeverResets : List Transition → ℕ → Type 0
+NeverResets turns stream = AllByRecursion (λ turn. resets_stream stream turn.input ≡ false) turns
+
 -- The stream is reliable: none of its messages may be abandoned, and the user has never called `reset_streams` for it. A call that
 -- is refused counts. Messages of other streams may be abandoned, and those may be reset.
 pub record IsReliable (options : Options) (turns : List Transition) (stream : ℕ) : Type 0 where
   pub unlimited : SetsNoLimitsOn stream options turns
-  pub never_resets : AllByRecursion (λ turn. resets_stream stream turn.input ≡ false) turns
+  pub never_resets : NeverResets turns stream

@@ -1,7 +1,7 @@
 -- What a RE-CONFIG does before all else, as steps of both sides: our request ends, and streams of the
 -- peer are reset.
 use Rattle.dcsctp_delivery_directions.specs.Directions as directions
-use Rattle.std.proofs.Common.{◌≡◌, ◌≢◌, ◌≤◌, ◌+◌, ◌%◌, ◌^◌, ℕ, suc, Bool, true, false, Option, None, Some, List, [], ◌∷◌, length, refl, sym, ◌∙◌, ap, subst, arith, inl, inr}
+use Rattle.std.proofs.Common.{◌≡◌, ◌≤◌, ◌+◌, ◌%◌, ◌^◌, ℕ, suc, Bool, true, false, Option, None, Some, List, [], ◌∷◌, length, refl, sym, ◌∙◌, ap, subst, arith, inl, inr}
 use Rattle.dcsctp_spec_lemmas.specs.spec.Packet.{Content, re_config}
 use Rattle.dcsctp_spec_lemmas.specs.spec.Reconfiguration.{RequestedReset, ResetParameter}
 use Rattle.dcsctp_spec_lemmas.specs.spec.association.Effect.{Effect}
@@ -11,7 +11,7 @@ use Rattle.dcsctp_spec_lemmas.specs.spec.queues.Reassembly.{ReassemblyState, End
 use Rattle.dcsctp_spec_lemmas.specs.spec.queues.Transfer.{Transfer}
 use Rattle.dcsctp_spec_lemmas.specs.spec.endpoint.ResetOutcomes.{requested_in, has_completed, has_reset}
 use Rattle.dcsctp_delivery_receiving.specs.Clear.{IsOwn}
-use Rattle.dcsctp_delivery_directions.specs.Directions.{Asking, asking_renewed, all_ended, is_reset_reached, Direction}
+use Rattle.dcsctp_delivery_directions.specs.Directions.{Asking, HasAsked, asking_renewed, all_ended, is_reset_reached, Direction}
 use Rattle.dcsctp_delivery_turns.specs.Asking.{Own, renewed_own, AreNumbered, IsOut, OutIs, IsAsking, AsksFit, SomeFit}
 use Rattle.dcsctp_delivery_turns.specs.Actions.{has_refused, Inside, ended_own, OwnEnds, unended, committed, rolled_back, PeerResets, unreset, absent, deferred, reset_now}
 use Rattle.dcsctp_delivery_turns.specs.Runs.{IsBetween, as_it_was, once_performed, once_refused, KnowsRequest, performed_where}
@@ -79,14 +79,14 @@ renewed_fit old new own number kept out is fits =
 pub own_resets : (came : Option Content) (happened : List Effect) (old new : Inside) → PeerResets came happened old new → new.own ≡ old.own
 own_resets came happened old _ (unreset none) = refl
 own_resets came happened old _ (absent gone) = refl
-own_resets came happened old _ (deferred none parameters reset came_is wants transfer last_tsn streams known) = refl
+own_resets came happened old _ (deferred none parameters reset came_is wants transfer known) = refl
 own_resets came happened old _ (reset_now some parameters reset is wants transfer reassembly known reached leaves) = refl
 
 -- The peer's request leaves how messages are numbered.
 peer_resets_kind : (came : Option Content) (happened : List Effect) (old new : Inside) → PeerResets came happened old new → new.queues.queue.is_interleaved ≡ old.queues.queue.is_interleaved
 peer_resets_kind came happened old _ (unreset none) = refl
 peer_resets_kind came happened old _ (absent gone) = refl
-peer_resets_kind came happened old _ (deferred none parameters reset came_is wants transfer last_tsn streams known) = refl
+peer_resets_kind came happened old _ (deferred none parameters reset came_is wants transfer known) = refl
 peer_resets_kind came happened old _ (reset_now some parameters reset is wants transfer reassembly known reached leaves) = refl
 
 -- ---- the direction on which it sends
@@ -133,7 +133,7 @@ peer_resets_send : (came : Option Content) (direction : Direction) (happened : L
     → DirectionSteps (sending_by direction old asking) (sending_by direction new asking)
 peer_resets_send came direction happened old _ asking (unreset none) = stays
 peer_resets_send came direction happened old _ asking (absent gone) = stays
-peer_resets_send came direction happened old _ asking (deferred none parameters reset came_is wants transfer last_tsn streams known) = one_step (sending_by direction old asking) _ (directions.turns_aside transfer _ known (record { outstanding = refl; reset_begun = refl }))
+peer_resets_send came direction happened old _ asking (deferred none parameters reset came_is wants transfer known) = one_step (sending_by direction old asking) _ (directions.turns_aside transfer _ known (record { outstanding = refl; reset_begun = refl }))
 peer_resets_send came direction happened old _ asking (reset_now some parameters reset is wants transfer reassembly known reached leaves) =
     one_step (sending_by direction old asking) _ (directions.turns_aside transfer _ known (record { outstanding = refl; reset_begun = refl }))
 
@@ -161,7 +161,7 @@ own_ends_received happened old _ (rolled_back refused own is) = refl
 pub front_none : (came : Option Content) (happened : List Effect) (old between new : Inside) → OwnEnds happened old between → PeerResets came happened between new → old.queues.transfer ≡ None → new.queues.transfer ≡ None
 front_none came happened old between _ own (unreset none) nowhere = own_ends_received happened old between own ∙ nowhere
 front_none came happened old between _ own (absent gone) nowhere = gone
-front_none came happened old between _ own (deferred none parameters reset came_is wants transfer last_tsn streams known) nowhere = (let gone = own_ends_received happened old between own ∙ nowhere in absurd (cc))
+front_none came happened old between _ own (deferred none parameters reset came_is wants transfer known) nowhere = (let gone = own_ends_received happened old between own ∙ nowhere in absurd (cc))
 front_none came happened old between _ own (reset_now some parameters reset is wants transfer reassembly known reached leaves) nowhere =
     (let gone = own_ends_received happened old between own ∙ nowhere in absurd (cc))
 
@@ -195,13 +195,13 @@ front_by is_known direction transfer left happened new is none steps =
           (sym (unperformed is_known direction.asking)) steps;
     }
 
--- Where a request is handled, one was begun.
+-- Where a request is handled, one of the same streams was begun.
 abbrev pub AsksSome : Direction → Option Content → Type 0
-AsksSome direction came = (parameters : List ResetParameter) (reset : RequestedReset) → came ≡ Some (re_config parameters) → requested_in parameters ≡ Some reset → direction.asking.requests ≢ []
+AsksSome direction came = (parameters : List ResetParameter) (reset : RequestedReset) → came ≡ Some (re_config parameters) → requested_in parameters ≡ Some reset → HasAsked direction.asking.requests reset.streams
 
 -- where one is performed: it may be known to be the newest, or to want what that wants
 performs_by : (is_known : Bool) (came : Option Content) (happened : List Effect) (direction : Direction) (transfer : Transfer) (parameters : List ResetParameter) (reset : RequestedReset) (reassembly : ReassemblyState) → KnowsRequest is_known direction transfer came happened
-    → has_reset happened ≡ true → came ≡ Some (re_config parameters) → requested_in parameters ≡ Some reset → direction.asking.requests ≢ [] → is_reset_reached reset transfer.tracker ≡ true → EndsDeferral reset.streams transfer.reassembly reassembly
+    → has_reset happened ≡ true → came ≡ Some (re_config parameters) → requested_in parameters ≡ Some reset → HasAsked direction.asking.requests reset.streams → is_reset_reached reset transfer.tracker ≡ true → EndsDeferral reset.streams transfer.reassembly reassembly
     → DirectionSteps (receiving direction transfer direction.read)
     (record (receiving direction (record transfer { reassembly = reassembly }) direction.read) { asking = performed_where is_known true direction.asking })
 performs_by true came happened direction transfer parameters reset reassembly newest done came_is wants some reached leaves =
@@ -223,10 +223,10 @@ peer_resets_receive : (is_known : Bool) (came : Option Content) (happened : List
     → AsksSome direction came → old.queues.transfer ≡ Some transfer → PeerResets came happened old new → ReceivingFront is_known direction transfer happened new
 peer_resets_receive is_known came happened direction transfer old _ newest asked is (unreset none) = front_by is_known direction transfer transfer happened old is none stays
 peer_resets_receive is_known came happened direction transfer old _ newest asked is (absent gone) = absurd (cc)
-peer_resets_receive is_known came happened direction transfer old new newest asked is (deferred none parameters reset came_is wants found last_tsn streams known) =
+peer_resets_receive is_known came happened direction transfer old new newest asked is (deferred none parameters reset came_is wants found known) =
     let same : found ≡ transfer = cc in
     subst (λ (t : Transfer). ReceivingFront is_known direction t happened new) same
-    (front_by is_known direction found _ happened new refl none (one_step (receiving direction found direction.read) _ (directions.defers last_tsn streams (asked parameters reset came_is wants))))
+    (front_by is_known direction found _ happened new refl none (one_step (receiving direction found direction.read) _ (directions.defers reset.last_tsn reset.streams (asked parameters reset came_is wants))))
 peer_resets_receive is_known came happened direction transfer old new newest asked is (reset_now some parameters reset came_is wants found reassembly known reached leaves) =
     let same : transfer ≡ found = cc in
     record {

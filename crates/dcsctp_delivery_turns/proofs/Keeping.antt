@@ -150,13 +150,13 @@ own_left first kinds happened old new (rolled_back done own is) h = h
 peer_left : (first : ℕ) (kinds : Capabilities) (came : Option Content) (happened : List Effect) (old new : Inside) → PeerResets came happened old new → Untouched first kinds old.queues.transfer → Untouched first kinds new.queues.transfer
 peer_left first kinds came happened old _ (unreset none) h = h
 peer_left first kinds came happened old _ (absent gone) h = h
-peer_left first kinds came happened old _ (deferred none parameters reset came_is wants transfer last_tsn streams known) h = of_known first kinds transfer old.queues.transfer known h
+peer_left first kinds came happened old _ (deferred none parameters reset came_is wants transfer known) h = of_known first kinds transfer old.queues.transfer known h
 peer_left first kinds came happened old _ (reset_now done parameters reset handled asked transfer reassembly known reached leaves) h = of_known first kinds transfer old.queues.transfer known h
 
 peer_fit : (came : Option Content) (happened : List Effect) (old new : Inside) → PeerResets came happened old new → SomeFit old.own → SomeFit new.own
 peer_fit came happened old _ (unreset none) h = h
 peer_fit came happened old _ (absent gone) h = h
-peer_fit came happened old _ (deferred none parameters reset came_is wants transfer last_tsn streams known) h = h
+peer_fit came happened old _ (deferred none parameters reset came_is wants transfer known) h = h
 peer_fit came happened old _ (reset_now done parameters reset handled asked transfer reassembly known reached leaves) h = h
 
 -- What a turn leaves: the association stays, and what is in flight stays untouched; or it ends; or another one begins, of which

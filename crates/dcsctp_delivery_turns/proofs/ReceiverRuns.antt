@@ -1,5 +1,5 @@
 -- A turn, as what it does to runs of the direction on which the socket receives.
-use Rattle.std.proofs.Common.{◌≡◌, ℕ, Bool, true, false, None, Some, List, [], ◌++◌, refl, sym, ◌∙◌, ◌⊎◌, ap, subst, inl, inr}
+use Rattle.std.proofs.Common.{◌≡◌, ℕ, Bool, true, false, None, Some, List, [], ◌∷◌, ◌++◌, refl, sym, ◌∙◌, ◌⊎◌, ap, subst, inl, inr}
 use Rattle.dcsctp_spec_lemmas.specs.types.declared.options.Options.{Options}
 use Rattle.dcsctp_spec_lemmas.specs.spec.endpoint.Endpoint.{Endpoint}
 use Rattle.dcsctp_spec_lemmas.specs.spec.endpoint.Event.{packets_in}
@@ -12,11 +12,13 @@ use Rattle.dcsctp_delivery_turns.specs.Sides.{WasAsked, WasSent, receiving, Rece
 use Rattle.dcsctp_spec_lemmas.specs.spec.association.Effect.{identity_of, identity_in}
 use Rattle.dcsctp_spec_lemmas.specs.types.queues.Messages.{MessageContent}
 use Rattle.dcsctp_delivery_turns.specs.Runs.{new_direction, OpensSmall, KnowsRequest, performed_where, ReceiverTurns, receiver_goes_on, receiver_ends, receiver_begins, OpensAssociation, IdleTurns, idle_stays, idle_begins}
-use Rattle.dcsctp_delivery_directions.specs.Directions.{Asking, nothing_asked, Direction, DirectionRun}
+use Rattle.dcsctp_delivery_directions.specs.Directions.{Asking, HasAsked, nothing_asked, Direction, DirectionRun}
+use Rattle.dcsctp_spec_lemmas.specs.spec.association.FlushChanges.{reset_request}
+use Rattle.dcsctp_spec_lemmas.specs.spec.endpoint.BegunResets.{BegunReset}
 use Rattle.dcsctp_delivery_turns.proofs.Sides.{steps_go_on, actions_receive}
 use Rattle.dcsctp_delivery_turns.proofs.Idle.{actions_none, read_none, opening_sent}
-use Rattle.dcsctp_spec_lemmas.specs.spec.Reconfiguration.{RequestedReset}
-use Rattle.dcsctp_spec_lemmas.specs.spec.endpoint.ResetOutcomes.{has_reset}
+use Rattle.dcsctp_spec_lemmas.specs.spec.Reconfiguration.{RequestedReset, outgoing_reset_request}
+use Rattle.dcsctp_spec_lemmas.specs.spec.endpoint.ResetOutcomes.{has_reset, requested_in}
 use Rattle.dcsctp_delivery_turns.specs.Asking.{own_of, SomeFit}
 use Rattle.dcsctp_delivery_turns.proofs.Fronts.{AsksSome, renewed_fit, front_none, resetting, unperformed, front_receives}
 use Rattle.dcsctp_spec_lemmas.specs.spec.Packet.{re_config}
@@ -94,17 +96,23 @@ module _ (is_known : Bool) (options : Options) (first size : ℕ) (direction : D
 
   -- A request that is handled was sent, so it was begun.
   asks_some : AsksSome direction (came_by input)
-  asks_some parameters reset is wants none = go (subst (WasSent direction.sent) is was)
+  asks_some parameters reset is wants = go (subst (WasSent direction.sent) is was)
     where
       not_wanted : NoRequests parameters → ⊥
       not_wanted unasked = (let clash : None ≡ Some reset = sym (none_requested parameters unasked) ∙ wants in cc)
 
-      of_begun : IsOfBegun direction.asking.requests (re_config parameters) → ⊥
-      of_begun (inl unasked) = not_wanted unasked
-      of_begun (inr (begun, has, same)) = subst (HasEntry begun) none has
+      same_reset : (begun : BegunReset) → re_config parameters ≡ reset_request begun.number begun.reset → begun.reset ≡ reset
+      same_reset begun same =
+          let parts : outgoing_reset_request begun.number begun.number begun.reset ∷ [] ≡ parameters = cc in
+          let both : Some begun.reset ≡ Some reset = ap requested_in parts ∙ wants in
+          cc
 
-      go : NoRequests parameters ⊎ WasAsked direction.sent parameters → ⊥
-      go (inl unasked) = not_wanted unasked
+      of_begun : IsOfBegun direction.asking.requests (re_config parameters) → HasAsked direction.asking.requests reset.streams
+      of_begun (inl unasked) = absurd (not_wanted unasked)
+      of_begun (inr (begun, has, same)) = record { begun = begun; has = has; is = ap (λ (r : RequestedReset). r.streams) (same_reset begun same) }
+
+      go : NoRequests parameters ⊎ WasAsked direction.sent parameters → HasAsked direction.asking.requests reset.streams
+      go (inl unasked) = absurd (not_wanted unasked)
       go (inr asked) = of_begun (requests_were_begun options first size (receiving direction transfer direction.read) run asked.emission parameters asked.was asked.holds)
 
   goes_further : identity_in o.after.core ≡ identity_in e.core → (is_reset : Bool) → (is_reset ≡ false → (has_reset o.effects ≡ false) ⊎ IsCalm (came_by input)) → (is_reset ≡ true → has_reset o.effects ≡ true) → (worked : Inside) (between : Transfer)

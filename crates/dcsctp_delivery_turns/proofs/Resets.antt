@@ -123,7 +123,7 @@ peer_resets parameters happened true in_progress (Some reset) (Some transfer) le
 peer_resets parameters happened true in_progress (Some reset) None left old has asked known reached below = same_left _ happened old left (below ∙ sym known) (absent known)
 peer_resets parameters happened true in_progress None transfer left old has asked known reached below = (let none : None ≡ Some (reached refl).1.0 = (reached refl).1.1 in absurd (cc))
 peer_resets parameters happened false true (Some reset) (Some transfer) left old has asked known reached below =
-    subst (λ (l : Option Transfer). PeerResets (Some (re_config parameters)) happened old (with_left l old)) (sym below) (deferred has parameters reset refl asked transfer reset.last_tsn reset.streams known)
+    subst (λ (l : Option Transfer). PeerResets (Some (re_config parameters)) happened old (with_left l old)) (sym below) (deferred has parameters reset refl asked transfer known)
 peer_resets parameters happened false true (Some reset) None left old has asked known reached below = no_reset _ happened old None left has known below
 peer_resets parameters happened false true None (Some transfer) left old has asked known reached below = no_reset _ happened old (Some transfer) left has known below
 peer_resets parameters happened false true None None left old has asked known reached below = no_reset _ happened old None left has known below

@@ -192,7 +192,7 @@ module _ (e : Endpoint) (input : Input) (o : Outcome) (unlinked : identity_in e.
   peer_stays : (between worked : Inside) → IsUnbegun between.queues → PeerResets (came_by input) o.effects between worked → worked ≡ between
   peer_stays between _ u (unreset has_not) = refl
   peer_stays between _ u (absent none) = refl
-  peer_stays between _ u (deferred has_not parameters reset came_is wants transfer last_tsn streams known) = clash between.queues transfer known u
+  peer_stays between _ u (deferred has_not parameters reset came_is wants transfer known) = clash between.queues transfer known u
   peer_stays between _ u (reset_now has parameters reset came requested transfer reassembly known reached does) = clash between.queues transfer known u
 
   unbegun_becomes : Becomes (streams_reset_by input) (came_by input) (peer_tag e.core) (queued_after e input) (read_after e input) e o → UnbegunTurns e input o

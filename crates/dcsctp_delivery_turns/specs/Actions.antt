@@ -219,8 +219,8 @@ pub data PeerResets (came : Option Content) (happened : List Effect) (old : Insi
   unreset : has_reset happened ≡ false → PeerResets came happened old old
   -- There is nothing below the association.
   absent : old.queues.transfer ≡ None → PeerResets came happened old old
-  deferred : has_reset happened ≡ false → (parameters : List ResetParameter) (reset : RequestedReset) → came ≡ Some (re_config parameters) → requested_in parameters ≡ Some reset → (transfer : Transfer) (last_tsn : ℕ) (streams : List ℕ) → old.queues.transfer ≡ Some transfer
-      → PeerResets came happened old (record old { queues = queues_with_transfer (record transfer { reassembly = deferring last_tsn streams transfer.reassembly }) old.queues })
+  deferred : has_reset happened ≡ false → (parameters : List ResetParameter) (reset : RequestedReset) → came ≡ Some (re_config parameters) → requested_in parameters ≡ Some reset → (transfer : Transfer) → old.queues.transfer ≡ Some transfer
+      → PeerResets came happened old (record old { queues = queues_with_transfer (record transfer { reassembly = deferring reset.last_tsn reset.streams transfer.reassembly }) old.queues })
   reset_now : has_reset happened ≡ true → (parameters : List ResetParameter) (reset : RequestedReset) → came ≡ Some (re_config parameters) → requested_in parameters ≡ Some reset
       → (transfer : Transfer) (reassembly : ReassemblyState) → old.queues.transfer ≡ Some transfer → is_reset_reached reset transfer.tracker ≡ true → EndsDeferral reset.streams transfer.reassembly reassembly
       → PeerResets came happened old (record old { queues = queues_with_transfer (record transfer { reassembly = reassembly }) old.queues })

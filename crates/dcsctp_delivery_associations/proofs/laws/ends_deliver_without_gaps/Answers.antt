@@ -1,8 +1,11 @@
-use Rattle.dcsctp_delivery_associations.proofs.InOrder.{ends_deliver_by_stream, ends_deliver_without_gaps}
+use Rattle.dcsctp_delivery_associations.proofs.InOrder.{ends_deliver_by_stream, ends_deliver_data_by_stream, ends_deliver_without_gaps}
 use Rattle.dcsctp_delivery_associations.proofs.laws.ends_deliver_without_gaps.Goals as goal
 
 pub returns-clause-streams : goal.returns-clause-streams
 returns-clause-streams c = ends_deliver_by_stream
+
+pub returns-clause-data : goal.returns-clause-data
+returns-clause-data c = ends_deliver_data_by_stream
 
 pub returns-clause-all : goal.returns-clause-all
 returns-clause-all c = ends_deliver_without_gaps
