@@ -1,6 +1,6 @@
 -- What a user reads in one association comes in the order in which it was queued, stream by stream,
 -- and without gaps where nothing may be left out (RFC 9260, section 6.6).
-use Rattle.std.specs.Prelude.{◌≡◌, ◌⊎◌, ◌<◌, ◌+◌, ◌^◌, ℕ, true, List, length}
+use Rattle.std.specs.Prelude.{◌≡◌, ◌⊎◌, ◌<◌, ◌+◌, ◌^◌, ℕ, Bool, true, List, length}
 use Rattle.dcsctp_spec_lemmas.specs.types.declared.options.Options.{Options}
 use Rattle.dcsctp_spec_lemmas.specs.spec.endpoint.Endpoint.{Endpoint}
 use Rattle.dcsctp_spec_lemmas.specs.spec.Packet.{Emission}
@@ -8,9 +8,9 @@ use Rattle.dcsctp_spec_lemmas.specs.spec.association.Effect.{AssociationIdentity
 use Rattle.dcsctp_spec_runs.specs.Past.{HasEffect}
 use Rattle.dcsctp_delivery_sending.specs.Log.{Message}
 use Rattle.dcsctp_delivery_sending.specs.ChunkCounts.{chunks_to}
-use Rattle.dcsctp_delivery_sending.specs.Losing.{AreUnlimited}
+use Rattle.dcsctp_delivery_sending.specs.Losing.{AreUnlimited, AreUnlimitedOn}
 use Rattle.dcsctp_delivery_directions.specs.Requests.{requests_to}
-use Rattle.dcsctp_delivery_order.specs.PlainDirections.{FewOnEachStream}
+use Rattle.dcsctp_delivery_order.specs.PlainDirections.{ordered_on, FewOnEachStream}
 use Rattle.dcsctp_delivery_order.specs.Delivered.{DeliveredInOrder, DeliveredWithoutGaps}
 use Rattle.dcsctp_delivery_order.specs.Streams.{DeliveredByStream, DeliveredOn}
 use Rattle.dcsctp_delivery_associations.specs.Ends.{Ends, IsOnlyOwn, BeginsAnew, chunks_before, Between}
@@ -53,6 +53,19 @@ EndsDeliverDataByStream =
     (options : Options) (ends : Ends) (e : Endpoint) (queued : List Message) (past : List Effect) (packets : List Emission) (other : Endpoint) (their_past : List Effect) (reading : Reading)
     → Between options ends e queued past packets other their_past reading → length queued < 2 ^ 64 → ((tag : ℕ) → chunks_before (ends.former tag) packets + chunks_to (ends.latest tag) packets < 2 ^ 30) → options.max_receiver_window_buffer_size < 2 ^ 32
     → AreUnlimited queued → (tag : ℕ) → IsOnlyOwn past tag → DeliveredOn ends.never_resets queued (with_key tag reading.reads)
+
+-- The stream is never reset, no message on it may be abandoned, and fewer than 2^15 ordered ones were queued on it.
+pub record IsFewKept (never_resets : ℕ → Bool) (queued : List Message) (id : ℕ) : Type 0 where
+  pub never : never_resets id ≡ true
+  pub unlimited : AreUnlimitedOn id queued
+  pub few : ordered_on id queued < 2 ^ 15
+
+-- So it is of each of these streams, whatever happens on others.
+abbrev pub EndsDeliverFewByStream : Type 0
+EndsDeliverFewByStream =
+    (these : ℕ → Bool) (options : Options) (ends : Ends) (e : Endpoint) (queued : List Message) (past : List Effect) (packets : List Emission) (other : Endpoint) (their_past : List Effect) (reading : Reading)
+    → Between options ends e queued past packets other their_past reading → length queued < 2 ^ 64 → ((tag : ℕ) → chunks_before (ends.former tag) packets + chunks_to (ends.latest tag) packets < 2 ^ 30)
+    → ((id : ℕ) → these id ≡ true → IsFewKept ends.never_resets queued id) → (tag : ℕ) → IsOnlyOwn past tag → DeliveredOn these queued (with_key tag reading.reads)
 
 -- So it is of all, if no stream is reset.
 abbrev pub EndsDeliverWithoutGaps : Type 0

@@ -20,7 +20,7 @@ turns_append history passed (entry ∷ entries) others skips skips' = (skips.0, 
 two_read : (n : ℕ) → from_be_bytes w16 (to_be_bytes w16 n) ≡ n % 2 ^ 16
 two_read n = omega arith
 
-four_on : (n k j : ℕ) (entry : (ℕ × Bool) × ℕ) (rest : List ℕ) → n ≡ 4 * suc k + j → drop n (entry_bytes false entry ++ rest) ≡ drop (4 * k + j) rest
+pub four_on : (n k j : ℕ) (entry : (ℕ × Bool) × ℕ) (rest : List ℕ) → n ≡ 4 * suc k + j → drop n (entry_bytes false entry ++ rest) ≡ drop (4 * k + j) rest
 four_on n k j entry rest is =
     let same : n ≡ suc (suc (suc (suc (4 * k + j)))) = omega arith in
     ap (λ (m : ℕ). drop m (entry_bytes false entry ++ rest)) same
@@ -54,7 +54,7 @@ module _ (history : History) (passed : ℕ) (queued : List Message) (cut : Cut q
       turns_append history passed (first_skipped count (flat_map (entry_bytes false) entries)) (skipped_to (skipped_stream_at count (flat_map (entry_bytes false) entries)) ∷ [])
       (firsts_read entries names count (omega arith)) (entry_read entries names count (omega arith), tt)
 
-entries_long : (entries : List ((ℕ × Bool) × ℕ)) → length (flat_map (entry_bytes false) entries) ≡ 4 * length entries
+pub entries_long : (entries : List ((ℕ × Bool) × ℕ)) → length (flat_map (entry_bytes false) entries) ≡ 4 * length entries
 entries_long [] = refl
 entries_long (entry ∷ entries) = omega (arith, length-append (entry_bytes false entry) (flat_map (entry_bytes false) entries), entries_long entries)
 

@@ -7,7 +7,7 @@ use Rattle.dcsctp_delivery_sending.specs.Places.{at_place}
 use Rattle.dcsctp_delivery_sending.specs.Log.{Message, Piece, Slot, IsEndSlot, History, Cut, is_end}
 use Rattle.dcsctp_delivery_sending.specs.Turns.{turn_at}
 use Rattle.dcsctp_delivery_sending.proofs.Places.{at_below, at_cases}
-use Rattle.dcsctp_delivery_order.specs.Plain.{CountsPlain, CarriesOrdered}
+use Rattle.dcsctp_delivery_order.specs.Plain.{BeginsFew, CountsPlain, CarriesOrdered}
 use Rattle.dcsctp_delivery_order.specs.PlainDirections.{ordered_on, FewOnEachStream}
 use Rattle.dcsctp_delivery_order.proofs.PlainTurns.{turn_up, first_above, first_with}
 use Rattle.dcsctp_delivery_order.proofs.PlainRows.{row_of, later_turn}
@@ -93,42 +93,39 @@ pub record CountsFew (history : History) : Type 0 where
   pub plain : (id : ℕ) → CountsPlain id history
   pub low : (id n : ℕ) (f : Piece) → CarriesOrdered history.log id n f → turn_at id n history.log < 2 ^ 15
 
-module _ (queued : List Message) (history : History) (cut : Cut queued history.log) (counts : (id : ℕ) → CountsPlain id history) where
-  on_stream : (id n : ℕ) (f : Piece) → CarriesOrdered history.log id n f → is_on id f.message ≡ true
+module _ (queued : List Message) (history : History) (cut : Cut queued history.log) (id : ℕ) (counts : CountsPlain id history) where
+  on_stream : (n : ℕ) (f : Piece) → CarriesOrdered history.log id n f → is_on id f.message ≡ true
   unfolding is_on
-  on_stream id n f is = elim (eqb_tells f.message.stream id) [
+  on_stream n f is = elim (eqb_tells f.message.stream id) [
     | inl e ↦ rw e.0 (rw is.ordered refl)
     | inr e ↦ absurd (e.1 is.stream)
   ]
 
   -- each message that was begun up to this one was queued up to it
-  turn_queued : (id turn n : ℕ) (f : Piece) → CarriesOrdered history.log id n f → turn_at id n history.log ≡ turn → turn ≤ before id (f.place + 1) queued
-  turn_queued id zero n f is same = omega arith
-  turn_queued id (suc turn) n f is same =
-      let one = before_one id f.place f.message queued (cut.pieces n f is.at).at (on_stream id n f is) in
+  turn_queued : (turn n : ℕ) (f : Piece) → CarriesOrdered history.log id n f → turn_at id n history.log ≡ turn → turn ≤ before id (f.place + 1) queued
+  turn_queued zero n f is same = omega arith
+  turn_queued (suc turn) n f is same =
+      let one = before_one id f.place f.message queued (cut.pieces n f is.at).at (on_stream n f is) in
       elim (eqb_tells turn 0) [
         | inl e ↦ (let none : turn ≡ 0 = e.1 in omega (arith, one, none))
         | inr e ↦
             (let ne : turn ≡ 0 → ⊥ = e.1 in
             let b = first_with history.log id turn n (at_below n (Some f) history.log is.at) (omega (arith, ne)) (omega (arith, same)) in
             let turn_is = b.is in
-            let rest = turn_queued id turn b.offset b.first.piece b.first.is b.is in
-            let less = later_turn queued history cut id (counts id) b.offset n b.first.piece f b.first.is is (omega (arith, turn_is, same)) in
+            let rest = turn_queued turn b.offset b.first.piece b.first.is b.is in
+            let less = later_turn queued history cut id counts b.offset n b.first.piece f b.first.is is (omega (arith, turn_is, same)) in
             let up = before_up id (b.first.piece.place + 1) f.place queued (omega (arith, less)) in
             omega (arith, rest, up, one))
       ]
 
-  pub counts_few : FewOnEachStream queued → CountsFew history
-  counts_few few =
-      record {
-        plain = counts;
-        low = λ id n f is. (
-            let up = turn_queued id (turn_at id n history.log) n f is refl in
-            let all = before_all id (f.place + 1) queued in
-            let low = few id in
-            omega (arith, up, all, low)
-            );
-      }
+  pub begins_few : ordered_on id queued < 2 ^ 15 → BeginsFew id history
+  begins_few few n f is =
+      let up = turn_queued (turn_at id n history.log) n f is refl in
+      let all = before_all id (f.place + 1) queued in
+      omega (arith, up, all, few)
+
+pub counts_few : (queued : List Message) (history : History) → Cut queued history.log → ((id : ℕ) → CountsPlain id history) → FewOnEachStream queued → CountsFew history
+counts_few queued history cut counts few = record { plain = counts; low = λ id. begins_few queued history cut id (counts id) (few id) }
 
 -- ---- messages that have ended
 

@@ -30,6 +30,8 @@ pub mod Steps
 pub mod Beginning
 pub mod PlainReceived
 pub mod PlainGrowing
+pub mod PlainEntries
+pub mod PlainSkipping
 pub mod PlainEnding
 pub mod FewGrowing
 pub mod PlainSteps

@@ -1,7 +1,9 @@
 -- Without interleaving order holds throughout a run of a direction on each stream that isn't reset.
-use Rattle.std.proofs.Common.{◌≡◌, ◌==◌, ℕ, Bool, true, false, ◌<◌, ◌≤◌, ◌^◌, List, [], ◌∷◌, ◌++◌, length, map, refl, sym, ◌∙◌, ap, arith, subst, inl, inr}
+use Rattle.std.proofs.Common.{◌+◌, ◌≡◌, ◌==◌, zero, suc, ◌%◌, ◌-◌, ℕ, Bool, true, false, ◌<◌, ◌≤◌, ◌^◌, List, [], ◌∷◌, ◌++◌, length, map, refl, sym, ◌∙◌, ap, arith, subst, inl, inr}
 use Rattle.std.specs.Prelude.{◌||◌, Option, Some}
-use Rattle.std.specs.List.{AllByRecursion}
+use Rattle.std.specs.List.{AllByRecursion, flat_map}
+use Rattle.dcsctp_spec_lemmas.specs.types.declared.arrivals.SkippedTo.{SkippedTo}
+use Rattle.dcsctp_spec_lemmas.specs.spec.queues.Skipping.{entry_bytes}
 use Rattle.std.proofs.lemmas.List.{append-nil, length-append}
 use Rattle.std.proofs.lemmas.Bool.{eq-eqb}
 use Rattle.std.proofs.lemmas.Bool.Decides.{eqb_tells}
@@ -9,22 +11,24 @@ use Rattle.dcsctp_spec_lemmas.specs.spec.endpoint.BegunResets.{BegunReset, strea
 use Rattle.dcsctp_spec_lemmas.specs.spec.queues.Incoming.{is_named}
 use Rattle.dcsctp_spec_lemmas.specs.types.declared.options.Options.{Options}
 use Rattle.dcsctp_spec_lemmas.specs.types.queues.Messages.{MessageContent}
-use Rattle.dcsctp_spec_lemmas.specs.wire.Content.{data_chunk, i_data_chunk}
-use Rattle.dcsctp_spec_lemmas.specs.spec.Packet.{unworked, plain}
-use Rattle.dcsctp_spec_lemmas.specs.spec.queues.Arrivals.{Arrival, data_arrival, i_data_arrival}
+use Rattle.dcsctp_spec_lemmas.specs.wire.Content.{data_chunk, i_data_chunk, forward_tsn_chunk, i_forward_tsn_chunk}
+use Rattle.dcsctp_spec_lemmas.specs.spec.Packet.{unworked, plain, Emission}
+use Rattle.dcsctp_spec_lemmas.specs.spec.queues.Arrivals.{Arrival, data_arrival, i_data_arrival, skipped_in, messages_skipped_in}
 use Rattle.dcsctp_spec_lemmas.specs.spec.queues.Reassembly.{ReassemblyState, DeferralModel, names_stream, new_reassembly, deferring, EndsDeferral}
 use Rattle.dcsctp_spec_lemmas.specs.spec.queues.Tracker.{TrackerState}
 use Rattle.dcsctp_spec_lemmas.specs.spec.queues.Transfer.{Transfer, EndpointQueues, part_overhead}
-use Rattle.dcsctp_spec_lemmas.specs.spec.endpoint.TransferMoves.{ReceivesData}
+use Rattle.dcsctp_spec_lemmas.specs.spec.endpoint.TransferMoves.{ReceivesData, MovesForward}
 use Rattle.dcsctp_delivery_sending.specs.Places.{HasEntry, at_place}
-use Rattle.dcsctp_delivery_sending.specs.Log.{Fits, Message, Mark, Slot, History, Resets, new_history}
-use Rattle.dcsctp_delivery_sending.specs.Flushes.{IsData, IsInterleaved}
+use Rattle.dcsctp_delivery_sending.specs.Log.{Fits, Message, Mark, Piece, Slot, History, Resets, new_history}
+use Rattle.dcsctp_delivery_sending.specs.Flushes.{IsData, IsInterleaved, IsPassed, IsForward, AreForwardEntries}
 use Rattle.dcsctp_delivery_sending.specs.Losing.{IsOpenOn, AreUnlimitedOn}
-use Rattle.dcsctp_delivery_sending.specs.Numbers.{CountsSsns, CountsWhere}
+use Rattle.dcsctp_delivery_sending.specs.Numbers.{AreOfKind, CountsSsns, CountsWhere}
+use Rattle.dcsctp_delivery_sending.proofs.HeldOn.{unlimited_on_at}
+use Rattle.dcsctp_delivery_receiving.proofs.Entries.{forward_skips}
 use Rattle.dcsctp_delivery_sending.specs.Queueing.{QueueWaits, message_of}
 use Rattle.dcsctp_delivery_sending.proofs.Extended.{at_more}
 use Rattle.dcsctp_delivery_sending.proofs.Places.{at_cases}
-use Rattle.dcsctp_delivery_receiving.specs.Ready.{AreDistinct, WereQueued}
+use Rattle.dcsctp_delivery_receiving.specs.Ready.{AreDistinct, WereQueued, AreNamed}
 use Rattle.dcsctp_delivery_receiving.specs.Received.{Carries}
 use Rattle.dcsctp_delivery_receiving.proofs.Arriving.{fits_at, carries_piece, carries_interleaved}
 use Rattle.dcsctp_delivery_receiving.proofs.Distinct.{distinct_with}
@@ -39,7 +43,9 @@ use Rattle.dcsctp_delivery_directions.proofs.Standing.{Stands, content_said, pac
 use Rattle.dcsctp_delivery_directions.proofs.Steps.{stepped, more_queued}
 use Rattle.dcsctp_delivery_order.specs.Queue.{ComeInOrder}
 use Rattle.dcsctp_delivery_order.specs.Delivered.{DeliveredInOrder}
-use Rattle.dcsctp_delivery_order.specs.Plain.{CountsPlain, CountsThese, IncomingPlain}
+use Rattle.dcsctp_delivery_order.specs.Plain.{CountsPlain, BeginsFew, CountsThese, IncomingPlain}
+use Rattle.dcsctp_delivery_order.proofs.PlainEntries.{forward_others}
+use Rattle.dcsctp_delivery_order.proofs.PlainSkipping.{plain_named, forwarded_plain, nothing_plain, forward_steady}
 use Rattle.dcsctp_delivery_order.specs.Streams.{NoneLostOn}
 use Rattle.dcsctp_delivery_directions.specs.Forwards.{NoneForwards}
 use Rattle.dcsctp_delivery_directions.proofs.Forwards.{forwards_never, i_forwards_never}
@@ -48,51 +54,55 @@ use Rattle.dcsctp_delivery_order.proofs.Beginning.{waits_from}
 use Rattle.dcsctp_delivery_order.proofs.PlainGrowing.{takes_plain, these_before, received_more, received_nothing}
 use Rattle.dcsctp_delivery_order.proofs.PlainEnding.{AreUnnamed, ends_plain, deferring_beside, deferring_plain}
 use Rattle.dcsctp_delivery_order.proofs.StreamDirections.{not_handed, unlimited_earlier, step_open, step_keeps_on}
-use Rattle.dcsctp_delivery_order.proofs.PlainReceived.{ReassemblesPlain, none_handled, some_handled, HasReceivedPlain, DefersBeside, tracked_plain, received_plain, IsSteadyAs, stays_steady}
+use Rattle.dcsctp_delivery_order.proofs.PlainReceived.{ReassemblesPlain, none_handled, some_handled, HasReceivedPlain, SkipOthers, DefersBeside, tracked_plain, received_plain, IsSteadyAs, stays_steady}
 use Rattle.dcsctp_delivery_order.proofs.PlainSteps.{IsCounted, CanBeCounted, can_count, same_kind, none_before, counted_before, asked_before, stays_unnamed}
 
 -- ---- what holds throughout
 
-pub record Arrives (these : ℕ → Bool) (first : ℕ) (history : History) (queued : List Message) (read : List MessageContent) (tracker : TrackerState) (reassembly : ReassemblyState) : Type 0 where
+pub record Arrives (whole : Bool) (these : ℕ → Bool) (first : ℕ) (history : History) (queued : List Message) (read : List MessageContent) (tracker : TrackerState) (reassembly : ReassemblyState) : Type 0 where
   pub places : List ℕ
   pub were : WereQueued queued places read
   pub once : AreDistinct places
-  pub received : HasReceivedPlain these queued history first places tracker reassembly
+  pub received : HasReceivedPlain whole these queued history first places tracker reassembly
 
 -- No request that was begun names one of these streams.
 abbrev pub AreUnasked : (ℕ → Bool) → Direction → Type 0
 AreUnasked these direction = (begun : BegunReset) → HasEntry begun direction.asking.requests → AreUnnamed these begun.reset.streams
 
--- The history, and what the receiver has of a log of DATA whose sender skips nothing, of streams that no request names. The
+-- Nothing may be skipped; or none of their messages may be abandoned.
+abbrev pub AreFree : Bool → (ℕ → Bool) → Direction → Type 0
+AreFree whole these direction = (whole ≡ true → NoneForwards direction.sent) × (whole ≡ false → (id : ℕ) → these id ≡ true → AreUnlimitedOn id direction.queued)
+
+-- The history, and what the receiver has of a log of DATA, of streams that no request names, and of which nothing is skipped. The
 -- streams that the sender keeps are open, no request names them, and none of their messages is left out if none has limits.
-pub record GoesPlain (these : ℕ → Bool) (first size : ℕ) (direction : Direction) : Type 0 where
+pub record GoesPlain (whole : Bool) (these : ℕ → Bool) (first size : ℕ) (direction : Direction) : Type 0 where
   pub stands : Stands first direction
   pub zero : direction.beginning.from_zero ≡ true → (id : ℕ) → stands.history.floors id false ≡ 0
   pub unpaused : (id : ℕ) → direction.beginning.keeps id ≡ true → IsOpenOn id direction.queues.queue.streams
   pub unnamed : (id : ℕ) → direction.beginning.keeps id ≡ true → (begun : BegunReset) → HasEntry begun direction.asking.requests → names_stream begun.reset.streams id ≡ false
   pub kept : (id : ℕ) → direction.beginning.keeps id ≡ true → AreUnlimitedOn id direction.queued → NoneLostOn id direction.queued stands.history.log direction.queues.queue.streams
-  pub steady : AreUnasked these direction → NoneForwards direction.sent → DefersBeside these direction.reassembly.deferral × (direction.reassembly.max_size ≡ size)
-  pub arrives : AreUnasked these direction → CountsThese these stands.history → CanBeCounted size direction.queued → NoneForwards direction.sent
-      → Arrives these first stands.history direction.queued direction.read direction.tracker direction.reassembly
+  pub steady : AreUnasked these direction → AreFree whole these direction → DefersBeside whole these direction.reassembly.deferral × (direction.reassembly.max_size ≡ size)
+  pub arrives : AreUnasked these direction → CountsThese whole these stands.history → (whole ≡ true → CanBeCounted size direction.queued) → AreFree whole these direction
+      → Arrives whole these first stands.history direction.queued direction.read direction.tracker direction.reassembly
 
-arrives_none : (these : ℕ → Bool) (first : ℕ) (direction : Direction) (s : Stands first direction) (floors : ℕ → Bool → ℕ) → s.history ≡ new_history floors → CountsThese these s.history
-    → Arrives these first s.history direction.queued direction.read direction.tracker direction.reassembly
-arrives_none these first direction s floors is counts =
+arrives_none : (whole : Bool) (these : ℕ → Bool) (first : ℕ) (direction : Direction) (s : Stands first direction) (floors : ℕ → Bool → ℕ) → s.history ≡ new_history floors → CountsThese whole these s.history
+    → Arrives whole these first s.history direction.queued direction.read direction.tracker direction.reassembly
+arrives_none whole these first direction s floors is counts =
     let a = s.arrived counts.few in
-    record { places = a.places; were = a.were; once = a.once; received = received_nothing direction.queued s.history (ap (λ (h : History). h.log) is) these first a.places direction.tracker direction.reassembly a.received }
+    record { places = a.places; were = a.were; once = a.once; received = received_nothing direction.queued s.history (ap (λ (h : History). h.log) is) whole these first a.places direction.tracker direction.reassembly a.received }
 
 -- ---- the history continues
 
-arrives_later : (these : ℕ → Bool) (first : ℕ) (history later : History) (queued more : List Message) (read : List MessageContent) (tracker : TrackerState) (reassembly : ReassemblyState) → Continues history later
-    → Arrives these first history queued read tracker reassembly → Arrives these first later (more ++ queued) read tracker reassembly
-arrives_later these first history later queued more read tracker reassembly c a =
+arrives_later : (whole : Bool) (these : ℕ → Bool) (first : ℕ) (history later : History) (queued more : List Message) (read : List MessageContent) (tracker : TrackerState) (reassembly : ReassemblyState) → Continues history later
+    → Arrives whole these first history queued read tracker reassembly → Arrives whole these first later (more ++ queued) read tracker reassembly
+arrives_later whole these first history later queued more read tracker reassembly c a =
     record {
       places = a.places;
       were = were_more queued more a.places read a.were;
       once = a.once;
       received = received_more queued more history later c.more c.log
           (record { stays = stays; current = λ n f at is. subst (λ (floors : ℕ → Bool → ℕ). floors f.message.stream f.message.is_unordered ≤ f.mid) (sym c.floors) is; longer = longer; marks = c.marks })
-          a.places read a.were these first tracker reassembly a.received;
+          a.places read a.were whole these first tracker reassembly a.received;
     }
   where
     stays : (n : ℕ) (slot : Slot) → at_place n history.log ≡ Some slot → at_place n later.log ≡ Some slot
@@ -112,8 +122,9 @@ counted_at size (m ∷ queued) place message can at =
       | inr old ↦ counted_at size queued place message can.1 old
     ]
 
-module _ (these : ℕ → Bool) (first size : ℕ) (old : Direction) (small : first < 2 ^ 32) (unasked : AreUnasked these old) (none : NoneForwards old.sent) (beside : DefersBeside these old.reassembly.deferral) where
-  steady_then : (theirs new : Transfer) → theirs.reassembly ≡ old.reassembly → IsSteadyAs these theirs.reassembly new.reassembly → IsSteadyAs these old.reassembly new.reassembly
+module _ (whole : Bool) (these : ℕ → Bool) (first size : ℕ) (old : Direction) (small : first < 2 ^ 32) (unasked : AreUnasked these old) (free : AreFree whole these old) (beside : DefersBeside whole these old.reassembly.deferral) (s : Stands first old)
+    (kind : old.queues.queue.is_interleaved ≡ false) where
+  steady_then : (theirs new : Transfer) → theirs.reassembly ≡ old.reassembly → IsSteadyAs whole these theirs.reassembly new.reassembly → IsSteadyAs whole these old.reassembly new.reassembly
   steady_then theirs new same is = (is.0, is.1 ∙ ap (λ (r : ReassemblyState). r.max_size) same)
 
   -- what is asked for names none of these
@@ -123,10 +134,54 @@ module _ (these : ℕ → Bool) (first size : ℕ) (old : Direction) (small : fi
   newest_none : (newest : BegunReset) (earlier : List BegunReset) → old.asking.requests ≡ newest ∷ earlier → AreUnnamed these newest.reset.streams
   newest_none newest earlier asks = unasked newest (subst (λ (l : List BegunReset). HasEntry newest l) (sym asks) (inl refl))
 
-  ended_steady : (streams : List ℕ) (new : ReassemblyState) → EndsDeferral streams old.reassembly new → IsSteadyAs these old.reassembly new
-  ended_steady streams new leaves = (subst (λ (d : Option DeferralModel). DefersBeside these d) (sym leaves.deferral) tt, leaves.window)
+  ended_steady : (streams : List ℕ) (new : ReassemblyState) → EndsDeferral streams old.reassembly new → IsSteadyAs whole these old.reassembly new
+  ended_steady streams new leaves = (subst (λ (d : Option DeferralModel). DefersBeside whole these d) (sym leaves.deferral) tt, leaves.window)
 
-  pub steady_on : (direction : Direction) → DirectionStep old direction → IsSteadyAs these old.reassembly direction.reassembly
+  kinds : AreOfKind false s.history.log
+  kinds n f at = s.queues.numbers.kinds n f at ∙ kind
+
+  -- no message on these may be abandoned
+  unlimited_these : whole ≡ false → (n : ℕ) (f : Piece) → at_place n s.history.log ≡ Some (Some f) → these f.message.stream ≡ true → f.message.is_limited ≡ false
+  unlimited_these some n f at mine = unlimited_on_at f.message.stream old.queued f.place f.message (free.1 some f.message.stream mine) (s.queues.cut.pieces n f at).at refl
+
+  -- a FORWARD-TSN is for others
+  others_skipped : whole ≡ false → (tsn : ℕ) (streams : List ℕ) → IsForward false s.history first tsn streams → SkipOthers these (skipped_in streams)
+  others_skipped some tsn streams is = forward_others these s.history is.passed.passed old.queued s.queues.cut s.fit (unlimited_these some) first tsn streams is refl
+
+  -- and an I-FORWARD-TSN for none
+  none_skipped : (passed : ℕ) (streams : List ℕ) (entries : List ((ℕ × Bool) × ℕ)) → streams ≡ flat_map (entry_bytes true) entries → AreForwardEntries true s.history passed entries → messages_skipped_in streams ≡ []
+  none_skipped passed streams [] is names = ap (λ (l : List ℕ). messages_skipped_in l) is
+  none_skipped passed streams (entry ∷ entries) is names = absurd (let clash : true ≡ false = sym names.0.kind ∙ kinds names.0.number names.0.piece names.0.at in cc)
+
+  said_plain : (emission : Emission) (tsn : ℕ) (streams : List ℕ) → HasEntry emission old.sent → HasEntry (plain (unworked (forward_tsn_chunk tsn streams))) emission.packet.contents → IsForward false s.history first tsn streams
+  said_plain emission tsn streams was holds = content_said s.history first (plain (unworked (forward_tsn_chunk tsn streams))) emission.packet.contents (packet_said s.history first emission old.sent s.packets was) holds
+
+  said_interleaved : (emission : Emission) (tsn : ℕ) (streams : List ℕ) → HasEntry emission old.sent → HasEntry (plain (unworked (i_forward_tsn_chunk tsn streams))) emission.packet.contents → IsForward true s.history first tsn streams
+  said_interleaved emission tsn streams was holds = content_said s.history first (plain (unworked (i_forward_tsn_chunk tsn streams))) emission.packet.contents (packet_said s.history first emission old.sent s.packets was) holds
+
+  forwarded_steady : (emission : Emission) (tsn : ℕ) (streams : List ℕ) (theirs new : Transfer) → HasEntry emission old.sent → HasEntry (plain (unworked (forward_tsn_chunk tsn streams))) emission.packet.contents → theirs.reassembly ≡ old.reassembly
+      → MovesForward tsn (skipped_in streams) theirs new → IsSteadyAs whole these old.reassembly new.reassembly
+  forwarded_steady emission tsn streams theirs new was holds same' does = go whole refl
+    where
+      go : (b : Bool) → whole ≡ b → IsSteadyAs whole these old.reassembly new.reassembly
+      go true exact = absurd (forwards_never emission tsn streams old.sent (free.0 exact) was holds)
+      go false some =
+          steady_then theirs new same'
+          (forward_steady whole some these tsn (skipped_in streams) theirs new (others_skipped some tsn streams (said_plain emission tsn streams was holds)) (subst (λ (r : ReassemblyState). DefersBeside whole these r.deferral) (sym same') beside) does)
+
+  forwarded_i_steady : (emission : Emission) (tsn : ℕ) (streams : List ℕ) (theirs new : Transfer) → HasEntry emission old.sent → HasEntry (plain (unworked (i_forward_tsn_chunk tsn streams))) emission.packet.contents → theirs.reassembly ≡ old.reassembly
+      → MovesForward tsn (messages_skipped_in streams) theirs new → IsSteadyAs whole these old.reassembly new.reassembly
+  forwarded_i_steady emission tsn streams theirs new was holds same' does = go whole refl
+    where
+      go : (b : Bool) → whole ≡ b → IsSteadyAs whole these old.reassembly new.reassembly
+      go true exact = absurd (i_forwards_never emission tsn streams old.sent (free.0 exact) was holds)
+      go false some =
+          let is = said_interleaved emission tsn streams was holds in
+          let none : messages_skipped_in streams ≡ [] = none_skipped is.passed.passed streams is.entries is.is is.names in
+          steady_then theirs new same'
+          (forward_steady whole some these tsn (messages_skipped_in streams) theirs new (subst (λ (l : List SkippedTo). SkipOthers these l) (sym none) tt) (subst (λ (r : ReassemblyState). DefersBeside whole these r.deferral) (sym same') beside) does)
+
+  pub steady_on : (direction : Direction) → DirectionStep old direction → IsSteadyAs whole these old.reassembly direction.reassembly
   steady_on _ (queues now sending fits some) = (beside, refl)
   steady_on _ (sets setting fits) = (beside, refl)
   steady_on _ (prepares ids fit kept) = (beside, refl)
@@ -141,42 +196,80 @@ module _ (these : ℕ → Bool) (first size : ℕ) (old : Direction) (small : fi
   steady_on _ (turns_aside transfer new known same) = (beside, refl)
   steady_on _ (acknowledges now sack transfer new known valid does) = (beside, refl)
   steady_on _ (loses now transfer known) = (beside, refl)
-  steady_on _ (receives emission chunk theirs new was holds some same same' does) = steady_then theirs new same' (stays_steady these (data_arrival chunk) theirs new does (subst (λ (r : ReassemblyState). DefersBeside these r.deferral) (sym same') beside))
-  steady_on _ (forwards emission tsn streams theirs new was holds same same' does) = absurd (forwards_never emission tsn streams old.sent none was holds)
-  steady_on _ (receives_interleaved emission chunk theirs new was holds some same same' does) = steady_then theirs new same' (stays_steady these (i_data_arrival chunk) theirs new does (subst (λ (r : ReassemblyState). DefersBeside these r.deferral) (sym same') beside))
-  steady_on _ (forwards_interleaved emission tsn streams theirs new was holds same same' does) = absurd (i_forwards_never emission tsn streams old.sent none was holds)
+  steady_on _ (receives emission chunk theirs new was holds some same same' does) = steady_then theirs new same' (stays_steady whole these (data_arrival chunk) theirs new does (subst (λ (r : ReassemblyState). DefersBeside whole these r.deferral) (sym same') beside))
+  steady_on _ (forwards emission tsn streams theirs new was holds same same' does) = forwarded_steady emission tsn streams theirs new was holds same' does
+  steady_on _ (receives_interleaved emission chunk theirs new was holds some same same' does) = steady_then theirs new same' (stays_steady whole these (i_data_arrival chunk) theirs new does (subst (λ (r : ReassemblyState). DefersBeside whole these r.deferral) (sym same') beside))
+  steady_on _ (forwards_interleaved emission tsn streams theirs new was holds same same' does) = forwarded_i_steady emission tsn streams theirs new was holds same' does
   steady_on _ (tracks new cumulative ranges) = (beside, refl)
-  steady_on _ (defers last_tsn streams some) = (deferring_beside these last_tsn streams old.reassembly.deferral (asked_none streams some) beside, refl)
+  steady_on _ (defers last_tsn streams some) = (deferring_beside whole these last_tsn streams old.reassembly.deferral (asked_none streams some) beside, refl)
   steady_on _ (performs newest earlier new asks unknown reached own leaves) = ended_steady newest.reset.streams new leaves
   steady_on _ (resets streams new unmixed some leaves) = ended_steady streams new leaves
   steady_on _ (performs_earlier newest earlier new asks unknown reached own leaves) = ended_steady newest.reset.streams new leaves
   steady_on _ (takes message messages ready) = (beside, refl)
 
-  module _ (s : Stands first old) (counts : CountsThese these s.history) (window : old.reassembly.max_size ≡ size) (can : CanBeCounted size old.queued) where
-    with_received : (a : Arrives these first s.history old.queued old.read old.tracker old.reassembly) (read : List MessageContent) (tracker : TrackerState) (reassembly : ReassemblyState) → WereQueued old.queued a.places read
-        → HasReceivedPlain these old.queued s.history first a.places tracker reassembly → Arrives these first s.history old.queued read tracker reassembly
+  module _ (counts : CountsThese whole these s.history) (window : old.reassembly.max_size ≡ size) (can : whole ≡ true → CanBeCounted size old.queued) where
+    with_received : (a : Arrives whole these first s.history old.queued old.read old.tracker old.reassembly) (read : List MessageContent) (tracker : TrackerState) (reassembly : ReassemblyState) → WereQueued old.queued a.places read
+        → HasReceivedPlain whole these old.queued s.history first a.places tracker reassembly → Arrives whole these first s.history old.queued read tracker reassembly
     with_received a read tracker reassembly were received = record { places = a.places; were = were; once = a.once; received = received }
 
-    data_arrives : (a : Arrives these first s.history old.queued old.read old.tracker old.reassembly) (theirs new : Transfer) → theirs.tracker ≡ old.tracker → theirs.reassembly ≡ old.reassembly
-        → (offset : ℕ) (arrival : Arrival) → Carries s.history.log first offset arrival.tsn arrival.chunk → ReceivesData arrival theirs new → Arrives these first s.history old.queued old.read new.tracker new.reassembly
+    data_arrives : (a : Arrives whole these first s.history old.queued old.read old.tracker old.reassembly) (theirs new : Transfer) → theirs.tracker ≡ old.tracker → theirs.reassembly ≡ old.reassembly
+        → (offset : ℕ) (arrival : Arrival) → Carries s.history.log first offset arrival.tsn arrival.chunk → ReceivesData arrival theirs new → Arrives whole these first s.history old.queued old.read new.tracker new.reassembly
     data_arrives a theirs new same same' offset arrival carries does =
-        let before : HasReceivedPlain these old.queued s.history first a.places theirs.tracker theirs.reassembly =
-        subst (λ (t : TrackerState). HasReceivedPlain these old.queued s.history first a.places t theirs.reassembly) (sym same)
-        (subst (λ (r : ReassemblyState). HasReceivedPlain these old.queued s.history first a.places old.tracker r) (sym same') a.received) in
-        let fits = counted_at size old.queued carries.piece.place carries.piece.message can (s.queues.cut.pieces offset carries.piece carries.at).at in
+        let before : HasReceivedPlain whole these old.queued s.history first a.places theirs.tracker theirs.reassembly =
+        subst (λ (t : TrackerState). HasReceivedPlain whole these old.queued s.history first a.places t theirs.reassembly) (sym same)
+        (subst (λ (r : ReassemblyState). HasReceivedPlain whole these old.queued s.history first a.places old.tracker r) (sym same') a.received) in
         with_received a old.read new.tracker new.reassembly a.were
-        (received_plain old.queued s.history first size s.queues.cut these counts small a.places offset arrival theirs new carries before (subst (λ (r : ReassemblyState). DefersBeside these r.deferral) (sym same') beside)
-        (ap (λ (r : ReassemblyState). r.max_size) same' ∙ window) fits does)
+        (received_plain old.queued s.history first size s.queues.cut whole these counts small a.places offset arrival theirs new carries before (subst (λ (r : ReassemblyState). DefersBeside whole these r.deferral) (sym same') beside)
+        (λ exact. ap (λ (r : ReassemblyState). r.max_size) same' ∙ window) (λ exact. counted_at size old.queued carries.piece.place carries.piece.message (can exact) (s.queues.cut.pieces offset carries.piece carries.at).at) does)
 
-    ended_arrives : (a : Arrives these first s.history old.queued old.read old.tracker old.reassembly) (streams : List ℕ) (new : ReassemblyState) → AreUnnamed these streams → EndsDeferral streams old.reassembly new
-        → Arrives these first s.history old.queued old.read old.tracker new
+    ended_arrives : (a : Arrives whole these first s.history old.queued old.read old.tracker old.reassembly) (streams : List ℕ) (new : ReassemblyState) → AreUnnamed these streams → EndsDeferral streams old.reassembly new
+        → Arrives whole these first s.history old.queued old.read old.tracker new
     ended_arrives a streams new apart leaves =
-        with_received a old.read old.tracker new a.were (ends_plain old.queued s.history first size s.queues.cut these counts small a.places streams old.tracker old.reassembly new apart beside a.received leaves)
+        with_received a old.read old.tracker new a.were (ends_plain old.queued s.history first size s.queues.cut whole these counts small a.places streams old.tracker old.reassembly new apart beside (s.arrived counts.few).received.forwards a.received leaves)
 
-    arrives_on : (direction : Direction) → DirectionStep old direction → Arrives these first s.history old.queued old.read old.tracker old.reassembly
-        → Arrives these first s.history direction.queued direction.read direction.tracker direction.reassembly
+    theirs_have : (a : Arrives whole these first s.history old.queued old.read old.tracker old.reassembly) (theirs : Transfer) → theirs.tracker ≡ old.tracker → theirs.reassembly ≡ old.reassembly
+        → HasReceivedPlain whole these old.queued s.history first a.places theirs.tracker theirs.reassembly
+    theirs_have a theirs same same' =
+        subst (λ (t : TrackerState). HasReceivedPlain whole these old.queued s.history first a.places t theirs.reassembly) (sym same)
+        (subst (λ (r : ReassemblyState). HasReceivedPlain whole these old.queued s.history first a.places old.tracker r) (sym same') a.received)
+
+    skipped_arrives : whole ≡ false → (a : Arrives whole these first s.history old.queued old.read old.tracker old.reassembly) (tsn : ℕ) (entries : List SkippedTo) (theirs new : Transfer) → theirs.tracker ≡ old.tracker → theirs.reassembly ≡ old.reassembly
+        → (passed : IsPassed s.history.log first tsn) → SkipOthers these entries → AreNamed s.history entries → MovesForward tsn entries theirs new → Arrives whole these first s.history old.queued old.read new.tracker new.reassembly
+    skipped_arrives some a tsn entries theirs new same same' passed others named does =
+        with_received a old.read new.tracker new.reassembly a.were (go passed.passed passed.below passed.is)
+      where
+        go : (k : ℕ) → k ≤ length s.history.log → tsn ≡ (first + k + (2 ^ 32 - 1)) % 2 ^ 32 → HasReceivedPlain whole these old.queued s.history first a.places new.tracker new.reassembly
+        go zero below is = nothing_plain old.queued s.history first s.queues.cut whole these counts small a.places some tsn entries theirs new is (theirs_have a theirs same same') does
+        go (suc k) below is =
+            forwarded_plain old.queued s.history first s.queues.cut whole these counts small a.places some tsn entries (record { offset = k; below = omega (arith, below); is = is ∙ omega arith }) others named theirs new (theirs_have a theirs same same') does
+
+    forwarded_arrives : (a : Arrives whole these first s.history old.queued old.read old.tracker old.reassembly) (emission : Emission) (tsn : ℕ) (streams : List ℕ) (theirs new : Transfer) → HasEntry emission old.sent
+        → HasEntry (plain (unworked (forward_tsn_chunk tsn streams))) emission.packet.contents → theirs.tracker ≡ old.tracker → theirs.reassembly ≡ old.reassembly → MovesForward tsn (skipped_in streams) theirs new
+        → Arrives whole these first s.history old.queued old.read new.tracker new.reassembly
+    forwarded_arrives a emission tsn streams theirs new was holds same same' does = go whole refl
+      where
+        go : (b : Bool) → whole ≡ b → Arrives whole these first s.history old.queued old.read new.tracker new.reassembly
+        go true exact = absurd (forwards_never emission tsn streams old.sent (free.0 exact) was holds)
+        go false some =
+            let is = said_plain emission tsn streams was holds in
+            skipped_arrives some a tsn (skipped_in streams) theirs new same same' is.passed (others_skipped some tsn streams is) (plain_named s.history is.passed.passed (skipped_in streams) kinds (forward_skips s.history first tsn streams is)) does
+
+    forwarded_i_arrives : (a : Arrives whole these first s.history old.queued old.read old.tracker old.reassembly) (emission : Emission) (tsn : ℕ) (streams : List ℕ) (theirs new : Transfer) → HasEntry emission old.sent
+        → HasEntry (plain (unworked (i_forward_tsn_chunk tsn streams))) emission.packet.contents → theirs.tracker ≡ old.tracker → theirs.reassembly ≡ old.reassembly → MovesForward tsn (messages_skipped_in streams) theirs new
+        → Arrives whole these first s.history old.queued old.read new.tracker new.reassembly
+    forwarded_i_arrives a emission tsn streams theirs new was holds same same' does = go whole refl
+      where
+        go : (b : Bool) → whole ≡ b → Arrives whole these first s.history old.queued old.read new.tracker new.reassembly
+        go true exact = absurd (i_forwards_never emission tsn streams old.sent (free.0 exact) was holds)
+        go false some =
+            let is = said_interleaved emission tsn streams was holds in
+            let none : messages_skipped_in streams ≡ [] = none_skipped is.passed.passed streams is.entries is.is is.names in
+            skipped_arrives some a tsn (messages_skipped_in streams) theirs new same same' is.passed (subst (λ (l : List SkippedTo). SkipOthers these l) (sym none) tt) (subst (λ (l : List SkippedTo). AreNamed s.history l) (sym none) tt) does
+
+    arrives_on : (direction : Direction) → DirectionStep old direction → Arrives whole these first s.history old.queued old.read old.tracker old.reassembly
+        → Arrives whole these first s.history direction.queued direction.read direction.tracker direction.reassembly
     arrives_on _ (queues now sending fits some) a =
-        arrives_later these first s.history s.history old.queued (message_of sending ∷ []) old.read old.tracker old.reassembly (continues_same s.history) a
+        arrives_later whole these first s.history s.history old.queued (message_of sending ∷ []) old.read old.tracker old.reassembly (continues_same s.history) a
     arrives_on _ (sets setting fits) a = a
     arrives_on _ (prepares ids fit kept) a = a
     arrives_on _ (commits go_on) a = a
@@ -193,18 +286,18 @@ module _ (these : ℕ → Bool) (first size : ℕ) (old : Direction) (small : fi
     arrives_on _ (receives emission chunk theirs new was holds some same same' does) a =
         let is : IsData s.history.log first chunk = content_said s.history first (plain (unworked (data_chunk chunk))) emission.packet.contents (packet_said s.history first emission old.sent s.packets was) holds in
         data_arrives a theirs new same same' is.number (data_arrival chunk) (carries_piece old.queued s.history.log first chunk s.queues.cut s.fit is some) does
-    arrives_on _ (forwards emission tsn streams theirs new was holds same same' does) a = absurd (forwards_never emission tsn streams old.sent none was holds)
+    arrives_on _ (forwards emission tsn streams theirs new was holds same same' does) a = forwarded_arrives a emission tsn streams theirs new was holds same same' does
     arrives_on _ (receives_interleaved emission chunk theirs new was holds some same same' does) a =
         let is : IsInterleaved s.history.log first chunk = content_said s.history first (plain (unworked (i_data_chunk chunk))) emission.packet.contents (packet_said s.history first emission old.sent s.packets was) holds in
         data_arrives a theirs new same same' is.number (i_data_arrival chunk) (carries_interleaved old.queued s.history.log first chunk s.queues.cut s.fit is some) does
-    arrives_on _ (forwards_interleaved emission tsn streams theirs new was holds same same' does) a = absurd (i_forwards_never emission tsn streams old.sent none was holds)
-    arrives_on _ (tracks new cumulative ranges) a = with_received a old.read new old.reassembly a.were (tracked_plain these old.queued s.history first a.places old.tracker new old.reassembly cumulative ranges a.received)
-    arrives_on _ (defers last_tsn streams some) a = with_received a old.read old.tracker (deferring last_tsn streams old.reassembly) a.were (deferring_plain these old.queued s.history first a.places last_tsn streams old.tracker old.reassembly a.received)
+    arrives_on _ (forwards_interleaved emission tsn streams theirs new was holds same same' does) a = forwarded_i_arrives a emission tsn streams theirs new was holds same same' does
+    arrives_on _ (tracks new cumulative ranges) a = with_received a old.read new old.reassembly a.were (tracked_plain whole these old.queued s.history first a.places old.tracker new old.reassembly cumulative ranges a.received)
+    arrives_on _ (defers last_tsn streams some) a = with_received a old.read old.tracker (deferring last_tsn streams old.reassembly) a.were (deferring_plain whole these old.queued s.history first a.places last_tsn streams old.tracker old.reassembly a.received)
     arrives_on _ (performs newest earlier new asks unknown reached own leaves) a = ended_arrives a newest.reset.streams new (newest_none newest earlier asks) leaves
     arrives_on _ (resets streams new unmixed some leaves) a = ended_arrives a streams new (asked_none streams some) leaves
     arrives_on _ (performs_earlier newest earlier new asks unknown reached own leaves) a = ended_arrives a newest.reset.streams new (newest_none newest earlier asks) leaves
     arrives_on _ (takes message messages ready) a =
-        let t = takes_plain these old.queued s.history first a.places old.tracker old.reassembly message messages ready a.received in
+        let t = takes_plain whole these old.queued s.history first a.places old.tracker old.reassembly message messages ready a.received in
         record {
           places = a.places ++ t.place ∷ [];
           were = both_queued old.queued a.places (t.place ∷ []) old.read (message ∷ []) a.were (t.was, tt);
@@ -212,9 +305,9 @@ module _ (these : ℕ → Bool) (first size : ℕ) (old : Direction) (small : fi
           received = t.received;
         }
 
-steps_plain : (these : ℕ → Bool) (first size : ℕ) (old : Direction) → first < 2 ^ 32 → GoesPlain these first size old → (direction : Direction) → length direction.queued < 2 ^ 64 → old.queues.queue.is_interleaved ≡ false → DirectionStep old direction
-    → GoesPlain these first size direction
-steps_plain these first size old small g direction few kind step =
+steps_plain : (whole : Bool) (these : ℕ → Bool) (first size : ℕ) (old : Direction) → first < 2 ^ 32 → GoesPlain whole these first size old → (direction : Direction) → length direction.queued < 2 ^ 64 → old.queues.queue.is_interleaved ≡ false → DirectionStep old direction
+    → GoesPlain whole these first size direction
+steps_plain whole these first size old small g direction few kind step =
     let s = stepped first old small g.stands direction few step in
     let c : Continues g.stands.history s.history = calm_continues first old small g.stands direction few step (λ mixed. absurd (let clash : true ≡ false = sym mixed ∙ kind in cc)) in
     let keeps : (id : ℕ) → direction.beginning.keeps id ≡ true → old.beginning.keeps id ≡ true = λ id kept. sym (ap (λ (b : Beginning). b.keeps id) (same_beginning old direction step)) ∙ kept in
@@ -226,33 +319,34 @@ steps_plain these first size old small g direction few kind step =
       unpaused = open_now;
       unnamed = λ id kept. stays_unnamed id first old g.stands (g.unnamed id (keeps id kept)) direction step (not_handed id direction.queues.queue.streams (open_now id kept));
       kept = λ id kept are. step_keeps_on id first old g.stands direction step (keeps id kept) are s c.more c.log (g.kept id (keeps id kept) (unlimited_earlier id old direction step are));
-      steady = λ unasked none. (
-          let none' = none_before old direction step none in
-          let was = g.steady (before unasked) none' in
-          let is = steady_on these first size old small (before unasked) none' was.0 direction step in
+      steady = λ unasked free. (
+          let was = g.steady (before unasked) (free_before free) in
+          let is = steady_on whole these first size old small (before unasked) (free_before free) was.0 g.stands kind direction step in
           (is.0, is.1 ∙ was.1)
           );
-      arrives = λ unasked counts can none. (
-          let counts' = these_before g.stands.history s.history c.more c.log these counts in
-          let none' = none_before old direction step none in
-          let can' = counted_before size old direction step can in
-          let was = g.steady (before unasked) none' in
-          arrives_later these first g.stands.history s.history direction.queued [] direction.read direction.tracker direction.reassembly c
-          (arrives_on these first size old small (before unasked) none' was.0 g.stands counts' was.1 can' direction step (g.arrives (before unasked) counts' can' none'))
+      arrives = λ unasked counts can free. (
+          let counts' = these_before g.stands.history s.history c.more c.log whole these counts in
+          let can' : whole ≡ true → CanBeCounted size old.queued = λ exact. counted_before size old direction step (can exact) in
+          let was = g.steady (before unasked) (free_before free) in
+          arrives_later whole these first g.stands.history s.history direction.queued [] direction.read direction.tracker direction.reassembly c
+          (arrives_on whole these first size old small (before unasked) (free_before free) was.0 g.stands kind counts' was.1 can' direction step (g.arrives (before unasked) counts' can' (free_before free)))
           );
     }
+  where
+    free_before : AreFree whole these direction → AreFree whole these old
+    free_before free = ((λ exact. none_before old direction step (free.0 exact)), (λ some id mine. unlimited_earlier id old direction step (free.1 some id mine)))
 
 -- ---- a run
 
 -- a receiver that has received nothing
-new_steady : (these : ℕ → Bool) (size overhead : ℕ) (reassembly : ReassemblyState) → reassembly ≡ new_reassembly size overhead → DefersBeside these reassembly.deferral × (reassembly.max_size ≡ size)
-new_steady these size overhead reassembly is = (subst (λ (r : ReassemblyState). DefersBeside these r.deferral) (sym is) tt, ap (λ (r : ReassemblyState). r.max_size) is)
+new_steady : (whole : Bool) (these : ℕ → Bool) (size overhead : ℕ) (reassembly : ReassemblyState) → reassembly ≡ new_reassembly size overhead → DefersBeside whole these reassembly.deferral × (reassembly.max_size ≡ size)
+new_steady whole these size overhead reassembly is = (subst (λ (r : ReassemblyState). DefersBeside whole these r.deferral) (sym is) tt, ap (λ (r : ReassemblyState). r.max_size) is)
 
 none_named : (id : ℕ) (asking : Asking) → asking ≡ nothing_asked → (begun : BegunReset) → HasEntry begun asking.requests → names_stream begun.reset.streams id ≡ false
 none_named id asking is begun has = absurd (subst (λ (a : Asking). HasEntry begun a.requests) is has)
 
-begins_plain : (these : ℕ → Bool) (options : Options) (first size : ℕ) (direction : Direction) → first < 2 ^ 32 → direction.queues.queue.is_interleaved ≡ false → BeginsDirection options first size direction → GoesPlain these first size direction
-begins_plain these options first size direction small kind b =
+begins_plain : (whole : Bool) (these : ℕ → Bool) (options : Options) (first size : ℕ) (direction : Direction) → first < 2 ^ 32 → direction.queues.queue.is_interleaved ≡ false → BeginsDirection options first size direction → GoesPlain whole these first size direction
+begins_plain whole these options first size direction small kind b =
     let w = waits_from direction.queued direction.queues.queue b.queues in
     let b' : BeginsDirection options first size direction = record b { queues = w.waits } in
     let is = begun_history options first size direction small b' in
@@ -262,14 +356,14 @@ begins_plain these options first size direction small kind b =
       unpaused = λ id kept. (b.begun.all id kept).unpaused;
       unnamed = λ id kept. none_named id direction.asking b.asking;
       kept = λ id kept are place message at on. inr ((b.begun.all id kept).waits place message at on);
-      steady = λ unasked none. new_steady these size (part_overhead options) direction.reassembly b.reassembly;
-      arrives = λ unasked counts can none. arrives_none these first direction (begun_stands options first size direction small b') w.waits.floors is counts;
+      steady = λ unasked free. new_steady whole these size (part_overhead options) direction.reassembly b.reassembly;
+      arrives = λ unasked counts can free. arrives_none whole these first direction (begun_stands options first size direction small b') w.waits.floors is counts;
     }
 
-starts_plain : (these : ℕ → Bool) (options : Options) (first size : ℕ) (old : Direction) (queued : List Message) (below : EndpointQueues) (beginning : Beginning) → first < 2 ^ 32 → DirectionRun options first size old → Stands first old → (awaited : IsAwaited old)
+starts_plain : (whole : Bool) (these : ℕ → Bool) (options : Options) (first size : ℕ) (old : Direction) (queued : List Message) (below : EndpointQueues) (beginning : Beginning) → first < 2 ^ 32 → DirectionRun options first size old → Stands first old → (awaited : IsAwaited old)
     → AllByRecursion Fits queued → QueueWaits queued below.queue → NoneInFlight first below.queue.is_interleaved below.transfer → BeginsAs beginning queued below.queue → below.queue.is_interleaved ≡ false
-    → GoesPlain these first size (record old { queued = queued; queues = below; beginning = beginning })
-starts_plain these options first size old queued below beginning small run stands awaited fit waits none begun kind =
+    → GoesPlain whole these first size (record old { queued = queued; queues = below; beginning = beginning })
+starts_plain whole these options first size old queued below beginning small run stands awaited fit waits none begun kind =
     let w = waits_from queued below.queue waits in
     let s = started_stands first old queued below beginning stands awaited small fit w.waits none in
     let is = started_history first old queued below beginning stands awaited small fit w.waits none in
@@ -280,19 +374,19 @@ starts_plain these options first size old queued below beginning small run stand
       unpaused = λ id kept. (begun.all id kept).unpaused;
       unnamed = λ id kept. none_named id old.asking awaited.asking;
       kept = λ id kept are place message at on. inr ((begun.all id kept).waits place message at on);
-      steady = λ unasked none'. new_steady these size (part_overhead options) old.reassembly nothing.reassembly;
-      arrives = λ unasked counts can none'. arrives_none these first (record old { queued = queued; queues = below; beginning = beginning }) s w.waits.floors is counts;
+      steady = λ unasked free. new_steady whole these size (part_overhead options) old.reassembly nothing.reassembly;
+      arrives = λ unasked counts can free. arrives_none whole these first (record old { queued = queued; queues = below; beginning = beginning }) s w.waits.floors is counts;
     }
 
-pub run_plain : (these : ℕ → Bool) (options : Options) (first size : ℕ) (direction : Direction) → first < 2 ^ 32 → length direction.queued < 2 ^ 64 → DirectionRun options first size direction → direction.queues.queue.is_interleaved ≡ false
-    → GoesPlain these first size direction
-run_plain these options first size _ small few (begins direction b) kind = begins_plain these options first size direction small kind b
-run_plain these options first size _ small few (goes_on old direction run step) kind =
+pub run_plain : (whole : Bool) (these : ℕ → Bool) (options : Options) (first size : ℕ) (direction : Direction) → first < 2 ^ 32 → length direction.queued < 2 ^ 64 → DirectionRun options first size direction → direction.queues.queue.is_interleaved ≡ false
+    → GoesPlain whole these first size direction
+run_plain whole these options first size _ small few (begins direction b) kind = begins_plain whole these options first size direction small kind b
+run_plain whole these options first size _ small few (goes_on old direction run step) kind =
     let was : old.queues.queue.is_interleaved ≡ false = sym (same_kind old direction step) ∙ kind in
-    steps_plain these first size old small (run_plain these options first size old small (omega (arith, few, more_queued old direction step)) run was) direction few was step
-run_plain these options first size _ small few (starts old queued below beginning run awaited fit waits idle begun) kind =
+    steps_plain whole these first size old small (run_plain whole these options first size old small (omega (arith, few, more_queued old direction step)) run was) direction few was step
+run_plain whole these options first size _ small few (starts old queued below beginning run awaited fit waits idle begun) kind =
     let none_queued : length old.queued ≡ 0 = ap (λ (l : List Message). length l) awaited.queued in
-    starts_plain these options first size old queued below beginning small run (run_stands options first size old small (omega (arith, none_queued)) run) awaited fit waits idle begun kind
+    starts_plain whole these options first size old queued below beginning small run (run_stands options first size old small (omega (arith, none_queued)) run) awaited fit waits idle begun kind
 
 -- ---- what was read
 
@@ -350,19 +444,19 @@ module _ (first : ℕ) (direction : Direction) (s : Stands first direction) (kin
         few = few;
       }
 
-  pub counts_these : (these : ℕ → Bool) → AreUnasked these direction → CountsThese these s.history
-  counts_these these unasked =
-      record { kinds = λ n f at. s.queues.numbers.kinds n f at ∙ kind; few = few; each = λ id mine. counts_plain id (λ begun has. unasked begun has id mine) }
+  pub counts_these : (whole : Bool) (these : ℕ → Bool) → AreUnasked these direction → (whole ≡ false → (id : ℕ) → these id ≡ true → BeginsFew id s.history) → CountsThese whole these s.history
+  counts_these whole these unasked low =
+      record { kinds = λ n f at. s.queues.numbers.kinds n f at ∙ kind; few = few; each = λ id mine. counts_plain id (λ begun has. unasked begun has id mine); low = low }
 
 -- the ordered messages of such a stream that were read come in order
-pub arrived_in_order : (these : ℕ → Bool) (first : ℕ) (history : History) (queued : List Message) (read : List MessageContent) (tracker : TrackerState) (reassembly : ReassemblyState)
-    (a : Arrives these first history queued read tracker reassembly) (id : ℕ) → these id ≡ true → ComeInOrder queued id a.places
-arrived_in_order these first history queued read tracker reassembly a id mine = go a.received.got a.received.holds
+pub arrived_in_order : (whole : Bool) (these : ℕ → Bool) (first : ℕ) (history : History) (queued : List Message) (read : List MessageContent) (tracker : TrackerState) (reassembly : ReassemblyState)
+    (a : Arrives whole these first history queued read tracker reassembly) (id : ℕ) → these id ≡ true → ComeInOrder queued id a.places
+arrived_in_order whole these first history queued read tracker reassembly a id mine = go a.received.got a.received.holds
   where
-    front : (got : List ℕ) (base : ℕ) → IncomingPlain these queued history got base a.places reassembly.incoming → ComeInOrder queued id a.places
+    front : (got : List ℕ) (base : ℕ) → IncomingPlain whole these queued history got base a.places reassembly.incoming → ComeInOrder queued id a.places
     front got base o = in_order_front queued id a.places o.holds.places (o.order id mine).order.in_order
 
-    go : (got : List ℕ) → ReassemblesPlain these queued history first got a.places reassembly.incoming → ComeInOrder queued id a.places
+    go : (got : List ℕ) → ReassemblesPlain whole these queued history first got a.places reassembly.incoming → ComeInOrder queued id a.places
     go got (none_handled none last empty) = front [] 0 (empty 0)
     go got (some_handled base at o) = front got base o
 
@@ -370,13 +464,14 @@ pub plain_directions_deliver_in_order : (options : Options) (first size : ℕ) (
     → first < 2 ^ 32 → assigned direction < 2 ^ 31 → length direction.queued < 2 ^ 64 → size ≤ 2 ^ 63 → direction.queues.queue.is_interleaved ≡ false
     → direction.beginning.from_zero ≡ true → direction.asking.requests ≡ [] → NoneForwards direction.sent → DeliveredInOrder direction.queued direction.read
 plain_directions_deliver_in_order options first size direction run small little few window kind from unasked none =
-    let g = run_plain (λ id. true) options first size direction small few run kind in
+    let g = run_plain true (λ id. true) options first size direction small few run kind in
     let can = can_count size direction.queued window (direction_queues options first size direction run small few).1 in
     let s = g.stands in
     let count = s.count in
     let nothing : AreUnasked (λ id. true) direction = λ begun has. absurd (subst (λ (l : List BegunReset). HasEntry begun l) unasked has) in
-    let a = g.arrives nothing (counts_these first direction s kind (g.zero from) (omega (arith, count, little)) (λ id. true) nothing) can none in
+    let counts = counts_these first direction s kind (g.zero from) (omega (arith, count, little)) true (λ id. true) nothing (λ some. absurd (cc)) in
+    let a = g.arrives nothing counts (λ exact. can) ((λ exact. none), (λ some. absurd (cc))) in
     record {
       delivered = record { places = a.places; were_queued = a.were; once = a.once };
-      in_order = λ id. arrived_in_order (λ other. true) first s.history direction.queued direction.read direction.tracker direction.reassembly a id refl;
+      in_order = λ id. arrived_in_order true (λ other. true) first s.history direction.queued direction.read direction.tracker direction.reassembly a id refl;
     }

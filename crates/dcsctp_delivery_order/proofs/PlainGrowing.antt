@@ -37,11 +37,11 @@ use Rattle.dcsctp_delivery_order.proofs.PlainReceived.{ReassemblesPlain, none_ha
 -- ---- what the user reads
 
 -- The message was queued, and wasn't read before.
-pub record TakesPlain (these : ℕ → Bool) (queued : List Message) (history : History) (first : ℕ) (read : List ℕ) (tracker : TrackerState) (reassembly : ReassemblyState) (message : MessageContent) (messages : List MessageContent) : Type 0 where
+pub record TakesPlain (whole : Bool) (these : ℕ → Bool) (queued : List Message) (history : History) (first : ℕ) (read : List ℕ) (tracker : TrackerState) (reassembly : ReassemblyState) (message : MessageContent) (messages : List MessageContent) : Type 0 where
   pub place : ℕ
   pub was : WasQueued queued place message
   pub fresh : HasEntry place read → ⊥
-  pub received : HasReceivedPlain these queued history first (read ++ place ∷ []) tracker (with_ready messages reassembly)
+  pub received : HasReceivedPlain whole these queued history first (read ++ place ∷ []) tracker (with_ready messages reassembly)
 
 pub not_twice : (p : ℕ) (xs ys : List ℕ) → AreDistinct (xs ++ (p ∷ ys)) → HasEntry p xs → ⊥
 not_twice p [] ys distinct h = h
@@ -52,17 +52,17 @@ not_twice p (x ∷ xs) ys distinct h =
     ]
 
 -- the first that is ready is read
-record ReadsPlain (these : ℕ → Bool) (queued : List Message) (history : History) (got : List ℕ) (base : ℕ) (read : List ℕ) (incoming : IncomingModel) (message : MessageContent) (messages : List MessageContent) : Type 0 where
+record ReadsPlain (whole : Bool) (these : ℕ → Bool) (queued : List Message) (history : History) (got : List ℕ) (base : ℕ) (read : List ℕ) (incoming : IncomingModel) (message : MessageContent) (messages : List MessageContent) : Type 0 where
   place : ℕ
   was : WasQueued queued place message
   fresh : HasEntry place read → ⊥
-  plain : IncomingPlain these queued history got base (read ++ place ∷ []) (record incoming { ready = messages })
+  plain : IncomingPlain whole these queued history got base (read ++ place ∷ []) (record incoming { ready = messages })
 
-reads_plain : (these : ℕ → Bool) (queued : List Message) (history : History) (got : List ℕ) (base : ℕ) (read : List ℕ) (incoming : IncomingModel) (message : MessageContent) (messages : List MessageContent) → incoming.ready ≡ message ∷ messages
-    → IncomingPlain these queued history got base read incoming → ReadsPlain these queued history got base read incoming message messages
-reads_plain these queued history got base read incoming message messages is o = go o.holds.places refl (subst (λ (l : List MessageContent). WereQueued queued o.holds.places l) is o.holds.were_queued)
+reads_plain : (whole : Bool) (these : ℕ → Bool) (queued : List Message) (history : History) (got : List ℕ) (base : ℕ) (read : List ℕ) (incoming : IncomingModel) (message : MessageContent) (messages : List MessageContent) → incoming.ready ≡ message ∷ messages
+    → IncomingPlain whole these queued history got base read incoming → ReadsPlain whole these queued history got base read incoming message messages
+reads_plain whole these queued history got base read incoming message messages is o = go o.holds.places refl (subst (λ (l : List MessageContent). WereQueued queued o.holds.places l) is o.holds.were_queued)
   where
-    go : (places : List ℕ) → o.holds.places ≡ places → WereQueued queued places (message ∷ messages) → ReadsPlain these queued history got base read incoming message messages
+    go : (places : List ℕ) → o.holds.places ≡ places → WereQueued queued places (message ∷ messages) → ReadsPlain whole these queued history got base read incoming message messages
     go [] e were = absurd were
     go (p ∷ places) e were =
         let all : read ++ o.holds.places ≡ (read ++ p ∷ []) ++ places = ap (λ (l : List ℕ). read ++ l) e ∙ sym (appended read (p ∷ []) places) in
@@ -80,15 +80,15 @@ reads_plain these queued history got base read incoming message messages is o = 
               spent = λ q h. o.holds.spent q (subst (λ (l : List ℕ). HasEntry q l) (sym all) h);
               once = λ id. subst (λ (l : List ℕ). AreDistinct (l ++ o.holds.waits id)) all (o.holds.once id);
             };
-            order = λ id kept. subst (λ (l : List ℕ). PlainStream queued history got base id l (o.holds.waits id) (stream_on id incoming.streams)) all (o.order id kept);
+            order = λ id kept. subst (λ (l : List ℕ). PlainStream whole queued history got base id l (o.holds.waits id) (stream_on id incoming.streams)) all (o.order id kept);
           };
         }
 
-pub takes_plain : (these : ℕ → Bool) (queued : List Message) (history : History) (first : ℕ) (read : List ℕ) (tracker : TrackerState) (reassembly : ReassemblyState) (message : MessageContent) (messages : List MessageContent)
-    → reassembly.incoming.ready ≡ message ∷ messages → HasReceivedPlain these queued history first read tracker reassembly → TakesPlain these queued history first read tracker reassembly message messages
-takes_plain these queued history first read tracker reassembly message messages is r = go r.holds
+pub takes_plain : (whole : Bool) (these : ℕ → Bool) (queued : List Message) (history : History) (first : ℕ) (read : List ℕ) (tracker : TrackerState) (reassembly : ReassemblyState) (message : MessageContent) (messages : List MessageContent)
+    → reassembly.incoming.ready ≡ message ∷ messages → HasReceivedPlain whole these queued history first read tracker reassembly → TakesPlain whole these queued history first read tracker reassembly message messages
+takes_plain whole these queued history first read tracker reassembly message messages is r = go r.holds
   where
-    later : (place : ℕ) → ReassemblesPlain these queued history first r.got (read ++ place ∷ []) (record reassembly.incoming { ready = messages }) → HasReceivedPlain these queued history first (read ++ place ∷ []) tracker (with_ready messages reassembly)
+    later : (place : ℕ) → ReassemblesPlain whole these queued history first r.got (read ++ place ∷ []) (record reassembly.incoming { ready = messages }) → HasReceivedPlain whole these queued history first (read ++ place ∷ []) tracker (with_ready messages reassembly)
     later place holds =
         record {
           taken = r.taken;
@@ -107,12 +107,12 @@ takes_plain these queued history first read tracker reassembly message messages 
           others = r.others;
         }
 
-    go : ReassemblesPlain these queued history first r.got read reassembly.incoming → TakesPlain these queued history first read tracker reassembly message messages
+    go : ReassemblesPlain whole these queued history first r.got read reassembly.incoming → TakesPlain whole these queued history first read tracker reassembly message messages
     go (some_handled base at o) =
-        let t = reads_plain these queued history r.got base read reassembly.incoming message messages is o in
+        let t = reads_plain whole these queued history r.got base read reassembly.incoming message messages is o in
         record { place = t.place; was = t.was; fresh = t.fresh; received = later t.place (some_handled base at t.plain) }
     go (none_handled none last empty) =
-        let t = reads_plain these queued history [] 0 read reassembly.incoming message messages is (empty 0) in
+        let t = reads_plain whole these queued history [] 0 read reassembly.incoming message messages is (empty 0) in
         let spent = t.plain.holds.spent t.place (has_left t.place (read ++ t.place ∷ []) t.plain.holds.places (has_right t.place read (t.place ∷ []) (inl refl))) in
         absurd (spent.covered spent.offset (omega arith) spent.order)
 
@@ -126,21 +126,26 @@ module _ (history later : History) (slots : List Slot) (is : later.log ≡ slots
   fewer_before : length later.log < 2 ^ 31 → length history.log < 2 ^ 31
   fewer_before few = (let sizes : length later.log ≡ length (slots ++ history.log) = ap (λ (l : List Slot). length l) is in omega (arith, few, sizes, length-append slots history.log))
 
+  same_turn_before : (id n : ℕ) → n < length history.log → turn_at id n later.log ≡ turn_at id n history.log
+  same_turn_before id n below = ap (λ (l : List Slot). turn_at id n l) is ∙ turn_more id n slots history.log below
+
   pub counts_before : (id : ℕ) → CountsPlain id later → CountsPlain id history
   counts_before id counts =
       record {
         kinds = λ n f at. counts.kinds n f (stays_before n (Some f) at);
-        sent = λ n f of. subst (λ (k : ℕ). IsSsnOfTurn f.ssn k) (same n (at_below n (Some f) history.log of.at)) (counts.sent n f (record { at = stays_before n (Some f) of.at; stream = of.stream; ordered = of.ordered }));
+        sent = λ n f of. subst (λ (k : ℕ). IsSsnOfTurn f.ssn k) (same_turn_before id n (at_below n (Some f) history.log of.at)) (counts.sent n f (record { at = stays_before n (Some f) of.at; stream = of.stream; ordered = of.ordered }));
         closes = λ n f g at at'. counts.closes n f g (stays_before n (Some f) at) (stays_before (n + 1) (Some g) at');
         few = fewer_before counts.few;
       }
-    where
-      same : (n : ℕ) → n < length history.log → turn_at id n later.log ≡ turn_at id n history.log
-      same n below = ap (λ (l : List Slot). turn_at id n l) is ∙ turn_more id n slots history.log below
 
-  pub these_before : (these : ℕ → Bool) → CountsThese these later → CountsThese these history
-  these_before these counts =
-      record { kinds = λ n f at. counts.kinds n f (stays_before n (Some f) at); few = fewer_before counts.few; each = λ id mine. counts_before id (counts.each id mine) }
+  pub these_before : (whole : Bool) (these : ℕ → Bool) → CountsThese whole these later → CountsThese whole these history
+  these_before whole these counts =
+      record {
+        kinds = λ n f at. counts.kinds n f (stays_before n (Some f) at);
+        few = fewer_before counts.few;
+        each = λ id mine. counts_before id (counts.each id mine);
+        low = λ some id mine n f of. subst (λ (k : ℕ). k < 2 ^ 15) (same_turn_before id n (at_below n (Some f) history.log of.at)) (counts.low some id mine n f (record { at = stays_before n (Some f) of.at; stream = of.stream; ordered = of.ordered }));
+      }
 
 module _ (queued more : List Message) (history later : History) (slots : List Slot) (is : later.log ≡ slots ++ history.log) (goes : GoesOn history later) (read : List ℕ) (contents : List MessageContent) (were : WereQueued queued read contents) where
   number_more : (id n : ℕ) → n < length history.log → number_at id n later.log ≡ number_at id n history.log
@@ -160,10 +165,10 @@ module _ (queued more : List Message) (history later : History) (slots : List Sl
       let same : f ≡ g = cc in
       record { at = at ∙ ap (λ (x : Piece). Some (Some x)) (sym same); stream = of.stream; ordered = of.ordered }
 
-  stream_more : (got : List ℕ) (base id : ℕ) (all waits : List ℕ) (texts : List MessageContent) (stream : StreamModel) → ((k : ℕ) → HasEntry k got → (f : Piece) × (at_place k history.log ≡ Some (Some f))) → WereQueued queued all texts
-      → PlainStream queued history got base id all waits stream → PlainStream (more ++ queued) later got base id all waits stream
+  stream_more : (whole : Bool) (got : List ℕ) (base id : ℕ) (all waits : List ℕ) (texts : List MessageContent) (stream : StreamModel) → ((k : ℕ) → HasEntry k got → (f : Piece) × (at_place k history.log ≡ Some (Some f))) → WereQueued queued all texts
+      → PlainStream whole queued history got base id all waits stream → PlainStream whole (more ++ queued) later got base id all waits stream
   unfolding within
-  stream_more got base id all waits texts stream pieces queued_all s =
+  stream_more whole got base id all waits texts stream pieces queued_all s =
       record {
         order = record {
           in_order = in_order_more queued more (with_turns history) (with_turns later) id within all texts queued_all s.order.in_order;
@@ -180,8 +185,8 @@ module _ (queued more : List Message) (history later : History) (slots : List Sl
             );
         from = s.from;
         apart = s.apart;
-        runs = λ run has. (
-            let r = s.runs run has in
+        runs = λ exact run has. (
+            let r = s.runs exact run has in
             record {
               offset = r.offset;
               piece = r.piece;
@@ -190,28 +195,28 @@ module _ (queued more : List Message) (history later : History) (slots : List Sl
               first = r.first;
             }
             );
-        held = λ n f of has up. (
+        held = λ exact n f of has up. (
             let (g, at) = pieces n has in
             let below = at_below n (Some g) history.log at in
             let number = number_more id n below in
             subst (λ (k : ℕ). HeldAs stream.ordered (fragment_place k base + n) k ⊎ (is_number_waiting k stream.waiting ≡ true)) (sym number)
-            (s.held n f (at_before id n f below of g at) has (omega (arith, number, up)))
+            (s.held exact n f (at_before id n f below of g at) has (omega (arith, number, up)))
             );
       }
 
-  incoming_more : (these : ℕ → Bool) (got : List ℕ) (base : ℕ) (incoming : IncomingModel) → ((k : ℕ) → HasEntry k got → (f : Piece) × (at_place k history.log ≡ Some (Some f))) → IncomingPlain these queued history got base read incoming
-      → IncomingPlain these (more ++ queued) later got base read incoming
+  incoming_more : (whole : Bool) (these : ℕ → Bool) (got : List ℕ) (base : ℕ) (incoming : IncomingModel) → ((k : ℕ) → HasEntry k got → (f : Piece) × (at_place k history.log ≡ Some (Some f))) → IncomingPlain whole these queued history got base read incoming
+      → IncomingPlain whole these (more ++ queued) later got base read incoming
   unfolding holds_more
-  incoming_more these got base incoming pieces o =
+  incoming_more whole these got base incoming pieces o =
       record {
         holds = holds_more queued more history later goes got base read incoming o.holds;
-        order = λ id kept. stream_more got base id (read ++ o.holds.places) (o.holds.waits id) (contents ++ incoming.ready) (stream_on id incoming.streams) pieces
+        order = λ id kept. stream_more whole got base id (read ++ o.holds.places) (o.holds.waits id) (contents ++ incoming.ready) (stream_on id incoming.streams) pieces
             (both_queued queued read o.holds.places contents incoming.ready were o.holds.were_queued) (o.order id kept);
       }
 
-  pub received_more : (these : ℕ → Bool) (first : ℕ) (tracker : TrackerState) (reassembly : ReassemblyState) → HasReceivedPlain these queued history first read tracker reassembly
-      → HasReceivedPlain these (more ++ queued) later first read tracker reassembly
-  received_more these first tracker reassembly r =
+  pub received_more : (whole : Bool) (these : ℕ → Bool) (first : ℕ) (tracker : TrackerState) (reassembly : ReassemblyState) → HasReceivedPlain whole these queued history first read tracker reassembly
+      → HasReceivedPlain whole these (more ++ queued) later first read tracker reassembly
+  received_more whole these first tracker reassembly r =
       record {
         taken = r.taken;
         got = r.got;
@@ -234,9 +239,9 @@ module _ (queued more : List Message) (history later : History) (slots : List Sl
             );
       }
     where
-      go : ReassemblesPlain these queued history first r.got read reassembly.incoming → ReassemblesPlain these (more ++ queued) later first r.got read reassembly.incoming
-      go (none_handled none last empty) = none_handled none last (λ base. incoming_more these [] base reassembly.incoming (λ k h. absurd h) (empty base))
-      go (some_handled base at o) = some_handled base at (incoming_more these r.got base reassembly.incoming (λ k h. r.pieces k (r.got_taken k h)) o)
+      go : ReassemblesPlain whole these queued history first r.got read reassembly.incoming → ReassemblesPlain whole these (more ++ queued) later first r.got read reassembly.incoming
+      go (none_handled none last empty) = none_handled none last (λ base. incoming_more whole these [] base reassembly.incoming (λ k h. absurd h) (empty base))
+      go (some_handled base at o) = some_handled base at (incoming_more whole these r.got base reassembly.incoming (λ k h. r.pieces k (r.got_taken k h)) o)
 
 -- ---- nothing was sent yet
 
@@ -266,8 +271,8 @@ module _ (queued : List Message) (history : History) (empty : history.log ≡ []
   is_first next (fresh e) = e
   is_first next (near base same small low high) = absurd (omega (arith, same, low, high))
 
-  holds_none : (these : ℕ → Bool) (got : List ℕ) (base : ℕ) (read : List ℕ) (incoming : IncomingModel) → HoldsIncoming queued history got base read incoming → IncomingPlain these queued history got base read incoming
-  holds_none these got base read incoming holds =
+  holds_none : (whole : Bool) (these : ℕ → Bool) (got : List ℕ) (base : ℕ) (read : List ℕ) (incoming : IncomingModel) → HoldsIncoming queued history got base read incoming → IncomingPlain whole these queued history got base read incoming
+  holds_none whole these got base read incoming holds =
       record {
         holds = holds;
         order = λ id kept. (
@@ -282,9 +287,9 @@ module _ (queued : List Message) (history : History) (empty : history.log ≡ []
               order = record { in_order = in_order_none id (read ++ holds.places) none; below = λ place has on. absurd (none place has); waiting = waits.0; ahead = waits.1 };
               filled = λ number low less. absurd (omega (arith, low, less, next));
               from = omega (arith, next);
-              apart = apart_none (stream_on id incoming.streams).ordered runs;
-              runs = λ run has. absurd (runs run has);
-              held = λ n f of. absurd (nowhere n (Some f) of.at);
+              apart = λ exact. apart_none (stream_on id incoming.streams).ordered runs;
+              runs = λ exact run has. absurd (runs run has);
+              held = λ exact n f of. absurd (nowhere n (Some f) of.at);
             }
             );
       }
@@ -292,15 +297,15 @@ module _ (queued : List Message) (history : History) (empty : history.log ≡ []
       none : (p : ℕ) → HasEntry p (read ++ holds.places) → ⊥
       none p has = (let spent = holds.spent p has in nowhere spent.offset (Some spent.head) spent.at_head)
 
-  pub received_nothing : (these : ℕ → Bool) (first : ℕ) (read : List ℕ) (tracker : TrackerState) (reassembly : ReassemblyState) → HasReceived queued history first read tracker reassembly
-      → HasReceivedPlain these queued history first read tracker reassembly
-  received_nothing these first read tracker reassembly r =
+  pub received_nothing : (whole : Bool) (these : ℕ → Bool) (first : ℕ) (read : List ℕ) (tracker : TrackerState) (reassembly : ReassemblyState) → HasReceived queued history first read tracker reassembly
+      → HasReceivedPlain whole these queued history first read tracker reassembly
+  received_nothing whole these first read tracker reassembly r =
       record {
         taken = r.taken;
         got = r.got;
         later = r.later;
         tracks = r.tracks;
-        exact = λ k is. absurd (unknown k is);
+        exact = λ exact k is. absurd (unknown k is);
         pieces = λ k h. absurd (unknown k (r.tracks.received k h));
         got_taken = r.got_taken;
         later_taken = r.later_taken;
@@ -318,6 +323,6 @@ module _ (queued : List Message) (history : History) (empty : history.log ≡ []
           let sent = r.tracks.sent (tracked first k) is in
           omega (arith, none, sent)
 
-      go : Reassembles queued history first r.got read reassembly.incoming → ReassemblesPlain these queued history first r.got read reassembly.incoming
-      go (untouched none last all) = none_handled none last (λ base. holds_none these [] base read reassembly.incoming (all base))
-      go (placed base at holds) = some_handled base at (holds_none these r.got base read reassembly.incoming holds)
+      go : Reassembles queued history first r.got read reassembly.incoming → ReassemblesPlain whole these queued history first r.got read reassembly.incoming
+      go (untouched none last all) = none_handled none last (λ base. holds_none whole these [] base read reassembly.incoming (all base))
+      go (placed base at holds) = some_handled base at (holds_none whole these r.got base read reassembly.incoming holds)

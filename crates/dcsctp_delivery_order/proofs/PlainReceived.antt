@@ -8,7 +8,9 @@ use Rattle.dcsctp_spec_lemmas.specs.types.declared.tracking.TsnRange.{TsnRange}
 use Rattle.dcsctp_spec_lemmas.specs.spec.queues.Arrivals.{Arrival}
 use Rattle.dcsctp_spec_lemmas.specs.spec.queues.Numbers.{number_near, is_tsn_beyond}
 use Rattle.dcsctp_spec_lemmas.specs.spec.queues.Ranges.{IsBeyond, is_received}
-use Rattle.dcsctp_spec_lemmas.specs.spec.queues.IncomingStreams.{ChunkModel}
+use Rattle.dcsctp_spec_lemmas.specs.spec.queues.IncomingStreams.{ChunkModel, skipped_stream}
+use Rattle.dcsctp_spec_lemmas.specs.types.declared.arrivals.SkippedTo.{SkippedTo}
+use Rattle.std.specs.List.{AllByRecursion}
 use Rattle.dcsctp_spec_lemmas.specs.spec.queues.Incoming.{IncomingModel, TakesIncomingChunk}
 use Rattle.dcsctp_spec_lemmas.specs.spec.queues.Reassembly.{WaitingModel, ReassemblyState, DeferralModel, can_count, window_used, is_data_deferred, names_stream, with_waiting, waiting_of, AddsData}
 use Rattle.dcsctp_spec_lemmas.specs.spec.queues.Tracker.{TrackerState, has_received, is_new_tsn, observed, is_valid_tsn, delay_over, nearest_number, is_below_highest, is_first_missing}
@@ -19,7 +21,7 @@ use Rattle.dcsctp_delivery_sending.specs.Places.{HasEntry, at_place}
 use Rattle.dcsctp_delivery_sending.specs.Log.{Message, Piece, History, Cut, piece_bytes}
 use Rattle.dcsctp_delivery_sending.proofs.Places.{at_below}
 use Rattle.dcsctp_delivery_receiving.specs.Ready.{AreDistinct}
-use Rattle.dcsctp_delivery_receiving.specs.Received.{Carries, CarriesCurrent, DefersData, Placed}
+use Rattle.dcsctp_delivery_receiving.specs.Received.{Carries, CarriesCurrent, DefersData, Placed, kept_entries}
 use Rattle.dcsctp_delivery_receiving.specs.Tracked.{tracked, Tracks}
 use Rattle.dcsctp_delivery_receiving.proofs.Joining.{both}
 use Rattle.dcsctp_delivery_receiving.proofs.Distinct.{distinct_with, has_either, has_left, has_right}
@@ -31,33 +33,37 @@ use Rattle.dcsctp_delivery_order.proofs.PlainReady.{beside_plain, ready_plain}
 use Rattle.dcsctp_delivery_order.proofs.PlainSteps.{IsCounted}
 
 -- No TSN was handled yet; or the number of the first is known, and all that is held is in order.
-pub data ReassemblesPlain (these : ℕ → Bool) (queued : List Message) (history : History) (first : ℕ) (got read : List ℕ) (incoming : IncomingModel) : Type 0 where
-  none_handled : got ≡ [] → incoming.last_tsn_number ≡ 2 ^ 32 → ((base : ℕ) → IncomingPlain these queued history [] base read incoming) → ReassemblesPlain these queued history first got read incoming
-  some_handled : (base : ℕ) → Placed first base incoming.last_tsn_number → IncomingPlain these queued history got base read incoming → ReassemblesPlain these queued history first got read incoming
+pub data ReassemblesPlain (whole : Bool) (these : ℕ → Bool) (queued : List Message) (history : History) (first : ℕ) (got read : List ℕ) (incoming : IncomingModel) : Type 0 where
+  none_handled : got ≡ [] → incoming.last_tsn_number ≡ 2 ^ 32 → ((base : ℕ) → IncomingPlain whole these queued history [] base read incoming) → ReassemblesPlain whole these queued history first got read incoming
+  some_handled : (base : ℕ) → Placed first base incoming.last_tsn_number → IncomingPlain whole these queued history got base read incoming → ReassemblesPlain whole these queued history first got read incoming
 
 -- All that an association has received whose peer has this log, with that of these streams in order. `taken` has the offsets
 -- that the tracker knows, `got` those that the reassembly queue has handled, and `later` those that wait for the end of a
 -- deferred reset: they are of other streams.
-pub record HasReceivedPlain (these : ℕ → Bool) (queued : List Message) (history : History) (first : ℕ) (read : List ℕ) (tracker : TrackerState) (reassembly : ReassemblyState) : Type 0 where
+pub record HasReceivedPlain (whole : Bool) (these : ℕ → Bool) (queued : List Message) (history : History) (first : ℕ) (read : List ℕ) (tracker : TrackerState) (reassembly : ReassemblyState) : Type 0 where
   pub taken : List ℕ
   pub got : List ℕ
   pub later : List ℕ
   pub tracks : Tracks first (length history.log) taken tracker
-  pub exact : (offset : ℕ) → has_received tracker (tracked first offset) ≡ true → HasEntry offset taken
+  pub exact : whole ≡ true → (offset : ℕ) → has_received tracker (tracked first offset) ≡ true → HasEntry offset taken
   pub pieces : (k : ℕ) → HasEntry k taken → (f : Piece) × (at_place k history.log ≡ Some (Some f))
   pub got_taken : (k : ℕ) → HasEntry k got → HasEntry k taken
   pub later_taken : (k : ℕ) → HasEntry k later → HasEntry k taken
   pub either : (k : ℕ) → HasEntry k taken → HasEntry k got ⊎ HasEntry k later
   pub apart : (k : ℕ) → HasEntry k later → HasEntry k got → ⊥
   pub distinct : AreDistinct later
-  pub holds : ReassemblesPlain these queued history first got read reassembly.incoming
+  pub holds : ReassemblesPlain whole these queued history first got read reassembly.incoming
   pub defers : DefersData history first later (waiting_of reassembly.deferral)
   pub others : (k : ℕ) → HasEntry k later → (f : Piece) → at_place k history.log ≡ Some (Some f) → these f.message.stream ≡ false
 
--- A deferred reset names none of these streams, and nothing is to be skipped at its end.
-abbrev pub DefersBeside : (ℕ → Bool) → Option DeferralModel → Type 0
-DefersBeside these None = Unit {0}
-DefersBeside these (Some deferral) = ((id : ℕ) → these id ≡ true → names_stream deferral.streams id ≡ false) × (deferral.skips ≡ None)
+-- The entries are for other streams.
+abbrev pub SkipOthers : (ℕ → Bool) → List SkippedTo → Type 0
+SkipOthers these entries = AllByRecursion (λ entry. these (skipped_stream entry) ≡ false) entries
+
+-- A deferred reset names none of these streams, and nothing of them is to be skipped at its end.
+abbrev pub DefersBeside : Bool → (ℕ → Bool) → Option DeferralModel → Type 0
+DefersBeside whole these None = Unit {0}
+DefersBeside whole these (Some deferral) = ((id : ℕ) → these id ≡ true → names_stream deferral.streams id ≡ false) × (whole ≡ true → deferral.skips ≡ None) × SkipOthers these (kept_entries deferral.skips)
 
 -- ---- the tracker
 
@@ -109,10 +115,10 @@ passed_so first count tracker got tracks exact k less = exact k (up_to tracker.c
 tracks_fewer : (first count : ℕ) (taken got : List ℕ) (tracker : TrackerState) → ((k : ℕ) → HasEntry k got → HasEntry k taken) → Tracks first count taken tracker → Tracks first count got tracker
 tracks_fewer first count taken got tracker among t = record { beyond = t.beyond; reached = t.reached; started = t.started; sent = t.sent; received = λ offset h. t.received offset (among offset h) }
 
-module _ (these : ℕ → Bool) (queued : List Message) (history : History) (first : ℕ) (read : List ℕ) where
+module _ (whole : Bool) (these : ℕ → Bool) (queued : List Message) (history : History) (first : ℕ) (read : List ℕ) where
   -- the tracker moves alone
-  tracked_on : (tracker now : TrackerState) (reassembly : ReassemblyState) (r : HasReceivedPlain these queued history first read tracker reassembly) → Tracks first (length history.log) r.taken now
-      → ((offset : ℕ) → has_received now (tracked first offset) ≡ true → HasEntry offset r.taken) → HasReceivedPlain these queued history first read now reassembly
+  pub tracked_on : (tracker now : TrackerState) (reassembly : ReassemblyState) (r : HasReceivedPlain whole these queued history first read tracker reassembly) → Tracks first (length history.log) r.taken now
+      → (whole ≡ true → (offset : ℕ) → has_received now (tracked first offset) ≡ true → HasEntry offset r.taken) → HasReceivedPlain whole these queued history first read now reassembly
   tracked_on tracker now reassembly r tracks exact =
       record {
         taken = r.taken;
@@ -133,7 +139,7 @@ module _ (these : ℕ → Bool) (queued : List Message) (history : History) (fir
 
   -- when an acknowledgement is due is another matter
   pub tracked_plain : (tracker now : TrackerState) (reassembly : ReassemblyState) → now.cumulative ≡ tracker.cumulative → now.ranges ≡ tracker.ranges
-      → HasReceivedPlain these queued history first read tracker reassembly → HasReceivedPlain these queued history first read now reassembly
+      → HasReceivedPlain whole these queued history first read tracker reassembly → HasReceivedPlain whole these queued history first read now reassembly
   tracked_plain tracker now reassembly same same' r =
       tracked_on tracker now reassembly r
       (record {
@@ -143,7 +149,7 @@ module _ (these : ℕ → Bool) (queued : List Message) (history : History) (fir
         sent = λ number is. r.tracks.sent number (sym (alike number) ∙ is);
         received = λ offset h. alike (tracked first offset) ∙ r.tracks.received offset h;
       })
-      (λ offset is. r.exact offset (sym (alike (tracked first offset)) ∙ is))
+      (λ exact offset is. r.exact exact offset (sym (alike (tracked first offset)) ∙ is))
     where
       alike : (number : ℕ) → has_received now number ≡ has_received tracker number
       alike number = ap (λ (c : ℕ). is_received c number now.ranges) same ∙ ap (λ (l : List TsnRange). is_received tracker.cumulative number l) same'
@@ -186,10 +192,10 @@ counted_so tsn size transfer room counts =
 
 -- ---- data
 
-module _ (queued : List Message) (history : History) (first size : ℕ) (cut : Cut queued history.log) (these : ℕ → Bool) (counts : CountsThese these history) (small : first < 2 ^ 32) (read : List ℕ) where
-  data_plain : (got : List ℕ) (cumulative offset tsn : ℕ) (chunk : ChunkModel) (old new : IncomingModel) → ((id : ℕ) → these id ≡ true → (k : ℕ) → k < cumulative → PassedOn history.log got id k)
-      → CarriesCurrent history first offset tsn chunk → (HasEntry offset got → ⊥) → offset < cumulative + 2 ^ 16 → ReassemblesPlain these queued history first got read old → TakesIncomingChunk tsn chunk old new
-      → ReassemblesPlain these queued history first (offset ∷ got) read new
+module _ (queued : List Message) (history : History) (first size : ℕ) (cut : Cut queued history.log) (whole : Bool) (these : ℕ → Bool) (counts : CountsThese whole these history) (small : first < 2 ^ 32) (read : List ℕ) where
+  data_plain : (got : List ℕ) (cumulative offset tsn : ℕ) (chunk : ChunkModel) (old new : IncomingModel) → (whole ≡ true → (id : ℕ) → these id ≡ true → (k : ℕ) → k < cumulative → PassedOn history.log got id k)
+      → CarriesCurrent history first offset tsn chunk → (HasEntry offset got → ⊥) → (whole ≡ true → offset < cumulative + 2 ^ 16) → ReassemblesPlain whole these queued history first got read old → TakesIncomingChunk tsn chunk old new
+      → ReassemblesPlain whole these queued history first (offset ∷ got) read new
   unfolding bears_of
   data_plain got cumulative offset tsn chunk old new passed c is_new window (some_handled base is holds) takes =
       let below = at_below offset (Some c.carries.piece) history.log c.carries.at in
@@ -197,7 +203,7 @@ module _ (queued : List Message) (history : History) (first size : ℕ) (cut : C
       let few : offset < 2 ^ 31 = omega (arith, below, all) in
       let number = number_read first base old.last_tsn_number offset tsn is few c.carries.is in
       some_handled base (record { same = is.same; near = is.near; worked = offset; few = few; is = takes.last ∙ number })
-      (ready_plain queued history cut these counts got base is.near read cumulative passed tsn chunk old new (bears_of history first base offset tsn (number_near old.last_tsn_number tsn) chunk c number) is_new window holds takes)
+      (ready_plain queued history cut whole these counts got base is.near read cumulative passed tsn chunk old new (bears_of history first base offset tsn (number_near old.last_tsn_number tsn) chunk c number) is_new window holds takes)
   data_plain got cumulative offset tsn chunk old new passed c is_new window (none_handled none last empty) takes =
       let below = at_below offset (Some c.carries.piece) history.log c.carries.at in
       let all = counts.few in
@@ -206,12 +212,12 @@ module _ (queued : List Message) (history : History) (first size : ℕ) (cut : C
       let up = first_number first offset small few in
       let number : number_near old.last_tsn_number tsn ≡ base + offset = ap (λ (l : ℕ). number_near l tsn) last ∙ ap (number_near (2 ^ 32)) c.carries.is ∙ omega (arith, up) in
       some_handled base (record { same = first_base first offset small few; near = first_near first offset small few; worked = offset; few = few; is = takes.last ∙ number })
-      (ready_plain queued history cut these counts got base (first_near first offset small few) read cumulative passed tsn chunk old new (bears_of history first base offset tsn (number_near old.last_tsn_number tsn) chunk c number) is_new window
-      (subst (λ (l : List ℕ). IncomingPlain these queued history l base read old) (sym none) (empty base)) takes)
+      (ready_plain queued history cut whole these counts got base (first_near first offset small few) read cumulative passed tsn chunk old new (bears_of history first base offset tsn (number_near old.last_tsn_number tsn) chunk c number) is_new window
+      (subst (λ (l : List ℕ). IncomingPlain whole these queued history l base read old) (sym none) (empty base)) takes)
 
   -- one of another stream
   pub data_beside : (got : List ℕ) (offset tsn : ℕ) (chunk : ChunkModel) (old new : IncomingModel) → CarriesCurrent history first offset tsn chunk → (HasEntry offset got → ⊥) → these chunk.stream ≡ false
-      → ReassemblesPlain these queued history first got read old → TakesIncomingChunk tsn chunk old new → ReassemblesPlain these queued history first (offset ∷ got) read new
+      → ReassemblesPlain whole these queued history first got read old → TakesIncomingChunk tsn chunk old new → ReassemblesPlain whole these queued history first (offset ∷ got) read new
   unfolding bears_of
   data_beside got offset tsn chunk old new c is_new other (some_handled base is holds) takes =
       let below = at_below offset (Some c.carries.piece) history.log c.carries.at in
@@ -219,7 +225,7 @@ module _ (queued : List Message) (history : History) (first size : ℕ) (cut : C
       let few : offset < 2 ^ 31 = omega (arith, below, all) in
       let number = number_read first base old.last_tsn_number offset tsn is few c.carries.is in
       some_handled base (record { same = is.same; near = is.near; worked = offset; few = few; is = takes.last ∙ number })
-      (beside_plain queued history cut these counts got base is.near read tsn chunk old new (bears_of history first base offset tsn (number_near old.last_tsn_number tsn) chunk c number) is_new other holds takes)
+      (beside_plain queued history cut whole these counts got base is.near read tsn chunk old new (bears_of history first base offset tsn (number_near old.last_tsn_number tsn) chunk c number) is_new other holds takes)
   data_beside got offset tsn chunk old new c is_new other (none_handled none last empty) takes =
       let below = at_below offset (Some c.carries.piece) history.log c.carries.at in
       let all = counts.few in
@@ -228,14 +234,14 @@ module _ (queued : List Message) (history : History) (first size : ℕ) (cut : C
       let up = first_number first offset small few in
       let number : number_near old.last_tsn_number tsn ≡ base + offset = ap (λ (l : ℕ). number_near l tsn) last ∙ ap (number_near (2 ^ 32)) c.carries.is ∙ omega (arith, up) in
       some_handled base (record { same = first_base first offset small few; near = first_near first offset small few; worked = offset; few = few; is = takes.last ∙ number })
-      (beside_plain queued history cut these counts got base (first_near first offset small few) read tsn chunk old new (bears_of history first base offset tsn (number_near old.last_tsn_number tsn) chunk c number) is_new other
-      (subst (λ (l : List ℕ). IncomingPlain these queued history l base read old) (sym none) (empty base)) takes)
+      (beside_plain queued history cut whole these counts got base (first_near first offset small few) read tsn chunk old new (bears_of history first base offset tsn (number_near old.last_tsn_number tsn) chunk c number) is_new other
+      (subst (λ (l : List ℕ). IncomingPlain whole these queued history l base read old) (sym none) (empty base)) takes)
 
   -- what the tracker has passed is handled, where it is of these streams
-  passed_on : (tracker : TrackerState) (reassembly : ReassemblyState) (r : HasReceivedPlain these queued history first read tracker reassembly) (id : ℕ) → these id ≡ true → (k : ℕ) → k < tracker.cumulative + 1 - tracked first 0
+  passed_on : (tracker : TrackerState) (reassembly : ReassemblyState) (r : HasReceivedPlain whole these queued history first read tracker reassembly) → whole ≡ true → (id : ℕ) → these id ≡ true → (k : ℕ) → k < tracker.cumulative + 1 - tracked first 0
       → PassedOn history.log r.got id k
-  passed_on tracker reassembly r id mine k less =
-      let has = passed_so first (length history.log) tracker r.taken r.tracks r.exact k less in
+  passed_on tracker reassembly r exact id mine k less =
+      let has = passed_so first (length history.log) tracker r.taken r.tracks (r.exact exact) k less in
       let (f, at) = r.pieces k has in
       record {
         piece = f;
@@ -247,8 +253,8 @@ module _ (queued : List Message) (history : History) (first size : ℕ) (cut : C
       }
 
   -- what an arrival leaves, where a reset that is deferred names none of these
-  module _ (offset : ℕ) (arrival : Arrival) (old new : Transfer) (c : Carries history.log first offset arrival.tsn arrival.chunk) (r : HasReceivedPlain these queued history first read old.tracker old.reassembly)
-      (beside : DefersBeside these old.reassembly.deferral) (bounded : old.reassembly.max_size ≡ size) (fits : IsCounted size (length c.piece.message.payload)) where
+  module _ (offset : ℕ) (arrival : Arrival) (old new : Transfer) (c : Carries history.log first offset arrival.tsn arrival.chunk) (r : HasReceivedPlain whole these queued history first read old.tracker old.reassembly)
+      (beside : DefersBeside whole these old.reassembly.deferral) (bounded : whole ≡ true → old.reassembly.max_size ≡ size) (fits : whole ≡ true → IsCounted size (length c.piece.message.payload)) where
     below : offset < length history.log
     below = at_below offset (Some c.piece) history.log c.at
 
@@ -261,11 +267,11 @@ module _ (queued : List Message) (history : History) (first size : ℕ) (cut : C
         subst (λ (t : ℕ). Tracks first (length history.log) (offset ∷ r.taken) (observed t arrival.immediate_ack old.tracker)) (sym c.is)
         (new_is_new first (length history.log) offset arrival.immediate_ack r.taken old.tracker small counts.few below r.tracks).0
 
-    its_exact : (k : ℕ) → has_received now (tracked first k) ≡ true → HasEntry k (offset ∷ r.taken)
+    its_exact : whole ≡ true → (k : ℕ) → has_received now (tracked first k) ≡ true → HasEntry k (offset ∷ r.taken)
     unfolding now
-    its_exact =
+    its_exact exact =
         subst (λ (t : ℕ). (k : ℕ) → has_received (observed t arrival.immediate_ack old.tracker) (tracked first k) ≡ true → HasEntry k (offset ∷ r.taken)) (sym c.is)
-        (observed_exact first (length history.log) offset arrival.immediate_ack old.tracker r.taken small counts.few below r.tracks r.exact)
+        (observed_exact first (length history.log) offset arrival.immediate_ack old.tracker r.taken small counts.few below r.tracks (r.exact exact))
 
     its_pieces : (k : ℕ) → HasEntry k (offset ∷ r.taken) → (f : Piece) × (at_place k history.log ≡ Some (Some f))
     its_pieces k h = elim h [ inl e ↦ (c.piece, ap (λ (j : ℕ). at_place j history.log) e ∙ c.at) | inr t ↦ r.pieces k t ]
@@ -283,7 +289,7 @@ module _ (queued : List Message) (history : History) (first size : ℕ) (cut : C
     other_waits : is_data_deferred arrival.tsn arrival.chunk.stream old.reassembly.deferral ≡ true → these arrival.chunk.stream ≡ false
     other_waits e = of_deferral old.reassembly.deferral beside e
       where
-        of_deferral : (o : Option DeferralModel) → DefersBeside these o → is_data_deferred arrival.tsn arrival.chunk.stream o ≡ true → these arrival.chunk.stream ≡ false
+        of_deferral : (o : Option DeferralModel) → DefersBeside whole these o → is_data_deferred arrival.tsn arrival.chunk.stream o ≡ true → these arrival.chunk.stream ≡ false
         of_deferral None names is = absurd (cc)
         of_deferral (Some deferral) names is = go (these arrival.chunk.stream) refl
           where
@@ -296,10 +302,10 @@ module _ (queued : List Message) (history : History) (first size : ℕ) (cut : C
     -- a chunk whose TSN is new
     added : is_valid_tsn old.tracker.cumulative arrival.tsn ≡ true → is_new_tsn arrival.tsn old.tracker ≡ true → can_count (length arrival.chunk.payload) old.reassembly ≡ true
         → (waits : Bool) → is_data_deferred arrival.tsn arrival.chunk.stream old.reassembly.deferral ≡ waits → AddsData arrival.tsn arrival.chunk old.reassembly new.reassembly
-        → HasReceivedPlain these queued history first read now new.reassembly
+        → HasReceivedPlain whole these queued history first read now new.reassembly
     added valid is counted true deferred adds =
         let is_new = (new_is_new first (length history.log) offset arrival.immediate_ack r.taken old.tracker small counts.few below r.tracks).1 (by_offset true is) in
-        subst (λ (s : ReassemblyState). HasReceivedPlain these queued history first read now s) (sym (adds.deferred counted deferred))
+        subst (λ (s : ReassemblyState). HasReceivedPlain whole these queued history first read now s) (sym (adds.deferred counted deferred))
         (record {
           taken = offset ∷ r.taken;
           got = r.got;
@@ -352,40 +358,52 @@ module _ (queued : List Message) (history : History) (first size : ℕ) (cut : C
           distinct = r.distinct;
           holds = data_plain r.got (old.tracker.cumulative + 1 - tracked first 0) offset arrival.tsn arrival.chunk old.reassembly.incoming new.reassembly.incoming
               (passed_on old.tracker old.reassembly r) current (λ h. is_new (r.got_taken offset h))
-              (in_window first (length history.log) offset arrival.immediate_ack old.tracker r.taken small counts.few below r.tracks r.exact (subst (λ (t : ℕ). is_valid_tsn old.tracker.cumulative t ≡ true) c.is valid)) r.holds taken.incoming;
+              (λ exact. in_window first (length history.log) offset arrival.immediate_ack old.tracker r.taken small counts.few below r.tracks (r.exact exact) (subst (λ (t : ℕ). is_valid_tsn old.tracker.cumulative t ≡ true) c.is valid)) r.holds taken.incoming;
           defers = subst (λ (d : Option DeferralModel). DefersData history first r.later (waiting_of d)) (sym taken.deferral) r.defers;
           others = r.others;
         }
 
-    taken_plain : has_room arrival.tsn old ≡ true → is_valid_tsn old.tracker.cumulative arrival.tsn ≡ true → TakesArrival arrival old new → HasReceivedPlain these queued history first read new.tracker new.reassembly
+    taken_plain : has_room arrival.tsn old ≡ true → is_valid_tsn old.tracker.cumulative arrival.tsn ≡ true → TakesArrival arrival old new → HasReceivedPlain whole these queued history first read new.tracker new.reassembly
     unfolding now
     taken_plain room valid takes =
-        subst (λ (t : TrackerState). HasReceivedPlain these queued history first read t new.reassembly) (sym (ap (λ (t : Transfer). t.tracker) takes.rest)) (go (is_new_tsn arrival.tsn old.tracker) refl takes.reassembly)
+        subst (λ (t : TrackerState). HasReceivedPlain whole these queued history first read t new.reassembly) (sym (ap (λ (t : Transfer). t.tracker) takes.rest)) (go (is_new_tsn arrival.tsn old.tracker) refl takes.reassembly)
       where
         go : (b : Bool) → is_new_tsn arrival.tsn old.tracker ≡ b → AddsWhere b arrival.tsn arrival.chunk old.reassembly new.reassembly
-            → HasReceivedPlain these queued history first read (observed arrival.tsn arrival.immediate_ack old.tracker) new.reassembly
+            → HasReceivedPlain whole these queued history first read (observed arrival.tsn arrival.immediate_ack old.tracker) new.reassembly
         go true is adds =
-            let payload = payload_small in
-            let size_fits : IsCounted old.reassembly.max_size (length arrival.chunk.payload) =
-            record { whole = omega (arith, bounded, fits.whole, payload); half = omega (arith, fits.half, payload) } in
-            added valid is (counted_so arrival.tsn (length arrival.chunk.payload) old room size_fits) (is_data_deferred arrival.tsn arrival.chunk.stream old.reassembly.deferral) refl adds
+            by_count (can_count (length arrival.chunk.payload) old.reassembly) refl
+          where
+            counted : whole ≡ true → can_count (length arrival.chunk.payload) old.reassembly ≡ true
+            counted exact =
+                let payload = payload_small in
+                let same = bounded exact in
+                let fit = fits exact in
+                counted_so arrival.tsn (length arrival.chunk.payload) old room (record { whole = omega (arith, same, fit.whole, payload); half = omega (arith, fit.half, payload) })
+
+            by_count : (counts : Bool) → can_count (length arrival.chunk.payload) old.reassembly ≡ counts → HasReceivedPlain whole these queued history first read (observed arrival.tsn arrival.immediate_ack old.tracker) new.reassembly
+            by_count true e = added valid is e (is_data_deferred arrival.tsn arrival.chunk.stream old.reassembly.deferral) refl adds
+            by_count false e =
+                subst (λ (s : ReassemblyState). HasReceivedPlain whole these queued history first read (observed arrival.tsn arrival.immediate_ack old.tracker) s) (sym (adds.too_much e))
+                (tracked_on whole these queued history first read old.tracker (observed arrival.tsn arrival.immediate_ack old.tracker) old.reassembly r
+                (tracks_fewer first (length history.log) (offset ∷ r.taken) r.taken (observed arrival.tsn arrival.immediate_ack old.tracker) (λ k h. inr h) its_tracks)
+                (λ exact. absurd (let clash : true ≡ false = sym (counted exact) ∙ e in cc)))
         go false is adds =
-            subst (λ (s : ReassemblyState). HasReceivedPlain these queued history first read (observed arrival.tsn arrival.immediate_ack old.tracker) s) (sym adds)
-            (tracked_on these queued history first read old.tracker (observed arrival.tsn arrival.immediate_ack old.tracker) old.reassembly r
+            subst (λ (s : ReassemblyState). HasReceivedPlain whole these queued history first read (observed arrival.tsn arrival.immediate_ack old.tracker) s) (sym adds)
+            (tracked_on whole these queued history first read old.tracker (observed arrival.tsn arrival.immediate_ack old.tracker) old.reassembly r
             (tracks_fewer first (length history.log) (offset ∷ r.taken) r.taken (observed arrival.tsn arrival.immediate_ack old.tracker) (λ k h. inr h) its_tracks)
-            (subst (λ (t : ℕ). (k : ℕ) → has_received (observed t arrival.immediate_ack old.tracker) (tracked first k) ≡ true → HasEntry k r.taken) (sym c.is)
-            (known_exact first (length history.log) offset arrival.immediate_ack old.tracker r.taken small counts.few below r.tracks r.exact (by_offset false is))))
+            (λ exact. subst (λ (t : ℕ). (k : ℕ) → has_received (observed t arrival.immediate_ack old.tracker) (tracked first k) ≡ true → HasEntry k r.taken) (sym c.is)
+            (known_exact first (length history.log) offset arrival.immediate_ack old.tracker r.taken small counts.few below r.tracks (r.exact exact) (by_offset false is))))
 
-    dropped_plain : (b : Bool) → new ≡ dropping b old → HasReceivedPlain these queued history first read new.tracker new.reassembly
+    dropped_plain : (b : Bool) → new ≡ dropping b old → HasReceivedPlain whole these queued history first read new.tracker new.reassembly
     dropped_plain true same =
-        subst (λ (t : Transfer). HasReceivedPlain these queued history first read t.tracker t.reassembly) (sym same)
-        (tracked_plain these queued history first read old.tracker (delay_over old.tracker) old.reassembly refl refl r)
-    dropped_plain false same = subst (λ (t : Transfer). HasReceivedPlain these queued history first read t.tracker t.reassembly) (sym same) r
+        subst (λ (t : Transfer). HasReceivedPlain whole these queued history first read t.tracker t.reassembly) (sym same)
+        (tracked_plain whole these queued history first read old.tracker (delay_over old.tracker) old.reassembly refl refl r)
+    dropped_plain false same = subst (λ (t : Transfer). HasReceivedPlain whole these queued history first read t.tracker t.reassembly) (sym same) r
 
-    pub received_plain : ReceivesData arrival old new → HasReceivedPlain these queued history first read new.tracker new.reassembly
+    pub received_plain : ReceivesData arrival old new → HasReceivedPlain whole these queued history first read new.tracker new.reassembly
     received_plain receives = go (has_room arrival.tsn old && is_valid_tsn old.tracker.cumulative arrival.tsn) refl receives
       where
-        go : (b : Bool) → (has_room arrival.tsn old && is_valid_tsn old.tracker.cumulative arrival.tsn) ≡ b → ReceivesWhere b arrival old new → HasReceivedPlain these queued history first read new.tracker new.reassembly
+        go : (b : Bool) → (has_room arrival.tsn old && is_valid_tsn old.tracker.cumulative arrival.tsn) ≡ b → ReceivesWhere b arrival old new → HasReceivedPlain whole these queued history first read new.tracker new.reassembly
         go true e takes = (let (room, valid) = both (has_room arrival.tsn old) (is_valid_tsn old.tracker.cumulative arrival.tsn) e in taken_plain room valid takes)
         go false e same = dropped_plain (old.tracker.follows_rfc && is_valid_tsn old.tracker.cumulative arrival.tsn) same
 
@@ -428,30 +446,30 @@ stays_idle arrival old new receives idle = by_room (has_room arrival.tsn old && 
 -- ---- what is deferred names none of these, and the window is as large as before
 
 -- So it is in the one if it is in the other.
-abbrev pub IsSteadyAs : (ℕ → Bool) → ReassemblyState → ReassemblyState → Type 0
-IsSteadyAs these old new = DefersBeside these new.deferral × (new.max_size ≡ old.max_size)
+abbrev pub IsSteadyAs : Bool → (ℕ → Bool) → ReassemblyState → ReassemblyState → Type 0
+IsSteadyAs whole these old new = DefersBeside whole these new.deferral × (new.max_size ≡ old.max_size)
 
-waits_beside : (these : ℕ → Bool) (last : WaitingModel) (o : Option DeferralModel) → DefersBeside these o → DefersBeside these (with_waiting last o)
-waits_beside these last None beside = tt
-waits_beside these last (Some deferral) beside = beside
+waits_beside : (whole : Bool) (these : ℕ → Bool) (last : WaitingModel) (o : Option DeferralModel) → DefersBeside whole these o → DefersBeside whole these (with_waiting last o)
+waits_beside whole these last None beside = tt
+waits_beside whole these last (Some deferral) beside = beside
 
-pub stays_steady : (these : ℕ → Bool) (arrival : Arrival) (old new : Transfer) → ReceivesData arrival old new → DefersBeside these old.reassembly.deferral → IsSteadyAs these old.reassembly new.reassembly
-stays_steady these arrival old new receives beside = by_room (has_room arrival.tsn old && is_valid_tsn old.tracker.cumulative arrival.tsn) receives
+pub stays_steady : (whole : Bool) (these : ℕ → Bool) (arrival : Arrival) (old new : Transfer) → ReceivesData arrival old new → DefersBeside whole these old.reassembly.deferral → IsSteadyAs whole these old.reassembly new.reassembly
+stays_steady whole these arrival old new receives beside = by_room (has_room arrival.tsn old && is_valid_tsn old.tracker.cumulative arrival.tsn) receives
   where
-    same_state : (s : ReassemblyState) → s ≡ old.reassembly → IsSteadyAs these old.reassembly s
-    same_state s same = (subst (λ (x : ReassemblyState). DefersBeside these x.deferral) (sym same) beside, ap (λ (x : ReassemblyState). x.max_size) same)
+    same_state : (s : ReassemblyState) → s ≡ old.reassembly → IsSteadyAs whole these old.reassembly s
+    same_state s same = (subst (λ (x : ReassemblyState). DefersBeside whole these x.deferral) (sym same) beside, ap (λ (x : ReassemblyState). x.max_size) same)
 
     by_deferral : AddsData arrival.tsn arrival.chunk old.reassembly new.reassembly → can_count (length arrival.chunk.payload) old.reassembly ≡ true → (b : Bool) → is_data_deferred arrival.tsn arrival.chunk.stream old.reassembly.deferral ≡ b
-        → IsSteadyAs these old.reassembly new.reassembly
+        → IsSteadyAs whole these old.reassembly new.reassembly
     by_deferral adds counts true e =
-        subst (λ (s : ReassemblyState). IsSteadyAs these old.reassembly s) (sym (adds.deferred counts e)) (waits_beside these (record { tsn = arrival.tsn; chunk = arrival.chunk }) old.reassembly.deferral beside, refl)
-    by_deferral adds counts false e = (let taken = adds.taken counts e in (subst (λ (d : Option DeferralModel). DefersBeside these d) (sym taken.deferral) beside, taken.window))
+        subst (λ (s : ReassemblyState). IsSteadyAs whole these old.reassembly s) (sym (adds.deferred counts e)) (waits_beside whole these (record { tsn = arrival.tsn; chunk = arrival.chunk }) old.reassembly.deferral beside, refl)
+    by_deferral adds counts false e = (let taken = adds.taken counts e in (subst (λ (d : Option DeferralModel). DefersBeside whole these d) (sym taken.deferral) beside, taken.window))
 
-    by_count : AddsData arrival.tsn arrival.chunk old.reassembly new.reassembly → (b : Bool) → can_count (length arrival.chunk.payload) old.reassembly ≡ b → IsSteadyAs these old.reassembly new.reassembly
+    by_count : AddsData arrival.tsn arrival.chunk old.reassembly new.reassembly → (b : Bool) → can_count (length arrival.chunk.payload) old.reassembly ≡ b → IsSteadyAs whole these old.reassembly new.reassembly
     by_count adds true e = by_deferral adds e (is_data_deferred arrival.tsn arrival.chunk.stream old.reassembly.deferral) refl
     by_count adds false e = same_state new.reassembly (adds.too_much e)
 
-    by_new : (b : Bool) → AddsWhere b arrival.tsn arrival.chunk old.reassembly new.reassembly → IsSteadyAs these old.reassembly new.reassembly
+    by_new : (b : Bool) → AddsWhere b arrival.tsn arrival.chunk old.reassembly new.reassembly → IsSteadyAs whole these old.reassembly new.reassembly
     by_new true adds = by_count adds (can_count (length arrival.chunk.payload) old.reassembly) refl
     by_new false same = same_state new.reassembly same
 
@@ -459,6 +477,6 @@ stays_steady these arrival old new receives beside = by_room (has_room arrival.t
     dropped true same = ap (λ (t : Transfer). t.reassembly) same
     dropped false same = ap (λ (t : Transfer). t.reassembly) same
 
-    by_room : (b : Bool) → ReceivesWhere b arrival old new → IsSteadyAs these old.reassembly new.reassembly
+    by_room : (b : Bool) → ReceivesWhere b arrival old new → IsSteadyAs whole these old.reassembly new.reassembly
     by_room true takes = by_new (is_new_tsn arrival.tsn old.tracker) takes.reassembly
     by_room false same = same_state new.reassembly (dropped (old.tracker.follows_rfc && is_valid_tsn old.tracker.cumulative arrival.tsn) same)

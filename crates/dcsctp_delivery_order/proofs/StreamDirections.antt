@@ -387,11 +387,11 @@ run_gapless gapless options first size _ small few are (starts old queued below 
 -- ---- which streams have no limits
 
 -- May no message that was queued on the stream be abandoned?
-abbrev are_unlimited_on : ℕ → List Message → Bool
+abbrev pub are_unlimited_on : ℕ → List Message → Bool
 are_unlimited_on id [] = true
 are_unlimited_on id (message ∷ queued) = (not (message.stream == id) || not message.is_limited) && are_unlimited_on id queued
 
-unlimited_so : (id : ℕ) (queued : List Message) → are_unlimited_on id queued ≡ true → AreUnlimitedOn id queued
+pub unlimited_so : (id : ℕ) (queued : List Message) → are_unlimited_on id queued ≡ true → AreUnlimitedOn id queued
 unlimited_so id [] is = tt
 unlimited_so id (message ∷ queued) is =
     let parts = both (not (message.stream == id) || not message.is_limited) (are_unlimited_on id queued) is in
@@ -401,7 +401,7 @@ unlimited_so id (message ∷ queued) is =
     not_limited false is' = refl
     not_limited true is' = absurd (cc)
 
-so_unlimited : (id : ℕ) (queued : List Message) → AreUnlimitedOn id queued → are_unlimited_on id queued ≡ true
+pub so_unlimited : (id : ℕ) (queued : List Message) → AreUnlimitedOn id queued → are_unlimited_on id queued ≡ true
 so_unlimited id [] are = refl
 so_unlimited id (message ∷ queued) are =
     elim (eqb_tells message.stream id) [

@@ -11,6 +11,7 @@ use Rattle.dcsctp_delivery_sending.specs.Losing.{AreUnlimited, AreUnlimitedOn, I
 use Rattle.dcsctp_delivery_sending.specs.Numbers.{IsCurrent}
 use Rattle.dcsctp_delivery_directions.specs.Directions.{Direction, DirectionRun, Delivered, assigned}
 use Rattle.dcsctp_delivery_order.specs.Delivered.{DeliveredInOrder}
+use Rattle.dcsctp_delivery_order.specs.PlainDirections.{ordered_on}
 use Rattle.dcsctp_delivery_order.specs.Queue.{ComeInOrder, LeaveNoGap}
 
 -- Each message that was queued on it was sent, or waits.
@@ -47,3 +48,16 @@ PlainStreamsDeliverWithoutGaps =
     (options : Options) (first size : ℕ) (direction : Direction) → DirectionRun options first size direction
     → first < 2 ^ 32 → assigned direction < 2 ^ 31 → length direction.queued < 2 ^ 64 → size ≤ 2 ^ 63 → direction.queues.queue.is_interleaved ≡ false
     → direction.beginning.from_zero ≡ true → AreUnlimited direction.queued → DeliveredOn direction.beginning.keeps direction.queued direction.read
+
+-- The sender keeps the stream, no message on it may be abandoned, and fewer than 2^15 ordered ones were queued on it.
+pub record IsKeptFew (direction : Direction) (id : ℕ) : Type 0 where
+  pub keeps : direction.beginning.keeps id ≡ true
+  pub unlimited : AreUnlimitedOn id direction.queued
+  pub few : ordered_on id direction.queued < 2 ^ 15
+
+-- It is so of each of these streams if they are so, whatever others are reset, and whatever messages of others are abandoned.
+abbrev pub FewStreamsDeliverWithoutGaps : Type 0
+FewStreamsDeliverWithoutGaps =
+    (these : ℕ → Bool) (options : Options) (first size : ℕ) (direction : Direction) → DirectionRun options first size direction
+    → first < 2 ^ 32 → assigned direction < 2 ^ 31 → length direction.queued < 2 ^ 64 → direction.queues.queue.is_interleaved ≡ false → direction.beginning.from_zero ≡ true
+    → ((id : ℕ) → these id ≡ true → IsKeptFew direction id) → DeliveredOn these direction.queued direction.read

@@ -17,7 +17,7 @@ use Rattle.dcsctp_delivery_sending.proofs.Places.{decide, set_same, set_other}
 use Rattle.dcsctp_delivery_receiving.proofs.Chaining.{one_kind}
 use Rattle.dcsctp_delivery_receiving.proofs.SpentRows.{stay_rows, rows_got, spent_got, was_handled, of_message, IsOfMessage}
 use Rattle.dcsctp_delivery_receiving.proofs.Distinct.{distinct_left, distinct_apart, appended, has_either}
-use Rattle.dcsctp_delivery_receiving.proofs.Waiting.{OfStream, renamed, wait_on_stream, wait_spent, its_message, leaves_none, leaves_ordered, wait_got, leaves_repeated, other_streams, Leaves, stream_rows_got, stream_got}
+use Rattle.dcsctp_delivery_receiving.proofs.Waiting.{HoldsBeside, OfStream, renamed, wait_on_stream, wait_spent, its_message, leaves_none, leaves_ordered, wait_got, leaves_repeated, other_streams, Leaves, stream_rows_got, stream_got}
 use Rattle.dcsctp_delivery_receiving.proofs.Reading.{tells_as, tells_plain, ordered_reads}
 use Rattle.dcsctp_delivery_sending.specs.Numbers.{IsUnambiguous}
 use Rattle.std.proofs.lemmas.Bool.Decides.{leb_tells}
@@ -25,18 +25,9 @@ use Rattle.dcsctp_delivery_receiving.proofs.Parts.{part_of, ordered_placed, unor
 
 -- ---- a chunk
 
--- All of it was queued, and beside the messages of this stream nothing became ready, and the same waits.
-pub record HoldsBeside (queued : List Message) (history : History) (got : List ℕ) (base : ℕ) (read : List ℕ) (id : ℕ) (waits : ℕ → List ℕ) (places : List ℕ)
-    (streams : ℕ → StreamModel) (unordered : List RunModel) (ready : List MessageContent) : Type 0 where
-  pub holds : HoldsAll queued history got base read streams unordered ready
-  pub more : List ℕ
-  pub places_are : holds.places ≡ places ++ more
-  pub on : (q : ℕ) → HasEntry q more → (message : Message) × (at_place q queued ≡ Some message) × (message.stream ≡ id)
-  pub others : (other : ℕ) → other ≢ id → holds.waits other ≡ waits other
-
 abbrev pub LeavesBeside : List Message → History → List ℕ → ℕ → List ℕ → ℕ → (ℕ → List ℕ) → List ℕ → IncomingModel → Type 0
 LeavesBeside queued history got base read id waits places incoming =
-    HoldsBeside queued history got base read id waits places (λ stream. stream_on stream incoming.streams) incoming.unordered incoming.ready
+    HoldsBeside queued history got base read (λ other. other ≡ id) waits places (λ stream. stream_on stream incoming.streams) incoming.unordered incoming.ready
 
 module _ (queued : List Message) (history : History) (cut : Cut queued history.log) (told : IsUnambiguous history) (got : List ℕ) (base : ℕ) (read : List ℕ) where
   module _ (tsn_number : ℕ) (chunk : ChunkModel) (bears : BearsPiece history base tsn_number chunk) (is_new : HasEntry bears.offset got → ⊥) (streams : ℕ → StreamModel) (unordered : List RunModel) (ready : List MessageContent)
@@ -60,7 +51,7 @@ module _ (queued : List Message) (history : History) (cut : Cut queued history.l
     -- the invariant once its stream is left so
     holds_then : (id : ℕ) (later : ℕ → StreamModel) (runs : List RunModel) (after : List MessageContent) → StreamRows history now base id (later id)
         → AreRows history.log now (unordered_base base) IsOfStream runs → ((other : ℕ) → other ≢ id → later other ≡ streams other) → Leaves queued history now all holds.places id (later id).waiting after
-        → HoldsBeside queued history now base read id holds.waits holds.places later runs after
+        → HoldsBeside queued history now base read (λ other. other ≡ id) holds.waits holds.places later runs after
     unfolding all
     holds_then id later runs after rows apart others leaves =
         record {
@@ -94,7 +85,7 @@ module _ (queued : List Message) (history : History) (cut : Cut queued history.l
           };
           more = leaves.more;
           places_are = refl;
-          on = λ q h. its_message queued id q (leaves.on q h);
+          on = λ q h. (id, refl, its_message queued id q (leaves.on q h));
           others = λ other ne. set_other id other leaves.waits holds.waits ne;
         }
 
@@ -118,7 +109,7 @@ module _ (queued : List Message) (history : History) (cut : Cut queued history.l
 
     -- nothing changes
     passed : (later : ℕ → StreamModel) (runs : List RunModel) (after : List MessageContent) → runs ≡ unordered → ((other : ℕ) → other ≢ chunk.stream → later other ≡ streams other)
-        → later chunk.stream ≡ streams chunk.stream → after ≡ ready → HoldsBeside queued history now base read chunk.stream holds.waits holds.places later runs after
+        → later chunk.stream ≡ streams chunk.stream → after ≡ ready → HoldsBeside queued history now base read (λ other. other ≡ chunk.stream) holds.waits holds.places later runs after
     unfolding all
     passed later runs after kept others same same' =
         holds_then chunk.stream later runs after (subst (λ (s : StreamModel). StreamRows history now base chunk.stream s) (sym same) here_rows) (rows_kept runs kept) others
@@ -128,14 +119,14 @@ module _ (queued : List Message) (history : History) (cut : Cut queued history.l
     -- an ordered chunk
     ahead : (place number : ℕ) (later : ℕ → StreamModel) (runs : List RunModel) (after : List MessageContent) (taken : Taken) → IsPiecePlaced (ordered_base base) bears.offset bears.piece number place → IsOn history chunk.stream bears.piece number
         → runs ≡ unordered → ((other : ℕ) → other ≢ chunk.stream → later other ≡ streams other)
-        → TakesAhead (data_part chunk place number) (streams chunk.stream) ready taken (later chunk.stream) after → HoldsBeside queued history now base read chunk.stream holds.waits holds.places later runs after
+        → TakesAhead (data_part chunk place number) (streams chunk.stream) ready taken (later chunk.stream) after → HoldsBeside queued history now base read (λ other. other ≡ chunk.stream) holds.waits holds.places later runs after
     unfolding all here
     ahead place number later runs after taken placed named kept others takes = go (is_number_waiting number (streams chunk.stream).waiting) refl
       where
         part : IsPart history.log (ordered_base base) (IsOn history chunk.stream) (data_part chunk place number)
         part = part_of history base (ordered_base base) (IsOn history chunk.stream) tsn_number place number chunk bears placed named
 
-        go : (b : Bool) → is_number_waiting number (streams chunk.stream).waiting ≡ b → HoldsBeside queued history now base read chunk.stream holds.waits holds.places later runs after
+        go : (b : Bool) → is_number_waiting number (streams chunk.stream).waiting ≡ b → HoldsBeside queued history now base read (λ other. other ≡ chunk.stream) holds.waits holds.places later runs after
         go false e =
             let does = takes.fresh e in
             let rows = stay_rows queued history.log cut (one_kind history told) got (ordered_base base) (IsOn history chunk.stream) (λ m n f g k. tells_as history told false chunk.stream m n f g k) (data_part chunk place number) (streams chunk.stream).ordered (later chunk.stream).ordered does.outcome part here.rows.ordered does.parts in
@@ -167,7 +158,7 @@ module _ (queued : List Message) (history : History) (cut : Cut queued history.l
     -- one of I-DATA
     in_order : (place number : ℕ) (later : ℕ → StreamModel) (runs : List RunModel) (after : List MessageContent) (taken : Taken) → IsPiecePlaced (ordered_base base) bears.offset bears.piece number place → IsOn history chunk.stream bears.piece number
         → runs ≡ unordered → ((other : ℕ) → other ≢ chunk.stream → later other ≡ streams other)
-        → TakesInOrder (data_part chunk place number) (streams chunk.stream) ready taken (later chunk.stream) after → HoldsBeside queued history now base read chunk.stream holds.waits holds.places later runs after
+        → TakesInOrder (data_part chunk place number) (streams chunk.stream) ready taken (later chunk.stream) after → HoldsBeside queued history now base read (λ other. other ≡ chunk.stream) holds.waits holds.places later runs after
     in_order place number later runs after taken placed named kept others takes =
         elim (leb_tells (streams chunk.stream).next number) [
           | inl e ↦ ahead place number later runs after taken placed named kept others (takes.ahead e.1)
@@ -177,7 +168,7 @@ module _ (queued : List Message) (history : History) (cut : Cut queued history.l
     -- an unordered one of I-DATA
     out_of_order : (place number : ℕ) (later : ℕ → StreamModel) (runs : List RunModel) (after : List MessageContent) (taken : Taken) → IsPiecePlaced (ordered_base base) bears.offset bears.piece number place → IsApart history chunk.stream bears.piece number
         → ReadsMids history chunk.stream true number → runs ≡ unordered → ((other : ℕ) → other ≢ chunk.stream → later other ≡ streams other)
-        → TakesOutOfOrder (data_part chunk place number) (streams chunk.stream) ready taken (later chunk.stream) after → HoldsBeside queued history now base read chunk.stream holds.waits holds.places later runs after
+        → TakesOutOfOrder (data_part chunk place number) (streams chunk.stream) ready taken (later chunk.stream) after → HoldsBeside queued history now base read (λ other. other ≡ chunk.stream) holds.waits holds.places later runs after
     unfolding all here
     out_of_order place number later runs after taken placed named reads kept others takes =
         let part : IsPart history.log (ordered_base base) (IsApart history chunk.stream) (data_part chunk place number) = part_of history base (ordered_base base) (IsApart history chunk.stream) tsn_number place number chunk bears placed named in
@@ -202,10 +193,10 @@ module _ (queued : List Message) (history : History) (cut : Cut queued history.l
         record { offset = makes.offset; head = makes.head; at = makes.at; is = makes.is; queued_at = makes.queued_at; number = makes.number.0 ∙ of ∙ same; ppid = makes.ppid; payload = makes.payload; spent = makes.spent }
 
     unordered_chunk : (later : ℕ → StreamModel) (runs : List RunModel) (after : List MessageContent) (outcome : Assembled) (taken : Taken) → later ≡ streams → AreRows history.log now (unordered_base base) IsOfStream runs
-        → MakesQueued queued history.log now (OfStream chunk.stream) bears.piece.place outcome → UnorderedOutcome (data_part chunk tsn_number chunk.stream) (delivered_as chunk.stream) ready outcome taken after → HoldsBeside queued history now base read chunk.stream holds.waits holds.places later runs after
+        → MakesQueued queued history.log now (OfStream chunk.stream) bears.piece.place outcome → UnorderedOutcome (data_part chunk tsn_number chunk.stream) (delivered_as chunk.stream) ready outcome taken after → HoldsBeside queued history now base read (λ other. other ≡ chunk.stream) holds.waits holds.places later runs after
     unfolding all
     unordered_chunk later runs after outcome taken same rows makes does =
-        subst (λ (f : ℕ → StreamModel). HoldsBeside queued history now base read chunk.stream holds.waits holds.places f runs after) (sym same)
+        subst (λ (f : ℕ → StreamModel). HoldsBeside queued history now base read (λ other. other ≡ chunk.stream) holds.waits holds.places f runs after) (sym same)
         (holds_then chunk.stream streams runs after here_rows rows (λ other ne. refl)
         (leaves_repeated queued history now all holds.places (holds.waits chunk.stream) chunk.stream chunk.stream bears.piece.place (data_part chunk tsn_number chunk.stream) (streams chunk.stream).waiting ready after outcome taken
         refl holds.were_queued here_wait makes (holds.once chunk.stream) (fresh chunk.stream) does))

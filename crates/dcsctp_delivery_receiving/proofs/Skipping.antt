@@ -1,6 +1,6 @@
 -- What a FORWARD-TSN or I-FORWARD-TSN skips, and streams that are reset.
 use Rattle.std.proofs.Common.{◌≡◌, ◌≢◌, ◌==◌, ℕ, Bool, true, false, List, [], ◌∷◌, ◌++◌, map, refl, sym, ◌∙◌, ap, subst, inl, inr}
-use Rattle.std.specs.Prelude.{nat_le, not, if◌then◌else◌}
+use Rattle.std.specs.Prelude.{◌⊎◌, nat_le, not, if◌then◌else◌}
 use Rattle.std.specs.List.{filter}
 use Rattle.std.proofs.lemmas.List.{append-nil}
 use Rattle.std.proofs.lemmas.Bool.Decides.{eqb_tells}
@@ -18,11 +18,16 @@ use Rattle.dcsctp_delivery_receiving.specs.Ready.{IsOn, IsApart, IsOfStream, fre
 use Rattle.dcsctp_delivery_sending.proofs.Places.{decide, set_same, set_other}
 use Rattle.dcsctp_delivery_receiving.proofs.Distinct.{has_left, has_either, appended, distinct_left, distinct_apart, distinct_front}
 use Rattle.dcsctp_delivery_receiving.proofs.Reading.{reads_moved, reads_past, reads_due}
-use Rattle.dcsctp_delivery_receiving.proofs.Waiting.{both_queued, other_streams, wait_on_stream, wait_spent, Split, split_due, Leaves, leaves_none}
+use Rattle.dcsctp_delivery_receiving.proofs.Waiting.{HoldsBeside, its_message, both_queued, other_streams, wait_on_stream, wait_spent, Split, split_due, Leaves, leaves_none}
 
 -- a stream on which nothing was received
 pub new_rows : (history : History) (got : List ℕ) (base id : ℕ) → StreamRows history got base id (new_stream id)
 new_rows history got base id = record { is = refl; ordered = tt; unordered = tt; next = λ start w. fresh refl; last = λ start w. fresh refl }
+
+-- A FORWARD-TSN has an entry for the stream.
+abbrev pub IsSkipped : List SkippedTo → ℕ → Type 0
+IsSkipped [] id = ⊥
+IsSkipped (entry ∷ entries) id = (id ≡ skipped_stream entry) ⊎ IsSkipped entries id
 
 module _ (queued : List Message) (history : History) (got : List ℕ) (base : ℕ) (read : List ℕ) where
   pub rows_filter : (from : ℕ → ℕ) (Named : Piece → ℕ → Type 0) (test : RunModel → Bool) (runs : List RunModel) → AreRows history.log got from Named runs → AreRows history.log got from Named (filter test runs)
@@ -41,51 +46,43 @@ module _ (queued : List Message) (history : History) (got : List ℕ) (base : �
       go true rest = rest
       go false rest = are
 
-  -- streams that are the same
-  pub holds_same : (streams others : ℕ → StreamModel) (unordered : List RunModel) (ready : List MessageContent) → ((id : ℕ) → others id ≡ streams id) → HoldsAll queued history got base read streams unordered ready
-      → HoldsAll queued history got base read others unordered ready
-  holds_same streams others unordered ready same holds =
-      record {
-        waits = holds.waits;
-        streams_hold = λ id. subst (λ (s : StreamModel). StreamHolds queued history got base id (holds.waits id) s) (sym (same id)) (holds.streams_hold id);
-        rows = holds.rows;
-        places = holds.places;
-        were_queued = holds.were_queued;
-        spent = holds.spent;
-        once = holds.once;
-      }
-
   -- one stream is left so
   holds_left : (id : ℕ) (streams later : ℕ → StreamModel) (unordered : List RunModel) (ready after : List MessageContent) (holds : HoldsAll queued history got base read streams unordered ready)
       → StreamRows history got base id (later id) → ((other : ℕ) → other ≢ id → later other ≡ streams other)
-      → Leaves queued history got (read ++ holds.places) holds.places id (later id).waiting after → HoldsAll queued history got base read later unordered after
+      → Leaves queued history got (read ++ holds.places) holds.places id (later id).waiting after → HoldsBeside queued history got base read (λ other. other ≡ id) holds.waits holds.places later unordered after
   holds_left id streams later unordered ready after holds rows others leaves =
       record {
-        waits = set_at id leaves.waits holds.waits;
-        streams_hold = λ other. elim (decide other id) [
-          | inl e ↦
-              subst (λ (k : ℕ). StreamHolds queued history got base k (set_at id leaves.waits holds.waits k) (later k)) (sym e)
-              (subst (λ (l : List ℕ). StreamHolds queued history got base id l (later id)) (sym (set_same id leaves.waits holds.waits)) (record { rows = rows; wait = leaves.wait }))
-          | inr ne ↦
-              subst (λ (l : List ℕ). StreamHolds queued history got base other l (later other)) (sym (set_other id other leaves.waits holds.waits ne))
-              (subst (λ (s : StreamModel). StreamHolds queued history got base other (holds.waits other) s) (sym (others other ne)) (holds.streams_hold other))
-        ];
-        rows = holds.rows;
-        places = holds.places ++ leaves.more;
-        were_queued = leaves.were;
-        spent = λ q h. elim (has_either q (read ++ holds.places) leaves.more (subst (λ (l : List ℕ). HasEntry q l) (sym (appended read holds.places leaves.more)) h)) [
-          | inl l ↦ holds.spent q l
-          | inr r ↦ leaves.spent q r
-        ];
-        once = λ other. subst (λ (l : List ℕ). AreDistinct (l ++ set_at id leaves.waits holds.waits other)) (appended read holds.places leaves.more)
-            (elim (decide other id) [
-              | inl e ↦
-                  subst (λ (l : List ℕ). AreDistinct (((read ++ holds.places) ++ leaves.more) ++ l)) (sym (ap (set_at id leaves.waits holds.waits) e ∙ set_same id leaves.waits holds.waits)) leaves.once
-              | inr ne ↦
-                  subst (λ (l : List ℕ). AreDistinct (((read ++ holds.places) ++ leaves.more) ++ l)) (sym (set_other id other leaves.waits holds.waits ne))
-                  (distinct_apart (read ++ holds.places) leaves.more (holds.waits other) (distinct_left ((read ++ holds.places) ++ leaves.more) leaves.waits leaves.once) (holds.once other)
-                  (λ q l r. other_streams queued id other q (leaves.on q l) (wait_on_stream queued history got other q (holds.waits other) (streams other).waiting (holds.streams_hold other).wait r) (λ same'. ne (sym same'))))
-            ]);
+        holds = record {
+          waits = set_at id leaves.waits holds.waits;
+          streams_hold = λ other. elim (decide other id) [
+            | inl e ↦
+                subst (λ (k : ℕ). StreamHolds queued history got base k (set_at id leaves.waits holds.waits k) (later k)) (sym e)
+                (subst (λ (l : List ℕ). StreamHolds queued history got base id l (later id)) (sym (set_same id leaves.waits holds.waits)) (record { rows = rows; wait = leaves.wait }))
+            | inr ne ↦
+                subst (λ (l : List ℕ). StreamHolds queued history got base other l (later other)) (sym (set_other id other leaves.waits holds.waits ne))
+                (subst (λ (s : StreamModel). StreamHolds queued history got base other (holds.waits other) s) (sym (others other ne)) (holds.streams_hold other))
+          ];
+          rows = holds.rows;
+          places = holds.places ++ leaves.more;
+          were_queued = leaves.were;
+          spent = λ q h. elim (has_either q (read ++ holds.places) leaves.more (subst (λ (l : List ℕ). HasEntry q l) (sym (appended read holds.places leaves.more)) h)) [
+            | inl l ↦ holds.spent q l
+            | inr r ↦ leaves.spent q r
+          ];
+          once = λ other. subst (λ (l : List ℕ). AreDistinct (l ++ set_at id leaves.waits holds.waits other)) (appended read holds.places leaves.more)
+              (elim (decide other id) [
+                | inl e ↦
+                    subst (λ (l : List ℕ). AreDistinct (((read ++ holds.places) ++ leaves.more) ++ l)) (sym (ap (set_at id leaves.waits holds.waits) e ∙ set_same id leaves.waits holds.waits)) leaves.once
+                | inr ne ↦
+                    subst (λ (l : List ℕ). AreDistinct (((read ++ holds.places) ++ leaves.more) ++ l)) (sym (set_other id other leaves.waits holds.waits ne))
+                    (distinct_apart (read ++ holds.places) leaves.more (holds.waits other) (distinct_left ((read ++ holds.places) ++ leaves.more) leaves.waits leaves.once) (holds.once other)
+                    (λ q l r. other_streams queued id other q (leaves.on q l) (wait_on_stream queued history got other q (holds.waits other) (streams other).waiting (holds.streams_hold other).wait r) (λ same'. ne (sym same'))))
+              ]);
+        };
+        more = leaves.more;
+        places_are = refl;
+        on = λ q h. (id, refl, its_message queued id q (leaves.on q h));
+        others = λ other ne. set_other id other leaves.waits holds.waits ne;
       }
 
   -- what is due becomes ready
@@ -155,8 +152,8 @@ module _ (queued : List Message) (history : History) (got : List ℕ) (base : �
       go true e = absurd (cc)
       go false e = refl
 
-  one_skipped : (passed : ℕ) (entry : SkippedTo) (streams : ℕ → StreamModel) (unordered : List RunModel) (ready : List MessageContent) → HoldsAll queued history got base read streams unordered ready
-      → NamesCurrent history passed entry → HoldsAll queued history got base read (λ id. skipped_on entry id (streams id)) unordered (ready ++ skip_deliveries entry (streams (skipped_stream entry)))
+  one_skipped : (passed : ℕ) (entry : SkippedTo) (streams : ℕ → StreamModel) (unordered : List RunModel) (ready : List MessageContent) (holds : HoldsAll queued history got base read streams unordered ready)
+      → NamesCurrent history passed entry → HoldsBeside queued history got base read (λ other. other ≡ skipped_stream entry) holds.waits holds.places (λ id. skipped_on entry id (streams id)) unordered (ready ++ skip_deliveries entry (streams (skipped_stream entry)))
   one_skipped passed entry streams unordered ready holds names =
       let id : ℕ = skipped_stream entry in
       let here : StreamHolds queued history got base id (holds.waits id) (streams id) = holds.streams_hold id in
@@ -167,31 +164,75 @@ module _ (queued : List Message) (history : History) (got : List ℕ) (base : �
       (subst (λ (s : StreamModel). Leaves queued history got (read ++ holds.places) holds.places id s.waiting (ready ++ skip_deliveries entry (streams id))) (sym is)
       (skipped_leaves (read ++ holds.places) holds.places (holds.waits id) id entry (streams id) ready here holds.were_queued (holds.once id)))
 
-  all_skipped : (entries : List SkippedTo) (streams : ℕ → StreamModel) (unordered : List RunModel) (ready : List MessageContent) → HoldsAll queued history got base read streams unordered ready
-      → AreNamed history entries → HoldsAll queued history got base read (λ id. skipped_by entries id (streams id)) unordered (ready ++ deliveries_by entries streams)
-  all_skipped [] streams unordered ready holds names = subst (λ (l : List MessageContent). HoldsAll queued history got base read streams unordered l) (sym (append-nil ready)) holds
+  nothing_beside : (Named : ℕ → Type 0) (streams : ℕ → StreamModel) (unordered : List RunModel) (ready : List MessageContent) (holds : HoldsAll queued history got base read streams unordered ready)
+      → HoldsBeside queued history got base read Named holds.waits holds.places streams unordered ready
+  nothing_beside Named streams unordered ready holds =
+      record { holds = holds; more = []; places_are = sym (append-nil holds.places); on = λ q h. absurd h; others = λ other ne. refl }
+
+  all_skipped : (entries : List SkippedTo) (streams : ℕ → StreamModel) (unordered : List RunModel) (ready : List MessageContent) (holds : HoldsAll queued history got base read streams unordered ready)
+      → AreNamed history entries → HoldsBeside queued history got base read (IsSkipped entries) holds.waits holds.places (λ id. skipped_by entries id (streams id)) unordered (ready ++ deliveries_by entries streams)
+  all_skipped [] streams unordered ready holds names =
+      subst (λ (l : List MessageContent). HoldsBeside queued history got base read (IsSkipped []) holds.waits holds.places streams unordered l) (sym (append-nil ready)) (nothing_beside (IsSkipped []) streams unordered ready holds)
   all_skipped (entry ∷ entries) streams unordered ready holds names =
-      subst (λ (l : List MessageContent). HoldsAll queued history got base read (λ id. skipped_by (entry ∷ entries) id (streams id)) unordered l)
+      subst (λ (l : List MessageContent). HoldsBeside queued history got base read (IsSkipped (entry ∷ entries)) holds.waits holds.places (λ id. skipped_by (entry ∷ entries) id (streams id)) unordered l)
       (messages_appended ready (skip_deliveries entry (streams (skipped_stream entry))) (deliveries_by entries (λ id. skipped_on entry id (streams id))))
-      (all_skipped entries (λ id. skipped_on entry id (streams id)) unordered (ready ++ skip_deliveries entry (streams (skipped_stream entry))) (one_skipped names.0.0 entry streams unordered ready holds names.0.1) names.1)
+      (joined one (all_skipped entries (λ id. skipped_on entry id (streams id)) unordered (ready ++ skip_deliveries entry (streams (skipped_stream entry))) one.holds names.1))
     where
+      one : HoldsBeside queued history got base read (λ other. other ≡ skipped_stream entry) holds.waits holds.places (λ id. skipped_on entry id (streams id)) unordered (ready ++ skip_deliveries entry (streams (skipped_stream entry)))
+      one = one_skipped names.0.0 entry streams unordered ready holds names.0.1
+
+      joined : (first : HoldsBeside queued history got base read (λ other. other ≡ skipped_stream entry) holds.waits holds.places (λ id. skipped_on entry id (streams id)) unordered (ready ++ skip_deliveries entry (streams (skipped_stream entry))))
+          → HoldsBeside queued history got base read (IsSkipped entries) first.holds.waits first.holds.places (λ id. skipped_by entries id (skipped_on entry id (streams id))) unordered
+          ((ready ++ skip_deliveries entry (streams (skipped_stream entry))) ++ deliveries_by entries (λ id. skipped_on entry id (streams id)))
+          → HoldsBeside queued history got base read (IsSkipped (entry ∷ entries)) holds.waits holds.places (λ id. skipped_by entries id (skipped_on entry id (streams id))) unordered
+          ((ready ++ skip_deliveries entry (streams (skipped_stream entry))) ++ deliveries_by entries (λ id. skipped_on entry id (streams id)))
+      joined first second =
+          record {
+            holds = second.holds;
+            more = first.more ++ second.more;
+            places_are = second.places_are ∙ ap (λ (l : List ℕ). l ++ second.more) first.places_are ∙ appended holds.places first.more second.more;
+            on = λ q h. elim (has_either q first.more second.more h) [
+              | inl l ↦ (let on = first.on q l in (on.0, inl on.1, on.2))
+              | inr r ↦ (let on = second.on q r in (on.0, inr on.1, on.2))
+            ];
+            others = λ other ne. second.others other (λ named. ne (inr named)) ∙ first.others other (λ named. ne (inl named));
+          }
+
       messages_appended : (xs ys zs : List MessageContent) → (xs ++ ys) ++ zs ≡ xs ++ (ys ++ zs)
       messages_appended [] ys zs = refl
       messages_appended (x ∷ xs) ys zs = ap (λ (l : List MessageContent). x ∷ l) (messages_appended xs ys zs)
 
-  -- the runs of unordered messages are others
-  apart_rows : (streams : ℕ → StreamModel) (unordered others : List RunModel) (ready : List MessageContent) → HoldsAll queued history got base read streams unordered ready → AreRows history.log got (unordered_base base) IsOfStream others
-      → HoldsAll queued history got base read streams others ready
-  apart_rows streams unordered others ready holds rows =
-      record { waits = holds.waits; streams_hold = holds.streams_hold; rows = rows; places = holds.places; were_queued = holds.were_queued; spent = holds.spent; once = holds.once }
+  -- the same of streams that are the same, and with other runs of unordered messages
+  alike_beside : (Named : ℕ → Type 0) (waits : ℕ → List ℕ) (places : List ℕ) (streams others : ℕ → StreamModel) (unordered runs : List RunModel) (ready : List MessageContent) → ((id : ℕ) → others id ≡ streams id)
+      → AreRows history.log got (unordered_base base) IsOfStream runs → HoldsBeside queued history got base read Named waits places streams unordered ready → HoldsBeside queued history got base read Named waits places others runs ready
+  alike_beside Named waits places streams others unordered runs ready same rows b =
+      record {
+        holds = record {
+          waits = b.holds.waits;
+          streams_hold = λ id. subst (λ (s : StreamModel). StreamHolds queued history got base id (b.holds.waits id) s) (sym (same id)) (b.holds.streams_hold id);
+          rows = rows;
+          places = b.holds.places;
+          were_queued = b.holds.were_queued;
+          spent = b.holds.spent;
+          once = b.holds.once;
+        };
+        more = b.more;
+        places_are = b.places_are;
+        on = b.on;
+        others = b.others;
+      }
 
-  pub skips_on : (tsn : ℕ) (entries : List SkippedTo) (old new : IncomingModel) → AreNamed history entries → HoldsIncoming queued history got base read old → MovesOn tsn entries old new → HoldsIncoming queued history got base read new
-  skips_on tsn entries old new names holds moves =
+  pub skips_beside : (tsn : ℕ) (entries : List SkippedTo) (old new : IncomingModel) → AreNamed history entries → (holds : HoldsIncoming queued history got base read old) → MovesOn tsn entries old new
+      → HoldsBeside queued history got base read (IsSkipped entries) holds.waits holds.places (λ id. stream_on id new.streams) new.unordered new.ready
+  skips_beside tsn entries old new names holds moves =
       let skipped_all = all_skipped entries (λ id. stream_on id old.streams) old.unordered old.ready holds names in
       let rows : AreRows history.log got (unordered_base base) IsOfStream new.unordered = subst (λ (l : List RunModel). AreRows history.log got (unordered_base base) IsOfStream l) (sym moves.unordered) (rows_behind (unordered_base base) IsOfStream (number_near old.last_tsn_number tsn) old.unordered holds.rows) in
-      subst (λ (l : List MessageContent). HoldsAll queued history got base read (λ id. stream_on id new.streams) new.unordered l) (sym moves.ready)
-      (apart_rows (λ id. stream_on id new.streams) old.unordered new.unordered (old.ready ++ deliveries_by entries (λ id. stream_on id old.streams))
-      (holds_same (λ id. skipped_by entries id (stream_on id old.streams)) (λ id. stream_on id new.streams) old.unordered (old.ready ++ deliveries_by entries (λ id. stream_on id old.streams)) moves.streams skipped_all) rows)
+      subst (λ (l : List MessageContent). HoldsBeside queued history got base read (IsSkipped entries) holds.waits holds.places (λ id. stream_on id new.streams) new.unordered l) (sym moves.ready)
+      (alike_beside (IsSkipped entries) holds.waits holds.places (λ id. skipped_by entries id (stream_on id old.streams)) (λ id. stream_on id new.streams) old.unordered new.unordered (old.ready ++ deliveries_by entries (λ id. stream_on id old.streams))
+      moves.streams rows skipped_all)
+
+  pub skips_on : (tsn : ℕ) (entries : List SkippedTo) (old new : IncomingModel) → AreNamed history entries → HoldsIncoming queued history got base read old → MovesOn tsn entries old new → HoldsIncoming queued history got base read new
+  skips_on tsn entries old new names holds moves = (skips_beside tsn entries old new names holds moves).holds
 
   -- ---- streams that are reset
 

@@ -4,12 +4,12 @@ use Rattle.std.specs.Prelude.{Some, nat_le, MatchBool, if◌then◌else◌}
 use Rattle.std.proofs.lemmas.List.{append-nil}
 use Rattle.dcsctp_spec_lemmas.specs.types.queues.Messages.{MessageContent}
 use Rattle.dcsctp_spec_lemmas.specs.types.declared.arrivals.Taken.{Taken}
-use Rattle.dcsctp_spec_lemmas.specs.spec.queues.Runs.{PartModel, WholeModel, Assembled, part_dropped, part_kept, message_whole}
+use Rattle.dcsctp_spec_lemmas.specs.spec.queues.Runs.{RunModel, PartModel, WholeModel, Assembled, part_dropped, part_kept, message_whole}
 use Rattle.dcsctp_spec_lemmas.specs.spec.queues.IncomingStreams.{StreamModel, delivered_as, next_after, due, not_due, ready_with, WaitsAmong, TakesWhole, OrderedOutcome, UnorderedOutcome}
 use Rattle.dcsctp_delivery_sending.specs.Places.{HasEntry, at_place}
 use Rattle.dcsctp_delivery_sending.specs.Log.{Message, Piece, Slot, History}
 use Rattle.dcsctp_delivery_receiving.specs.Rows.{Spent, IsQueued, MakesQueued}
-use Rattle.dcsctp_delivery_receiving.specs.Ready.{IsOn, IsApart, ordered_base, AreDistinct, WasQueued, WereQueued, WaitQueued, StreamRows, StreamHolds}
+use Rattle.dcsctp_delivery_receiving.specs.Ready.{IsOn, IsApart, ordered_base, AreDistinct, WasQueued, WereQueued, WaitQueued, StreamRows, StreamHolds, HoldsAll}
 use Rattle.dcsctp_delivery_receiving.proofs.SpentRows.{rows_got, spent_got}
 use Rattle.dcsctp_delivery_receiving.proofs.Distinct.{appended, has_left, distinct_with}
 
@@ -36,6 +36,15 @@ module _ (queued : List Message) where
       let both' : Some m ≡ Some n = sym at ∙ at' in
       let same : m ≡ n = cc in
       ne (sym on ∙ ap (λ (x : Message). x.stream) same ∙ on')
+
+-- All of it was queued, and beside messages of these streams nothing became ready, and the same waits.
+pub record HoldsBeside (queued : List Message) (history : History) (got : List ℕ) (base : ℕ) (read : List ℕ) (Named : ℕ → Type 0) (waits : ℕ → List ℕ) (places : List ℕ)
+    (streams : ℕ → StreamModel) (unordered : List RunModel) (ready : List MessageContent) : Type 0 where
+  pub holds : HoldsAll queued history got base read streams unordered ready
+  pub more : List ℕ
+  pub places_are : holds.places ≡ places ++ more
+  pub on : (q : ℕ) → HasEntry q more → (id : ℕ) × Named id × ((message : Message) × (at_place q queued ≡ Some message) × (message.stream ≡ id))
+  pub others : (other : ℕ) → (Named other → ⊥) → holds.waits other ≡ waits other
 
 -- a message of the stream, whatever its number
 abbrev pub OfStream : ℕ → Piece → ℕ → Type 0

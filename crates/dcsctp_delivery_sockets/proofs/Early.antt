@@ -1,6 +1,6 @@
 -- An association that isn't connected: by the RFC what is in flight stays untouched, turn by turn. And a
 -- COOKIE ECHO that is handled went to its cookie's maker.
-use Rattle.std.proofs.Common.{◌≡◌, ℕ, ◌<◌, ◌^◌, Bool, true, false, List, [], ◌∷◌, ◌++◌, refl, sym, ◌∙◌, ap, subst, inl, inr}
+use Rattle.std.proofs.Common.{◌≡◌, ℕ, Bool, true, false, List, [], ◌∷◌, refl, sym, ◌∙◌, ap, subst, inl, inr}
 use Rattle.std.specs.Prelude.{Option, None, Some}
 use Rattle.std.specs.List.{AllByRecursion}
 use Rattle.dcsctp_spec_lemmas.specs.wire.Content.{PacketContent}
@@ -9,7 +9,6 @@ use Rattle.dcsctp_spec_lemmas.specs.types.declared.options.Options.{Options}
 use Rattle.dcsctp_spec_lemmas.specs.types.Settings.{wire_options}
 use Rattle.dcsctp_spec_lemmas.specs.spec.Admission.{Admission, all_chunks, shutdown_acks_alone, refused, admits, shutdown_acks_in}
 use Rattle.dcsctp_spec_lemmas.specs.spec.Packet.{Packet, packet_in, Content, init, init_ack, cookie_echo, cookie_ack, re_config, abort, shutdown, shutdown_ack, shutdown_complete, plain, Emission}
-use Rattle.dcsctp_spec_lemmas.specs.spec.association.Acts.{shut_down}
 use Rattle.dcsctp_spec_lemmas.specs.spec.association.Effect.{AssociationIdentity, Effect, holds, connects, resumes, identity_of, identity_in}
 use Rattle.dcsctp_spec_lemmas.specs.spec.endpoint.CallTurns.{packet_tail, asked_again, Transition, IsTurn, Turns, AfterChunk, ChunkTurns, AlongTurns, AdmittedTurns, HandleInput, unreadable, readable, after_all, effects_of}
 use Rattle.dcsctp_spec_lemmas.specs.spec.endpoint.Endpoint.{Endpoint, Core, closed, cookie_wait, cookie_echoed, open_in, fresh_endpoint, is_cookie_echoed}
@@ -17,13 +16,12 @@ use Rattle.dcsctp_spec_lemmas.specs.spec.endpoint.Following.{Following, next_chu
 use Rattle.dcsctp_spec_lemmas.specs.spec.endpoint.MessageOutcomes.{awaits_opening}
 use Rattle.dcsctp_spec_lemmas.specs.spec.endpoint.Outcome.{Outcome}
 use Rattle.dcsctp_spec_lemmas.specs.spec.endpoint.Turn.{Input, arrival, refusal, packet_begins, chunk_input, packet_ends, act_input, user_sets, user_sends, user_resets, user_takes, timer_expires, time_passes, restores, unreadable_text}
-use Rattle.dcsctp_spec_lemmas.specs.spec.queues.Transfer.{Transfer}
 use Rattle.dcsctp_spec_runs.specs.Past.{HasEffect}
 use Rattle.dcsctp_spec_runs.specs.World.{after_effects}
 use Rattle.dcsctp_theorem_association.proofs.Growth.{after_effects-append, after_within}
 use Rattle.dcsctp_theorem_sockets.proofs.Signs.{among_after}
 use Rattle.dcsctp_theorem_sockets.proofs.SocketsAlone.{Moves, it_rests, it_moves}
-use Rattle.dcsctp_delivery_turns.specs.Actions.{came_by, IsOpening, IsCall}
+use Rattle.dcsctp_delivery_turns.specs.Actions.{IsCall}
 use Rattle.dcsctp_delivery_turns.specs.Asking.{own_of, SomeFit}
 use Rattle.dcsctp_delivery_turns.specs.Untouched.{Untouched, EchoesMaker}
 use Rattle.dcsctp_delivery_turns.proofs.Beginnings.{unlinked_fits}

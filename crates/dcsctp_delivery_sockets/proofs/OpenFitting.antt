@@ -1,5 +1,5 @@
 -- Where an association begins in an act, its numbers fit their fields.
-use Rattle.std.proofs.Common.{◌≡◌, ◌≢◌, ℕ, Bool, true, false, ◌≤◌, ◌-◌, List, [], ◌∷◌, sym, arith, subst}
+use Rattle.std.proofs.Common.{◌≡◌, ◌≢◌, ℕ, Bool, true, false, ◌≤◌, List, [], ◌∷◌, sym, arith, subst}
 use Rattle.std.specs.Prelude.{Some, Bool}
 use Rattle.std.specs.List.{AllByRecursion}
 use Rattle.dcsctp_spec_lemmas.specs.wire.Content.{PacketContent}
@@ -15,7 +15,7 @@ use Rattle.dcsctp_spec_runs.specs.Laws.{OfferReadsBack}
 use Rattle.dcsctp_spec_lemmas.specs.spec.endpoint.Outcome.{Outcome}
 use Rattle.dcsctp_spec_lemmas.specs.spec.Packet.{Packet, packet_in, Emission}
 use Rattle.dcsctp_spec_lemmas.specs.spec.endpoint.Turn.{Input, arrival, refusal, packet_begins, chunk_input, packet_ends, act_input, user_sets, user_sends, user_resets, user_takes, timer_expires, time_passes, restores, has_data_chunk, BeginTurn, unreadable_text}
-use Rattle.dcsctp_spec_lemmas.specs.spec.association.Effect.{AssociationIdentity, holds, identity_of, identity_in}
+use Rattle.dcsctp_spec_lemmas.specs.spec.association.Effect.{AssociationIdentity, identity_of, identity_in}
 use Rattle.dcsctp_theorem_sockets.proofs.Deliver.{tail_fits, Fits, chunk_turns_fit, nothing_ends, acks_sendable}
 use Rattle.dcsctp_delivery_turns.specs.Actions.{came_by, IsOpening}
 use Rattle.dcsctp_delivery_sockets.proofs.Calls.{NoChunk, NoChunks}

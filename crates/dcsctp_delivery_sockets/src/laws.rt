@@ -50,10 +50,11 @@ pub fn acts_keep_ends()
 /// an own tag may serve two associations, the second of which takes the place of one that the other side never has
 /// (RFC 9260, section 5.2.4, action B): both sides connect, the one after it answered the other's INIT, and fewer than
 /// 2^30 chunks go to both peers' tags together. The ordered messages of a stream that are read in one association come
-/// in the order in which they were sent, where the sender follows the RFC or has no other association, and messages
+/// in the order in which they were sent, where the sender follows the RFC or has no other own tag, and messages
 /// interleave, across resets of the stream, or no request to reset streams was sent, and no message may be abandoned or
-/// few are ordered. Where the sender has one association, no message may be abandoned and its user never resets streams,
-/// they are a prefix of what was sent. Where messages interleave, it takes this of the stream alone.
+/// few are ordered. Where the sender has no other own tag, those of a stream that its user never resets are a prefix of
+/// what was sent, whatever other streams are reset, if none of the stream may be abandoned, or, where messages don't
+/// interleave, none of any stream, or else if fewer than 2^15 are sent on it.
 pub fn sockets_deliver()
     ensures { SocketsDeliver }
 {

@@ -2,7 +2,7 @@
 -- ends: it begins no request to reset streams.
 use Rattle.dcsctp_spec_lemmas.specs.types.declared.ends.AbortReason.TheVariants as reasons
 use Rattle.std.proofs.Common.{◌≡◌, ◌⊎◌, ◌==◌, ◌&&◌, ℕ, Bool, true, false, cond, Option, None, Some, Result, Ok, Err, List, [], ◌∷◌, refl, sym, ◌∙◌, ap, subst, inl, inr}
-use Rattle.dcsctp_spec_lemmas.specs.wire.Content.{ParameterContent, data_chunk, init_chunk, init_ack_chunk, sack_chunk, heartbeat_chunk, heartbeat_ack_chunk, abort_chunk, shutdown_chunk, shutdown_ack_chunk, error_chunk, cookie_echo_chunk, cookie_ack_chunk, shutdown_complete_chunk, i_data_chunk, re_config_chunk, forward_tsn_chunk, i_forward_tsn_chunk, unknown_chunk}
+use Rattle.dcsctp_spec_lemmas.specs.wire.Content.{data_chunk, init_chunk, init_ack_chunk, sack_chunk, heartbeat_chunk, heartbeat_ack_chunk, abort_chunk, shutdown_chunk, shutdown_ack_chunk, error_chunk, cookie_echo_chunk, cookie_ack_chunk, shutdown_complete_chunk, i_data_chunk, re_config_chunk, forward_tsn_chunk, i_forward_tsn_chunk, unknown_chunk}
 use Rattle.dcsctp_spec_lemmas.specs.types.declared.association.Held.{Held}
 use Rattle.dcsctp_spec_lemmas.specs.types.declared.association.Pair.{Pair}
 use Rattle.dcsctp_spec_lemmas.specs.types.declared.ends.AbortReason.{AbortReason}
@@ -10,34 +10,32 @@ use Rattle.dcsctp_spec_lemmas.specs.types.declared.ends.Violation.{Violation}
 use Rattle.dcsctp_spec_lemmas.specs.types.declared.word.Word.{Word}
 use Rattle.dcsctp_spec_lemmas.specs.types.queues.Messages.{MessageContent}
 use Rattle.dcsctp_spec_lemmas.specs.spec.Cookie.{Cookie, cookie_at}
-use Rattle.dcsctp_spec_lemmas.specs.spec.Packet.{Introduction, Content, init, init_ack, cookie_echo, cookie_ack, re_config, abort, shutdown, shutdown_ack, shutdown_complete, Plain, unknown, heartbeat, heartbeat_ack, unworked, plain, Emission}
+use Rattle.dcsctp_spec_lemmas.specs.spec.Packet.{Content, init, init_ack, cookie_echo, cookie_ack, re_config, abort, shutdown, shutdown_ack, shutdown_complete, Plain, unknown, heartbeat, heartbeat_ack, unworked, plain, Emission}
 use Rattle.dcsctp_spec_lemmas.specs.spec.Reconfiguration.{RequestedReset}
 use Rattle.dcsctp_spec_lemmas.specs.spec.association.Acts as acts
 use Rattle.dcsctp_spec_lemmas.specs.spec.association.Acts.{Act, connect, t1_expires, shut_down, step_of_shutdown, shutdown_repeats, abort_with, hands_over, flushes, request_again}
 use Rattle.dcsctp_spec_lemmas.specs.spec.association.CookieEchoChanges.{Resolution, establish_new, restart, simultaneous_init, discard, maintain_existing, invalid_tag, stale}
 use Rattle.dcsctp_spec_lemmas.specs.spec.association.Choices.{plain_contents}
 use Rattle.dcsctp_spec_lemmas.specs.spec.endpoint.BegunResets.{BegunReset, core_asking, after_begun, last_assigned_tsn}
-use Rattle.dcsctp_spec_lemmas.specs.spec.endpoint.Cause.{Cause}
-use Rattle.dcsctp_spec_lemmas.specs.spec.endpoint.CookieEchoOutcomes.{EstablishAnswers, ResolvedAnswers, resolved_by, EchoedAnswers, cookie_echo_by, resolved_now, cookie_ack_emission}
-use Rattle.dcsctp_spec_lemmas.specs.spec.endpoint.DataOutcomes.{endpoint_with_tracker, flush_by, AnswersTo, FlushTurn, acknowledging, EndWhere, EndsBy, TakeWhere, TakeLeft, TakeTurn, delay_outcome, LossTurn}
-use Rattle.dcsctp_spec_lemmas.specs.spec.endpoint.EndOutcomes.{abort_outcome, aborting_outcome}
+use Rattle.dcsctp_spec_lemmas.specs.spec.endpoint.CookieEchoOutcomes.{ResolvedAnswers, resolved_by, EchoedAnswers, cookie_echo_by, resolved_now, cookie_ack_emission}
+use Rattle.dcsctp_spec_lemmas.specs.spec.endpoint.DataOutcomes.{endpoint_with_tracker, flush_by, AnswersTo, FlushTurn, EndWhere, EndsBy, TakeWhere, TakeLeft, TakeTurn, delay_outcome, LossTurn}
+use Rattle.dcsctp_spec_lemmas.specs.spec.endpoint.EndOutcomes.{aborting_outcome}
 use Rattle.dcsctp_spec_lemmas.specs.spec.endpoint.Endpoint.{Endpoint, Core, closed, cookie_wait, cookie_echoed, open_in, OutstandingRequest, held_in, is_cookie_echoed}
 use Rattle.dcsctp_spec_lemmas.specs.spec.endpoint.FlushOutcomes.{Answer, may_be_asked, begun_at, filled, room_in, draft_to, flush_of, flush_answered, first_ask, packets_allowed, GivesWhere, IsAnswerOfQueues, AreFlushAnswers, at_limit, at_empty, after_packet, FlushAnswers}
-use Rattle.dcsctp_spec_lemmas.specs.spec.endpoint.HandshakeOutcomes.{init_ack_emission, init_outcome, connect_outcome, echo_emission, EchoAnswers, InitAckAnswers, init_ack_by, connected_after, CookieAckAnswers, cookie_ack_by}
+use Rattle.dcsctp_spec_lemmas.specs.spec.endpoint.HandshakeOutcomes.{init_ack_emission, init_outcome, connect_outcome, echo_emission, EchoAnswers, init_ack_by, connected_after, CookieAckAnswers, cookie_ack_by}
 use Rattle.dcsctp_spec_lemmas.specs.spec.endpoint.HeartbeatOutcomes.{heartbeat_outcome, info_in, counter_of, answered, heartbeat_ack_outcome, interval_expired, beating, heartbeat_emission, interval_outcome, is_exhausted}
 use Rattle.dcsctp_spec_lemmas.specs.spec.endpoint.MessageOutcomes.{Sending, queue_all, queue_by, queue_one, MessageRefusal, sending_refusal, takes_any, SendAnswers, send_by, SendTurn}
-use Rattle.dcsctp_spec_lemmas.specs.spec.endpoint.Outcome.{Outcome, still, fits, emits, answering, answers_with, to_peer, quiet}
+use Rattle.dcsctp_spec_lemmas.specs.spec.endpoint.Outcome.{Outcome, still, fits, answering, to_peer, quiet}
 use Rattle.dcsctp_spec_lemmas.specs.spec.endpoint.OwnTimers.{OwnTimer, acknowledgement_delay, retransmission, heartbeat_interval, heartbeat_timeout, reconfiguration, TimerTurn}
-use Rattle.dcsctp_spec_lemmas.specs.spec.endpoint.PlainOutcomes.{PlainTurnBy, violation_at, is_reported, after_unknown, unknown_bytes, unknown_chunk_outcome, error_outcome}
+use Rattle.dcsctp_spec_lemmas.specs.spec.endpoint.PlainOutcomes.{PlainTurnBy, violation_at, is_reported, after_unknown, unknown_bytes, unknown_chunk_outcome}
 use Rattle.dcsctp_spec_lemmas.specs.spec.endpoint.PreparedResets.{ResetRefusal, reset_refusal, endpoint_with_queue, OwnResetsWhere}
-use Rattle.dcsctp_spec_lemmas.specs.spec.endpoint.ReconfigurationOutcomes.{reset_again, request_emitted, request_renewed, is_renewed, request_repeated, request_unless, request_errors, request_expired, reconfiguration_outcome}
+use Rattle.dcsctp_spec_lemmas.specs.spec.endpoint.ReconfigurationOutcomes.{reset_again, request_emitted, request_renewed, is_renewed, request_unless, request_errors, request_expired, reconfiguration_outcome}
 use Rattle.dcsctp_spec_lemmas.specs.spec.endpoint.ShutdownOutcomes.{shut_down_echoed, shut_down_outcome, step_outcome, shutdown_ack_outcome, shutdown_complete_outcome, shutdown_sent_again, t2_goes_on}
 use Rattle.dcsctp_spec_lemmas.specs.spec.endpoint.HeardShutdown.{ShutdownTurn}
 use Rattle.dcsctp_spec_lemmas.specs.spec.endpoint.HandoverOutcomes.{hand_over_outcome}
 use Rattle.dcsctp_spec_lemmas.specs.spec.endpoint.TimerOutcomes.{AgainAnswers, again_by, t1_goes_on, t1_gives_up_outcome}
 use Rattle.dcsctp_spec_lemmas.specs.spec.endpoint.Turn.{Input, arrival, refusal, packet_begins, chunk_input, packet_ends, act_input, user_sets, user_sends, user_resets, user_takes, timer_expires, time_passes, restores, has_data_chunk, BeginTurn, ContentTurn, needs_connection, comes_early, ActTurn, Turn}
 use Rattle.dcsctp_spec_lemmas.specs.spec.queues.OwnResets.{prepared_all}
-use Rattle.dcsctp_spec_lemmas.specs.spec.queues.SendQueue.{SendQueueState}
 use Rattle.dcsctp_spec_lemmas.specs.spec.queues.Tracker.{TrackerState, after_packet_end, is_acknowledgement_due, sacked}
 use Rattle.dcsctp_spec_lemmas.specs.spec.queues.Transfer.{Transfer, is_idle}
 use Rattle.dcsctp_spec_lemmas.proofs.AbortLemmas.{by_abort_outcome, by_error_outcome}

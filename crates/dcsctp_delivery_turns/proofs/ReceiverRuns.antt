@@ -23,7 +23,6 @@ use Rattle.dcsctp_delivery_turns.specs.Asking.{own_of, SomeFit}
 use Rattle.dcsctp_delivery_turns.proofs.Fronts.{AsksSome, renewed_fit, front_none, resetting, unperformed, front_receives}
 use Rattle.dcsctp_spec_lemmas.specs.spec.Packet.{re_config}
 use Rattle.dcsctp_delivery_sending.specs.Flushes.{NoRequests}
-use Rattle.dcsctp_delivery_sending.specs.Places.{HasEntry}
 use Rattle.dcsctp_delivery_directions.specs.Requests.{IsOfBegun}
 use Rattle.dcsctp_delivery_directions.proofs.Requests.{requests_were_begun}
 use Rattle.dcsctp_delivery_turns.proofs.PeerRequests.{none_requested}
