@@ -16,12 +16,14 @@ pub struct Counts {
 
     /// In how many schedules each verification tag served one association up to the end; how many messages were read
     /// while it was so; how many of these once a reset of streams had been performed; how many in the first
-    /// association of both sides; and how many of these in schedules without limits and resets.
+    /// association of both sides; how many of these in schedules without limits and resets; and how many in those with
+    /// resets or limits on other streams.
     pub served: u32,
     pub read: u32,
     pub read_after_reset: u32,
     pub in_order: u32,
     pub without_gap: u32,
+    pub beside: u32,
 }
 
 fn one_more(count: &mut u32) {
@@ -48,6 +50,7 @@ impl Counts {
             read_after_reset: 0,
             in_order: 0,
             without_gap: 0,
+            beside: 0,
         }
     }
 
@@ -58,6 +61,7 @@ impl Counts {
         add(&mut self.read_after_reset, delivery.read_after_reset);
         add(&mut self.in_order, delivery.in_order);
         add(&mut self.without_gap, delivery.without_gap);
+        add(&mut self.beside, delivery.beside);
     }
 
     /// Counts an event. Is it a connection or an end?
@@ -91,7 +95,8 @@ impl Counts {
             least.read_after_reset <= self.read_after_reset,
             least.in_order <= self.in_order,
             least.without_gap <= self.without_gap,
+            least.beside <= self.beside,
         ];
-        assert!(rt; enough == [true; 11], "{name}: {self:?}");
+        assert!(rt; enough == [true; 12], "{name}: {self:?}");
     }
 }

@@ -3,7 +3,7 @@
 
 use crate::counter::Counter;
 use crate::steps::{ORDERED, other};
-use crate::view::{Schedule, View};
+use crate::view::{Kind, Schedule, View};
 use dcsctp_world::socket::{Association, Message, Pair, StreamId};
 use dcsctp_world::{Side, World};
 use std::alloc::Global;
@@ -18,49 +18,85 @@ fn tags_of(association: &Option<Association>) -> Option<Tags> {
     Some((association.my, association.held?.peer))
 }
 
-// Those of all associations of a side, each as often as it began.
-fn begun(rt: &impl Abort, alloc: Global, world: &World<Counter>, side: Side) -> Vec<Tags> {
-    let mut all: Vec<Tags> = Vec::new(alloc);
-    let mut last = None;
+// An association of a side, and the one that was there when it began.
+#[derive(Clone, Copy)]
+struct Begun {
+    tags: Tags,
+    before: Option<Tags>,
+}
+
+// All of a side, each as often as it began.
+fn all_begun(rt: &impl Abort, alloc: Global, world: &World<Counter>, side: Side) -> Vec<Begun> {
+    let mut all: Vec<Begun> = Vec::new(alloc);
+    let mut before = None;
     for association in world.associations(side) {
         let tags = tags_of(association);
         if let Some(tags) = tags
-            && last != Some(tags)
+            && before != Some(tags)
         {
-            all.push(tags).expect(rt, "no memory");
+            all.push(Begun { tags, before }).expect(rt, "no memory");
         }
-        last = tags;
+        before = tags;
     }
     all
 }
 
-// Has none a tag of one before it?
-fn are_new(all: &[Tags]) -> bool {
-    for (at, (my, peer)) in all.iter().enumerate() {
+// Did the other side never have it?
+fn is_unmatched((_, peer): Tags, others: &[Begun]) -> bool {
+    others.iter().all(|other| other.tags.0.tag != peer.tag)
+}
+
+// Does it take the place of the old one, which the other side never had (RFC 9260, section 5.2.4, action B)?
+fn takes_place(old: Tags, new: &Begun, others: &[Begun], by_rfc: bool) -> bool {
+    by_rfc && old.0 == new.tags.0 && new.before == Some(old) && is_unmatched(old, others)
+}
+
+// Are its tags other than those of the old one, but for its own, if it takes its place?
+fn has_new_tags(old: Tags, new: &Begun, others: &[Begun], by_rfc: bool) -> bool {
+    let (my, peer) = new.tags;
+    old.1.tag != peer.tag && (old.0.tag != my.tag || takes_place(old, new, others, by_rfc))
+}
+
+// Has none a tag of one before it, unless it takes its place?
+fn are_new(all: &[Begun], others: &[Begun], by_rfc: bool) -> bool {
+    for (at, new) in all.iter().enumerate() {
         let mut earlier = all.iter().take(at);
-        if earlier.any(|(old, old_peer)| old.tag == my.tag || old_peer.tag == peer.tag) {
+        if !earlier.all(|old| has_new_tags(old.tags, new, others, by_rfc)) {
             return false;
         }
     }
     true
 }
 
-// Does it match each of the other side's with which it has a tag in common?
-fn matches_all((my, peer): &Tags, others: &[Tags]) -> bool {
-    for (their, their_peer) in others {
-        let shares = my.tag == their_peer.tag || peer.tag == their.tag;
-        if shares && (my != their_peer || peer != their) {
+// If these of two sides have a tag in common, do they match, or may the place of one be taken?
+fn may_meet(one: Tags, other: Tags, (all, others): (&[Begun], &[Begun]), by_rfc: bool) -> bool {
+    let (my, peer) = one;
+    let (their, their_peer) = other;
+    if my.tag != their_peer.tag && peer.tag != their.tag {
+        return true;
+    }
+    let is_replaced = by_rfc && (is_unmatched(one, others) || is_unmatched(other, all));
+    let shares_pair = (my.tag != their_peer.tag || my == their_peer)
+        && (peer.tag != their.tag || peer == their);
+    (my == their_peer && peer == their) || (shares_pair && is_replaced)
+}
+
+// Does each verification tag serve one association, or two of which one takes the place of the other?
+fn tags_serve_once(rt: &impl Abort, alloc: Global, world: &World<Counter>, by_rfc: bool) -> bool {
+    let a = all_begun(rt, alloc, world, Side::A);
+    let b = all_begun(rt, alloc, world, Side::B);
+    if !are_new(&a, &b, by_rfc) || !are_new(&b, &a, by_rfc) {
+        return false;
+    }
+    for one in &a {
+        if !b
+            .iter()
+            .all(|other| may_meet(one.tags, other.tags, (&a, &b), by_rfc))
+        {
             return false;
         }
     }
     true
-}
-
-// Does each verification tag serve one association?
-fn tags_serve_once(rt: &impl Abort, alloc: Global, world: &World<Counter>) -> bool {
-    let a = begun(rt, alloc, world, Side::A);
-    let b = begun(rt, alloc, world, Side::B);
-    are_new(&a) && are_new(&b) && a.iter().all(|tags| matches_all(tags, &b))
 }
 
 // How often is the message among these?
@@ -127,7 +163,8 @@ fn ordered_on(stream: StreamId, messages: &[Message]) -> usize {
     count
 }
 
-// Nothing is missing: as many ordered messages of a stream were sent before one as were read before it.
+// Nothing is missing on the streams that may have no gap: as many ordered messages were sent before one as were read
+// before it.
 fn is_without_gap(rt: &impl Abort, view: &View<'_>) {
     let read = view.world.read(view.side);
     let sent = view.world.sent(other(view.side));
@@ -136,22 +173,29 @@ fn is_without_gap(rt: &impl Abort, view: &View<'_>) {
         let before = sent.get(..place_of(message, sent)).unwrap_or(&[]);
         let stream = message.stream_id;
         let is_next = ordered_on(stream, earlier) == ordered_on(stream, before);
-        view.holds(
-            rt,
-            "one before it is missing",
-            message.ppid != ORDERED || is_next,
-        );
+        let may_miss = message.ppid != ORDERED || !view.schedule.is_gapless(stream);
+        view.holds(rt, "one before it is missing", may_miss || is_next);
     }
 }
 
-// Has each side had one association at most?
+// Has this side had one own tag at most?
+fn has_one_tag(rt: &impl Abort, alloc: Global, world: &World<Counter>, side: Side) -> bool {
+    let all = all_begun(rt, alloc, world, side);
+    let Some(first) = all.first() else {
+        return true;
+    };
+    all.iter().all(|one| one.tags.0.tag == first.tags.0.tag)
+}
+
+// Has each side?
 fn is_only(rt: &impl Abort, alloc: Global, world: &World<Counter>) -> bool {
-    begun(rt, alloc, world, Side::A).len() <= 1 && begun(rt, alloc, world, Side::B).len() <= 1
+    has_one_tag(rt, alloc, world, Side::A) && has_one_tag(rt, alloc, world, Side::B)
 }
 
 /// Whether each verification tag has served one association so far in a schedule, how many messages were read while it
 /// was so, how many of these were read once a reset of streams had been performed, and how many while each side had had
-/// no other association: these come in order. They come without gaps in schedules without limits and resets.
+/// no other own tag: these come in order. They come without gaps in schedules without limits and resets, and, where
+/// only other streams have these, on each stream that has none.
 #[derive(Drop)]
 pub struct Delivery {
     pub serves: bool,
@@ -159,6 +203,7 @@ pub struct Delivery {
     pub read_after_reset: usize,
     pub in_order: usize,
     pub without_gap: usize,
+    pub beside: usize,
 }
 
 impl Delivery {
@@ -170,6 +215,7 @@ impl Delivery {
             read_after_reset: 0,
             in_order: 0,
             without_gap: 0,
+            beside: 0,
         }
     }
 
@@ -182,7 +228,8 @@ impl Delivery {
         world: &World<Counter>,
         was_reset: bool,
     ) {
-        self.serves = self.serves && tags_serve_once(rt, alloc, world);
+        let by_rfc = schedule.both.a.follow_rfc && schedule.both.b.follow_rfc;
+        self.serves = self.serves && tags_serve_once(rt, alloc, world, by_rfc);
         let read_by_a = world.read(Side::A).len();
         let read = read_by_a.saturating_add(world.read(Side::B).len());
         if !self.serves || read == self.read {
@@ -194,20 +241,22 @@ impl Delivery {
             side: Side::A,
         };
         let is_only = is_only(rt, alloc, world);
-        let is_whole = is_only && schedule.is_reliable();
+        let is_whole = is_only && schedule.kind() == Kind::Reliable;
+        let is_beside = is_only && !is_whole && schedule.is_gapless(StreamId(0));
         for side in [Side::A, Side::B] {
             view.side = side;
             is_delivered(rt, &view);
             if is_only {
                 is_in_order(rt, &view);
             }
-            if is_whole {
+            if is_whole || is_beside {
                 is_without_gap(rt, &view);
             }
         }
         self.read = read;
         self.in_order = self.in_order.saturating_add(usize::from(is_only));
         self.without_gap = self.without_gap.saturating_add(usize::from(is_whole));
+        self.beside = self.beside.saturating_add(usize::from(is_beside));
         self.read_after_reset = self.read_after_reset.saturating_add(usize::from(was_reset));
     }
 }

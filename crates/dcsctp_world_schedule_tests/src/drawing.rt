@@ -1,5 +1,6 @@
 //! What a schedule is drawn from.
 
+use crate::view::Kind;
 use dcsctp_world::Side;
 use dcsctp_world::socket::{SocketTime, StreamId};
 use rand_core::{Rng, SeedableRng};
@@ -11,7 +12,7 @@ use std::time::Duration;
 #[derive(Drop)]
 pub struct Drawing {
     rng: Xoshiro256PlusPlus,
-    is_reliable: bool,
+    kind: Kind,
     now: SocketTime,
     messages: u32,
     a_handed: usize,
@@ -20,10 +21,10 @@ pub struct Drawing {
 
 impl Drawing {
     /// Nothing was drawn yet.
-    pub fn new(seed: u64, is_reliable: bool) -> Drawing {
+    pub fn new(seed: u64, kind: Kind) -> Drawing {
         Drawing {
             rng: Xoshiro256PlusPlus::seed_from_u64(seed),
-            is_reliable,
+            kind,
             now: SocketTime::zero(),
             messages: 0,
             a_handed: 0,
@@ -36,9 +37,9 @@ impl Drawing {
         self.rng.next_u32().checked_rem(limit).unwrap_or(0)
     }
 
-    /// Does no message have limits, and is no stream reset?
-    pub fn is_reliable(&self) -> bool {
-        self.is_reliable
+    /// What may happen to streams and messages.
+    pub fn kind(&self) -> Kind {
+        self.kind
     }
 
     /// Either side.

@@ -31,6 +31,7 @@ const LEAST: Counts = Counts {
     read_after_reset: 200,
     in_order: 200,
     without_gap: 50,
+    beside: 50,
 };
 
 // The words of a side. In every second schedule the numbers are near the greatest, so that they wrap. In every
@@ -102,7 +103,7 @@ fn goes_through(
     world: &mut World<Counter>,
     counts: &mut Counts,
 ) {
-    let mut drawing = Drawing::new(schedule.seed, schedule.is_reliable());
+    let mut drawing = Drawing::new(schedule.seed, schedule.kind());
     let mut a = Seen::new(alloc);
     let mut b = Seen::new(alloc);
     let mut delivery = Delivery::new();

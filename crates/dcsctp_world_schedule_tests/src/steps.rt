@@ -2,6 +2,7 @@
 
 use crate::counter::Counter;
 use crate::drawing::Drawing;
+use crate::view::Kind;
 use dcsctp_world::socket::{Message, PpId, SendOptions, StreamId};
 use dcsctp_world::{Call, Side, Step, World};
 use std::alloc::Global;
@@ -16,11 +17,12 @@ pub fn other(side: Side) -> Side {
     }
 }
 
-// How long a message is tried, and whether it is ordered.
-fn options(drawing: &mut Drawing) -> SendOptions {
+// How long messages on these streams are tried, and whether they are ordered.
+fn options(drawing: &mut Drawing, streams: [StreamId; 2]) -> SendOptions {
     let mut options = SendOptions::default();
     options.unordered = drawing.below(3) == 0;
-    if drawing.is_reliable() {
+    let kind = drawing.kind();
+    if !streams.iter().all(|stream| kind.may_limit(*stream)) {
         return options;
     }
     match drawing.below(6) {
@@ -61,7 +63,7 @@ fn identifier(options: &SendOptions) -> PpId {
 // One message.
 fn sending_one(rt: &impl Abort, alloc: Global, drawing: &mut Drawing) -> Call {
     let mut one = message(rt, alloc, drawing);
-    let options = options(drawing);
+    let options = options(drawing, [one.stream_id, one.stream_id]);
     one.ppid = identifier(&options);
     Call::Send(one, options)
 }
@@ -71,7 +73,7 @@ fn sending_two(rt: &impl Abort, alloc: Global, drawing: &mut Drawing) -> Call {
     let mut messages = Vec::new(alloc);
     let mut first = message(rt, alloc, drawing);
     let mut second = message(rt, alloc, drawing);
-    let options = options(drawing);
+    let options = options(drawing, [first.stream_id, second.stream_id]);
     first.ppid = identifier(&options);
     second.ppid = identifier(&options);
     messages.push(first).expect(rt, "no list");
@@ -79,12 +81,17 @@ fn sending_two(rt: &impl Abort, alloc: Global, drawing: &mut Drawing) -> Call {
     Call::SendMany(messages, options)
 }
 
-// One to three streams are reset.
+// Of three streams, those are reset that may be.
 fn resetting(rt: &impl Abort, alloc: Global, drawing: &mut Drawing) -> Call {
-    let ids: [StreamId; 3] = [drawing.stream(), drawing.stream(), drawing.stream()];
-    let count = drawing.below(3) as usize;
-    let some = ids.get(count..).unwrap_or(&[]);
-    Call::ResetStreams(Vec::from_slice(alloc, some).expect(rt, "no list"))
+    let kind = drawing.kind();
+    let mut ids = Vec::new(alloc);
+    for _ in 0..drawing.below(3).saturating_add(1) {
+        let id = drawing.stream();
+        if kind.may_reset(id) {
+            ids.push(id).expect(rt, "no list");
+        }
+    }
+    Call::ResetStreams(ids)
 }
 
 // A call of a user.
@@ -93,7 +100,7 @@ fn call(rt: &impl Abort, alloc: Global, drawing: &mut Drawing) -> Call {
         0..=6 => Call::Connect,
         7 => Call::Close,
         8 => Call::Shutdown,
-        9..=15 if !drawing.is_reliable() => resetting(rt, alloc, drawing),
+        9..=15 if drawing.kind() != Kind::Reliable => resetting(rt, alloc, drawing),
         9..=25 => sending_one(rt, alloc, drawing),
         26 => sending_two(rt, alloc, drawing),
         27..=31 => Call::GetNextMessage,

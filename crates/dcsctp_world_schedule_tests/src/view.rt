@@ -4,7 +4,7 @@ use crate::agreed::{Agreed, agreed, shown};
 use crate::counter::Counter;
 use crate::pairs::Both;
 use crate::steps::other;
-use dcsctp_world::socket::{Association, Held, Pair, ReconfigurationResponseResult};
+use dcsctp_world::socket::{Association, Held, Pair, ReconfigurationResponseResult, StreamId};
 use dcsctp_world::{Side, World};
 use std::process::Abort;
 
@@ -15,10 +15,57 @@ pub struct Schedule<'a> {
     pub seed: u64,
 }
 
+/// What may happen in a schedule to streams and messages.
+#[derive(Clone, Copy, PartialEq, Eq)]
+pub enum Kind {
+    /// No message has limits, and no stream is reset.
+    Reliable,
+
+    /// No message has limits, and streams are reset, but for the first two.
+    WithResets,
+
+    /// Messages have limits and streams are reset, but for the first two.
+    WithLimits,
+
+    /// Any message may have limits, and any stream may be reset.
+    Any,
+}
+
+impl Kind {
+    /// May a message on this stream have limits?
+    pub fn may_limit(self, stream: StreamId) -> bool {
+        match self {
+            Kind::Reliable | Kind::WithResets => false,
+            Kind::WithLimits => stream.0 >= 2,
+            Kind::Any => true,
+        }
+    }
+
+    /// May this stream be reset?
+    pub fn may_reset(self, stream: StreamId) -> bool {
+        match self {
+            Kind::Reliable => false,
+            Kind::WithResets | Kind::WithLimits => stream.0 >= 2,
+            Kind::Any => true,
+        }
+    }
+}
+
 impl Schedule<'_> {
-    /// In every fifth schedule no message has limits, and no stream is reset.
-    pub fn is_reliable(&self) -> bool {
-        self.seed.is_multiple_of(5)
+    /// Three of five schedules are of a kind of their own.
+    pub fn kind(&self) -> Kind {
+        match self.seed.checked_rem(5) {
+            Some(0) => Kind::Reliable,
+            Some(1) => Kind::WithResets,
+            Some(2) => Kind::WithLimits,
+            _ => Kind::Any,
+        }
+    }
+
+    /// Is nothing missing on this stream, whatever happens on others? No schedule sends many messages.
+    pub fn is_gapless(&self, stream: StreamId) -> bool {
+        let kind = self.kind();
+        !kind.may_reset(stream) && !kind.may_limit(stream)
     }
 }
 
