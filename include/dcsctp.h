@@ -390,24 +390,24 @@ typedef struct dcsctp_socket {
  *   shutdown first sends queued messages. Data without room, or that fills a gap, is acknowledged
  *   at once. A full receive window that opens is reported to the peer. A peer's SHUTDOWN
  *   acknowledges data. Streams of equal priority take turns. A repeated request to reset a stream
- *   that is in progress gets the next number, and is reported once, except across a handover; so
- *   are two with nothing sent between them, if the first was in progress. Messages that are ready
- *   can be taken after their association has ended. A timeout that was doubled stays so until a
- *   round trip is measured, and a HEARTBEAT's first answer measures one. Data that a full window
- *   had no room for is sent again once it opens. Errors are counted for each association. A
- *   shutdown also waits until the peer knows what was abandoned. A SACK lists as many gaps as fit.
- *   An ABORT ends an attempt to connect. A late COOKIE ECHO of the last association begins none. A
- *   stale cookie is answered by an ERROR, and such an answer ends an attempt to connect. A shutdown
- *   and resets of streams wait for the end of the handshake. Data, SACKs and resets that come
- *   before the COOKIE ACK are dropped. Where both ends connect, what was sent before it is sent
- *   again, and may be read twice, if our pair and what both ends support stay. Parts of messages
- *   count 256 bytes more in the receive window. Of a packet's HEARTBEATs, INITs and RE-CONFIG
- *   requests one is answered. A shutdown also waits for a message behind a reset of its stream, if
- *   it has no lifetime. I-DATA while a SHUTDOWN awaits its answer brings another. A closed socket
- *   takes only its own cookies, unless they are forged by one who saw its packets. The heartbeat
- *   interval of a restored association starts at once, not with its next data. At 0, and with
- *   upstream's limits (above), the socket behaves as upstream, but for a few differences:
- *   docs/design/differences.md has a row for each, and for each rule. */
+ *   that is in progress gets the next number, and is reported once, except across a handover; of a
+ *   peer without this so are two with nothing sent between them, if the first was in progress.
+ *   Messages that are ready can be taken after their association has ended. A timeout that was
+ *   doubled stays so until a round trip is measured, and a HEARTBEAT's first answer measures one.
+ *   Data that a full window had no room for is sent again once it opens. Errors are counted for
+ *   each association. A shutdown also waits until the peer knows what was abandoned. A SACK lists
+ *   as many gaps as fit. An ABORT ends an attempt to connect. A late COOKIE ECHO of the last
+ *   association begins none. A stale cookie is answered by an ERROR, and such an answer ends an
+ *   attempt to connect. A shutdown and resets of streams wait for the end of the handshake. Data,
+ *   SACKs and resets that come before the COOKIE ACK are dropped. Where both ends connect, what was
+ *   sent before it is sent again, and may be read twice, if our pair and what both ends support
+ *   stay. Parts of messages count 256 bytes more in the receive window. Of a packet's HEARTBEATs,
+ *   INITs and RE-CONFIG requests one is answered. A shutdown also waits for a message behind a
+ *   reset of its stream, if it has no lifetime. I-DATA while a SHUTDOWN awaits its answer brings
+ *   another. A closed socket takes only its own cookies, unless they are forged by one who saw its
+ *   packets. The heartbeat interval of a restored association starts at once, not with its next
+ *   data. At 0, and with upstream's limits (above), the socket behaves as upstream, but for a few
+ *   differences: docs/design/differences.md has a row for each, and for each rule. */
 typedef struct dcsctp_options {
     size_t size;                                         /* sizeof(dcsctp_options) */
     size_t mtu;                                          /* longest packet that is sent: 1,191 */

@@ -119,12 +119,12 @@ packet_is options draft sacks begun chunks told after filled_packet is =
     (sym (body_append front more) ∙ ap body_of (append_assoc draft.packet.contents behind more ∙ ap (λ (cs : List Content). draft.packet.contents ++ cs) (append_assoc (plain_contents sacks) (request_contents begun) more)))
 
 -- Where no stream is ready, no reset is begun.
-pub none_begun : (ask : Ask) (held : Option Held) (room last_tsn : ℕ) (queue : SendQueueState) → is_none_ready (ready_streams queue) ≡ true → begun_at ask held room last_tsn queue ≡ None
-none_begun later_ask held room last_tsn queue none = refl
-none_begun first_ask None room last_tsn queue none = refl
-none_begun first_ask (Some held) room last_tsn queue none =
-    ap (λ (streams : List ℕ). begun_where held.own_outstanding held.own_next last_tsn (map stream_field (take (streams_within room) streams))) (empty (ready_streams queue) none)
-    ∙ ap (λ (streams : List ℕ). begun_where held.own_outstanding held.own_next last_tsn (map stream_field streams)) (take_none (streams_within room))
+pub none_begun : (ask : Ask) (follows : Bool) (held : Option Held) (room last_tsn : ℕ) (queue : SendQueueState) → is_none_ready (ready_streams queue) ≡ true → begun_at ask follows held room last_tsn queue ≡ None
+none_begun later_ask follows held room last_tsn queue none = refl
+none_begun first_ask follows None room last_tsn queue none = refl
+none_begun first_ask follows (Some held) room last_tsn queue none =
+    ap (λ (streams : List ℕ). begun_where follows held.own_outstanding held.own_next last_tsn (map stream_field (take (streams_within room) streams))) (empty (ready_streams queue) none)
+    ∙ ap (λ (streams : List ℕ). begun_where follows held.own_outstanding held.own_next last_tsn (map stream_field streams)) (take_none (streams_within room))
     ∙ nothing held.own_outstanding
   where
     empty : (streams : List ℕ) → is_none_ready streams ≡ true → streams ≡ []
@@ -135,15 +135,15 @@ none_begun first_ask (Some held) room last_tsn queue none =
     take_none zero = refl
     take_none (suc n) = refl
 
-    nothing : (outstanding : Option ℕ) → begun_where outstanding held.own_next last_tsn [] ≡ None
+    nothing : (outstanding : Option ℕ) → begun_where follows outstanding held.own_next last_tsn [] ≡ None
     nothing None = refl
     nothing (Some number) = refl
 
 -- So the queue stays as it is.
-pub requesting_none : (count room last_tsn : ℕ) (held : Option Held) (begun : Option BegunReset) (queue left : SendQueueState) → is_none_ready (ready_streams queue) ≡ true
-    → begun ≡ begun_in held room last_tsn queue → left ≡ queue_requesting count begun queue → left ≡ queue
-requesting_none count room last_tsn held begun queue left none is hands =
-    hands ∙ ap (λ (b : Option BegunReset). queue_requesting count b queue) (is ∙ none_begun first_ask held room last_tsn queue none)
+pub requesting_none : (count room last_tsn : ℕ) (follows : Bool) (held : Option Held) (begun : Option BegunReset) (queue left : SendQueueState) → is_none_ready (ready_streams queue) ≡ true
+    → begun ≡ begun_in follows held room last_tsn queue → left ≡ queue_requesting count begun queue → left ≡ queue
+requesting_none count room last_tsn follows held begun queue left none is hands =
+    hands ∙ ap (λ (b : Option BegunReset). queue_requesting count b queue) (is ∙ none_begun first_ask follows held room last_tsn queue none)
 
 -- ---- what a packet is filled with
 
@@ -233,7 +233,7 @@ idle_until ask e draft transfer u idle =
     let up = no_forwards (may_forward ask e transfer.retransmission) e.moment transfer _ _ u.gave_up u.next u.forwards (may_not ask e transfer.retransmission parts.0.1) u.gives_up in
     let waits : u.gave_up.waiting ≡ e.queues.queue = ap (λ (s : Stage). s.waiting) up.0 in
     let ready : is_none_ready (ready_streams u.gave_up.waiting) ≡ true = ap (λ (q : SendQueueState). is_none_ready (ready_streams q)) waits ∙ idle_ready e.queues.queue transfer idle in
-    let begun : u.begun ≡ None = u.begins ∙ none_begun ask (may_be_asked e.core e.options.follow_rfc) _ (last_assigned_tsn u.gave_up.queue) u.gave_up.waiting ready in
+    let begun : u.begun ≡ None = u.begins ∙ none_begun ask e.options.follow_rfc (may_be_asked e.core e.options.follow_rfc) _ (last_assigned_tsn u.gave_up.queue) u.gave_up.waiting ready in
     let left : (start_of u).waiting ≡ e.queues.queue = ap (λ (b : Option BegunReset). queue_requesting (streams_within (room_in e (filled draft (plain_contents (u.sacks ++ u.forwards))))) b u.gave_up.waiting) begun ∙ waits in
     let state : (start_of u).queue ≡ transfer.retransmission = ap (λ (b : Option BegunReset). retransmission_begun b u.gave_up.queue) begun ∙ ap (λ (s : Stage). s.queue) up.0 in
     record {

@@ -295,7 +295,7 @@ pub record BeforeData {R : Type 0} (old : View R) (draft : Emission) (transfer :
   pub given_packet : Building
   pub up : Forwarded old draft transfer given given_packet
   pub begun : Option BegunReset
-  pub begins : begun ≡ begun_at first_ask (may_be_asked old.endpoint.core old.endpoint.options.follow_rfc) (room_in old.endpoint (behind_forwards up)) (last_assigned_tsn up.gave_up.queue) up.gave_up.waiting
+  pub begins : begun ≡ begun_at first_ask old.endpoint.options.follow_rfc (may_be_asked old.endpoint.core old.endpoint.options.follow_rfc) (room_in old.endpoint (behind_forwards up)) (last_assigned_tsn up.gave_up.queue) up.gave_up.waiting
   pub is : packet ≡ packet_for old.endpoint.options (filled draft (plain_contents (up.sacks ++ up.forwards) ++ request_contents begun))
   pub view : here
       ≡ begun_in_view old up.next up.gave_up (record transfer { tracker = up.tracker }) begun
@@ -314,7 +314,7 @@ before_data {R = R} old draft transfer given here given_packet packet up begin =
       given_packet = given_packet;
       up = up;
       begun = begins.0;
-      begins = begins.2 ∙ ap (λ (n : ℕ). begun_in (may_be_asked e.core e.options.follow_rfc) n (last_assigned_tsn up.gave_up.queue) up.gave_up.waiting) room;
+      begins = begins.2 ∙ ap (λ (n : ℕ). begun_in e.options.follow_rfc (may_be_asked e.core e.options.follow_rfc) n (last_assigned_tsn up.gave_up.queue) up.gave_up.waiting) room;
       is = contents_behind e (behind_forwards up) (request_contents begins.0) given_packet packet up.is begins.4
           ∙ ap (packet_for e.options) (filled_behind draft (plain_contents (up.sacks ++ up.forwards)) (request_contents begins.0));
       view = begins.5
@@ -370,14 +370,14 @@ begun_behind None e false later waits handed left given after same = refl
 begun_behind (Some begun) e true later waits handed left given after same =
     ap (λ (settings : TimerSettings). let f : Endpoint = record e {
       core = core_asking e.core;
-      outstanding = Some (record { last_tsn = begun.reset.last_tsn; streams = begun.reset.streams; waits_for_retry = false });
+      outstanding = Some (record { last_tsn = begun.reset.last_tsn; streams = begun.reset.streams; is_new = begun.reset.is_new; waits_for_retry = false });
       timers = record e.timers { reconfiguration = started e.moment settings };
     } in
     let g : Endpoint = record f { timers = timers_where true f; no_forward_tsn_before = later; queues = record { queue = left; transfer = Some after } } in g) same
 begun_behind (Some begun) e false later waits handed left given after same =
     ap (λ (settings : TimerSettings). let f : Endpoint = record e {
       core = core_asking e.core;
-      outstanding = Some (record { last_tsn = begun.reset.last_tsn; streams = begun.reset.streams; waits_for_retry = false });
+      outstanding = Some (record { last_tsn = begun.reset.last_tsn; streams = begun.reset.streams; is_new = begun.reset.is_new; waits_for_retry = false });
       timers = record e.timers { reconfiguration = started e.moment settings };
       no_forward_tsn_before = later;
       queues = record { queue = left; transfer = Some after };

@@ -35,6 +35,7 @@ use Rattle.dcsctp_transfer.specs.spec.endpoint.Timers.{RunningTimer}
 use Rattle.dcsctp_core.specs.declared.state.State.{State}
 use Rattle.dcsctp_core.specs.declared.state.State.TheVariants.{Closed, CookieWait, CookieEchoed, Open}
 use Rattle.dcsctp_core.specs.declared.context.Context.{Context}
+use Rattle.dcsctp_core.specs.declared.resetting.RequestStart.{RequestStart}
 use Rattle.dcsctp_core.specs.Flushing.{FillsResetRequest, TriesReset}
 
 -- ---- the streams in bytes
@@ -88,35 +89,35 @@ fields_same (stream ∷ streams) fit =
 
 -- ---- a reset is begun, where a stream is ready
 
-begun_is : (outstanding : Option ℕ) (number last_tsn : ℕ) (streams : List ℕ) → outstanding ≡ None → (length streams == 0) ≡ false
-    → Some (record { number = number; reset = record { last_tsn = last_tsn; streams = streams } }) ≡ begun_where outstanding number last_tsn streams
-begun_is None number last_tsn [] none some = absurd (cc)
-begun_is None number last_tsn (stream ∷ streams) none some = refl
-begun_is (Some other) number last_tsn streams none some = absurd (cc)
+begun_is : (follows : Bool) (outstanding : Option ℕ) (number last_tsn : ℕ) (streams : List ℕ) → outstanding ≡ None → (length streams == 0) ≡ false
+    → Some (record { number = number; reset = record { last_tsn = last_tsn; streams = streams; is_new = follows } }) ≡ begun_where follows outstanding number last_tsn streams
+begun_is follows None number last_tsn [] none some = absurd (cc)
+begun_is follows None number last_tsn (stream ∷ streams) none some = refl
+begun_is follows (Some other) number last_tsn streams none some = absurd (cc)
 
-pub begins_with : (now max : ℕ) (ids : List ℕ) (queue : SendQueueState) (old : TransmissionControlBlock) (packet : Building) (left : SendQueueState) (new : TransmissionControlBlock) (filled : Building)
+pub begins_with : (start : RequestStart) (max : ℕ) (ids : List ℕ) (queue : SendQueueState) (old : TransmissionControlBlock) (packet : Building) (left : SendQueueState) (new : TransmissionControlBlock) (filled : Building)
     → request_number old.reset_request ≡ None → max ≡ streams_within (bytes_remaining packet) → ids ≡ take max (ready_streams queue) → (length ids == 0) ≡ false → left ≡ queue_handing_out max queue
-    → StartsReset now ids old packet new filled → BeginsReset now queue old packet left new filled
-begins_with now max ids queue old packet left new filled none is_max is some handed h =
+    → StartsReset start ids old packet new filled → BeginsReset start queue old packet left new filled
+begins_with start max ids queue old packet left new filled none is_max is some handed h =
     let last : ℕ = last_assigned_tsn old.transfer.retransmission in
     let number : ℕ = old.next_outgoing_reset_req_seq_nbr in
     record {
       begun = Some h.begun;
       is = ap (λ (b : BegunReset). Some b) h.is
-          ∙ begun_is (request_number old.reset_request) number last ids none some
-          ∙ ap (λ (streams : List ℕ). begun_where (request_number old.reset_request) number last streams)
+          ∙ begun_is start.is_new (request_number old.reset_request) number last ids none some
+          ∙ ap (λ (streams : List ℕ). begun_where start.is_new (request_number old.reset_request) number last streams)
           (sym (fields_same ids h.fit) ∙ ap (map stream_field) (is ∙ ap (λ (n : ℕ). take n (ready_streams queue)) is_max));
       begins = h.begins;
       packet_is = h.packet_is;
       hands_out = handed ∙ ap (λ (n : ℕ). queue_handing_out n queue) is_max;
     }
 
-pub begins_by : (now max : ℕ) (ids : List ℕ) (queue : SendQueueState) (old : TransmissionControlBlock) (packet : Building) (left : SendQueueState) (new : TransmissionControlBlock) (filled : Building)
+pub begins_by : (start : RequestStart) (max : ℕ) (ids : List ℕ) (queue : SendQueueState) (old : TransmissionControlBlock) (packet : Building) (left : SendQueueState) (new : TransmissionControlBlock) (filled : Building)
     (result : Result (Unit {0}) AllocError)
     → request_number old.reset_request ≡ None → max ≡ streams_within (bytes_remaining packet) → ids ≡ take max (ready_streams queue) → (length ids == 0) ≡ false → left ≡ queue_handing_out max queue
-    → OnOk result (StartsReset now ids old packet new filled) → OnOk result (BeginsReset now queue old packet left new filled)
-begins_by now max ids queue old packet left new filled (Ok done) none is_max is some handed h = begins_with now max ids queue old packet left new filled none is_max is some handed h
-begins_by now max ids queue old packet left new filled (Err error) none is_max is some handed h = tt
+    → OnOk result (StartsReset start ids old packet new filled) → OnOk result (BeginsReset start queue old packet left new filled)
+begins_by start max ids queue old packet left new filled (Ok done) none is_max is some handed h = begins_with start max ids queue old packet left new filled none is_max is some handed h
+begins_by start max ids queue old packet left new filled (Err error) none is_max is some handed h = tt
 
 -- no request is outstanding
 pub none_outstanding : (request : Option ResetRequest) → is_some request ≡ false → request_number request ≡ None
@@ -133,15 +134,15 @@ none_handed count queue [] is none some = absurd (cc)
 none_handed zero queue (stream ∷ ready) is none some = ap (λ (ids : List ℕ). record queue { streams = handing_out (take 0 ids) queue.streams }) is
 none_handed (suc count) queue (stream ∷ ready) is none some = absurd (no_member stream (take count ready) none)
 
-pub begins_none : (now max : ℕ) (ids : List ℕ) (queue : SendQueueState) (old : TransmissionControlBlock) (packet : Building) (left : SendQueueState)
+pub begins_none : (start : RequestStart) (max : ℕ) (ids : List ℕ) (queue : SendQueueState) (old : TransmissionControlBlock) (packet : Building) (left : SendQueueState)
     → max ≡ streams_within (bytes_remaining packet) → ids ≡ take max (ready_streams queue) → (length ids == 0) ≡ true → is_none_ready (ready_streams queue) ≡ false
-    → left ≡ queue_handing_out max queue → BeginsReset now queue old packet left old packet
-begins_none now max ids queue old packet left is_max is none some handed =
+    → left ≡ queue_handing_out max queue → BeginsReset start queue old packet left old packet
+begins_none start max ids queue old packet left is_max is none some handed =
     let empty : (length (take max (ready_streams queue)) == 0) ≡ true = subst (λ (ns : List ℕ). (length ns == 0) ≡ true) is none in
     record {
       begun = None;
-      is = sym (ap (λ (streams : List ℕ). begun_where (request_number old.reset_request) old.next_outgoing_reset_req_seq_nbr (last_assigned_tsn old.transfer.retransmission) (map stream_field streams))
-          (ap (λ (n : ℕ). take n (ready_streams queue)) (sym is_max) ∙ none_of (take max (ready_streams queue)) empty) ∙ begun_none (request_number old.reset_request) _ _);
+      is = sym (ap (λ (streams : List ℕ). begun_where start.is_new (request_number old.reset_request) old.next_outgoing_reset_req_seq_nbr (last_assigned_tsn old.transfer.retransmission) (map stream_field streams))
+          (ap (λ (n : ℕ). take n (ready_streams queue)) (sym is_max) ∙ none_of (take max (ready_streams queue)) empty) ∙ begun_none start.is_new (request_number old.reset_request) _ _);
       begins = record { held = refl; request = refl; timer = refl; my = refl; tie_tag = refl; transfer = refl };
       packet_is = ap (λ (body : List ℕ). record packet { body = body }) (sym (append-nil packet.body));
       hands_out = handed ∙ none_handed max queue (ready_streams queue) refl empty some;
@@ -151,15 +152,19 @@ begins_none now max ids queue old packet left is_max is none some handed =
     none_of [] none = refl
     none_of (stream ∷ streams) none = absurd (no_member stream streams none)
 
-    begun_none : (outstanding : Option ℕ) (number last_tsn : ℕ) → begun_where outstanding number last_tsn [] ≡ None
-    begun_none None number last_tsn = refl
-    begun_none (Some other) number last_tsn = refl
+    begun_none : (follows : Bool) (outstanding : Option ℕ) (number last_tsn : ℕ) → begun_where follows outstanding number last_tsn [] ≡ None
+    begun_none follows None number last_tsn = refl
+    begun_none follows (Some other) number last_tsn = refl
 
 pub some_ready : (answer none : Bool) → answer ≡ not none → answer ≡ true → none ≡ false
 some_ready answer false is answered = refl
 some_ready answer true is answered = absurd (cc)
 
 -- ---- of a socket
+
+-- when a request begins in this socket, and whether it says that it is new
+abbrev pub start_of : {R : Type 0} → Context R → RequestStart
+start_of c = record { now = c.moment; is_new = c.options.follow_rfc }
 
 abbrev core_where : Option BegunReset → Core → Core
 core_where None core = core
@@ -272,7 +277,7 @@ none_begins old None packet holds nobody = (refl, refl)
 none_begins old (Some transfer) packet holds nobody = (
   None,
   old.send_queue,
-  sym (ap (λ (held : Option Held). begun_in held (bytes_remaining packet) (last_assigned_tsn transfer.retransmission) old.send_queue) nobody),
+  sym (ap (λ (held : Option Held). begun_in old.options.follow_rfc held (bytes_remaining packet) (last_assigned_tsn transfer.retransmission) old.send_queue) nobody),
   refl,
   ap (λ (body : List ℕ). record packet { body = body }) (sym (append-nil packet.body)),
   ap (λ (f : Option Transfer). record (view_of old) { endpoint = record (endpoint_of old) { queues = record { queue = old.send_queue; transfer = f } } }) holds,
@@ -284,7 +289,7 @@ none_while_awaited old packet is = none_begins old (transfer_of old.state) packe
 
 begun_below : {R : Type 0} (old : Context R) (found : Option Transfer) (state : State) (queue : SendQueueState) (packet filled : Building) → transfer_of old.state ≡ found
     → (old.options.follow_rfc && is_cookie_echoed (core_of old.state)) ≡ false
-    → BeginsResetInQueues old.moment found old.send_queue old.state packet queue state filled → FillsResetRequest found (view_of old) packet (view_of (record old { state = state; send_queue = queue })) filled
+    → BeginsResetInQueues (start_of old) found old.send_queue old.state packet queue state filled → FillsResetRequest found (view_of old) packet (view_of (record old { state = state; send_queue = queue })) filled
 begun_below old None state queue packet filled holds may h =
     (ap (λ (s : State). view_of (record old { state = s; send_queue = queue })) h.0 ∙ ap (λ (q : SendQueueState). view_of (record old { send_queue = q })) h.1, h.2)
 begun_below old (Some transfer) state queue packet filled holds may h =
@@ -293,7 +298,7 @@ begun_below old (Some transfer) state queue packet filled holds may h =
     endpoint_begun old h.begun state queue (stood old.moment h.begun old.state state transfer holds h.begins) ∙ ap below holds in (
       h.begun,
       queue,
-      h.is ∙ ap (λ (held : Option Held). begun_in held (bytes_remaining packet) (last_assigned_tsn transfer.retransmission) old.send_queue) (asked_where (core_of old.state) old.options.follow_rfc may),
+      h.is ∙ ap (λ (held : Option Held). begun_in old.options.follow_rfc held (bytes_remaining packet) (last_assigned_tsn transfer.retransmission) old.send_queue) (asked_where (core_of old.state) old.options.follow_rfc may),
       h.hands_out,
       h.packet_is,
       ap (λ (e : Endpoint). record (view_of old) { endpoint = e }) is,
@@ -302,7 +307,7 @@ begun_below old (Some transfer) state queue packet filled holds may h =
 pub tries_reset : {R : Type 0} (old new : Context R) (state : State) (queue : SendQueueState) (packet filled : Building) (result : Result (Unit {0}) AllocError)
     → view_of new ≡ view_of (record old { state = state; send_queue = queue })
     → (old.options.follow_rfc && is_cookie_echoed (core_of old.state)) ≡ false
-    → OnOk result (BeginsResetInQueues old.moment (transfer_of old.state) old.send_queue old.state packet queue state filled) → TriesReset packet old result new filled
+    → OnOk result (BeginsResetInQueues (start_of old) (transfer_of old.state) old.send_queue old.state packet queue state filled) → TriesReset packet old result new filled
 tries_reset {R = R} old new state queue packet filled (Ok done) same may h =
     subst (λ (v : View R). FillsResetRequest (transfer_of old.state) (view_of old) packet v filled) (sym same) (begun_below old (transfer_of old.state) state queue packet filled refl may h)
 tries_reset {R = R} old new state queue packet filled (Err error) same may h = ap (λ (v : View R). v.events) same
@@ -317,16 +322,16 @@ begins_in now begun (CookieEchoed echoed) tcb after holds begins = (after, subst
 begins_in now begun (Open opened) tcb after holds begins = (after, subst (λ (t : TransmissionControlBlock). BeginsOwnReset now begun t after) (within holds) begins, refl)
 
 pub begins_lent : {R : Type 0} (old : Context R) (tcb after : TransmissionControlBlock) (queue : SendQueueState) (packet filled : Building) (result : Result (Unit {0}) AllocError) → Some tcb ≡ tcb_of old.state
-    → OnOk result (BeginsReset old.moment old.send_queue tcb packet queue after filled)
-    → OnOk result (BeginsResetInQueues old.moment (transfer_of old.state) old.send_queue old.state packet queue (tcb_changed (λ _. after) old.state) filled)
+    → OnOk result (BeginsReset (start_of old) old.send_queue tcb packet queue after filled)
+    → OnOk result (BeginsResetInQueues (start_of old) (transfer_of old.state) old.send_queue old.state packet queue (tcb_changed (λ _. after) old.state) filled)
 begins_lent old tcb after queue packet filled (Err error) holds h = h
 begins_lent old tcb after queue packet filled (Ok done) holds h =
     let room = bytes_remaining packet in
     let last = last_assigned_tsn tcb.transfer.retransmission in
-    subst (λ (f : Option Transfer). BeginsResetInQueues old.moment f old.send_queue old.state packet queue (tcb_changed (λ _. after) old.state) filled) (sym (found old.state tcb holds))
+    subst (λ (f : Option Transfer). BeginsResetInQueues (start_of old) f old.send_queue old.state packet queue (tcb_changed (λ _. after) old.state) filled) (sym (found old.state tcb holds))
     (record {
       begun = h.begun;
-      is = h.is ∙ ap (λ (held : Option Held). begun_in held room last old.send_queue) (sym (held_by_tcb old.state tcb holds));
+      is = h.is ∙ ap (λ (held : Option Held). begun_in old.options.follow_rfc held room last old.send_queue) (sym (held_by_tcb old.state tcb holds));
       begins = begins_in old.moment h.begun old.state tcb after holds h.begins;
       packet_is = h.packet_is;
       hands_out = h.hands_out;

@@ -51,9 +51,9 @@ in_first first_ask e state first h may = h refl
 in_first later_ask e state first h may = absurd (cc)
 
 -- Nor is a reset begun, where no stream is ready.
-rest_begun : (ask : Ask) (held : Option Held) (room last_tsn : ℕ) (queue : SendQueueState) → (ask ≡ first_ask → is_none_ready (ready_streams queue) ≡ true) → None ≡ begun_at ask held room last_tsn queue
-rest_begun later_ask held room last_tsn queue none = refl
-rest_begun first_ask held room last_tsn queue none = sym (none_begun first_ask held room last_tsn queue (none refl))
+rest_begun : (ask : Ask) (follows : Bool) (held : Option Held) (room last_tsn : ℕ) (queue : SendQueueState) → (ask ≡ first_ask → is_none_ready (ready_streams queue) ≡ true) → None ≡ begun_at ask follows held room last_tsn queue
+rest_begun later_ask follows held room last_tsn queue none = refl
+rest_begun first_ask follows held room last_tsn queue none = sym (none_begun first_ask follows held room last_tsn queue (none refl))
 
 gives_none : (ask : Ask) (e : Endpoint) (draft : Emission) (transfer : Transfer) → e.queues.transfer ≡ Some transfer → NeedsNone ask e.queues.queue (Some transfer) → Gives ask e draft transfer (nothing_waits e)
 gives_none ask e draft transfer holds needs =
@@ -69,7 +69,7 @@ gives_none ask e draft transfer holds needs =
       gives_up = no_forward (may_forward ask e transfer.retransmission) e.moment e.queues.queue transfer _
           (in_first ask e transfer.retransmission (is_first_abandoned transfer.retransmission.outstanding.items) needs.2) needs.3;
       later = refl;
-      begins = rest_begun ask (may_be_asked e.core e.options.follow_rfc) _ (last_assigned_tsn transfer.retransmission) e.queues.queue needs.1;
+      begins = rest_begun ask e.options.follow_rfc (may_be_asked e.core e.options.follow_rfc) _ (last_assigned_tsn transfer.retransmission) e.queues.queue needs.1;
       sent = start;
       fills = subst (λ (b : Bool). FillsWhere b e.moment start start) (sym needs.3) (inl refl);
       chunks = tt;

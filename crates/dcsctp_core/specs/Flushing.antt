@@ -131,7 +131,7 @@ abbrev pub FillsResetRequest : {R : Type 0} → Option Transfer → View R → B
 FillsResetRequest None old packet new filled = (new ≡ old) × (filled ≡ packet)
 FillsResetRequest (Some transfer) old packet new filled =
     (begun : Option BegunReset) × (left : SendQueueState)
-    × (begun ≡ begun_in (may_be_asked old.endpoint.core old.endpoint.options.follow_rfc) (bytes_remaining packet) (last_assigned_tsn transfer.retransmission) old.endpoint.queues.queue)
+    × (begun ≡ begun_in old.endpoint.options.follow_rfc (may_be_asked old.endpoint.core old.endpoint.options.follow_rfc) (bytes_remaining packet) (last_assigned_tsn transfer.retransmission) old.endpoint.queues.queue)
     × (left ≡ queue_requesting (streams_within (bytes_remaining packet)) begun old.endpoint.queues.queue)
     × (filled ≡ record packet { body = packet.body ++ flat_map chunk_bytes (map chunk_out (request_contents begun)) })
     × (new ≡ record old {

@@ -23,13 +23,13 @@ tried_again request = record request { waits_for_retry = false }
 abbrev pub without_retry : TransmissionControlBlock → TransmissionControlBlock
 without_retry tcb = record tcb { reset_request = option_map tried_again tcb.reset_request }
 
--- Our outstanding request takes the next number in place of its own.
+-- Our outstanding request takes the next number in place of its own. It is the one before, once more.
 abbrev pub renumbered_by : Option ResetRequest → TransmissionControlBlock → TransmissionControlBlock
 renumbered_by None tcb = tcb
 renumbered_by (Some request) tcb =
     record tcb {
       next_outgoing_reset_req_seq_nbr = next_number tcb.next_outgoing_reset_req_seq_nbr;
-      reset_request = Some (record request { number = tcb.next_outgoing_reset_req_seq_nbr });
+      reset_request = Some (record request { number = tcb.next_outgoing_reset_req_seq_nbr; is_new = false });
     }
 
 abbrev pub request_renumbered : TransmissionControlBlock → TransmissionControlBlock

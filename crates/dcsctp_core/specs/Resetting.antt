@@ -12,6 +12,7 @@ use Rattle.dcsctp_transfer.specs.spec.queues.Transfer.{Transfer}
 use Rattle.dcsctp_transfer.specs.spec.endpoint.Endpoint.{OutstandingRequest, held_in}
 use Rattle.dcsctp_transfer.specs.spec.endpoint.Timers.{RunningTimer, started}
 use Rattle.dcsctp_transfer.specs.spec.endpoint.BegunResets.{BegunReset, streams_within, last_assigned_tsn, begun_in, request_contents, queue_requesting, transfer_reset_begun, held_begun, reconfiguration_settings}
+use Rattle.dcsctp_core.specs.declared.resetting.RequestStart.{RequestStart}
 use Rattle.dcsctp_core.specs.declared.state.State.{State}
 use Rattle.dcsctp_core.specs.declared.state.State.TheVariants.{Closed, CookieWait, CookieEchoed, Open}
 use Rattle.dcsctp_core.specs.declared.transmission_control_block.ResetRequest.{ResetRequest}
@@ -24,7 +25,7 @@ IsStream stream = stream < 2 ^ 16
 
 -- what a request wants
 abbrev pub reset_of : ResetRequest → RequestedReset
-reset_of request = record { last_tsn = request.last_tsn; streams = stream_numbers request.streams.items }
+reset_of request = record { last_tsn = request.last_tsn; streams = stream_numbers request.streams.items; is_new = request.is_new }
 
 -- ---- in a packet
 
@@ -45,7 +46,7 @@ AddsRequest (Some request) packet filled =
 -- our outstanding request, and its timer, once this was begun
 abbrev pub request_begun : Option BegunReset → Option OutstandingRequest → Option OutstandingRequest
 request_begun None request = request
-request_begun (Some begun) request = Some (record { last_tsn = begun.reset.last_tsn; streams = begun.reset.streams; waits_for_retry = false })
+request_begun (Some begun) request = Some (record { last_tsn = begun.reset.last_tsn; streams = begun.reset.streams; is_new = begun.reset.is_new; waits_for_retry = false })
 
 abbrev pub timer_begun : Option BegunReset → ℕ → Option Transfer → Option RunningTimer → Option RunningTimer
 timer_begun None now transfer timer = timer
@@ -65,19 +66,19 @@ abbrev pub with_request : Option BegunReset → Building → Building
 with_request begun packet = record packet { body = packet.body ++ flat_map chunk_bytes (map chunk_out (request_contents begun)) }
 
 -- A reset of these streams was begun.
-pub record StartsReset (now : ℕ) (streams : List ℕ) (old : TransmissionControlBlock) (packet : Building) (new : TransmissionControlBlock) (filled : Building) : Type 0 where
+pub record StartsReset (start : RequestStart) (streams : List ℕ) (old : TransmissionControlBlock) (packet : Building) (new : TransmissionControlBlock) (filled : Building) : Type 0 where
   pub begun : BegunReset
   pub is : begun
-      ≡ record { number = old.next_outgoing_reset_req_seq_nbr; reset = record { last_tsn = last_assigned_tsn old.transfer.retransmission; streams = streams } }
+      ≡ record { number = old.next_outgoing_reset_req_seq_nbr; reset = record { last_tsn = last_assigned_tsn old.transfer.retransmission; streams = streams; is_new = start.is_new } }
   pub fit : AllByRecursion IsStream streams
-  pub begins : BeginsOwnReset now (Some begun) old new
+  pub begins : BeginsOwnReset start.now (Some begun) old new
   pub packet_is : filled ≡ with_request (Some begun) packet
 
 -- A reset was begun, or none was.
-pub record BeginsReset (now : ℕ) (queue : SendQueueState) (old : TransmissionControlBlock) (packet : Building) (left : SendQueueState) (new : TransmissionControlBlock) (filled : Building) : Type 0 where
+pub record BeginsReset (start : RequestStart) (queue : SendQueueState) (old : TransmissionControlBlock) (packet : Building) (left : SendQueueState) (new : TransmissionControlBlock) (filled : Building) : Type 0 where
   pub begun : Option BegunReset
-  pub is : begun ≡ begun_in (Some (held_of old)) (bytes_remaining packet) (last_assigned_tsn old.transfer.retransmission) queue
-  pub begins : BeginsOwnReset now begun old new
+  pub is : begun ≡ begun_in start.is_new (Some (held_of old)) (bytes_remaining packet) (last_assigned_tsn old.transfer.retransmission) queue
+  pub begins : BeginsOwnReset start.now begun old new
   pub packet_is : filled ≡ with_request begun packet
   pub hands_out : left ≡ queue_requesting (streams_within (bytes_remaining packet)) begun queue
 
@@ -90,14 +91,14 @@ BeginsIn now begun (CookieEchoed echoed) new =
     (tcb : TransmissionControlBlock) × BeginsOwnReset now begun echoed.tcb tcb × (new ≡ CookieEchoed (record echoed { tcb = tcb }))
 BeginsIn now begun (Open opened) new = (tcb : TransmissionControlBlock) × BeginsOwnReset now begun opened.tcb tcb × (new ≡ Open (record opened { tcb = tcb }))
 
-pub record BeginsWhere (now : ℕ) (transfer : Transfer) (queue : SendQueueState) (old : State) (packet : Building) (left : SendQueueState) (new : State) (filled : Building) : Type 0 where
+pub record BeginsWhere (start : RequestStart) (transfer : Transfer) (queue : SendQueueState) (old : State) (packet : Building) (left : SendQueueState) (new : State) (filled : Building) : Type 0 where
   pub begun : Option BegunReset
-  pub is : begun ≡ begun_in (held_in (core_of old)) (bytes_remaining packet) (last_assigned_tsn transfer.retransmission) queue
-  pub begins : BeginsIn now begun old new
+  pub is : begun ≡ begun_in start.is_new (held_in (core_of old)) (bytes_remaining packet) (last_assigned_tsn transfer.retransmission) queue
+  pub begins : BeginsIn start.now begun old new
   pub packet_is : filled ≡ with_request begun packet
   pub hands_out : left ≡ queue_requesting (streams_within (bytes_remaining packet)) begun queue
 
 -- Nothing happens if the peer isn't known.
-abbrev pub BeginsResetInQueues : ℕ → Option Transfer → SendQueueState → State → Building → SendQueueState → State → Building → Type 0
-BeginsResetInQueues now None queue old packet left new filled = (new ≡ old) × (left ≡ queue) × (filled ≡ packet)
-BeginsResetInQueues now (Some transfer) queue old packet left new filled = BeginsWhere now transfer queue old packet left new filled
+abbrev pub BeginsResetInQueues : RequestStart → Option Transfer → SendQueueState → State → Building → SendQueueState → State → Building → Type 0
+BeginsResetInQueues start None queue old packet left new filled = (new ≡ old) × (left ≡ queue) × (filled ≡ packet)
+BeginsResetInQueues start (Some transfer) queue old packet left new filled = BeginsWhere start transfer queue old packet left new filled

@@ -1,5 +1,5 @@
 -- What a socket's parts are in the machine, and how a turn moves them.
-use Rattle.std.specs.Prelude.{◌≡◌, ℕ, Option, None, Some, List, [], ◌++◌, map, take}
+use Rattle.std.specs.Prelude.{false, ◌≡◌, ℕ, Option, None, Some, List, [], ◌++◌, map, take}
 use Rattle.rand_core.specs.Stream.{Stream}
 use Rattle.dcsctp_transfer.specs.types.declared.options.Options.{Options}
 use Rattle.dcsctp_transfer.specs.types.declared.association.Pair.{Pair}
@@ -48,7 +48,7 @@ request_number (Some request) = Some request.number
 
 abbrev pub request_of : Option ResetRequest → Option OutstandingRequest
 request_of None = None
-request_of (Some request) = Some (record { last_tsn = request.last_tsn; streams = stream_numbers request.streams.items; waits_for_retry = request.waits_for_retry })
+request_of (Some request) = Some (record { last_tsn = request.last_tsn; streams = stream_numbers request.streams.items; is_new = request.is_new; waits_for_retry = request.waits_for_retry })
 
 -- the timer by which it is sent again
 abbrev pub timer_of : Option ResetRequest → Option RunningTimer
@@ -58,7 +58,7 @@ timer_of (Some request) = request.timer.running
 -- the peer's request that was performed after it was in progress
 abbrev pub performed_reset : Option PerformedReset → Option NumberedReset
 performed_reset None = None
-performed_reset (Some kept) = Some (record { number = kept.number; reset = record { last_tsn = kept.last_tsn; streams = kept.streams.items } })
+performed_reset (Some kept) = Some (record { number = kept.number; reset = record { last_tsn = kept.last_tsn; streams = kept.streams.items; is_new = false } })
 
 -- what an association keeps of its peer
 abbrev pub held_of : TransmissionControlBlock → Held

@@ -10,6 +10,7 @@ ghost use Rattle.dcsctp_core.specs.Flushing.{Flushes, FurtherAt, AsksWith, Fills
 ghost use Rattle.dcsctp_core.specs.Handling.{TakesOne, FlushAt};
 
 use crate::context::Context;
+use crate::resetting::RequestStart;
 use crate::state::State;
 use dcsctp_transfer::api::{Options, SocketEvent, SocketTime};
 use dcsctp_transfer::wire_build::SctpPacketBuilder;
@@ -171,7 +172,11 @@ impl<R: Rng> Context<R> {
         let Some(tcb) = self.state.tcb_mut() else {
             return Ok(());
         };
-        tcb.begin_reset(self.alloc, self.moment, &mut self.send_queue, packet)
+        let start = RequestStart {
+            now: self.moment,
+            is_new: self.options.follow_rfc,
+        };
+        tcb.begin_reset(self.alloc, start, &mut self.send_queue, packet)
     }
 
     // Puts a FORWARD-TSN into a packet if messages were abandoned, no sooner after the last one than it may

@@ -22,7 +22,7 @@ pub use context::Context;
 pub use deadlines::{DeadlineKind, Deadlines, Entry, relist_tells, set_tells};
 pub use expiry::Expiry;
 pub use following::Following;
-pub use resetting::stream_bytes;
+pub use resetting::{RequestStart, number_answered, stream_bytes};
 pub use state::{CookieEchoState, CookieWaitState, OpenPhase, OpenState, ShutdownState, State};
 pub use timeout::{is_quiet, list_deadlines, poll_timeout};
 pub use transmission_control_block::{

@@ -45,7 +45,7 @@ impl TransmissionControlBlock {
     }
 
     /// Our outstanding request, if there is one, takes the next number in place of its own (RFC 6525, section
-    /// 5.2.7). Allocates nothing.
+    /// 5.2.7). It is the one before, once more. Allocates nothing.
     pub fn renumber_reset(&mut self)
         ensures { self.new ≡ request_renumbered self.old }
     {
@@ -54,6 +54,7 @@ impl TransmissionControlBlock {
             None => {}
             Some(request) => {
                 request.number = number;
+                request.is_new = false;
                 self.next_outgoing_reset_req_seq_nbr = number.wrapping_add(1);
             }
         }

@@ -8,6 +8,7 @@ ghost use Rattle.dcsctp_transfer.specs.wire_build.Building.{bytes_remaining};
 ghost use Rattle.dcsctp_transfer.specs.spec.queues.OwnResets.{ready_streams};
 ghost use Rattle.dcsctp_transfer.specs.spec.endpoint.Timers.{started};
 ghost use Rattle.dcsctp_transfer.specs.types.Ids.{stream_numbers};
+ghost use Rattle.dcsctp_transfer.specs.spec.Reconfiguration.{number_answered};
 ghost use Rattle.dcsctp_transfer.specs.spec.Packet.{chunk_out};
 ghost use Rattle.dcsctp_transfer.specs.spec.queues.Transfer.{is_none_ready};
 ghost use Rattle.dcsctp_transfer.specs.spec.association.FlushChanges.{reset_request};
@@ -51,9 +52,20 @@ pub fn stream_bytes(alloc: Global, streams: &[StreamId]) -> Result<Vec<u8>, Allo
     Ok(bytes)
 }
 
-// Puts the request into the packet, if it fits: a RE-CONFIG with one Outgoing SSN Reset Request. It answers
-// no request of the peer, so its own number is in that field. `Err`: an allocation failed; the packet is
-// unchanged.
+/// The number that a request of this number has in the place of the one that it answers: it answers no request of
+/// the peer. One that says that it is new has the number before its own there (RFC 6525, section 4.1).
+pub fn number_answered(number: u32, is_new: bool) -> u32
+    ensures { result ≡ number_answered number is_new }
+{
+    if is_new {
+        number.wrapping_sub(1)
+    } else {
+        number
+    }
+}
+
+// Puts the request into the packet, if it fits: a RE-CONFIG with one Outgoing SSN Reset Request. `Err`: an
+// allocation failed; the packet is unchanged.
 fn put_request(
     alloc: Global,
     request: &ResetRequest,
@@ -73,7 +85,7 @@ fn put_request(
     let mut parameters = Vec::new(alloc);
     parameters.push(Parameter::OutgoingSsnResetRequest(OutgoingSsnResetRequestParameter {
         request_seq_nbr: request.number,
-        response_seq_nbr: request.number,
+        response_seq_nbr: number_answered(request.number, request.is_new),
         sender_last_assigned_tsn: request.last_tsn,
         streams: &streams,
     }))?;
@@ -96,6 +108,13 @@ pub(crate) fn reconfiguration_timer(transfer: &Transfer, now: SocketTime) -> Tim
     );
     timer.start(now);
     timer
+}
+
+/// When a request begins, and whether it says that it is new: with `Options::follow_rfc` it does.
+#[derive(Clone, Copy)]
+pub struct RequestStart {
+    pub now: SocketTime,
+    pub is_new: bool,
 }
 
 impl TransmissionControlBlock {
@@ -124,13 +143,13 @@ impl TransmissionControlBlock {
     pub fn start_ssn_reset_request(
         &mut self,
         alloc: Global,
-        now: SocketTime,
+        start: RequestStart,
         streams: Vec<StreamId>,
         packet: &mut SctpPacketBuilder,
     ) -> Result<(), AllocError>
         requires { 20 + (length streams.items + 1) / 2 * 4 ≤ bytes_remaining packet.old }
         ensures { OnOk result
-            (StartsReset now (stream_numbers streams.items) self.old packet.old self.new
+            (StartsReset start (stream_numbers streams.items) self.old packet.old self.new
             packet.new) }
     {
         let last_tsn = self.transfer.begin_reset_streams();
@@ -139,8 +158,9 @@ impl TransmissionControlBlock {
             number,
             last_tsn,
             streams,
+            is_new: start.is_new,
             waits_for_retry: false,
-            timer: reconfiguration_timer(&self.transfer, now),
+            timer: reconfiguration_timer(&self.transfer, start.now),
         };
         self.next_outgoing_reset_req_seq_nbr = number.wrapping_add(1);
         self.reset_request = Some(request);
@@ -153,12 +173,12 @@ impl TransmissionControlBlock {
     pub fn begin_reset(
         &mut self,
         alloc: Global,
-        now: SocketTime,
+        start: RequestStart,
         queue: &mut SendQueue,
         packet: &mut SctpPacketBuilder,
     ) -> Result<(), AllocError>
         ensures ok { OnOk result
-            (BeginsReset now queue.old self.old packet.old queue.new self.new packet.new) }
+            (BeginsReset start queue.old self.old packet.old queue.new self.new packet.new) }
         ensures idle { is_none_ready (ready_streams queue.old) ≡ true → IsOk result }
     {
         if self.reset_request.is_some() || !queue.has_streams_ready_to_be_reset() {
@@ -169,6 +189,6 @@ impl TransmissionControlBlock {
         if streams.is_empty() {
             return Ok(());
         }
-        self.start_ssn_reset_request(alloc, now, streams, packet)
+        self.start_ssn_reset_request(alloc, start, streams, packet)
     }
 }

@@ -46,6 +46,9 @@ pub struct ResetRequest {
     /// The streams that it resets.
     pub streams: Vec<StreamId>,
 
+    /// Does it say that it isn't the request before, once more? With `Options::follow_rfc` one does that is begun.
+    pub is_new: bool,
+
     /// Was it answered 'in progress', so that it waits to be sent again?
     pub waits_for_retry: bool,
 

@@ -1,6 +1,7 @@
 -- Our own request to reset streams is sent again: what the handler of its timer does is the turn of that timer.
 use Rattle.std.proofs.lemmas.List.{append-nil}
-use Rattle.std.specs.Prelude.{nat_le, if◌then◌else◌}
+use Rattle.std.specs.Prelude.{nat_le, not, ◌&&◌, if◌then◌else◌}
+use Rattle.std.specs.Option.{option_map}
 use Rattle.std.proofs.Common.{◌≡◌, ◌==◌, ◌+◌, ◌%◌, ◌^◌, ◌<◌, ℕ, Bool, true, false, Option, None, Some, List, [], ◌∷◌, ◌++◌, length, flat_map, refl, sym, ap, subst, ◌∙◌, arith}
 use Rattle.std.specs.List.{AllByRecursion}
 use Rattle.std.specs.Int.{w16, to_be_bytes}
@@ -11,6 +12,7 @@ use Rattle.dcsctp_core.specs.types.Ids.{stream_numbers}
 use Rattle.dcsctp_core.specs.types.Settings.{ports_of, packet_size_limit}
 use Rattle.dcsctp_core.specs.wire.Spelling.{chunk_bytes, header_bytes, packet_bytes_of}
 use Rattle.dcsctp_core.specs.spec.Packet.{Content, chunk_out, emission_bytes}
+use Rattle.dcsctp_core.specs.spec.Reconfiguration.{number_answered, renewed_reset}
 use Rattle.dcsctp_core.specs.spec.endpoint.Endpoint.{Endpoint, OutstandingRequest, held_in}
 use Rattle.dcsctp_core.specs.spec.endpoint.Outcome.{still, emits, fits, packet_counted, to_peer}
 use Rattle.dcsctp_core.specs.spec.endpoint.BegunResets.{core_asking}
@@ -19,7 +21,7 @@ use Rattle.dcsctp_core.specs.spec.endpoint.TimeTurns.{own_timer}
 use Rattle.dcsctp_core.specs.spec.association.FlushChanges.{reset_request}
 use Rattle.dcsctp_core.specs.spec.endpoint.HeartbeatOutcomes.{is_exhausted}
 use Rattle.dcsctp_core.specs.spec.endpoint.OwnTimers.{reconfiguration}
-use Rattle.dcsctp_core.specs.spec.endpoint.ReconfigurationOutcomes.{reset_again, request_emitted, renewed_request_where, request_renewed, is_renewed, request_unless, reconfiguration_expired, request_expired, reconfiguration_outcome}
+use Rattle.dcsctp_core.specs.spec.endpoint.ReconfigurationOutcomes.{reset_again, as_renewed, request_emitted, renewed_request_where, request_renewed, is_renewed, request_unless, reconfiguration_expired, request_expired, reconfiguration_outcome}
 use Rattle.dcsctp_core.specs.declared.context.Context.{Context}
 use Rattle.dcsctp_core.specs.declared.state.CookieEchoState.{CookieEchoState}
 use Rattle.dcsctp_core.specs.declared.state.OpenState.{OpenState}
@@ -43,21 +45,21 @@ use Rattle.dcsctp_core_resets.proofs.HandlingLemmas.{tcb_holds}
 
 -- the request, as the definitions keep it
 abbrev kept : ResetRequest → OutstandingRequest
-kept request = record { last_tsn = request.last_tsn; streams = stream_numbers request.streams.items; waits_for_retry = request.waits_for_retry }
+kept request = record { last_tsn = request.last_tsn; streams = stream_numbers request.streams.items; is_new = request.is_new; waits_for_retry = request.waits_for_retry }
 
--- under this number
-abbrev content_of : ℕ → ResetRequest → Content
-content_of number request = reset_request number (reset_again (Some (kept request)))
+-- under this number, whether it says that it is new or not
+abbrev content_of : Bool → ℕ → ResetRequest → Content
+content_of is_new number request = reset_request number (record (reset_again (Some (kept request))) { is_new = is_new })
 
-abbrev asked_chunk : ℕ → ℕ → List ℕ → ChunkContent
-asked_chunk number last_tsn bytes = re_config_chunk (outgoing_ssn_reset_request number number last_tsn bytes ∷ [])
+abbrev asked_chunk : Bool → ℕ → ℕ → List ℕ → ChunkContent
+asked_chunk is_new number last_tsn bytes = re_config_chunk (outgoing_ssn_reset_request number (number_answered number is_new) last_tsn bytes ∷ [])
 
 -- Its numbers are those of their fields.
-chunk_is : (number : ℕ) (request : ResetRequest) (last_tsn : ℕ) (bytes : List ℕ) → last_tsn ≡ request.last_tsn → last_tsn < 2 ^ 32 → AllByRecursion IsStream (stream_numbers request.streams.items)
-    → bytes ≡ flat_map (to_be_bytes w16) (stream_numbers request.streams.items) → chunk_out (content_of number request) ≡ asked_chunk number last_tsn bytes
-chunk_is number request last_tsn bytes tsn small fit is =
+chunk_is : (is_new : Bool) (number : ℕ) (request : ResetRequest) (last_tsn : ℕ) (bytes : List ℕ) → last_tsn ≡ request.last_tsn → last_tsn < 2 ^ 32 → AllByRecursion IsStream (stream_numbers request.streams.items)
+    → bytes ≡ flat_map (to_be_bytes w16) (stream_numbers request.streams.items) → chunk_out (content_of is_new number request) ≡ asked_chunk is_new number last_tsn bytes
+chunk_is is_new number request last_tsn bytes tsn small fit is =
     let same : request.last_tsn % 2 ^ 32 ≡ last_tsn = omega (arith, tsn, small) in
-    let chunk : ℕ → List ℕ → ChunkContent = λ tsn bytes. asked_chunk number tsn bytes in
+    let chunk : ℕ → List ℕ → ChunkContent = λ tsn bytes. asked_chunk is_new number tsn bytes in
     ap (λ (streams : List ℕ). chunk (request.last_tsn % 2 ^ 32) (flat_map (to_be_bytes w16) streams)) (fields_same (stream_numbers request.streams.items) fit)
     ∙ ap (λ (n : ℕ). chunk n (flat_map (to_be_bytes w16) (stream_numbers request.streams.items))) same
     ∙ ap (chunk last_tsn) (sym is)
@@ -79,23 +81,23 @@ again_is e peer asked held request number holds asks numbered =
 again_sent : {R : Type 0} (stream : R → Stream) (old new : Context R) (tcb : TransmissionControlBlock) (request : ResetRequest) (last_tsn : ℕ)
     (bytes : List ℕ) → tcb_of old.state ≡ Some tcb → tcb.reset_request ≡ Some request
     → last_tsn ≡ request.last_tsn → last_tsn < 2 ^ 32 → AllByRecursion IsStream (stream_numbers request.streams.items) → bytes ≡ flat_map (to_be_bytes w16) (stream_numbers request.streams.items)
-    → view_of new ≡ emitted_to (held_in (core_of old.state)) (asked_chunk request.number last_tsn bytes) (view_of old)
+    → view_of new ≡ emitted_to (held_in (core_of old.state)) (asked_chunk request.is_new request.number last_tsn bytes) (view_of old)
     → Moves stream (view_of old) (repeated_turn false (view_of old)) (view_of new)
 again_sent stream old new tcb request last_tsn bytes holds asks tsn small fit is h =
     let held : Held = held_of tcb in
     let turn = again_is (endpoint_of old) (held_in (core_of old.state)) (outstanding_of old.state) held (kept request) request.number (tcb_holds old.state tcb holds)
     (tcb_asks old.state tcb holds ∙ ap request_of asks) (ap request_number asks) in
     subst (λ (v : View _). Moves stream (view_of old) (repeated_turn false (view_of old)) v)
-    (ap (λ (chunk : ChunkContent). emitted_to (Some held) chunk (view_of old)) (chunk_is request.number request last_tsn bytes tsn small fit is)
-    ∙ ap (λ (p : Option Held). emitted_to p (asked_chunk request.number last_tsn bytes) (view_of old)) (sym (tcb_holds old.state tcb holds))
+    (ap (λ (chunk : ChunkContent). emitted_to (Some held) chunk (view_of old)) (chunk_is request.is_new request.number request last_tsn bytes tsn small fit is)
+    ∙ ap (λ (p : Option Held). emitted_to p (asked_chunk request.is_new request.number last_tsn bytes) (view_of old)) (sym (tcb_holds old.state tcb holds))
     ∙ sym h)
-    (moves_as stream (view_of old) _ _ _ turn (emits_moves stream (view_of old) held (content_of request.number request)))
+    (moves_as stream (view_of old) _ _ _ turn (emits_moves stream (view_of old) held (content_of request.is_new request.number request)))
 
 -- ---- under the next number
 
 -- the view once the outstanding request has the next number
 abbrev renumbered_at : {R : Type 0} → View R → View R
-renumbered_at view = record view { endpoint = record view.endpoint { core = core_asking view.endpoint.core } }
+renumbered_at view = record view { endpoint = record view.endpoint { core = core_asking view.endpoint.core; outstanding = option_map as_renewed view.endpoint.outstanding } }
 
 echoed_renumbered : {R : Type 0} (c : Context R) (echoed : CookieEchoState) (r : Option ResetRequest) → echoed.tcb.reset_request ≡ r → (r ≡ None → ⊥)
     → view_of (record c { state = CookieEchoed (record echoed { tcb = renumbered_by r echoed.tcb }) }) ≡ renumbered_at (view_of (record c { state = CookieEchoed echoed }))
@@ -118,13 +120,13 @@ view_renumbered c (CookieEchoed echoed) some = echoed_renumbered c echoed echoed
 view_renumbered c (Open opened) some = open_renumbered c opened opened.tcb.reset_request refl (λ none. some (ap request_of none))
 
 renewed_is : (e : Endpoint) (peer : Option Held) (asked : Option OutstandingRequest) (held : Held) (request : OutstandingRequest) (number : ℕ) (b : Bool) → peer ≡ Some held → asked ≡ Some request
-    → held.own_outstanding ≡ Some number → b ≡ fits e (to_peer held (reset_request held.own_next (reset_again (Some request))))
-    → renewed_request_outcome e peer asked ≡ renewed_request_where b e held number (reset_request held.own_next (reset_again (Some request)))
+    → held.own_outstanding ≡ Some number → b ≡ fits e (to_peer held (reset_request held.own_next (renewed_reset (reset_again (Some request)))))
+    → renewed_request_outcome e peer asked ≡ renewed_request_where b e held number (reset_request held.own_next (renewed_reset (reset_again (Some request))))
 renewed_is e peer asked held request number b holds asks numbered is =
     ap (λ (p : Option Held). renewed_request_outcome e p asked) holds
     ∙ ap (λ (a : Option OutstandingRequest). renewed_request_outcome e (Some held) a) asks
     ∙ ap (λ (n : Option ℕ). request_renewed e held n (reset_again (Some request))) numbered
-    ∙ ap (λ (x : Bool). renewed_request_where x e held number (reset_request held.own_next (reset_again (Some request)))) (sym is)
+    ∙ ap (λ (x : Bool). renewed_request_where x e held number (reset_request held.own_next (renewed_reset (reset_again (Some request))))) (sym is)
 
 -- what is left of it, by whether it fits
 abbrev renewed_view : {R : Type 0} → Bool → List ℕ → View R → View R
@@ -152,16 +154,16 @@ left_by {R = R} false bytes old mid some emits = sym emits
 renewed_sent : {R : Type 0} (stream : R → Stream) (old mid : Context R) (tcb : TransmissionControlBlock) (request : ResetRequest) (last_tsn : ℕ)
     (bytes : List ℕ) (b : Bool) → tcb_of old.state ≡ Some tcb → tcb.reset_request ≡ Some request
     → last_tsn ≡ request.last_tsn → last_tsn < 2 ^ 32 → AllByRecursion IsStream (stream_numbers request.streams.items) → bytes ≡ flat_map (to_be_bytes w16) (stream_numbers request.streams.items)
-    → (b ≡ nat_le (12 + length (chunk_bytes (asked_chunk tcb.next_outgoing_reset_req_seq_nbr last_tsn bytes))) (packet_size_limit old.options))
-    × (view_of mid ≡ emitted_to (held_in (core_of old.state)) (asked_chunk tcb.next_outgoing_reset_req_seq_nbr last_tsn bytes) (view_of old))
+    → (b ≡ nat_le (12 + length (chunk_bytes (asked_chunk false tcb.next_outgoing_reset_req_seq_nbr last_tsn bytes))) (packet_size_limit old.options))
+    × (view_of mid ≡ emitted_to (held_in (core_of old.state)) (asked_chunk false tcb.next_outgoing_reset_req_seq_nbr last_tsn bytes) (view_of old))
     → Moves stream (view_of old) (repeated_turn true (view_of old)) (view_of (left_behind b true mid))
 renewed_sent {R = R} stream old mid tcb request last_tsn bytes b holds asks tsn small fit is h =
     let held : Held = held_of tcb in
     let options = old.options in
     let number : ℕ = tcb.next_outgoing_reset_req_seq_nbr in
-    let content : Content = content_of number request in
+    let content : Content = content_of false number request in
     let chunk : ChunkContent = chunk_out content in
-    let same : chunk ≡ asked_chunk number last_tsn bytes = chunk_is number request last_tsn bytes tsn small fit is in
+    let same : chunk ≡ asked_chunk false number last_tsn bytes = chunk_is false number request last_tsn bytes tsn small fit is in
     let spelled : List ℕ = packet_bytes_of (held.capabilities.zero_checksum_method.0 == 0) (header_bytes options.local_port options.remote_port held.peer.tag) (chunk_bytes chunk) in
     let alone : chunk_bytes chunk ++ [] ≡ chunk_bytes chunk = append-nil (chunk_bytes chunk) in
     let fitting : b ≡ fits (endpoint_of old) (to_peer held content) =
@@ -169,7 +171,7 @@ renewed_sent {R = R} stream old mid tcb request last_tsn bytes b holds asks tsn 
     let asked : outstanding_of old.state ≡ Some (kept request) = tcb_asks old.state tcb holds ∙ ap request_of asks in
     let turn = renewed_is (endpoint_of old) (held_in (core_of old.state)) (outstanding_of old.state) held (kept request) request.number b (tcb_holds old.state tcb holds) asked (ap request_number asks) fitting in
     let emits : view_of mid ≡ (if b then record (view_of old) { endpoint = packet_counted (endpoint_of old); events = (view_of old).events ++ sent spelled ∷ [] } else view_of old) =
-    h.1 ∙ ap (λ (p : Option Held). emitted_to p (asked_chunk number last_tsn bytes) (view_of old)) (tcb_holds old.state tcb holds)
+    h.1 ∙ ap (λ (p : Option Held). emitted_to p (asked_chunk false number last_tsn bytes) (view_of old)) (tcb_holds old.state tcb holds)
     ∙ ap (λ (c : ChunkContent). emitted_to (Some held) c (view_of old)) (sym same)
     ∙ ap (λ (x : Bool). let v : View R = (if x then record (view_of old) { endpoint = packet_counted (endpoint_of old); events = (view_of old).events ++ sent spelled ∷ [] } else view_of old) in v)
     (ap (λ (bs : List ℕ). nat_le (12 + length bs) (packet_size_limit options)) (sym alone) ∙ sym fitting) in
@@ -184,21 +186,21 @@ pub request_sent : {R : Type 0} (stream : R → Stream) (old mid : Context R) (t
     → number ≡ number_by is_new request.number tcb.next_outgoing_reset_req_seq_nbr
     → tcb_of old.state ≡ Some tcb → tcb.reset_request ≡ Some request
     → last_tsn ≡ request.last_tsn → last_tsn < 2 ^ 32 → AllByRecursion IsStream (stream_numbers request.streams.items) → bytes ≡ flat_map (to_be_bytes w16) (stream_numbers request.streams.items)
-    → (b ≡ nat_le (12 + length (chunk_bytes (asked_chunk number last_tsn bytes))) (packet_size_limit old.options))
-    × (view_of mid ≡ emitted_to (held_in (core_of old.state)) (asked_chunk number last_tsn bytes) (view_of old))
+    → (b ≡ nat_le (12 + length (chunk_bytes (asked_chunk (not is_new && request.is_new) number last_tsn bytes))) (packet_size_limit old.options))
+    × (view_of mid ≡ emitted_to (held_in (core_of old.state)) (asked_chunk (not is_new && request.is_new) number last_tsn bytes) (view_of old))
     → Moves stream (view_of old) (repeated_turn is_new (view_of old)) (view_of (left_behind b is_new mid))
 request_sent stream old mid tcb request number last_tsn bytes b false numbered holds asks tsn small fit is h =
     subst (λ (s : State). Moves stream (view_of old) (repeated_turn false (view_of old)) (view_of (record mid { state = s }))) (same b)
     (again_sent stream old mid tcb request last_tsn bytes holds asks tsn small fit is
-    (h.1 ∙ ap (λ (n : ℕ). emitted_to (held_in (core_of old.state)) (asked_chunk n last_tsn bytes) (view_of old)) numbered))
+    (h.1 ∙ ap (λ (n : ℕ). emitted_to (held_in (core_of old.state)) (asked_chunk request.is_new n last_tsn bytes) (view_of old)) numbered))
   where
     same : (b : Bool) → mid.state ≡ renumbered_where b false mid.state
     same true = refl
     same false = refl
 request_sent stream old mid tcb request number last_tsn bytes b true numbered holds asks tsn small fit is h =
     renewed_sent stream old mid tcb request last_tsn bytes b holds asks tsn small fit is
-    (subst (λ (n : ℕ). (b ≡ nat_le (12 + length (chunk_bytes (asked_chunk n last_tsn bytes))) (packet_size_limit old.options))
-    × (view_of mid ≡ emitted_to (held_in (core_of old.state)) (asked_chunk n last_tsn bytes) (view_of old)))
+    (subst (λ (n : ℕ). (b ≡ nat_le (12 + length (chunk_bytes (asked_chunk false n last_tsn bytes))) (packet_size_limit old.options))
+    × (view_of mid ≡ emitted_to (held_in (core_of old.state)) (asked_chunk false n last_tsn bytes) (view_of old)))
     numbered h)
 
 -- ---- the turn of the timer

@@ -1,5 +1,5 @@
 -- What the handler of RE-CONFIG does, as turns of a socket's view (RFC 6525, section 5.2).
-use Rattle.std.specs.Prelude.{◌≡◌, ◌&&◌, ℕ, Bool, true, false, Option, None, Some, Result, List, [], ◌∷◌, ◌++◌, take, if◌then◌else◌}
+use Rattle.std.specs.Prelude.{◌≡◌, ◌==◌, ◌&&◌, ℕ, Bool, true, false, Option, None, Some, Result, List, [], ◌∷◌, ◌++◌, take, if◌then◌else◌}
 use Rattle.std.specs.Option.{option_map}
 use Rattle.rand_core.specs.Stream.{Stream}
 use Rattle.dcsctp_core.specs.wire.declared.reconfiguration.OutgoingSsnResetRequestParameter.{OutgoingSsnResetRequestParameter}
@@ -9,7 +9,7 @@ use Rattle.dcsctp_core.specs.types.declared.association.Held.{Held}
 use Rattle.dcsctp_core.specs.spec.endpoint.Event.{Event, incoming_stream_reset, streams_reset_failed, streams_reset_performed}
 use Rattle.dcsctp_core.specs.api.declared.events.SocketEvent.{SocketEvent}
 use Rattle.dcsctp_core.specs.api.Events.{event_content}
-use Rattle.dcsctp_core.specs.spec.Reconfiguration.{RequestedReset, NumberedReset, RequestState, early, ResetParameter, reset_streams_in}
+use Rattle.dcsctp_core.specs.spec.Reconfiguration.{RequestedReset, NumberedReset, RequestState, early, ResetParameter, reset_streams_in, previous_number}
 use Rattle.dcsctp_core.specs.spec.queues.Transfer.{Transfer}
 use Rattle.dcsctp_core.specs.spec.endpoint.Endpoint.{Endpoint, Core, cookie_echoed, open_in, held_in}
 use Rattle.dcsctp_core.specs.spec.endpoint.Outcome.{Outcome, still}
@@ -37,7 +37,12 @@ ReConfigAt parameters view o = ResetTurn view.endpoint view.endpoint.core parame
 
 -- what an Outgoing SSN Reset Request wants
 abbrev pub wanted_by : OutgoingSsnResetRequestParameter → RequestedReset
-wanted_by request = record { last_tsn = request.sender_last_assigned_tsn; streams = reset_streams_in request.streams.now }
+wanted_by request =
+    record {
+      last_tsn = request.sender_last_assigned_tsn;
+      streams = reset_streams_in request.streams.now;
+      is_new = request.response_seq_nbr == previous_number request.request_seq_nbr;
+    }
 
 -- its number
 abbrev pub asked_number : OutgoingSsnResetRequestParameter → ℕ

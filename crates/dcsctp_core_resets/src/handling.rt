@@ -1,6 +1,6 @@
 //! RE-CONFIG (RFC 6525, sections 3.1 and 5.2) that is received.
 
-ghost use Rattle.std.specs.Prelude.{◌≡◌, ◌&&◌, if◌then◌else◌, Some, OnOk, OnErr, IfOk};
+ghost use Rattle.std.specs.Prelude.{◌≡◌, ◌&&◌, if◌then◌else◌, false, Some, OnOk, OnErr, IfOk};
 ghost use Rattle.std.specs.Option.{option_map};
 ghost use Rattle.dcsctp_core.specs.types.Ids.{stream_numbers};
 ghost use Rattle.dcsctp_core.specs.spec.Reconfiguration.{early};
@@ -54,6 +54,13 @@ fn are_same(one: &[u16], other: &[u16]) -> bool
     one == other
 }
 
+// Does it say that it isn't the request before, once more?
+fn says_new(request: &OutgoingSsnResetRequestParameter<'_>) -> bool
+    ensures { result ≡ (wanted_by request.now).is_new }
+{
+    request.response_seq_nbr == request.request_seq_nbr.wrapping_sub(1)
+}
+
 // Is it the request `old` under the next number? `last` is the last number that was accepted, and `streams` what it
 // names.
 fn is_again(
@@ -70,7 +77,7 @@ fn is_again(
     if old.number != last || request.request_seq_nbr != last.wrapping_add(1) {
         return false;
     }
-    if old.last_tsn != request.sender_last_assigned_tsn {
+    if says_new(request) || old.last_tsn != request.sender_last_assigned_tsn {
         return false;
     }
     are_same(&old.streams, streams)
@@ -253,7 +260,11 @@ fn reset_streams(state: &mut State, streams: &[StreamId]) -> Result<(), AllocErr
 // nothing has changed.
 fn defer_reset(state: &mut State, last_tsn: u32, streams: &[StreamId]) -> Result<(), AllocError>
     ensures ok { OnOk result (ChangesQueues
-        (DefersTo (record { last_tsn = last_tsn; streams = stream_numbers streams.now }))
+        (DefersTo (record {
+          last_tsn = last_tsn;
+          streams = stream_numbers streams.now;
+          is_new = false;
+        }))
         (transfer_of state.old) state.old state.new) }
     ensures err { OnErr result (state.new ≡ state.old) }
 {

@@ -1,6 +1,6 @@
 //! Our own request to reset streams is sent again (RFC 6525, section 5.1.1). Called by `advance_time`.
 
-ghost use Rattle.std.specs.Prelude.{◌≡◌};
+ghost use Rattle.std.specs.Prelude.{◌≡◌, ◌&&◌, not};
 ghost use Rattle.dcsctp_core.specs.spec.endpoint.TimeTurns.{own_timer};
 ghost use Rattle.dcsctp_core.specs.spec.endpoint.OwnTimers.{reconfiguration};
 ghost use Rattle.dcsctp_core.specs.spec.endpoint.ReconfigurationOutcomes.{is_renewed};
@@ -11,9 +11,18 @@ ghost use Rattle.dcsctp_core.specs.View.{endpoint_of, outstanding_of};
 ghost use Rattle.dcsctp_core_resets.specs.Repeating.{request_chunk, EmitsRequest, number_by, renumbered_where, repeated_turn, unless_turn};
 
 use dcsctp_core::wire::{Chunk, OutgoingSsnResetRequestParameter, Parameter, ReConfigChunk};
-use dcsctp_core::{Context, ResetRequest, State, TransmissionControlBlock, stream_bytes};
+use dcsctp_core::{
+    Context, ResetRequest, State, TransmissionControlBlock, number_answered, stream_bytes,
+};
 use rand_core::Rng;
 use std::alloc::AllocError;
+
+// Does it say that it is new? A renewed one doesn't.
+fn says_new(request: &ResetRequest, is_renewed: bool) -> bool
+    ensures { result ≡ (not is_renewed && request.now.is_new) }
+{
+    !is_renewed && request.is_new
+}
 
 // The last TSN that was given out before the request.
 fn last_tsn_of(request: &ResetRequest) -> u32
@@ -23,10 +32,10 @@ fn last_tsn_of(request: &ResetRequest) -> u32
 }
 
 // The number under which the request is sent: its own, or the next one.
-fn number_of(tcb: &TransmissionControlBlock, request: &ResetRequest, is_new: bool) -> u32
-    ensures { result ≡ number_by is_new request.now.number tcb.now.next_outgoing_reset_req_seq_nbr }
+fn number_of(tcb: &TransmissionControlBlock, request: &ResetRequest, is_renewed: bool) -> u32
+    ensures { result ≡ number_by is_renewed request.now.number tcb.now.next_outgoing_reset_req_seq_nbr }
 {
-    if is_new {
+    if is_renewed {
         tcb.next_outgoing_reset_req_seq_nbr
     } else {
         request.number
@@ -60,35 +69,35 @@ fn renumber(state: &mut State)
 }
 
 // It does if it was sent under that number.
-fn renumber_where(state: &mut State, is_sent: bool, is_new: bool)
-    ensures { state.new ≡ renumbered_where is_sent is_new state.old }
+fn renumber_where(state: &mut State, is_sent: bool, is_renewed: bool)
+    ensures { state.new ≡ renumbered_where is_sent is_renewed state.old }
 {
-    if is_sent && is_new {
+    if is_sent && is_renewed {
         renumber(state);
     }
 }
 
 // Sends our outstanding request again, if there is one and it fits `mtu`: under its number, or under the next
 // one, which takes its place. `Err`: an allocation failed, and nothing has changed.
-fn send_request<R: Rng>(context: &mut Context<R>, is_new: bool) -> Result<(), AllocError>
-    ensures { Tries R.stream (repeated_turn is_new) context.old result context.new }
+fn send_request<R: Rng>(context: &mut Context<R>, is_renewed: bool) -> Result<(), AllocError>
+    ensures { Tries R.stream (repeated_turn is_renewed) context.old result context.new }
 {
     match context.state.tcb() {
         None => Ok(()),
         Some(tcb) => match &tcb.reset_request {
             None => Ok(()),
             Some(request) => {
-                let number = number_of(tcb, request, is_new);
+                let number = number_of(tcb, request, is_renewed);
                 let last_tsn = last_tsn_of(request);
                 let streams = stream_bytes(context.alloc, &request.streams)?;
                 let request = OutgoingSsnResetRequestParameter {
                     request_seq_nbr: number,
-                    response_seq_nbr: number,
+                    response_seq_nbr: number_answered(number, says_new(request, is_renewed)),
                     sender_last_assigned_tsn: last_tsn,
                     streams: &streams,
                 };
                 let is_sent = emit_request(context, request)?;
-                renumber_where(&mut context.state, is_sent, is_new);
+                renumber_where(&mut context.state, is_sent, is_renewed);
                 Ok(())
             }
         },
@@ -111,13 +120,16 @@ fn is_renewed<R: Rng>(context: &Context<R>) -> bool
 
 // Sends it, under its number or under the next one, unless the association is to be aborted. `Err`: an
 // allocation failed, and nothing has changed.
-fn send_unless_exhausted<R: Rng>(context: &mut Context<R>, is_new: bool) -> Result<(), AllocError>
-    ensures { Tries R.stream (unless_turn is_new) context.old result context.new }
+fn send_unless_exhausted<R: Rng>(
+    context: &mut Context<R>,
+    is_renewed: bool,
+) -> Result<(), AllocError>
+    ensures { Tries R.stream (unless_turn is_renewed) context.old result context.new }
 {
     if context.has_too_many_errors() {
         return Ok(());
     }
-    send_request(context, is_new)
+    send_request(context, is_renewed)
 }
 
 /// Advances the reconfiguration timer to the present moment, and returns whether it expires. Then our
@@ -129,10 +141,10 @@ fn send_unless_exhausted<R: Rng>(context: &mut Context<R>, is_new: bool) -> Resu
 pub fn handle_reconfiguration<R: Rng>(context: &mut Context<R>) -> Result<bool, AllocError>
     ensures { Expires R.stream (own_timer reconfiguration) context.old result context.new }
 {
-    let is_new = is_renewed(context);
+    let is_renewed = is_renewed(context);
     if !context.expire_reconfiguration() {
         return Ok(false);
     }
-    send_unless_exhausted(context, is_new)?;
+    send_unless_exhausted(context, is_renewed)?;
     Ok(true)
 }

@@ -10,7 +10,7 @@ use Rattle.dcsctp_delivery_sending.specs.Places as places
 use Rattle.dcsctp_delivery_directions.specs.Directions.{Asking, nothing_asked}
 use Rattle.dcsctp_delivery_turns.specs.Asking.{AreNumbered}
 use Rattle.dcsctp_delivery_associations.specs.Answered as answered
-use Rattle.dcsctp_delivery_associations.specs.Answered.{Requests, request_number_at, WantFrom, AreAsked, IsInStep, AnswersRequests}
+use Rattle.dcsctp_delivery_associations.specs.Answered.{Requests, request_number_at, WantsSame, WantFrom, AreAsked, IsInStep, AnswersRequests}
 use Rattle.dcsctp_delivery_associations.proofs.RequestNumbers.{same_place, newest_number, number_among, is_newest, want_later, wanted_at}
 
 -- It is the one at this place, from which on all want the same; none was known to be performed; and what waits, waits for it.
@@ -22,7 +22,7 @@ pub record IsDueAt (requests : Requests) (waits : Option DeferralModel) (begun :
   pub below : place ≤ length earlier
   pub at : begun.number ≡ request_number_at requests.first place
   pub want : WantFrom place newest.reset requests.asking.requests
-  pub wants : begun.reset ≡ newest.reset
+  pub wants : WantsSame begun.reset newest.reset
   pub own : IsOwn newest.reset waits
   pub unknown : requests.asking.is_performed ≡ false
 

@@ -1,6 +1,7 @@
 -- The sender continues: its request ends, or it begins one.
 use Rattle.std.proofs.Common.{◌≡◌, ℕ, suc, Bool, true, false, ◌<◌, ◌≤◌, ◌+◌, ◌-◌, ◌^◌, Option, Some, List, [], ◌∷◌, ◌++◌, length, length-append, refl, sym, ◌∙◌, ap, subst, inl, inr, arith}
 use Rattle.std.specs.Prelude.{◌⊎◌}
+use Rattle.dcsctp_spec_lemmas.specs.spec.Reconfiguration.{renewed_reset}
 use Rattle.dcsctp_spec_lemmas.specs.types.declared.association.Pair.{Pair}
 use Rattle.dcsctp_spec_runs.specs.Past.{WasPerformed}
 use Rattle.dcsctp_spec_runs.specs.World.{after_effects}
@@ -106,7 +107,7 @@ module _ (r : Requests) (their_past : List Effect) (a : (r.asking ≡ nothing_as
           by_before : (before : List BegunReset) → r.asking.requests ≡ before → ((number : ℕ) × WasPerformed r.my number their_past) ⊎ WantFrom 0 newest.reset asking.requests
           by_before [] none =
               let all : asking.requests ≡ begun ∷ [] = is ∙ ap (λ (l : List BegunReset). begun ∷ l) (same ∙ none) in
-              let one : begun ≡ newest = first_of (sym all ∙ top) in inr (subst (WantFrom 0 newest.reset) (sym all) (λ at. ap (λ (b : BegunReset). b.reset) one, tt))
+              let one : begun ≡ newest = first_of (sym all ∙ top) in inr (subst (WantFrom 0 newest.reset) (sym all) (λ at. ap (λ (b : BegunReset). renewed_reset b.reset) one, tt))
           by_before (last ∷ rest) some =
               let out = begins.out in inl (request_number_at r.first (length rest), newest_was between ends (omega (arith, count, out)) interleaved (length rest) (sym (ap (λ (l : List BegunReset). length l) some)))
       one_was interleaved (begun ∷ other ∷ more) is count newest earlier top = (let out = begins.out in absurd (omega (arith, count, out)))

@@ -7,7 +7,7 @@ use Rattle.dcsctp_spec_lemmas.specs.spec.endpoint.Endpoint.{Endpoint}
 use Rattle.dcsctp_spec_lemmas.specs.spec.endpoint.Outcome.{Outcome}
 use Rattle.dcsctp_spec_lemmas.specs.spec.Packet.{Content, re_config}
 use Rattle.dcsctp_spec_runs.specs.Past.{WasPerformed, HasEffect, number_to_accept, number_to_perform}
-use Rattle.dcsctp_spec_lemmas.specs.spec.Reconfiguration.{RequestedReset, ResetParameter, outgoing_reset_request}
+use Rattle.dcsctp_spec_lemmas.specs.spec.Reconfiguration.{RequestedReset, ResetParameter, outgoing_reset_request, renewed_reset, number_answered}
 use Rattle.dcsctp_spec_lemmas.specs.spec.endpoint.Turn.{Input, Turn}
 use Rattle.dcsctp_spec_runs.specs.World.{after_effects}
 use Rattle.dcsctp_spec_lemmas.specs.spec.association.Effect as effects
@@ -31,8 +31,9 @@ use Rattle.dcsctp_delivery_turns.specs.Runs.{IsNewest, PerformsNewest, performed
 use Rattle.dcsctp_delivery_turns.specs.Sides.{WasSent}
 use Rattle.dcsctp_delivery_turns.proofs.Holding.{holds_mean, ends_mean}
 use Rattle.dcsctp_delivery_turns.proofs.PeersTurns.{peers_turn}
+use Rattle.dcsctp_delivery_turns.proofs.SameResets.{own_same}
 use Rattle.dcsctp_delivery_associations.specs.Ends.{ReceivingEnd, Ends}
-use Rattle.dcsctp_delivery_associations.specs.Answered.{Requests, WasJoined, IsInStep, AnswersRequests, requests_of, waiting_deferral, AreAnswered}
+use Rattle.dcsctp_delivery_associations.specs.Answered.{Requests, WasJoined, IsInStep, AnswersRequests, requests_of, waiting_deferral, AreAnswered, WantsSame}
 use Rattle.dcsctp_delivery_associations.proofs.UnaskedPasts.{same_numbers, reset_none, some_reset, was_performed_reset}
 use Rattle.dcsctp_delivery_associations.proofs.AnsweringRests as answering
 use Rattle.dcsctp_delivery_associations.proofs.AnsweringRests.{none_performed, same_requests}
@@ -60,7 +61,7 @@ pub begun_of : (options : Options) (first size : ℕ) (direction : Direction) �
     → (begun : BegunReset) × places.HasEntry begun direction.asking.requests × (begun.number ≡ number) × (begun.reset ≡ reset)
 begun_of options first size direction run number reset (inl none) = absurd none
 begun_of options first size direction run number reset (inr was) =
-    by_begun (requests_were_begun options first size direction run was.emission (outgoing_reset_request number number reset ∷ []) was.was was.holds)
+    by_begun (requests_were_begun options first size direction run was.emission (outgoing_reset_request number (number_answered number reset.is_new) reset ∷ []) was.was was.holds)
   where
     by_begun : IsOfBegun direction.asking.requests (reset_request number reset) → (begun : BegunReset) × places.HasEntry begun direction.asking.requests × (begun.number ≡ number) × (begun.reset ≡ reset)
     by_begun (inl none) = absurd none
@@ -147,7 +148,7 @@ module _ (ends : Ends) (e : Endpoint) (past : List Effect) (d : Endpoint) (their
 
       requested_is : (parameters : List ResetParameter) (number : ℕ) (reset other : RequestedReset) → came_by input ≡ Some (reset_request number reset) → came_by input ≡ Some (re_config parameters) → requested_in parameters ≡ Some other → reset ≡ other
       requested_is parameters number reset other came came' asked =
-          let same : outgoing_reset_request number number reset ∷ [] ≡ parameters = cc in
+          let same : outgoing_reset_request number (number_answered number reset.is_new) reset ∷ [] ≡ parameters = cc in
           let is : ◌≡◌ {A = Option RequestedReset} (Some reset) (Some other) = ap requested_in same ∙ asked in
           cc
 
@@ -172,13 +173,13 @@ module _ (ends : Ends) (e : Endpoint) (past : List Effect) (d : Endpoint) (their
           by_peers (performs_it number other came' due only has accept perform empty) =
               let found = handled number other came' in
               let one = due_so step number other came' due in
-              let wants : one.newest.reset ≡ reset = sym one.wants ∙ found.3 ∙ requested_is parameters number other reset came' came asked in
+              let wants : WantsSame one.newest.reset reset = sym one.wants ∙ ap renewed_reset (found.3 ∙ requested_is parameters number other reset came' came asked) in
               record {
                 newest = one.newest;
                 earlier = one.earlier;
                 is = ap (λ (a : Asking). a.requests) asked_is ∙ one.is;
                 asks = wants;
-                own = subst (λ (r : RequestedReset). IsOwn r transfer.reassembly.deferral) wants one.own;
+                own = own_same one.newest.reset reset transfer.reassembly.deferral wants one.own;
                 unknown = ap (λ (a : Asking). a.is_performed) asked_is ∙ one.unknown;
               }
 
@@ -280,7 +281,7 @@ module _ (ends : Ends) (e : Endpoint) (past : List Effect) (d : Endpoint) (their
             go true says = refl
             go false says = elim (says refl) [
               | inl none ↦ (let clash : true ≡ false = sym (was_performed_reset o.effects link.peer number has) ∙ none in absurd (cc))
-              | inr calm ↦ absurd (calm (outgoing_reset_request number number reset ∷ []) came)
+              | inr calm ↦ absurd (calm (outgoing_reset_request number (number_answered number reset.is_new) reset ∷ []) came)
             ]
 
         by_performing : (b : Bool) → is_known ≡ b → Standing b → (number : ℕ) (reset : RequestedReset) → came_by input ≡ Some (reset_request number reset) → IsDue their_past number

@@ -1,19 +1,24 @@
 -- The sender sends its newest request again under the next number.
-use Rattle.std.proofs.Common.{◌≡◌, ℕ, suc, true, ◌<◌, ◌≤◌, ◌+◌, ◌-◌, ◌^◌, Option, List, [], ◌∷◌, ◌++◌, length, length-append, refl, sym, ◌∙◌, ap, subst, inl, inr, arith}
+use Rattle.std.proofs.Common.{◌≡◌, ℕ, suc, true, ◌<◌, ◌≤◌, ◌+◌, ◌-◌, ◌^◌, Option, None, Some, List, [], ◌∷◌, ◌++◌, length, length-append, refl, sym, ◌∙◌, ap, subst, inl, inr, arith}
 use Rattle.std.specs.Prelude.{◌⊎◌}
 use Rattle.dcsctp_spec_runs.specs.Past.{WasPerformed}
 use Rattle.dcsctp_spec_lemmas.specs.spec.association.Effect.{Effect}
+use Rattle.dcsctp_spec_lemmas.specs.spec.Reconfiguration.{RequestedReset, renewed_reset}
 use Rattle.dcsctp_spec_lemmas.specs.spec.queues.Reassembly.{DeferralModel}
 use Rattle.dcsctp_spec_lemmas.specs.spec.endpoint.BegunResets.{BegunReset}
 use Rattle.dcsctp_delivery_receiving.specs.Clear.{IsOwn}
 use Rattle.dcsctp_delivery_directions.specs.Directions.{Asking, nothing_asked, asking_renewed}
 use Rattle.dcsctp_delivery_turns.specs.Asking.{AreNumbered}
 use Rattle.dcsctp_delivery_associations.specs.Answered.{Requests, request_number_at, WantFrom, AreAsked, IsRequestNumber, IsInStep, all_performed, unaccepted, in_progress, StandsSo, in_step, plain}
-use Rattle.dcsctp_delivery_associations.proofs.RequestNumbers.{same_place, want_beyond}
+use Rattle.dcsctp_delivery_associations.proofs.RequestNumbers.{same_place, want_beyond, want_renewed}
 use Rattle.dcsctp_delivery_associations.proofs.AskedOn as asked
 use Rattle.dcsctp_delivery_associations.proofs.AskedOn.{MayEnd, MayBegin}
 
 -- ---- one association
+
+own_renewed : (reset : RequestedReset) (waits : Option DeferralModel) → IsOwn reset waits → IsOwn (renewed_reset reset) waits
+own_renewed reset None own = own
+own_renewed reset (Some deferral) own = own
 
 -- its requests once the newest continues under this number
 abbrev pub renewed : ℕ → BegunReset → Requests → Requests
@@ -41,7 +46,7 @@ module _ (r : Requests) (their_past : List Effect) (a : (r.asking ≡ nothing_as
             | inl none ↦ (let empty : r.asking.requests ≡ [] = ap (λ (s : Asking). s.requests) none in absurd (cc))
             | inr was ↦ elim (was.some_performed interleaved newest earlier is) [
               | inl has ↦ inl has
-              | inr want ↦ inr (subst (λ (b : BegunReset). WantFrom 0 b.reset (renewed number newest r).asking.requests) (first_of same) (λ at. refl, want))
+              | inr want ↦ inr (subst (λ (b : BegunReset). WantFrom 0 b.reset (renewed number newest r).asking.requests) (first_of same) (λ at. refl, want_renewed 0 newest.reset r.asking.requests want))
             ]
           ]
 
@@ -55,21 +60,21 @@ module _ (r : Requests) (their_past : List Effect) (a : (r.asking ≡ nothing_as
   renewed_stands waits (in_step step) = in_step (go step)
     where
       top : BegunReset
-      top = record { number = number; reset = newest.reset }
+      top = record { number = number; reset = renewed_reset newest.reset }
 
-      want_on : (place : ℕ) (last : BegunReset) (rest : List BegunReset) → r.asking.requests ≡ last ∷ rest → WantFrom place last.reset r.asking.requests → WantFrom place newest.reset (top ∷ r.asking.requests)
-      want_on place last rest same want = (λ at. refl, subst (λ (b : BegunReset). WantFrom place b.reset r.asking.requests) (first_of (sym same ∙ is)) want)
+      want_on : (place : ℕ) (last : BegunReset) (rest : List BegunReset) → r.asking.requests ≡ last ∷ rest → WantFrom place last.reset r.asking.requests → WantFrom place top.reset (top ∷ r.asking.requests)
+      want_on place last rest same want = (λ at. refl, want_renewed place newest.reset r.asking.requests (subst (λ (b : BegunReset). WantFrom place b.reset r.asking.requests) (first_of (sym same ∙ is)) want))
 
       later : (last : BegunReset) (rest : List BegunReset) (place : ℕ) → r.asking.requests ≡ last ∷ rest → place ≤ length rest → place ≤ length r.asking.requests
       later last rest place same below = (let long : length r.asking.requests ≡ suc (length rest) = ap (λ (l : List BegunReset). length l) same in omega (arith, long, below))
 
       go : IsInStep r their_past waits → IsInStep (renewed number newest r) their_past waits
       go (all_performed accept perform empty which) =
-          unaccepted top r.asking.requests (length r.asking.requests) refl (omega arith) (λ at. refl, want_beyond (length r.asking.requests) newest.reset r.asking.requests (omega arith)) accept perform empty refl
+          unaccepted top r.asking.requests (length r.asking.requests) refl (omega arith) (λ at. refl, want_beyond (length r.asking.requests) top.reset r.asking.requests (omega arith)) accept perform empty refl
       go (unaccepted last rest place same below want accept perform empty un) =
           unaccepted top r.asking.requests place refl (later last rest place same below) (want_on place last rest same want) accept perform empty refl
       go (in_progress last rest place same below want accept perform own un) =
-          in_progress top r.asking.requests place refl (later last rest place same below) (want_on place last rest same want) accept perform (subst (λ (b : BegunReset). IsOwn b.reset waits) (first_of (sym same ∙ is)) own) refl
+          in_progress top r.asking.requests place refl (later last rest place same below) (want_on place last rest same want) accept perform (own_renewed newest.reset waits (subst (λ (b : BegunReset). IsOwn b.reset waits) (first_of (sym same ∙ is)) own)) refl
 
 -- ---- with what ends and begins
 

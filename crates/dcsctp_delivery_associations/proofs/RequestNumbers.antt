@@ -1,11 +1,11 @@
 -- Numbers of requests, and their places.
 use Rattle.std.proofs.Common.{◌≡◌, ℕ, ◌<◌, ◌≤◌, ◌^◌, suc, List, [], ◌∷◌, length, sym, ◌∙◌, ap, subst, arith, inl, inr}
-use Rattle.dcsctp_spec_lemmas.specs.spec.Reconfiguration.{RequestedReset}
+use Rattle.dcsctp_spec_lemmas.specs.spec.Reconfiguration.{RequestedReset, renewed_reset}
 use Rattle.dcsctp_spec_lemmas.specs.spec.association.FlushChanges.{next_number}
 use Rattle.dcsctp_spec_lemmas.specs.spec.endpoint.BegunResets.{BegunReset}
 use Rattle.dcsctp_delivery_sending.specs.Places as places
 use Rattle.dcsctp_delivery_turns.specs.Asking.{AreNumbered}
-use Rattle.dcsctp_delivery_associations.specs.Answered.{request_number_at, WantFrom}
+use Rattle.dcsctp_delivery_associations.specs.Answered.{request_number_at, WantsSame, WantFrom}
 
 pub same_place : (first i j : ℕ) → request_number_at first i ≡ request_number_at first j → i < 2 ^ 32 → j < 2 ^ 32 → i ≡ j
 same_place first i j is one two = omega (arith, is, one, two)
@@ -48,11 +48,16 @@ pub want_later : (place later : ℕ) (reset : RequestedReset) (requests : List B
 want_later place later reset [] le want = tt
 want_later place later reset (begun ∷ earlier) le want = (λ at. want.0 (omega (arith, at, le)), want_later place later reset earlier le want.1)
 
+-- Whether it says that it is new is all the same.
+pub want_renewed : (place : ℕ) (reset : RequestedReset) (requests : List BegunReset) → WantFrom place reset requests → WantFrom place (renewed_reset reset) requests
+want_renewed place reset [] want = tt
+want_renewed place reset (begun ∷ earlier) want = (want.0, want_renewed place reset earlier want.1)
+
 -- So the one at this place wants it.
 pub wanted_at : (first place : ℕ) (reset : RequestedReset) (requests : List BegunReset) (begun : BegunReset) → AreNumbered first requests → length requests < 2 ^ 32 → places.HasEntry begun requests → place < 2 ^ 32
-    → begun.number ≡ request_number_at first place → WantFrom place reset requests → begun.reset ≡ reset
+    → begun.number ≡ request_number_at first place → WantFrom place reset requests → WantsSame begun.reset reset
 wanted_at first place reset [] begun numbered few has small at want = absurd has
 wanted_at first place reset (newest ∷ earlier) begun numbered few (inl e) small at want =
     let here : length earlier ≡ place = same_place first (length earlier) place (sym numbered.0 ∙ sym (ap (λ (b : BegunReset). b.number) e) ∙ at) (omega (arith, few)) small in
-    ap (λ (b : BegunReset). b.reset) e ∙ want.0 (omega (arith, here))
+    ap (λ (b : BegunReset). renewed_reset b.reset) e ∙ want.0 (omega (arith, here))
 wanted_at first place reset (newest ∷ earlier) begun numbered few (inr has) small at want = wanted_at first place reset earlier begun numbered.1 (omega (arith, few)) has small at want.1

@@ -3,7 +3,7 @@
 use Rattle.std.specs.Prelude.{◌≡◌, ◌≢◌, ◌⊎◌, ◌<◌, ◌≤◌, ◌+◌, ◌%◌, ◌^◌, ℕ, suc, Bool, true, false, Option, None, Some, List, [], ◌∷◌, length}
 use Rattle.dcsctp_spec_lemmas.specs.types.declared.association.Pair.{Pair}
 use Rattle.dcsctp_spec_runs.specs.Past.{WasPerformed, HasEffect, number_to_accept, number_to_perform}
-use Rattle.dcsctp_spec_lemmas.specs.spec.Reconfiguration.{RequestedReset}
+use Rattle.dcsctp_spec_lemmas.specs.spec.Reconfiguration.{RequestedReset, renewed_reset}
 use Rattle.dcsctp_spec_lemmas.specs.spec.endpoint.Endpoint.{Endpoint}
 use Rattle.dcsctp_spec_lemmas.specs.spec.association.Effect.{AssociationIdentity, Effect, holds, identity_in}
 use Rattle.dcsctp_spec_lemmas.specs.spec.queues.Transfer.{Transfer}
@@ -27,10 +27,14 @@ pub record Requests : Type 0 where
 abbrev pub request_number_at : ℕ → ℕ → ℕ
 request_number_at first place = (first + place) % 2 ^ 32
 
+-- They want the same, but for whether they say that they are new.
+abbrev pub WantsSame : RequestedReset → RequestedReset → Type 0
+WantsSame one other = renewed_reset one ≡ renewed_reset other
+
 -- Each request from this place on wants this reset, as one does that is sent again under other numbers.
 abbrev pub WantFrom : ℕ → RequestedReset → List BegunReset → Type 0
 WantFrom place reset [] = Unit {0}
-WantFrom place reset (begun ∷ earlier) = (place ≤ length earlier → begun.reset ≡ reset) × WantFrom place reset earlier
+WantFrom place reset (begun ∷ earlier) = (place ≤ length earlier → WantsSame begun.reset reset) × WantFrom place reset earlier
 
 -- The sender had it, under this tag of its own.
 pub record SenderHadPeer (past : List Effect) (tag : ℕ) (my : Pair) : Type 0 where

@@ -1,6 +1,7 @@
 -- The newest request to reset streams continues under another number.
 use Rattle.std.proofs.Common.{◌≡◌, ℕ, ◌<◌, Some, List, [], ◌∷◌, ◌++◌, map, take, refl, sym, ◌∙◌, ap, subst, inl, inr}
 use Rattle.dcsctp_spec.specs.Packet.{Content, Emission}
+use Rattle.dcsctp_spec.specs.Reconfiguration.{renewed_reset}
 use Rattle.dcsctp_spec.specs.association.FlushChanges.{reset_request}
 use Rattle.dcsctp_spec.specs.endpoint.BegunResets.{BegunReset}
 use Rattle.dcsctp_spec.specs.types.queues.SendStreams.{Stream}
@@ -37,13 +38,13 @@ quiet_renewed history number newest earlier out streams is one quiet id handed =
 
 module _ (first : ℕ) (old : Direction) (s : Stands first old) where
   unfoldable pub stepped_renews : (emission : Emission) (newest : BegunReset) (earlier : List BegunReset) (number : ℕ) → old.asking.requests ≡ newest ∷ earlier → old.asking.out ≡ 1
-      → emission.packet.contents ≡ reset_request number newest.reset ∷ [] → Stands first (record old { sent = old.sent ++ emission ∷ []; asking = asking_renewed number newest old.asking })
+      → emission.packet.contents ≡ reset_request number (renewed_reset newest.reset) ∷ [] → Stands first (record old { sent = old.sent ++ emission ∷ []; asking = asking_renewed number newest old.asking })
   stepped_renews emission newest earlier number asks one contents =
       let m = newest_of s.history.marks newest earlier (sym s.asked ∙ asks) in
       let known : HasEntry m.mark s.history.marks = subst (λ (l : List Mark). HasEntry m.mark l) (sym m.is) (inl refl) in
       let now : History = with_renewed number m.mark s.history in
-      let begun : (mark_renewed number m.mark).begun ≡ record { number = number; reset = newest.reset } = ap (λ (b : BegunReset). record { number = number; reset = b.reset }) m.begins in
-      let asked : IsBegun now number newest.reset = record { mark = mark_renewed number m.mark; has = inl refl; is = begun } in
+      let begun : (mark_renewed number m.mark).begun ≡ record { number = number; reset = renewed_reset newest.reset } = ap (λ (b : BegunReset). record { number = number; reset = renewed_reset b.reset }) m.begins in
+      let asked : IsBegun now number (renewed_reset newest.reset) = record { mark = mark_renewed number m.mark; has = inl refl; is = begun } in
       let says : SayAll now first emission.packet.contents = subst (λ (l : List Content). SayAll now first l) (sym contents) ((asked, tt), tt) in
       record {
         history = now;
@@ -52,7 +53,7 @@ module _ (first : ℕ) (old : Direction) (s : Stands first old) where
         queues = below_renewed s.history number m.mark known old.queued first old.acknowledged old.queues s.queues;
         packets = emissions_both now first old.sent (emission ∷ []) (packets_later s.history now (extends_renewed number m.mark s.history known) first old.sent s.packets) (says, tt);
         count = s.count;
-        asked = ap (λ (l : List BegunReset). record { number = number; reset = newest.reset } ∷ l) s.asked ∙ ap (λ (b : BegunReset). b ∷ map (λ mark. mark.begun) s.history.marks) (sym begun);
+        asked = ap (λ (l : List BegunReset). record { number = number; reset = renewed_reset newest.reset } ∷ l) s.asked ∙ ap (λ (b : BegunReset). b ∷ map (λ mark. mark.begun) s.history.marks) (sym begun);
         quiet = quiet_renewed s.history number m.mark m.earlier old.asking.out old.queues.queue.streams m.is one s.quiet;
         arrived = λ little. (
             let a = s.arrived little in

@@ -6,7 +6,7 @@ use Rattle.dcsctp_spec.specs.types.declared.options.Options.{Options}
 use Rattle.dcsctp_spec.specs.endpoint.Endpoint.{Endpoint, Core, closed as closed_core, cookie_wait, cookie_echoed, open_in}
 use Rattle.dcsctp_spec.specs.endpoint.Event.{Event, sent, packets_in}
 use Rattle.dcsctp_spec.specs.Packet.{Plain, plain, Content, init, init_ack, cookie_echo, cookie_ack, re_config, abort, shutdown, shutdown_ack, shutdown_complete, Emission}
-use Rattle.dcsctp_spec.specs.Reconfiguration.{ResetParameter}
+use Rattle.dcsctp_spec.specs.Reconfiguration.{ResetParameter, renewed_reset}
 use Rattle.dcsctp_spec.specs.association.Choices.{plain_contents}
 use Rattle.dcsctp_spec.specs.endpoint.BegunResets.{BegunReset, request_contents}
 use Rattle.dcsctp_spec.specs.endpoint.FlushOutcomes.{FillingEvent, amount_is_low, total_amount_is_low, message_is_sent, message_may_have_expired, message_has_expired, message_ends, filling_event, Answer, answer_contents, filled, goes_out, asked, next_draft, flush_of, Ask, first_ask, later_ask, AreFlushAnswers, at_limit, at_empty, after_packet, packets_allowed}
@@ -180,7 +180,7 @@ stepped old _ h (speaks emission no_data) = one_more old.asking.requests old.sen
 stepped old _ h (asks_again emission begun was contents) =
     one_more old.asking.requests old.sent emission h (subst (AreOfBegun old.asking.requests) (sym contents) (inr (begun, was, refl), tt))
 stepped old _ h (renews emission newest earlier number asks out contents) =
-    let begun : BegunReset = record { number = number; reset = newest.reset } in
+    let begun : BegunReset = record { number = number; reset = renewed_reset newest.reset } in
     let requests : List BegunReset = begun ∷ old.asking.requests in
     one_more requests old.sent emission (packets_later begun old.asking.requests old.sent h) (subst (AreOfBegun requests) (sym contents) (inr (begun, inl refl, refl), tt))
 stepped old _ h (turns_aside transfer new known same) = h

@@ -31,7 +31,7 @@ use Rattle.dcsctp_delivery_sending.specs.Numbers.{stream_named, next_mid}
 use Rattle.dcsctp_delivery_sending.specs.Places.{HasEntry}
 use Rattle.dcsctp_delivery_sending.specs.Log.{Fits, Message}
 use Rattle.dcsctp_delivery_sending.specs.Losing.{AllWaitOn}
-use Rattle.dcsctp_spec.specs.Reconfiguration.{RequestedReset}
+use Rattle.dcsctp_spec.specs.Reconfiguration.{RequestedReset, renewed_reset}
 use Rattle.dcsctp_spec.specs.association.FlushChanges.{reset_request}
 use Rattle.dcsctp_spec.specs.queues.Numbers.{is_tsn_beyond}
 use Rattle.dcsctp_spec.specs.endpoint.BegunResets.{BegunReset}
@@ -95,7 +95,7 @@ asking_with (Some begun) asking = record { requests = begun ∷ asking.requests;
 
 -- once the newest request continues under this number
 abbrev pub asking_renewed : ℕ → BegunReset → Asking → Asking
-asking_renewed number newest asking = record asking { requests = record { number = number; reset = newest.reset } ∷ asking.requests; is_performed = false }
+asking_renewed number newest asking = record asking { requests = record { number = number; reset = renewed_reset newest.reset } ∷ asking.requests; is_performed = false }
 
 -- once each request has ended
 abbrev pub all_ended : Asking → Asking
@@ -154,7 +154,7 @@ pub data DirectionStep (old : Direction) : Direction → Type 0 where
       → DirectionStep old (record old { sent = old.sent ++ emission ∷ [] })
   -- The newest request, which has no end, is sent again under another number, and takes its place.
   renews : (emission : Emission) (newest : BegunReset) (earlier : List BegunReset) (number : ℕ) → old.asking.requests ≡ newest ∷ earlier → old.asking.out ≡ 1
-      → emission.packet.contents ≡ reset_request number newest.reset ∷ [] → DirectionStep old (record old { sent = old.sent ++ emission ∷ []; asking = asking_renewed number newest old.asking })
+      → emission.packet.contents ≡ reset_request number (renewed_reset newest.reset) ∷ [] → DirectionStep old (record old { sent = old.sent ++ emission ∷ []; asking = asking_renewed number newest old.asking })
   -- The sender receives something itself, or measures a round trip.
   turns_aside : (transfer new : Transfer) → old.queues.transfer ≡ Some transfer → SameFlight transfer.retransmission new.retransmission
       → DirectionStep old (record old { queues = record old.queues { transfer = Some new } })

@@ -1,5 +1,5 @@
 -- A reset of our streams that a flush begins.
-use Rattle.std.proofs.Common.{◌≡◌, ℕ, zero, suc, true, ◌<◌, ◌+◌, ◌-◌, ◌%◌, ◌^◌, List, [], ◌∷◌, length, map, take, refl, sym, ap, arith, subst, inl, inr}
+use Rattle.std.proofs.Common.{Bool, ◌≡◌, ℕ, zero, suc, true, ◌<◌, ◌+◌, ◌-◌, ◌%◌, ◌^◌, List, [], ◌∷◌, length, map, take, refl, sym, ap, arith, subst, inl, inr}
 use Rattle.std.specs.Prelude.{Option, None, Some, slice_get}
 use Rattle.dcsctp_spec.specs.types.declared.association.Held.{Held}
 use Rattle.dcsctp_spec.specs.types.declared.sending.UnderWay.{UnderWay}
@@ -76,22 +76,22 @@ pub record IsBegun (last_tsn : ℕ) (under_way : Option UnderWay) (begun : Begun
   pub fields : begun.reset.streams ≡ map stream_field ids
   pub other : (u : UnderWay) → under_way ≡ Some u → is_named ids u.stream_id.0 ≡ true → ⊥
 
-where_begun : (outstanding : Option ℕ) (number last_tsn : ℕ) (streams : List ℕ) (begun : BegunReset) → Some begun ≡ begun_where outstanding number last_tsn streams
+where_begun : (follows : Bool) (outstanding : Option ℕ) (number last_tsn : ℕ) (streams : List ℕ) (begun : BegunReset) → Some begun ≡ begun_where follows outstanding number last_tsn streams
     → (begun.reset.last_tsn ≡ last_tsn) × (begun.reset.streams ≡ streams)
-where_begun (Some n) number last_tsn streams begun is = absurd (cc)
-where_begun None number last_tsn [] begun is = absurd (cc)
-where_begun None number last_tsn (s ∷ streams) begun is =
-    let same : begun ≡ record { number = number; reset = record { last_tsn = last_tsn; streams = s ∷ streams } } = cc in
+where_begun follows (Some n) number last_tsn streams begun is = absurd (cc)
+where_begun follows None number last_tsn [] begun is = absurd (cc)
+where_begun follows None number last_tsn (s ∷ streams) begun is =
+    let same : begun ≡ record { number = number; reset = record { last_tsn = last_tsn; streams = s ∷ streams; is_new = follows } } = cc in
     (ap (λ (b : BegunReset). b.reset.last_tsn) same, ap (λ (b : BegunReset). b.reset.streams) same)
 
 -- The stream of the message under way isn't ready.
-pub is_begun : (ask : Ask) (held : Option Held) (room last_tsn : ℕ) (queue : SendQueueState) (begun : BegunReset) → Some begun ≡ begun_at ask held room last_tsn queue
+pub is_begun : (ask : Ask) (follows : Bool) (held : Option Held) (room last_tsn : ℕ) (queue : SendQueueState) (begun : BegunReset) → Some begun ≡ begun_at ask follows held room last_tsn queue
     → IsBegun last_tsn queue.under_way begun (take (streams_within room) (ready_streams queue))
-is_begun later_ask held room last_tsn queue begun is = absurd (cc)
-is_begun first_ask None room last_tsn queue begun is = absurd (cc)
-is_begun first_ask (Some held) room last_tsn queue begun is =
+is_begun later_ask follows held room last_tsn queue begun is = absurd (cc)
+is_begun first_ask follows None room last_tsn queue begun is = absurd (cc)
+is_begun first_ask follows (Some held) room last_tsn queue begun is =
     let ids : List ℕ = take (streams_within room) (ready_streams queue) in
-    let names = where_begun held.own_outstanding held.own_next last_tsn (map stream_field ids) begun is in
+    let names = where_begun follows held.own_outstanding held.own_next last_tsn (map stream_field ids) begun is in
     record {
       last = names.0;
       fields = names.1;
@@ -116,10 +116,10 @@ mark_more history first under_way begun ids is marks mark (inr has) =
     let old = marks mark has in
     record { within = old.within; last = old.last; fields = old.fields; sides = old.sides; going = old.going }
 
-pub marks_marked : (ask : Ask) (held : Option Held) (room : ℕ) (history : History) (first acknowledged : ℕ) (begun : Option BegunReset) (queue : SendQueueState) (state : RetransmissionState)
-    → Bears history first acknowledged state.outstanding → begun ≡ begun_at ask held room (last_assigned_tsn state) queue → AreMarks history first queue.under_way
+pub marks_marked : (ask : Ask) (follows : Bool) (held : Option Held) (room : ℕ) (history : History) (first acknowledged : ℕ) (begun : Option BegunReset) (queue : SendQueueState) (state : RetransmissionState)
+    → Bears history first acknowledged state.outstanding → begun ≡ begun_at ask follows held room (last_assigned_tsn state) queue → AreMarks history first queue.under_way
     → AreMarks (with_mark begun (take (streams_within room) (ready_streams queue)) (length history.log) history) first (queue_requesting (streams_within room) begun queue).under_way
-marks_marked ask held room history first acknowledged None queue state b is marks = marks
-marks_marked ask held room history first acknowledged (Some begun) queue state b is marks =
+marks_marked ask follows held room history first acknowledged None queue state b is marks = marks
+marks_marked ask follows held room history first acknowledged (Some begun) queue state b is marks =
     mark_more history first queue.under_way begun (take (streams_within room) (ready_streams queue))
-    (subst (λ (tsn : ℕ). IsBegun tsn queue.under_way begun (take (streams_within room) (ready_streams queue))) (last_assigned history first acknowledged state b) (is_begun ask held room (last_assigned_tsn state) queue begun is)) marks
+    (subst (λ (tsn : ℕ). IsBegun tsn queue.under_way begun (take (streams_within room) (ready_streams queue))) (last_assigned history first acknowledged state b) (is_begun ask follows held room (last_assigned_tsn state) queue begun is)) marks

@@ -97,7 +97,7 @@ module _ (queued : List Message) (history : History) (first acknowledged : ℕ) 
       (requesting_hold queued (gave.more ++ history.log) (streams_within room) answer.begun gives.gave_up.waiting gave.stands.queue_holds) gave.stands.cut
       (bears_marked (log_extended gave.more history) first acknowledged answer.begun ids gives.gave_up.queue gave.stands.bears)
       (pends_marked (log_extended gave.more history) answer.begun ids gives.gave_up.queue gave.stands.pends)
-      (marks_marked ask (may_be_asked e.core e.options.follow_rfc) room (log_extended gave.more history) first acknowledged answer.begun gives.gave_up.waiting gives.gave_up.queue
+      (marks_marked ask e.options.follow_rfc (may_be_asked e.core e.options.follow_rfc) room (log_extended gave.more history) first acknowledged answer.begun gives.gave_up.waiting gives.gave_up.queue
       gave.stands.bears gives.begins gave.stands.marks)
       (requesting_numbered (log_extended gave.more history) (streams_within room) answer.begun gives.gave_up.waiting gave.stands.numbers)
       (begun_kind answer.begun gives.gave_up.queue ∙ gave.stands.kind ∙ sym (requesting_kind (streams_within room) answer.begun gives.gave_up.waiting))
@@ -158,7 +158,7 @@ module _ (queued : List Message) (history : History) (first acknowledged : ℕ) 
   unfolding room ids
   all_named =
       handed_for_later answer.begun ids (queue_requesting (streams_within room) answer.begun gives.gave_up.waiting).streams gives.sent.waiting.streams (λ id handed. sent_paused ask e draft transfer answer gives id ∙ handed)
-      (begun_handed ask _ room _ gives.gave_up.waiting answer.begun gives.begins gave.stands.queue_holds.small)
+      (begun_handed ask e.options.follow_rfc _ room _ gives.gave_up.waiting answer.begun gives.begins gave.stands.queue_holds.small)
 
   gives_stays : Answers' queued history first acknowledged e.queues.queue answer
   unfolding bound added all noted

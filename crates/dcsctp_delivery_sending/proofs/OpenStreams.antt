@@ -94,23 +94,23 @@ none_ready u [] are = refl
 none_ready u (s ∷ streams) are = rw are.0 (none_ready u streams are.1)
 
 -- so no reset is begun.
-begun_of_none : (outstanding : Option ℕ) (number last_tsn : ℕ) → begun_where outstanding number last_tsn [] ≡ None
-begun_of_none None number last_tsn = refl
-begun_of_none (Some request) number last_tsn = refl
+begun_of_none : (follows : Bool) (outstanding : Option ℕ) (number last_tsn : ℕ) → begun_where follows outstanding number last_tsn [] ≡ None
+begun_of_none follows None number last_tsn = refl
+begun_of_none follows (Some request) number last_tsn = refl
 
 take_none : (count : ℕ) → map stream_field (take count []) ≡ []
 take_none zero = refl
 take_none (suc count) = refl
 
-begins_none : (held : Option Held) (room last_tsn : ℕ) (queue : SendQueueState) → AreOpen queue.streams → begun_in held room last_tsn queue ≡ None
-begins_none None room last_tsn queue are = refl
-begins_none (Some held) room last_tsn queue are =
-    ap (λ (l : List Stream). begun_where held.own_outstanding held.own_next last_tsn (map stream_field (take (streams_within room) (map (λ (s : Stream). s.id) l)))) (none_ready queue.under_way queue.streams are)
-    ∙ ap (λ (l : List ℕ). begun_where held.own_outstanding held.own_next last_tsn l) (take_none (streams_within room)) ∙ begun_of_none held.own_outstanding held.own_next last_tsn
+begins_none : (follows : Bool) (held : Option Held) (room last_tsn : ℕ) (queue : SendQueueState) → AreOpen queue.streams → begun_in follows held room last_tsn queue ≡ None
+begins_none follows None room last_tsn queue are = refl
+begins_none follows (Some held) room last_tsn queue are =
+    ap (λ (l : List Stream). begun_where follows held.own_outstanding held.own_next last_tsn (map stream_field (take (streams_within room) (map (λ (s : Stream). s.id) l)))) (none_ready queue.under_way queue.streams are)
+    ∙ ap (λ (l : List ℕ). begun_where follows held.own_outstanding held.own_next last_tsn l) (take_none (streams_within room)) ∙ begun_of_none follows held.own_outstanding held.own_next last_tsn
 
-asks_none : (ask : Ask) (held : Option Held) (room last_tsn : ℕ) (queue : SendQueueState) → AreOpen queue.streams → begun_at ask held room last_tsn queue ≡ None
-asks_none first_ask held room last_tsn queue are = begins_none held room last_tsn queue are
-asks_none later_ask held room last_tsn queue are = refl
+asks_none : (ask : Ask) (follows : Bool) (held : Option Held) (room last_tsn : ℕ) (queue : SendQueueState) → AreOpen queue.streams → begun_at ask follows held room last_tsn queue ≡ None
+asks_none first_ask follows held room last_tsn queue are = begins_none follows held room last_tsn queue are
+asks_none later_ask follows held room last_tsn queue are = refl
 
 -- No stream is to be reset after it, and none is asked for.
 record StaysOpen (after : EndpointQueues) (begun : Option BegunReset) : Type 0 where
@@ -123,7 +123,7 @@ given_open true ask e draft transfer answer gives are =
 given_open false ask e draft transfer answer gives are =
     let room : ℕ = room_in e (filled draft (plain_contents answer.acknowledgements)) in
     let before : AreOpen gives.gave_up.waiting.streams = before_request OpenStay open_follow ask e draft transfer answer gives are in
-    let none : answer.begun ≡ None = gives.begins ∙ asks_none ask (may_be_asked e.core e.options.follow_rfc) room (last_assigned_tsn gives.gave_up.queue) gives.gave_up.waiting before in
+    let none : answer.begun ≡ None = gives.begins ∙ asks_none ask e.options.follow_rfc (may_be_asked e.core e.options.follow_rfc) room (last_assigned_tsn gives.gave_up.queue) gives.gave_up.waiting before in
     record {
       unpaused = subst (λ (b : EndpointQueues). AreOpen b.queue.streams) (sym gives.below)
           (after_request OpenStay open_follow ask e draft transfer answer gives

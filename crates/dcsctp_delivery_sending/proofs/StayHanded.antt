@@ -211,26 +211,26 @@ field_named (first ∷ ids) id small named =
 
 -- ---- what a request names
 
-where_names : (outstanding : Option ℕ) (number last_tsn : ℕ) (streams : List ℕ) (begun : BegunReset) → Some begun ≡ begun_where outstanding number last_tsn streams → (id : ℕ) → names_stream begun.reset.streams id ≡ true → is_named streams id ≡ true
-where_names (Some n) number last_tsn streams begun is id names = absurd (cc)
-where_names None number last_tsn [] begun is id names = absurd (cc)
-where_names None number last_tsn (s ∷ streams) begun is id names =
-    let same : begun ≡ record { number = number; reset = record { last_tsn = last_tsn; streams = s ∷ streams } } = cc in
+where_names : (follows : Bool) (outstanding : Option ℕ) (number last_tsn : ℕ) (streams : List ℕ) (begun : BegunReset) → Some begun ≡ begun_where follows outstanding number last_tsn streams → (id : ℕ) → names_stream begun.reset.streams id ≡ true → is_named streams id ≡ true
+where_names follows (Some n) number last_tsn streams begun is id names = absurd (cc)
+where_names follows None number last_tsn [] begun is id names = absurd (cc)
+where_names follows None number last_tsn (s ∷ streams) begun is id names =
+    let same : begun ≡ record { number = number; reset = record { last_tsn = last_tsn; streams = s ∷ streams; is_new = follows } } = cc in
     subst (λ (b : BegunReset). names_stream b.reset.streams id ≡ true) same names
 
-begun_names : (ask : Ask) (held : Option Held) (room last_tsn : ℕ) (queue : SendQueueState) (begun : BegunReset) → Some begun ≡ begun_at ask held room last_tsn queue
+begun_names : (ask : Ask) (follows : Bool) (held : Option Held) (room last_tsn : ℕ) (queue : SendQueueState) (begun : BegunReset) → Some begun ≡ begun_at ask follows held room last_tsn queue
     → (id : ℕ) → names_stream begun.reset.streams id ≡ true → is_named (map stream_field (take (streams_within room) (ready_streams queue))) id ≡ true
-begun_names later_ask held room last_tsn queue begun is id names = absurd (cc)
-begun_names first_ask None room last_tsn queue begun is id names = absurd (cc)
-begun_names first_ask (Some held) room last_tsn queue begun is id names = where_names held.own_outstanding held.own_next last_tsn (map stream_field (take (streams_within room) (ready_streams queue))) begun is id names
+begun_names later_ask follows held room last_tsn queue begun is id names = absurd (cc)
+begun_names first_ask follows None room last_tsn queue begun is id names = absurd (cc)
+begun_names first_ask follows (Some held) room last_tsn queue begun is id names = where_names follows held.own_outstanding held.own_next last_tsn (map stream_field (take (streams_within room) (ready_streams queue))) begun is id names
 
 -- The streams that the request names were handed out for it.
-pub begun_handed : (ask : Ask) (held : Option Held) (room last_tsn : ℕ) (queue : SendQueueState) (begun : Option BegunReset) → begun ≡ begun_at ask held room last_tsn queue → ((q : ℕ) → (stream_at queue.streams q).id < 2 ^ 16)
+pub begun_handed : (ask : Ask) (follows : Bool) (held : Option Held) (room last_tsn : ℕ) (queue : SendQueueState) (begun : Option BegunReset) → begun ≡ begun_at ask follows held room last_tsn queue → ((q : ℕ) → (stream_at queue.streams q).id < 2 ^ 16)
     → AreHandedFor begun (take (streams_within room) (ready_streams queue)) (queue_requesting (streams_within room) begun queue).streams
-begun_handed ask held room last_tsn queue None is small = tt
-begun_handed ask held room last_tsn queue (Some begun) is small = λ id names.
+begun_handed ask follows held room last_tsn queue None is small = tt
+begun_handed ask follows held room last_tsn queue (Some begun) is small = λ id names.
     let ids : List ℕ = take (streams_within room) (ready_streams queue) in
-    let named : is_named ids id ≡ true = field_named ids id (front_small (streams_within room) (ready_streams queue) (ready_small (is_ready queue.under_way) queue.streams small)) (begun_names ask held room last_tsn queue begun is id names) in
+    let named : is_named ids id ≡ true = field_named ids id (front_small (streams_within room) (ready_streams queue) (ready_small (is_ready queue.under_way) queue.streams small)) (begun_names ask follows held room last_tsn queue begun is id names) in
     (named, named_handed ids queue.streams id named (named_used (is_ready queue.under_way) queue.streams id (named_front (streams_within room) (ready_streams queue) id named)))
 
 -- They stay so.

@@ -4,6 +4,7 @@ use Rattle.std.specs.Prelude.{◌≡◌, ◌==◌, ◌<◌, ◌≤◌, ◌+◌, 
 use Rattle.dcsctp_delivery_sending.specs.Places.{at_place}
 use Rattle.std.specs.List.{AllByRecursion}
 use Rattle.dcsctp_spec.specs.queues.Incoming.{is_named}
+use Rattle.dcsctp_spec.specs.Reconfiguration.{renewed_reset}
 use Rattle.dcsctp_spec.specs.endpoint.BegunResets.{BegunReset}
 
 -- a message that its user queued
@@ -124,9 +125,9 @@ abbrev pub with_mark : Option BegunReset → List ℕ → ℕ → History → Hi
 with_mark None ids bound history = history
 with_mark (Some begun) ids bound history = record history { marks = record { bound = bound; begun = begun; ids = ids } ∷ history.marks }
 
--- The newest reset is asked for under another number. Its request wants what the other one does.
+-- The newest reset is asked for under another number. Its request wants what the other one does, and doesn't say that it is new.
 abbrev pub mark_renewed : ℕ → Mark → Mark
-mark_renewed number mark = record mark { begun = record { number = number; reset = mark.begun.reset } }
+mark_renewed number mark = record mark { begun = record { number = number; reset = renewed_reset mark.begun.reset } }
 
 abbrev pub with_renewed : ℕ → Mark → History → History
 with_renewed number mark history = record history { marks = mark_renewed number mark ∷ history.marks }

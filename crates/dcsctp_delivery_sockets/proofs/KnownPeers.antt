@@ -36,7 +36,7 @@ use Rattle.dcsctp_spec_lemmas.specs.spec.association.HandshakeChanges.{cookie_ac
 
 -- A request with the number of the last one comes again.
 repeats_last : Held → List ResetParameter
-repeats_last held = outgoing_reset_request held.peer_last 0 (record { last_tsn = 0; streams = [] }) ∷ []
+repeats_last held = outgoing_reset_request held.peer_last 0 (record { last_tsn = 0; streams = []; is_new = false }) ∷ []
 
 -- what it does, if it is answered so
 abbrev effects_with : Pair → Held → RequestOutcome → List Effect

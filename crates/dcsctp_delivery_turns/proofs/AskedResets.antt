@@ -10,7 +10,7 @@ use Rattle.dcsctp_spec_lemmas.specs.types.declared.association.Pair.{Pair}
 use Rattle.dcsctp_spec_lemmas.specs.spec.endpoint.Endpoint.{Endpoint}
 use Rattle.dcsctp_spec_lemmas.specs.spec.endpoint.Outcome.{Outcome}
 use Rattle.dcsctp_spec_runs.specs.Past.{WasPerformed, number_to_accept, number_to_perform}
-use Rattle.dcsctp_spec_lemmas.specs.spec.Reconfiguration.{RequestState, early, due, renewed, RequestedReset, outgoing_reset_request, reconfiguration_response}
+use Rattle.dcsctp_spec_lemmas.specs.spec.Reconfiguration.{RequestState, early, due, renewed, RequestedReset, outgoing_reset_request, reconfiguration_response, number_answered}
 use Rattle.dcsctp_spec_lemmas.specs.spec.endpoint.Turn.{Input}
 use Rattle.dcsctp_spec_runs.specs.World.{after_effects}
 use Rattle.dcsctp_spec_lemmas.specs.spec.association.Effect.{Effect, identity_of}
@@ -207,10 +207,10 @@ module _ (past : List Effect) (my : Pair) (held : Held) (knows : KnowsPeer past 
   outgoing_works next early same left begun below is waits = deferred (effects.accepts number ∷ begun_effects begun) left (next_due same) (next_defers past begun number) is below waits
   outgoing_works astray state same left begun below is waits = quiet left begun below is waits
 
-  pub request_turns : e.queues.transfer ≡ Some transfer → WorksResets e my held (outgoing_reset_request number number reset ∷ []) o → Turns
+  pub request_turns : e.queues.transfer ≡ Some transfer → WorksResets e my held (outgoing_reset_request number (number_answered number reset.is_new) reset ∷ []) o → Turns
   request_turns known turn =
-      let works = works_of e my held (outgoing_reset_request number number reset ∷ []) o turn in
-      let state : RequestState = request_state e held (outgoing_reset_request number number reset ∷ []) in
+      let works = works_of e my held (outgoing_reset_request number (number_answered number reset.is_new) reset ∷ []) o turn in
+      let state : RequestState = request_state e held (outgoing_reset_request number (number_answered number reset.is_new) reset ∷ []) in
       let place : RequestPlace = request_place held.peer_last number in
       let w : HandledParameters = worked_one number (outgoing_by held number state place) in
       outgoing_works place state (placed held.peer_last number) works.left works.begun

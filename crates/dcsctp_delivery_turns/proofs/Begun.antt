@@ -68,7 +68,7 @@ next_again first n own is = omega arith
 
 -- what is kept of a request
 abbrev kept_of : BegunReset → Option OutstandingRequest
-kept_of begun = Some (record { last_tsn = begun.reset.last_tsn; streams = begun.reset.streams; waits_for_retry = false })
+kept_of begun = Some (record { last_tsn = begun.reset.last_tsn; streams = begun.reset.streams; is_new = begun.reset.is_new; waits_for_retry = false })
 
 -- It has the next number, none was outstanding, and it is asked again as it was begun.
 record BeginsFrom (held : Held) (begun : BegunReset) : Type 0 where
@@ -81,26 +81,26 @@ MayBegin peer None = Unit {0}
 MayBegin None (Some begun) = ⊥
 MayBegin (Some held) (Some begun) = BeginsFrom held begun
 
-where_may : (held : Held) (own : Option ℕ) (last : ℕ) (streams : List ℕ) → held.own_outstanding ≡ own → last % 2 ^ 32 ≡ last → map stream_field streams ≡ streams
-    → MayBegin (Some held) (begun_where own held.own_next last streams)
-where_may held (Some number) last streams is low same = tt
-where_may held None last [] is low same = tt
-where_may held None last (stream ∷ streams) is low same =
+where_may : (follows : Bool) (held : Held) (own : Option ℕ) (last : ℕ) (streams : List ℕ) → held.own_outstanding ≡ own → last % 2 ^ 32 ≡ last → map stream_field streams ≡ streams
+    → MayBegin (Some held) (begun_where follows own held.own_next last streams)
+where_may follows held (Some number) last streams is low same = tt
+where_may follows held None last [] is low same = tt
+where_may follows held None last (stream ∷ streams) is low same =
     record {
       none_out = is;
       number = refl;
-      again = ap (λ (n : ℕ). record { last_tsn = n; streams = map stream_field (stream ∷ streams) }) low ∙ ap (λ (l : List ℕ). record { last_tsn = last; streams = l }) same;
+      again = ap (λ (n : ℕ). record { last_tsn = n; streams = map stream_field (stream ∷ streams); is_new = follows }) low ∙ ap (λ (l : List ℕ). record { last_tsn = last; streams = l; is_new = follows }) same;
     }
 
-in_may : (peer : Option Held) (room : ℕ) (state : RetransmissionState) (queue : SendQueueState) → MayBegin peer (begun_in peer room (last_assigned_tsn state) queue)
-in_may None room state queue = tt
-in_may (Some held) room state queue =
-    where_may held held.own_outstanding (last_assigned_tsn state) (map stream_field (take (streams_within room) (ready_streams queue))) refl (assigned_twice state)
+in_may : (follows : Bool) (peer : Option Held) (room : ℕ) (state : RetransmissionState) (queue : SendQueueState) → MayBegin peer (begun_in follows peer room (last_assigned_tsn state) queue)
+in_may follows None room state queue = tt
+in_may follows (Some held) room state queue =
+    where_may follows held held.own_outstanding (last_assigned_tsn state) (map stream_field (take (streams_within room) (ready_streams queue))) refl (assigned_twice state)
     (fields_twice (take (streams_within room) (ready_streams queue)))
 
-at_may : (ask : Ask) (peer : Option Held) (room : ℕ) (state : RetransmissionState) (queue : SendQueueState) → MayBegin peer (begun_at ask peer room (last_assigned_tsn state) queue)
-at_may first_ask peer room state queue = in_may peer room state queue
-at_may later_ask peer room state queue = tt
+at_may : (ask : Ask) (follows : Bool) (peer : Option Held) (room : ℕ) (state : RetransmissionState) (queue : SendQueueState) → MayBegin peer (begun_at ask follows peer room (last_assigned_tsn state) queue)
+at_may first_ask follows peer room state queue = in_may follows peer room state queue
+at_may later_ask follows peer room state queue = tt
 
 -- Who may be asked is the peer.
 asked_may : (core : Core) (follows : Bool) (begun : Option BegunReset) → MayBegin (may_be_asked core follows) begun → MayBegin (held_in core) begun
@@ -115,7 +115,7 @@ where_gives : (b : Bool) (ask : Ask) (e : Endpoint) (draft : Emission) (transfer
 where_gives true ask e draft transfer answer gives = subst (λ (a : Answer). MayBegin (held_in e.core) a.begun) (sym gives) tt
 where_gives false ask e draft transfer answer gives =
     subst (MayBegin (held_in e.core)) (sym gives.begins)
-    (asked_may e.core e.options.follow_rfc _ (at_may ask (may_be_asked e.core e.options.follow_rfc) _ gives.gave_up.queue gives.gave_up.waiting))
+    (asked_may e.core e.options.follow_rfc _ (at_may ask e.options.follow_rfc (may_be_asked e.core e.options.follow_rfc) _ gives.gave_up.queue gives.gave_up.waiting))
 
 below_gives : (ask : Ask) (e : Endpoint) (draft : Emission) (transfer : Option Transfer) (answer : Answer) → IsAnswerOfQueues ask e draft answer transfer → MayBegin (held_in e.core) answer.begun
 below_gives ask e draft None answer gives = subst (λ (a : Answer). MayBegin (held_in e.core) a.begun) (sym gives) tt

@@ -65,7 +65,7 @@ begins_none : (b : Bool) (e : Endpoint) (draft : Emission) (transfer : Transfer)
 begins_none true e draft transfer answer early gives = ap (λ (a : Answer). a.begun) gives
 begins_none false e draft transfer answer early gives =
     gives.begins
-    ∙ ap (λ (h : Option Held). begun_at first_ask h (room_in e (filled draft (plain_contents answer.acknowledgements))) (last_assigned_tsn gives.gave_up.queue) gives.gave_up.waiting)
+    ∙ ap (λ (h : Option Held). begun_at first_ask e.options.follow_rfc h (room_in e (filled draft (plain_contents answer.acknowledgements))) (last_assigned_tsn gives.gave_up.queue) gives.gave_up.waiting)
     (asks_nobody e.core e.options.follow_rfc early.follows early.echoed)
 
 begins_below : (e : Endpoint) (draft : Emission) (transfer : Option Transfer) (answer : Answer) → IsEarly e → IsAnswerOfQueues first_ask e draft answer transfer → answer.begun ≡ None

@@ -18,6 +18,7 @@ use Rattle.dcsctp_delivery_turns.specs.Runs.{IsBetween, as_it_was, once_performe
 use Rattle.dcsctp_delivery_turns.specs.Sides.{DirectionSteps, stays, receiving}
 use Rattle.dcsctp_delivery_turns.proofs.Begun.{next_again}
 use Rattle.dcsctp_delivery_turns.proofs.Sides.{one_step, all_steps}
+use Rattle.dcsctp_delivery_turns.proofs.SameResets.{own_same}
 
 -- ---- what is kept of our requests
 
@@ -208,7 +209,7 @@ performs_by true came happened direction transfer parameters reset reassembly ne
     let found = newest done parameters reset came_is wants in
     one_step (receiving direction transfer direction.read) _
     (directions.performs found.newest found.earlier reassembly found.is (λ interleaved. found.unknown) (subst (λ (r : RequestedReset). is_reset_reached r transfer.tracker ≡ true) (sym found.asks) reached)
-    (subst (λ (r : RequestedReset). IsOwn r transfer.reassembly.deferral) (sym found.asks) found.own)
+    (own_same reset found.newest.reset transfer.reassembly.deferral (sym found.asks) found.own)
     (subst (λ (r : RequestedReset). EndsDeferral r.streams transfer.reassembly reassembly) (sym found.asks) leaves))
 performs_by false came happened direction transfer parameters reset reassembly (inl unmixed) done came_is wants some reached leaves =
     one_step (receiving direction transfer direction.read) _ (directions.resets reset.streams reassembly unmixed some leaves)
@@ -216,7 +217,7 @@ performs_by false came happened direction transfer parameters reset reassembly (
     let found = newest done parameters reset came_is wants in
     one_step (receiving direction transfer direction.read) _
     (directions.performs_earlier found.newest found.earlier reassembly found.is (λ interleaved. found.unknown) (subst (λ (r : RequestedReset). is_reset_reached r transfer.tracker ≡ true) (sym found.asks) reached)
-    (subst (λ (r : RequestedReset). IsOwn r transfer.reassembly.deferral) (sym found.asks) found.own)
+    (own_same reset found.newest.reset transfer.reassembly.deferral (sym found.asks) found.own)
     (subst (λ (r : RequestedReset). EndsDeferral r.streams transfer.reassembly reassembly) (sym found.asks) leaves))
 
 peer_resets_receive : (is_known : Bool) (came : Option Content) (happened : List Effect) (direction : Direction) (transfer : Transfer) (old new : Inside) → KnowsRequest is_known direction transfer came happened

@@ -1,3 +1,4 @@
+pub mod SameResets
 pub mod Tags
 pub mod Begun
 pub mod Actions

@@ -7,16 +7,16 @@ use Rattle.dcsctp_spec_lemmas.specs.types.declared.association.Held.{Held}
 use Rattle.dcsctp_spec_lemmas.specs.types.declared.ends.Violation.{Violation}
 use Rattle.dcsctp_spec_lemmas.specs.spec.endpoint.Cause.{Cause}
 use Rattle.dcsctp_spec_lemmas.specs.spec.Packet.{Content, Plain, plain, unknown, heartbeat, heartbeat_ack, unworked, Emission}
-use Rattle.dcsctp_spec_lemmas.specs.spec.Reconfiguration.{RequestedReset}
+use Rattle.dcsctp_spec_lemmas.specs.spec.Reconfiguration.{RequestedReset, renewed_reset}
 use Rattle.dcsctp_spec_lemmas.specs.spec.endpoint.Endpoint.{Endpoint, Core, closed, cookie_wait, cookie_echoed, open_in, OutstandingRequest, held_in}
 use Rattle.dcsctp_spec_lemmas.specs.spec.endpoint.Outcome.{Outcome, still, to_peer, fits, answers_with}
-use Rattle.dcsctp_spec_lemmas.specs.spec.association.FlushChanges.{reset_request}
+use Rattle.dcsctp_spec_lemmas.specs.spec.association.FlushChanges.{reset_request, held_asking}
 use Rattle.dcsctp_spec_lemmas.specs.spec.endpoint.HeartbeatOutcomes.{heartbeat_outcome, info_in, counter_of, answered, heartbeat_round_trip, heartbeat_ack_outcome, interval_expired, beating, heartbeat_emission, interval_outcome, is_exhausted}
 use Rattle.dcsctp_spec_lemmas.specs.spec.queues.Transfer.{Transfer}
 use Rattle.dcsctp_spec_lemmas.specs.spec.endpoint.TransferMoves.{timed_by}
 use Rattle.dcsctp_spec_lemmas.specs.spec.endpoint.OwnTimers.{OwnTimer, acknowledgement_delay, retransmission, heartbeat_interval, heartbeat_timeout, reconfiguration, TimerTurn}
 use Rattle.dcsctp_spec_lemmas.specs.spec.endpoint.PlainOutcomes.{PlainTurn, PlainTurnBy, violation_at, is_reported, after_unknown, unknown_bytes, unknown_chunk_outcome, unknown_report, error_outcome}
-use Rattle.dcsctp_spec_lemmas.specs.spec.endpoint.ReconfigurationOutcomes.{reset_again, request_emitted, renewed_request_where, request_renewed, is_renewed, request_repeated, request_unless, request_errors, request_expired, reconfiguration_outcome}
+use Rattle.dcsctp_spec_lemmas.specs.spec.endpoint.ReconfigurationOutcomes.{reset_again, request_emitted, renewed_request_where, request_renewed, is_renewed, request_repeated, request_unless, request_errors, request_expired, reconfiguration_outcome, as_renewed}
 use Rattle.dcsctp_spec_lemmas.specs.wire.Content.{ParameterContent, data_chunk, sack_chunk, error_chunk, i_data_chunk, forward_tsn_chunk, i_forward_tsn_chunk}
 use Rattle.dcsctp_delivery_turns.specs.Actions.{IsCalm, Inside, inside, MakesPackets, goes_on, renews, ends, IsStaleFirst}
 use Rattle.dcsctp_delivery_turns.specs.Asking.{own_with, own_in, own_of, renewed_own, IsAsking, AsksFit, IsOut, OutIs, Own}
@@ -113,28 +113,34 @@ module _ (came : Option Content) (calm : IsCalm came) (to : ℕ) where
   own_held (open_in phase my own) request held is = (let same : own ≡ held = cc in ap (λ (h : Held). Some (own_with h request)) same)
 
   -- The request continues under the next number.
-  asking_own : (core : Core) (request : Option OutstandingRequest) (own : Own) → own_in core request ≡ Some own → own_in (core_asking core) request ≡ Some (renewed_own own)
+  own_renewed : (held : Held) (request : Option OutstandingRequest) → own_with (held_asking held) (option_map as_renewed request) ≡ renewed_own (own_with held request)
+  own_renewed held None = refl
+  own_renewed held (Some request) = refl
+
+  asking_own : (core : Core) (request : Option OutstandingRequest) (own : Own) → own_in core request ≡ Some own → own_in (core_asking core) (option_map as_renewed request) ≡ Some (renewed_own own)
   asking_own closed request own is = absurd (cc)
   asking_own (cookie_wait my) request own is = absurd (cc)
-  asking_own (cookie_echoed my held cookie) request own is = (let same : own_with held request ≡ own = cc in ap (λ (o : Own). Some (renewed_own o)) same)
-  asking_own (open_in phase my held) request own is = (let same : own_with held request ≡ own = cc in ap (λ (o : Own). Some (renewed_own o)) same)
+  asking_own (cookie_echoed my held cookie) request own is =
+      let same : own_with held request ≡ own = cc in ap (λ (o : Own). Some o) (own_renewed held request) ∙ ap (λ (o : Own). Some (renewed_own o)) same
+  asking_own (open_in phase my held) request own is =
+      let same : own_with held request ≡ own = cc in ap (λ (o : Own). Some o) (own_renewed held request) ∙ ap (λ (o : Own). Some (renewed_own o)) same
 
   -- An endpoint at which the timer has expired has the same below it, and keeps the same of its request.
   module _ (e base : Endpoint) (held : Held) (same : inside base ≡ inside e) (linked : identity_in base.core ≡ identity_in e.core) (tag : held.peer.tag ≡ to) (own : own_of base ≡ Some (own_with held base.outstanding)) where
     makes_goes : (o : Outcome) → identity_in o.after.core ≡ identity_in base.core → MakesTo came to (inside base) o → Goes came to e o
     makes_goes o kept makes = goes_on calm (kept ∙ linked) (subst (λ (i : Inside). MakesTo came to i o) same makes)
 
-    renewed_goes : (b : Bool) (number : ℕ) → held.own_outstanding ≡ Some number → Goes came to e (renewed_request_where b base held number (reset_request held.own_next (reset_again base.outstanding)))
+    renewed_goes : (b : Bool) (number : ℕ) → held.own_outstanding ≡ Some number → Goes came to e (renewed_request_where b base held number (reset_request held.own_next (renewed_reset (reset_again base.outstanding))))
     renewed_goes false number out = makes_goes (still base) refl (rests came to (inside base))
     renewed_goes true number out =
         let kept : Own = own_with held base.outstanding in
-        renews calm (asking_link base.core ∙ linked) (λ queued. refl) (λ read. refl) kept number (to_peer held (reset_request held.own_next (reset_again base.outstanding))) (sym (ap (λ (i : Inside). i.own) same) ∙ own) out
+        renews calm (asking_link base.core ∙ linked) (λ queued. refl) (λ read. refl) kept number (to_peer held (reset_request held.own_next (renewed_reset (reset_again base.outstanding)))) (sym (ap (λ (i : Inside). i.own) same) ∙ own) out
         (ap (λ (k : Option Own). record { queues = base.queues; own = k }) (asking_own base.core base.outstanding kept own)
         ∙ ap (λ (i : Inside). record { queues = i.queues; own = Some (renewed_own kept) }) same) refl tag refl
 
     renewing_goes : (number : Option ℕ) → held.own_outstanding ≡ number → Goes came to e (request_renewed base held number (reset_again base.outstanding))
     renewing_goes None out = makes_goes (still base) refl (rests came to (inside base))
-    renewing_goes (Some number) out = renewed_goes (fits base (to_peer held (reset_request held.own_next (reset_again base.outstanding)))) number out
+    renewing_goes (Some number) out = renewed_goes (fits base (to_peer held (reset_request held.own_next (renewed_reset (reset_again base.outstanding))))) number out
 
     repeated_goes : (is_new : Bool) → Goes came to e (request_repeated is_new base held (reset_again base.outstanding))
     repeated_goes false =

@@ -17,7 +17,7 @@ use Rattle.dcsctp_spec_lemmas.specs.spec.association.FlushChanges.{reset_request
 use Rattle.dcsctp_spec_lemmas.specs.spec.endpoint.BegunResets.{BegunReset}
 use Rattle.dcsctp_delivery_turns.proofs.Sides.{steps_go_on, actions_receive}
 use Rattle.dcsctp_delivery_turns.proofs.Idle.{actions_none, read_none, opening_sent}
-use Rattle.dcsctp_spec_lemmas.specs.spec.Reconfiguration.{RequestedReset, outgoing_reset_request}
+use Rattle.dcsctp_spec_lemmas.specs.spec.Reconfiguration.{RequestedReset, outgoing_reset_request, number_answered}
 use Rattle.dcsctp_spec_lemmas.specs.spec.endpoint.ResetOutcomes.{has_reset, requested_in}
 use Rattle.dcsctp_delivery_turns.specs.Asking.{own_of, SomeFit}
 use Rattle.dcsctp_delivery_turns.proofs.Fronts.{AsksSome, renewed_fit, front_none, resetting, unperformed, front_receives}
@@ -102,7 +102,7 @@ module _ (is_known : Bool) (options : Options) (first size : ℕ) (direction : D
 
       same_reset : (begun : BegunReset) → re_config parameters ≡ reset_request begun.number begun.reset → begun.reset ≡ reset
       same_reset begun same =
-          let parts : outgoing_reset_request begun.number begun.number begun.reset ∷ [] ≡ parameters = cc in
+          let parts : outgoing_reset_request begun.number (number_answered begun.number begun.reset.is_new) begun.reset ∷ [] ≡ parameters = cc in
           let both : Some begun.reset ≡ Some reset = ap requested_in parts ∙ wants in
           cc
 

@@ -18,7 +18,7 @@ use Rattle.dcsctp_spec_lemmas.specs.types.queues.Messages.{MessageContent}
 use Rattle.dcsctp_delivery_turns.specs.Runs.{sender_at, IsBetween, as_it_was, once_renewed, OpensSmall, EndsPerformed, RefusesNone, MayDrop, SenderTurns, run_goes_on, run_ends, run_begins, run_outlasts}
 use Rattle.dcsctp_delivery_directions.specs.Directions.{Asking, nothing_asked, asking_renewed, Direction, Beginning, BeginsAs, DirectionRun, IsAwaited}
 use Rattle.dcsctp_delivery_turns.proofs.Sides.{one_step, steps_go_on, actions_send}
-use Rattle.dcsctp_spec_lemmas.specs.spec.Reconfiguration.{RequestedReset}
+use Rattle.dcsctp_spec_lemmas.specs.spec.Reconfiguration.{RequestedReset, renewed_reset}
 use Rattle.dcsctp_spec_lemmas.specs.spec.association.FlushChanges.{reset_request}
 use Rattle.dcsctp_delivery_turns.specs.Asking.{Own, own_of, AsksFit, AskingGrows}
 use Rattle.dcsctp_delivery_sending.proofs.Prepared.{preparing_kind}
@@ -80,7 +80,7 @@ module _ (options : Options) (first size : ℕ) (direction : Direction) (e : End
       let asking : Asking = asking_renewed own.next r.newest direction.asking in
       let sends : DirectionRun options first size (sender_at direction direction.queued direction.queues direction.acknowledged (direction.sent ++ emission ∷ []) asking) =
       directions.goes_on direction _ run
-      (directions.renews emission r.newest r.earlier own.next r.is r.one (contents ∙ ap (λ (reset : RequestedReset). reset_request own.next reset ∷ []) (sym r.again))) in
+      (directions.renews emission r.newest r.earlier own.next r.is r.one (contents ∙ ap (λ (reset : RequestedReset). reset_request own.next (renewed_reset reset) ∷ []) (sym r.again))) in
       let queues : DirectionRun options first size (sender_at direction (queued_after e input direction.queued) direction.queues direction.acknowledged (direction.sent ++ emission ∷ []) asking) =
       subst (λ (l : List Message). DirectionRun options first size (sender_at direction l direction.queues direction.acknowledged (direction.sent ++ emission ∷ []) asking)) (sym (alike direction.queued)) sends in
       let holds : DirectionRun options first size (sender_at direction (queued_after e input direction.queued) o.after.queues direction.acknowledged (direction.sent ++ emission ∷ []) asking) =

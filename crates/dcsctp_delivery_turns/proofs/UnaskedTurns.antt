@@ -10,7 +10,7 @@ use Rattle.dcsctp_spec_lemmas.specs.types.declared.ends.Violation.{Violation}
 use Rattle.dcsctp_spec_lemmas.specs.spec.endpoint.Endpoint.{Endpoint, Core, closed, cookie_wait, cookie_echoed, open_in, OutstandingRequest, held_in}
 use Rattle.dcsctp_spec_lemmas.specs.spec.endpoint.Outcome.{Outcome, still, fits, emits, answering, answers_with, to_peer, quiet}
 use Rattle.dcsctp_spec_lemmas.specs.spec.Packet.{Content, init, init_ack, cookie_echo, cookie_ack, re_config, abort, shutdown, shutdown_ack, shutdown_complete, Plain, plain, unknown, heartbeat, heartbeat_ack, unworked, Emission}
-use Rattle.dcsctp_spec_lemmas.specs.spec.Reconfiguration.{RequestedReset}
+use Rattle.dcsctp_spec_lemmas.specs.spec.Reconfiguration.{RequestedReset, renewed_reset}
 use Rattle.dcsctp_spec_lemmas.specs.spec.endpoint.Turn.{Input, arrival, refusal, packet_begins, chunk_input, packet_ends, act_input, user_sets, user_sends, user_resets, user_takes, timer_expires, time_passes, restores, has_data_chunk, ContentTurn, ActTurn, Turn}
 use Rattle.dcsctp_spec_lemmas.specs.spec.association.Acts as acts
 use Rattle.dcsctp_spec_lemmas.specs.spec.association.Acts.{Act, connect, t1_expires, shut_down, step_of_shutdown, shutdown_repeats, abort_with, hands_over, flushes, request_again}
@@ -94,7 +94,7 @@ renewed_asks false e held number request = rests e
 
 renewing_asks : (e : Endpoint) (held : Held) (number : Option ℕ) (reset : RequestedReset) → AsksNothing e.queues.transfer (request_renewed e held number reset)
 renewing_asks e held None reset = rests e
-renewing_asks e held (Some number) reset = (let request : Content = reset_request held.own_next reset in renewed_asks (fits e (to_peer held request)) e held number request)
+renewing_asks e held (Some number) reset = (let request : Content = reset_request held.own_next (renewed_reset reset) in renewed_asks (fits e (to_peer held request)) e held number request)
 
 repeated_asks : (is_new : Bool) (e : Endpoint) (held : Held) (reset : RequestedReset) → AsksNothing e.queues.transfer (request_repeated is_new e held reset)
 repeated_asks true e held reset = renewing_asks e held held.own_outstanding reset

@@ -36,7 +36,7 @@ use Rattle.dcsctp_spec_lemmas.specs.spec.endpoint.TransferMoves.{ReceivesData, M
 use Rattle.dcsctp_delivery_sending.specs.Log.{Fits, Message}
 use Rattle.dcsctp_delivery_sending.specs.Flushes.{NoData, reset_begun_by}
 use Rattle.dcsctp_delivery_sending.specs.Queueing.{message_of, SettingFits}
-use Rattle.dcsctp_spec_lemmas.specs.spec.Reconfiguration.{RequestedReset, ResetParameter}
+use Rattle.dcsctp_spec_lemmas.specs.spec.Reconfiguration.{RequestedReset, ResetParameter, renewed_reset}
 use Rattle.dcsctp_spec_lemmas.specs.spec.association.FlushChanges.{reset_request}
 use Rattle.dcsctp_spec_lemmas.specs.spec.endpoint.BegunResets.{BegunReset}
 use Rattle.dcsctp_spec_lemmas.specs.spec.endpoint.ReconfigurationOutcomes.{reset_again}
@@ -315,7 +315,7 @@ pub data Becomes (resets : Option (List ℕ)) (came : Option Content) (to : ℕ)
       → MakesAlso came to adds taken worked (packets_in o.events) (inside o.after) → Becomes resets came to adds taken e o
   renews : IsCalm came → identity_in o.after.core ≡ identity_in e.core → ((queued : List Message) → adds queued ≡ queued) → ((read : List MessageContent) → taken read ≡ read)
       → (own : Own) (number : ℕ) (emission : Emission) → own_of e ≡ Some own → own.number ≡ Some number → inside o.after ≡ record { queues = e.queues; own = Some (renewed_own own) } → packets_in o.events ≡ emission ∷ []
-      → emission.packet.tag ≡ to → emission.packet.contents ≡ reset_request own.next own.again ∷ [] → Becomes resets came to adds taken e o
+      → emission.packet.tag ≡ to → emission.packet.contents ≡ reset_request own.next (renewed_reset own.again) ∷ [] → Becomes resets came to adds taken e o
   ends : identity_in o.after.core ≡ None → ((read : List MessageContent) → taken read ≡ read) → (last : Inside) → last.own ≡ own_of e → MakesAlso came to adds taken (inside e) (packets_in o.events) last
       → o.after.queues ≡ record last.queues { transfer = None } → Becomes resets came to adds taken e o
   begins : (begun : Begun e o) → IsOpening came → identity_in o.after.core ≡ Some (identity_of begun.my begun.held) → ((queued : List Message) → adds queued ≡ queued) → ((read : List MessageContent) → taken read ≡ read)

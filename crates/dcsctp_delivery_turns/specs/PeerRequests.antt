@@ -7,7 +7,7 @@ use Rattle.dcsctp_spec_lemmas.specs.spec.endpoint.Endpoint.{Endpoint, Core, clos
 use Rattle.dcsctp_spec_lemmas.specs.spec.endpoint.Outcome.{Outcome}
 use Rattle.dcsctp_spec_lemmas.specs.spec.Packet.{Content, re_config}
 use Rattle.dcsctp_spec_runs.specs.Past.{WasPerformed, number_to_accept, number_to_perform}
-use Rattle.dcsctp_spec_lemmas.specs.spec.Reconfiguration.{RequestedReset, outgoing_reset_request}
+use Rattle.dcsctp_spec_lemmas.specs.spec.Reconfiguration.{RequestedReset, outgoing_reset_request, number_answered}
 use Rattle.dcsctp_spec_lemmas.specs.spec.endpoint.Turn.{Input, Turn}
 use Rattle.dcsctp_spec_runs.specs.World.{after_effects}
 use Rattle.dcsctp_spec_lemmas.specs.spec.association.Effect.{AssociationIdentity, Effect, accepts, performs, renews, resumes, identity_of, identity_in}
@@ -48,7 +48,7 @@ KnowsPeerIn past (open_in phase my held) = KnowsPeer past held
 
 -- A RE-CONFIG that is handled has no request, or is one own request of the peer, as a flush sends it.
 abbrev pub IsPlainRequest : Option Content → Type 0
-IsPlainRequest (Some (re_config parameters)) = NoRequests parameters ⊎ ((number : ℕ) × (reset : RequestedReset) × (parameters ≡ outgoing_reset_request number number reset ∷ []))
+IsPlainRequest (Some (re_config parameters)) = NoRequests parameters ⊎ ((number : ℕ) × (reset : RequestedReset) × (parameters ≡ outgoing_reset_request number (number_answered number reset.is_new) reset ∷ []))
 IsPlainRequest came = Unit {0}
 
 -- The number is the next one, or that of the request in progress.

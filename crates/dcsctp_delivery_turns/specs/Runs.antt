@@ -16,7 +16,7 @@ use Rattle.std.specs.List.{AllByRecursion}
 use Rattle.dcsctp_delivery_sending.specs.Log.{Fits, Message}
 use Rattle.dcsctp_delivery_turns.specs.Actions.{peer_tag, came_by, queued_after, read_after, Begun, Collides, begun_transfer, IsOpening, streams_reset_by, IsCall, IsCalm, has_refused}
 use Rattle.dcsctp_spec_lemmas.specs.spec.Packet.{Content, re_config}
-use Rattle.dcsctp_spec_lemmas.specs.spec.Reconfiguration.{RequestedReset, ResetParameter}
+use Rattle.dcsctp_spec_lemmas.specs.spec.Reconfiguration.{RequestedReset, ResetParameter, renewed_reset}
 use Rattle.dcsctp_spec_lemmas.specs.spec.association.Effect.{Effect}
 use Rattle.dcsctp_spec_lemmas.specs.spec.association.FlushChanges.{next_number}
 use Rattle.dcsctp_spec_lemmas.specs.spec.endpoint.BegunResets.{BegunReset}
@@ -142,7 +142,7 @@ pub record IsNewest (direction : Direction) (transfer : Transfer) (reset : Reque
   pub newest : BegunReset
   pub earlier : List BegunReset
   pub is : direction.asking.requests ≡ newest ∷ earlier
-  pub asks : newest.reset ≡ reset
+  pub asks : renewed_reset newest.reset ≡ renewed_reset reset
   pub own : IsOwn reset transfer.reassembly.deferral
   pub unknown : direction.asking.is_performed ≡ false
 

@@ -5,7 +5,7 @@
 use dcsctp_core::api::{Capabilities, Events, Options, Pair, PpId, SocketTime, StreamId};
 use dcsctp_core::transfer::{DataToSend, SendQueue};
 use dcsctp_core::wire::Chunk;
-use dcsctp_core::{Peer, TransmissionControlBlock};
+use dcsctp_core::{Peer, RequestStart, TransmissionControlBlock};
 use std::alloc::{AllocError, Global};
 use std::process::Abort;
 
@@ -56,7 +56,11 @@ fn begin(rt: &impl Abort, alloc: Global, mtu: usize, streams: u16) -> Result<Lef
         queue.prepare_reset_stream(&mut events, StreamId(id))?;
     }
     let mut packet = tcb.new_packet(alloc, &options)?;
-    tcb.begin_reset(alloc, SocketTime::zero(), &mut queue, &mut packet)?;
+    let start = RequestStart {
+        now: SocketTime::zero(),
+        is_new: false,
+    };
+    tcb.begin_reset(alloc, start, &mut queue, &mut packet)?;
     Ok(Left {
         named: match &tcb.reset_request {
             None => None,

@@ -94,12 +94,12 @@ out_of_resource = refl
 -- ---- RE-CONFIG (RFC 6525, sections 3.1 and 4)
 
 -- One stream: the parameter is 18 bytes long, the chunk 22, and two bytes of padding follow.
-outgoing_request_is_13 : bytes_of (re_config (outgoing_reset_request 0x01020304 0x05060708 (record { last_tsn = 0x090a0b0c; streams = 0x0d0e ∷ [] }) ∷ []))
+outgoing_request_is_13 : bytes_of (re_config (outgoing_reset_request 0x01020304 0x05060708 (record { last_tsn = 0x090a0b0c; streams = 0x0d0e ∷ []; is_new = false }) ∷ []))
     ≡ 130 ∷ 0 ∷ 0 ∷ 22 ∷ 0 ∷ 13 ∷ 0 ∷ 18 ∷ 1 ∷ 2 ∷ 3 ∷ 4 ∷ 5 ∷ 6 ∷ 7 ∷ 8 ∷ 9 ∷ 10 ∷ 11 ∷ 12 ∷ 13 ∷ 14 ∷ 0 ∷ 0 ∷ []
 unfolding parameter_bytes parameters_len parameter_chunk_bytes
 outgoing_request_is_13 = refl
 
-two_streams_have_no_padding : bytes_of (re_config (outgoing_reset_request 1 2 (record { last_tsn = 3; streams = 4 ∷ 5 ∷ [] }) ∷ []))
+two_streams_have_no_padding : bytes_of (re_config (outgoing_reset_request 1 2 (record { last_tsn = 3; streams = 4 ∷ 5 ∷ []; is_new = false }) ∷ []))
     ≡ 130 ∷ 0 ∷ 0 ∷ 24 ∷ 0 ∷ 13 ∷ 0 ∷ 20 ∷ 0 ∷ 0 ∷ 0 ∷ 1 ∷ 0 ∷ 0 ∷ 0 ∷ 2 ∷ 0 ∷ 0 ∷ 0 ∷ 3 ∷ 0 ∷ 4 ∷ 0 ∷ 5 ∷ []
 unfolding parameter_bytes parameters_len parameter_chunk_bytes
 two_streams_have_no_padding = refl
@@ -119,12 +119,12 @@ unfolding parameter_bytes parameters_len parameter_chunk_bytes
 response_is_16 = refl
 
 -- The padding of a request counts where a response follows it, and doesn't where it is the last.
-request_before_response : bytes_of (re_config (outgoing_reset_request 1 2 (record { last_tsn = 3; streams = 4 ∷ [] }) ∷ reconfiguration_response 5 SuccessPerformed ∷ []))
+request_before_response : bytes_of (re_config (outgoing_reset_request 1 2 (record { last_tsn = 3; streams = 4 ∷ []; is_new = false }) ∷ reconfiguration_response 5 SuccessPerformed ∷ []))
     ≡ 130 ∷ 0 ∷ 0 ∷ 36 ∷ 0 ∷ 13 ∷ 0 ∷ 18 ∷ 0 ∷ 0 ∷ 0 ∷ 1 ∷ 0 ∷ 0 ∷ 0 ∷ 2 ∷ 0 ∷ 0 ∷ 0 ∷ 3 ∷ 0 ∷ 4 ∷ 0 ∷ 0 ∷ 0 ∷ 16 ∷ 0 ∷ 12 ∷ 0 ∷ 0 ∷ 0 ∷ 5 ∷ 0 ∷ 0 ∷ 0 ∷ 1 ∷ []
 unfolding parameter_bytes parameters_len parameter_chunk_bytes
 request_before_response = refl
 
-request_after_response : bytes_of (re_config (reconfiguration_response 5 SuccessPerformed ∷ outgoing_reset_request 1 2 (record { last_tsn = 3; streams = 4 ∷ [] }) ∷ []))
+request_after_response : bytes_of (re_config (reconfiguration_response 5 SuccessPerformed ∷ outgoing_reset_request 1 2 (record { last_tsn = 3; streams = 4 ∷ []; is_new = false }) ∷ []))
     ≡ 130 ∷ 0 ∷ 0 ∷ 34 ∷ 0 ∷ 16 ∷ 0 ∷ 12 ∷ 0 ∷ 0 ∷ 0 ∷ 5 ∷ 0 ∷ 0 ∷ 0 ∷ 1 ∷ 0 ∷ 13 ∷ 0 ∷ 18 ∷ 0 ∷ 0 ∷ 0 ∷ 1 ∷ 0 ∷ 0 ∷ 0 ∷ 2 ∷ 0 ∷ 0 ∷ 0 ∷ 3 ∷ 0 ∷ 4 ∷ 0 ∷ 0 ∷ []
 unfolding parameter_bytes parameters_len parameter_chunk_bytes
 request_after_response = refl

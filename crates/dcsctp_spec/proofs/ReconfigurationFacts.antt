@@ -26,7 +26,7 @@ abbrev asking : Held
 asking = record held { own_next = 101; own_outstanding = Some 100 }
 
 abbrev request : Bool → OutstandingRequest
-request waits = record { last_tsn = 99; streams = 4 ∷ 258 ∷ []; waits_for_retry = waits }
+request waits = record { last_tsn = 99; streams = 4 ∷ 258 ∷ []; is_new = false; waits_for_retry = waits }
 
 -- Its timer was started with half a second.
 abbrev timer : ℕ → ℕ → ℕ → Option RunningTimer
@@ -52,7 +52,7 @@ expires e = reconfiguration_outcome e (held_in e.core) e.outstanding
 
 -- the packet, in the clear for the peer's tag 9; it has 36 bytes
 abbrev packet : Event Emission
-packet = packet_of false 9 (re_config (outgoing_reset_request 100 100 (record { last_tsn = 99; streams = 4 ∷ 258 ∷ [] }) ∷ []) ∷ [])
+packet = packet_of false 9 (re_config (outgoing_reset_request 100 100 (record { last_tsn = 99; streams = 4 ∷ 258 ∷ []; is_new = false }) ∷ []) ∷ [])
 
 -- ---- what comes of it
 
@@ -85,7 +85,7 @@ abbrev by_rfc : Endpoint → Endpoint
 by_rfc e = record e { options = record e.options { follow_rfc = true } }
 
 abbrev renewed : Event Emission
-renewed = packet_of false 9 (re_config (outgoing_reset_request 101 101 (record { last_tsn = 99; streams = 4 ∷ 258 ∷ [] }) ∷ []) ∷ [])
+renewed = packet_of false 9 (re_config (outgoing_reset_request 101 101 (record { last_tsn = 99; streams = 4 ∷ 258 ∷ []; is_new = false }) ∷ []) ∷ [])
 
 abbrev asking_anew : Held
 asking_anew = record held { own_next = 102; own_outstanding = Some 101 }
@@ -100,6 +100,20 @@ in_progress_by_rfc : (e : Endpoint) → expires (by_rfc (awaiting e 36 1 (Some (
     }
 unfolding parameter_bytes parameters_len parameter_chunk_bytes
 in_progress_by_rfc e = refl
+
+-- One that says that it is new has the number before its own in its packet, and says so no more once it is renewed.
+abbrev as_new : OutstandingRequest → OutstandingRequest
+as_new request = record request { is_new = true }
+
+repeated_as_new : (e : Endpoint) → (expires (by_rfc (awaiting e 36 0 (Some (as_new (request false))) (timer 5_000_000_000 500_000_000 0)))).events
+    ≡ packet_of false 9 (re_config (outgoing_reset_request 100 99 (record { last_tsn = 99; streams = 4 ∷ 258 ∷ []; is_new = true }) ∷ []) ∷ []) ∷ []
+unfolding parameter_bytes parameters_len parameter_chunk_bytes
+repeated_as_new e = refl
+
+renewed_no_more_new : (e : Endpoint) → expires (by_rfc (awaiting e 36 1 (Some (as_new (request true))) (timer 5_000_000_000 500_000_000 0)))
+    ≡ expires (by_rfc (awaiting e 36 1 (Some (request true)) (timer 5_000_000_000 500_000_000 0)))
+unfolding parameter_bytes parameters_len parameter_chunk_bytes
+renewed_no_more_new e = refl
 
 -- It keeps its number if the packet doesn't fit.
 in_progress_too_long : (e : Endpoint) → expires (by_rfc (awaiting e 35 1 (Some (request true)) (timer 5_000_000_000 500_000_000 0)))
@@ -142,7 +156,7 @@ no_peer e = refl
 
 -- A flush begins the reset of these streams. The retransmission timeout is half a second.
 abbrev begun : BegunReset
-begun = record { number = 100; reset = record { last_tsn = 99; streams = 4 ∷ 258 ∷ [] } }
+begun = record { number = 100; reset = record { last_tsn = 99; streams = 4 ∷ 258 ∷ []; is_new = false } }
 
 abbrev before : Endpoint → Endpoint
 before e =

@@ -26,7 +26,7 @@ no_streams : reset_streams_in [] ≡ []
 no_streams = refl
 
 three_kinds : content_in (re_config_chunk (outgoing_ssn_reset_request 10 3 11 (0 ∷ 1 ∷ []) ∷ wire.reconfiguration_response 4 SuccessPerformed None ∷ forward_tsn_supported ∷ []))
-    ≡ re_config (outgoing_reset_request 10 3 (record { last_tsn = 11; streams = 1 ∷ [] }) ∷ reconfiguration_response 4 SuccessPerformed ∷ other_reset_parameter forward_tsn_supported ∷ [])
+    ≡ re_config (outgoing_reset_request 10 3 (record { last_tsn = 11; streams = 1 ∷ []; is_new = false }) ∷ reconfiguration_response 4 SuccessPerformed ∷ other_reset_parameter forward_tsn_supported ∷ [])
 three_kinds = refl
 
 -- ---- when all has come
@@ -55,7 +55,7 @@ abbrev held : (c : Capabilities) → ℕ → Held
 held c last = record { peer = theirs; capabilities = c; own_next = 3; own_outstanding = None; peer_last = last; peer_result = SuccessNothingToDo }
 
 abbrev request : ResetParameter
-request = outgoing_reset_request 10 3 (record { last_tsn = 11; streams = 1 ∷ [] })
+request = outgoing_reset_request 10 3 (record { last_tsn = 11; streams = 1 ∷ []; is_new = false })
 
 abbrev first_time : (c : Capabilities) → HandledParameters
 first_time c = work_chunk own early (held c 9) (request ∷ [])
@@ -87,16 +87,16 @@ told_once c = refl
 -- ---- a request that comes again under the next number: 10 was in progress, came late and was performed, and then comes 11
 
 abbrev request_11 : ResetParameter
-request_11 = outgoing_reset_request 11 3 (record { last_tsn = 11; streams = 1 ∷ [] })
+request_11 = outgoing_reset_request 11 3 (record { last_tsn = 11; streams = 1 ∷ []; is_new = false })
 
 abbrev after_10 : (c : Capabilities) → Held
 after_10 c = (second_time c).held
 
 abbrev holding_10 : Bool → Endpoint → Endpoint
-holding_10 follows e = record e { options = record e.options { follow_rfc = follows }; renewable = Some (record { number = 10; reset = record { last_tsn = 11; streams = 1 ∷ [] } }) }
+holding_10 follows e = record e { options = record e.options { follow_rfc = follows }; renewable = Some (record { number = 10; reset = record { last_tsn = 11; streams = 1 ∷ []; is_new = false } }) }
 
 -- By the RFCs' rules what was in progress may come again; what was performed at once can't.
-records_10 : (e : Endpoint) → renewable_after (record e { options = record e.options { follow_rfc = true } }) 10 (request ∷ []) true ≡ Some (record { number = 10; reset = record { last_tsn = 11; streams = 1 ∷ [] } })
+records_10 : (e : Endpoint) → renewable_after (record e { options = record e.options { follow_rfc = true } }) 10 (request ∷ []) true ≡ Some (record { number = 10; reset = record { last_tsn = 11; streams = 1 ∷ []; is_new = false } })
 records_10 e = refl
 
 records_none_at_once : (e : Endpoint) → renewable_after (record e { options = record e.options { follow_rfc = true } }) 9 (request ∷ []) true ≡ None
@@ -128,7 +128,7 @@ performed_by_port c = refl
 -- Another request isn't it: of other streams, in another order, up to another TSN, or under another number.
 abbrev asks_other : ℕ → ℕ → List ℕ → Bool
 asks_other number last_tsn streams =
-    is_renewal (Some (record { number = 10; reset = record { last_tsn = 11; streams = 1 ∷ 2 ∷ [] } })) 10 (Some number) (Some (record { last_tsn = last_tsn; streams = streams }))
+    is_renewal (Some (record { number = 10; reset = record { last_tsn = 11; streams = 1 ∷ 2 ∷ []; is_new = false } })) 10 (Some number) (Some (record { last_tsn = last_tsn; streams = streams; is_new = false }))
 
 the_same : asks_other 11 11 (1 ∷ 2 ∷ []) ≡ true
 the_same = refl
@@ -154,11 +154,26 @@ same_number = refl
 later_number : asks_other 12 11 (1 ∷ 2 ∷ []) ≡ false
 later_number = refl
 
+-- A request that bears the number before its own says that it is new.
+says_new : content_in (re_config_chunk (outgoing_ssn_reset_request 11 10 11 (0 ∷ 1 ∷ []) ∷ []))
+    ≡ re_config (outgoing_reset_request 11 10 (record { last_tsn = 11; streams = 1 ∷ []; is_new = true }) ∷ [])
+says_new = refl
+
+says_new_behind_the_greatest : content_in (re_config_chunk (outgoing_ssn_reset_request 0 (2 ^ 32 - 1) 11 (0 ∷ 1 ∷ []) ∷ []))
+    ≡ re_config (outgoing_reset_request 0 (2 ^ 32 - 1) (record { last_tsn = 11; streams = 1 ∷ []; is_new = true }) ∷ [])
+says_new_behind_the_greatest = refl
+
+a_new_one : is_renewal (Some (record { number = 10; reset = record { last_tsn = 11; streams = 1 ∷ []; is_new = false } })) 10 (Some 11) (Some (record { last_tsn = 11; streams = 1 ∷ []; is_new = true })) ≡ false
+a_new_one = refl
+
+once_more : is_renewal (Some (record { number = 10; reset = record { last_tsn = 11; streams = 1 ∷ []; is_new = true } })) 10 (Some 11) (Some (record { last_tsn = 11; streams = 1 ∷ []; is_new = false })) ≡ true
+once_more = refl
+
 -- What was accepted since took the number.
-number_is_taken : is_renewal (Some (record { number = 10; reset = record { last_tsn = 11; streams = [] } })) 11 (Some 12) (Some (record { last_tsn = 11; streams = [] })) ≡ false
+number_is_taken : is_renewal (Some (record { number = 10; reset = record { last_tsn = 11; streams = []; is_new = false } })) 11 (Some 12) (Some (record { last_tsn = 11; streams = []; is_new = false })) ≡ false
 number_is_taken = refl
 
-beyond_the_last_number : is_renewal (Some (record { number = 2 ^ 32 - 1; reset = record { last_tsn = 11; streams = [] } })) (2 ^ 32 - 1) (Some 0) (Some (record { last_tsn = 11; streams = [] })) ≡ true
+beyond_the_last_number : is_renewal (Some (record { number = 2 ^ 32 - 1; reset = record { last_tsn = 11; streams = []; is_new = false } })) (2 ^ 32 - 1) (Some 0) (Some (record { last_tsn = 11; streams = []; is_new = false })) ≡ true
 beyond_the_last_number = refl
 
 -- ---- requests of the other kind
@@ -180,7 +195,7 @@ no_parameters c = refl
 
 -- The first of two was handled, and no answer is sent.
 abbrev twice : (c : Capabilities) → HandledParameters
-twice c = work_chunk own due (held c 9) (request ∷ outgoing_reset_request 11 3 (record { last_tsn = 11; streams = 2 ∷ [] }) ∷ [])
+twice c = work_chunk own due (held c 9) (request ∷ outgoing_reset_request 11 3 (record { last_tsn = 11; streams = 2 ∷ []; is_new = false }) ∷ [])
 
 second_is_refused : (c : Capabilities) → (twice c).is_refused ≡ true
 second_is_refused c = refl

@@ -1,5 +1,5 @@
 -- The parameters of RE-CONFIG that speak of stream resets (RFC 6525, section 4).
-use Rattle.std.specs.Prelude.{ℕ, None, List, [], ◌∷◌}
+use Rattle.std.specs.Prelude.{ℕ, ◌==◌, ◌+◌, ◌-◌, ◌%◌, ◌^◌, Bool, true, false, None, List, [], ◌∷◌}
 use Rattle.std.specs.List.{flat_map}
 use Rattle.std.specs.Int.{w16, to_be_bytes, from_be_bytes}
 use Rattle.dcsctp_types.specs.wire.declared.reconfiguration.ReconfigurationResponseResult.{ReconfigurationResponseResult}
@@ -11,6 +11,12 @@ use Rattle.dcsctp_types.specs.wire.Content as wire
 pub record RequestedReset : Type 0 where
   pub last_tsn : ℕ
   pub streams : List ℕ
+  -- Does it say that it isn't the request before, once more?
+  pub is_new : Bool
+
+-- the same, once more under the next number
+abbrev pub renewed_reset : RequestedReset → RequestedReset
+renewed_reset reset = record reset { is_new = false }
 
 -- a request of the peer by its number
 pub record NumberedReset : Type 0 where
@@ -49,9 +55,20 @@ abbrev pub reset_streams_in : List ℕ → List ℕ
 reset_streams_in (first ∷ second ∷ bytes) = from_be_bytes w16 (first ∷ second ∷ []) ∷ reset_streams_in bytes
 reset_streams_in bytes = []
 
+-- the number before this one
+abbrev pub previous_number : ℕ → ℕ
+previous_number number = (number + (2 ^ 32 - 1)) % 2 ^ 32
+
+-- What a request of this number bears as the number of the request that it answers: it answers none. RFC 6525, section 4.1, has the
+-- peer's next number less 1 there; dcsctp has the request's own number. With the option one that isn't the request before, once
+-- more, has the number before its own, so that the peer can tell (`is_renewal`).
+abbrev pub number_answered : ℕ → Bool → ℕ
+number_answered number true = previous_number number
+number_answered number false = number
+
 -- what a parameter of a chunk says. The next TSNs of a response aren't looked at: no request to reset them is sent.
 abbrev pub reset_parameter_in : ParameterContent → ResetParameter
-reset_parameter_in (outgoing_ssn_reset_request number answered last_tsn streams) = outgoing_reset_request number answered (record { last_tsn = last_tsn; streams = reset_streams_in streams })
+reset_parameter_in (outgoing_ssn_reset_request number answered last_tsn streams) = outgoing_reset_request number answered (record { last_tsn = last_tsn; streams = reset_streams_in streams; is_new = answered == previous_number number })
 reset_parameter_in (incoming_ssn_reset_request number streams) = incoming_reset_request number (reset_streams_in streams)
 reset_parameter_in (wire.reconfiguration_response number result next_tsns) = reconfiguration_response number result
 reset_parameter_in parameter = other_reset_parameter parameter

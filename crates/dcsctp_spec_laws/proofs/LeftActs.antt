@@ -5,7 +5,7 @@ use Rattle.dcsctp_spec_lemmas.specs.types.declared.association.Held.{Held}
 use Rattle.dcsctp_spec_lemmas.specs.types.declared.association.Pair.{Pair}
 use Rattle.dcsctp_spec_lemmas.specs.types.declared.ends.AbortReason.{AbortReason}
 use Rattle.dcsctp_spec_lemmas.specs.spec.Packet.{Content}
-use Rattle.dcsctp_spec_lemmas.specs.spec.Reconfiguration.{RequestedReset}
+use Rattle.dcsctp_spec_lemmas.specs.spec.Reconfiguration.{RequestedReset, renewed_reset}
 use Rattle.dcsctp_spec_lemmas.specs.spec.association.Acts.{Act, connect, t1_expires, shut_down, step_of_shutdown, shutdown_repeats, abort_with, hands_over, flushes, request_again, request_renewed}
 use Rattle.dcsctp_spec_lemmas.specs.spec.endpoint.Endpoint.{Endpoint, Core, OutstandingRequest, closed, cookie_wait, cookie_echoed, open_in, established, shutdown_pending, shutdown_sent, shutdown_received, shutdown_ack_sent, held_in}
 use Rattle.dcsctp_spec_lemmas.specs.spec.endpoint.Outcome.{Outcome, quiet, sends, fits, to_peer}
@@ -133,7 +133,7 @@ renewed_stays false e held number request = unmoved e
 
 anew_stays : (e : Endpoint) (held : Held) (number : Option ℕ) (reset : RequestedReset) → StaysIn e (renewed_outcome e held number reset)
 anew_stays e held None reset = unmoved e
-anew_stays e held (Some number) reset = renewed_stays (fits e (to_peer held (reset_request held.own_next reset))) e held number (reset_request held.own_next reset)
+anew_stays e held (Some number) reset = renewed_stays (fits e (to_peer held (reset_request held.own_next (renewed_reset reset)))) e held number (reset_request held.own_next (renewed_reset reset))
 
 unless_stays : (b is_new : Bool) (e : Endpoint) (held : Held) (reset : RequestedReset) → StaysIn e (request_unless b is_new e held reset)
 unless_stays true is_new e held reset = unmoved e

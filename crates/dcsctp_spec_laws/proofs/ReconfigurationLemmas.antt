@@ -3,7 +3,7 @@
 use Rattle.std.proofs.Common.{◌≡◌, ℕ, Bool, true, false, cond, Option, None, Some, List, [], refl, ap, ◌∙◌}
 use Rattle.dcsctp_spec_lemmas.specs.types.declared.association.Pair.{Pair}
 use Rattle.dcsctp_spec_lemmas.specs.types.declared.association.Held.{Held}
-use Rattle.dcsctp_spec_lemmas.specs.spec.Reconfiguration.{RequestedReset}
+use Rattle.dcsctp_spec_lemmas.specs.spec.Reconfiguration.{RequestedReset, renewed_reset}
 use Rattle.dcsctp_spec_lemmas.specs.types.Settings.{SameOptions}
 use Rattle.dcsctp_spec_lemmas.specs.spec.endpoint.Endpoint.{Endpoint, Core, closed, cookie_wait, cookie_echoed, open_in, OpenPhase, OutstandingRequest, held_in}
 use Rattle.dcsctp_spec_lemmas.specs.spec.endpoint.Following.{next_chunk}
@@ -41,13 +41,13 @@ module _ (e : Endpoint) (rebuilt : Held → Core) (held : Held) (builds : Rebuil
   emitted_at request (Some number) = packet_at (fits (request_expired e request) (to_peer held (reset_request number reset))) request number
 
   renewed_at : (b : Bool) (request : OutstandingRequest) (number : ℕ)
-      → Repeats true e rebuilt held (Some number) reset (renewed_request_where b (request_expired e request) held number (reset_request held.own_next reset))
+      → Repeats true e rebuilt held (Some number) reset (renewed_request_where b (request_expired e request) held number (reset_request held.own_next (renewed_reset reset)))
   renewed_at true request number = (true, record { core = ap core_asking is ∙ builds.asks; options = refl; observations = refl; effects = refl; following = refl })
   renewed_at false request number = (false, record { core = is; options = refl; observations = refl; effects = refl; following = refl })
 
   anew_at : (request : OutstandingRequest) (number : Option ℕ) → Repeats true e rebuilt held number reset (request_renewed (request_expired e request) held number reset)
   anew_at request None = (false, record { core = is; options = refl; observations = refl; effects = refl; following = refl })
-  anew_at request (Some number) = renewed_at (fits (request_expired e request) (to_peer held (reset_request held.own_next reset))) request number
+  anew_at request (Some number) = renewed_at (fits (request_expired e request) (to_peer held (reset_request held.own_next (renewed_reset reset)))) request number
 
   -- Nothing goes out.
   idle_at : (is_new : Bool) (after : Endpoint) (number : Option ℕ) → after.core ≡ rebuilt held → SameOptions e.options after.options → Repeats is_new e rebuilt held number reset (still after)

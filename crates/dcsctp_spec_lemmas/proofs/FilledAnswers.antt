@@ -51,7 +51,7 @@ pub record GivesUntilFull (ask : Ask) (e : Endpoint) (draft : Emission) (transfe
       (stage_of e.queues.queue transfer.retransmission [] 0) gave_up next forwards
   pub begun : Option BegunReset
   pub begins : begun
-      ≡ begun_at ask (may_be_asked e.core e.options.follow_rfc) (room_in e (filled draft (plain_contents (sacks ++ forwards)))) (last_assigned_tsn gave_up.queue) gave_up.waiting
+      ≡ begun_at ask e.options.follow_rfc (may_be_asked e.core e.options.follow_rfc) (room_in e (filled draft (plain_contents (sacks ++ forwards)))) (last_assigned_tsn gave_up.queue) gave_up.waiting
   -- once the packet is full
   pub sent : Stage
   pub fills : let left : SendQueueState =
@@ -143,7 +143,7 @@ within_until ask e draft transfer u within =
     (acknowledgements_len (wants_sack ask e.queues.queue transfer) (may_forward ask e transfer.retransmission) e draft transfer u.tracker u.sacks u.forwards
     (stage_of e.queues.queue transfer.retransmission [] 0) u.gave_up u.next u.acknowledges u.gives_up)
     (subst (λ (begun : Option BegunReset). contents_len (request_contents begun) ≤ room_in e (filled draft acknowledged)) (sym u.begins)
-    (begun_at_len ask (may_be_asked e.core e.options.follow_rfc) (room_in e (filled draft acknowledged)) (last_assigned_tsn u.gave_up.queue) u.gave_up.waiting))
+    (begun_at_len ask e.options.follow_rfc (may_be_asked e.core e.options.follow_rfc) (room_in e (filled draft acknowledged)) (last_assigned_tsn u.gave_up.queue) u.gave_up.waiting))
     (omega (arith, len))
 
 -- where something waits

@@ -278,11 +278,11 @@ flush_is tag held front [] is = refl
 flush_is tag held front (answer ∷ answers) is = flushed_is tag held front answer.begun answer.acknowledgements answer.data_chunks (map all_chunks answers) is
 
 -- It is begun by that rule.
-begun_is : (held : Held) (outstanding : Option ℕ) (last_tsn : ℕ) (streams : List ℕ) → held.own_outstanding ≡ outstanding → IsBegun (begun_where outstanding held.own_next last_tsn streams) held
-begun_is held None last_tsn [] is = tt
-begun_is held None last_tsn (stream ∷ streams) is = (refl, is)
-begun_is held (Some number) last_tsn [] is = tt
-begun_is held (Some number) last_tsn (stream ∷ streams) is = tt
+begun_is : (follows : Bool) (held : Held) (outstanding : Option ℕ) (last_tsn : ℕ) (streams : List ℕ) → held.own_outstanding ≡ outstanding → IsBegun (begun_where follows outstanding held.own_next last_tsn streams) held
+begun_is follows held None last_tsn [] is = tt
+begun_is follows held None last_tsn (stream ∷ streams) is = (refl, is)
+begun_is follows held (Some number) last_tsn [] is = tt
+begun_is follows held (Some number) last_tsn (stream ∷ streams) is = tt
 
 -- This peer may be asked, or none.
 abbrev AsksAtMost : Held → Option Held → Type 0
@@ -295,19 +295,19 @@ asks_at_most (cookie_echoed my own cookie) true held holds = inl refl
 asks_at_most (cookie_echoed my own cookie) false held holds = inr holds
 asks_at_most (open_in phase my own) follows held holds = inr holds
 
-first_in : (held : Held) (peer : Option Held) (room last_tsn : ℕ) (queue : SendQueueState) → AsksAtMost held peer → IsBegun (begun_in peer room last_tsn queue) held
-first_in held None room last_tsn queue is = tt
-first_in held (Some own) room last_tsn queue (inl is) = absurd (cc)
-first_in held (Some own) room last_tsn queue (inr is) =
+first_in : (follows : Bool) (held : Held) (peer : Option Held) (room last_tsn : ℕ) (queue : SendQueueState) → AsksAtMost held peer → IsBegun (begun_in follows peer room last_tsn queue) held
+first_in follows held None room last_tsn queue is = tt
+first_in follows held (Some own) room last_tsn queue (inl is) = absurd (cc)
+first_in follows held (Some own) room last_tsn queue (inr is) =
     let here : own ≡ held = cc in
-    subst (λ (h : Held). IsBegun (begun_in (Some own) room last_tsn queue) h) here
-    (begun_is own own.own_outstanding last_tsn (map stream_field (take (streams_within room) (ready_streams queue))) refl)
+    subst (λ (h : Held). IsBegun (begun_in follows (Some own) room last_tsn queue) h) here
+    (begun_is follows own own.own_outstanding last_tsn (map stream_field (take (streams_within room) (ready_streams queue))) refl)
 
 first_where : (b : Bool) (e : Endpoint) (held : Held) (draft : Emission) (transfer : Transfer) (answer : Answer) → held_in e.core ≡ Some held → GivesWhere b first_ask e draft transfer answer → IsBegun answer.begun held
 first_where true e held draft transfer answer holds h = subst (λ (a : Answer). IsBegun a.begun held) (sym h) tt
 first_where false e held draft transfer answer holds h =
     subst (λ (b : Option BegunReset). IsBegun b held) (sym h.begins)
-    (first_in held (may_be_asked e.core e.options.follow_rfc) (room_in e (filled draft (plain_contents answer.acknowledgements))) (last_assigned_tsn h.gave_up.queue) h.gave_up.waiting
+    (first_in e.options.follow_rfc held (may_be_asked e.core e.options.follow_rfc) (room_in e (filled draft (plain_contents answer.acknowledgements))) (last_assigned_tsn h.gave_up.queue) h.gave_up.waiting
     (asks_at_most e.core e.options.follow_rfc held holds))
 
 first_below : (e : Endpoint) (held : Held) (draft : Emission) (transfer : Option Transfer) (answer : Answer) → held_in e.core ≡ Some held → IsAnswerOfQueues first_ask e draft answer transfer → IsBegun answer.begun held

@@ -14,7 +14,7 @@ use Rattle.dcsctp_spec.specs.endpoint.FlushOutcomes.{filled, IsWithinMtu, Ask, r
 use Rattle.std.specs.Int.{w16, w32, to_be_bytes}
 use Rattle.dcsctp_spec.specs.wire.Format.{padding_of}
 use Rattle.dcsctp_spec.specs.types.declared.association.Held.{Held}
-use Rattle.dcsctp_spec.specs.Reconfiguration.{RequestedReset}
+use Rattle.dcsctp_spec.specs.Reconfiguration.{RequestedReset, number_answered}
 use Rattle.dcsctp_spec.specs.association.FlushChanges.{reset_request}
 use Rattle.dcsctp_spec.specs.endpoint.BegunResets.{streams_within, begun_where, begun_in, request_contents, stream_field}
 
@@ -59,12 +59,13 @@ pub request_len : (number : ℕ) (reset : RequestedReset) → contents_len (rese
 unfolding parameter_bytes parameter_chunk_bytes
 request_len number reset =
     let streams : List ℕ = flat_map (to_be_bytes w16) reset.streams in
-    let parameter : ParameterContent = outgoing_ssn_reset_request number number reset.last_tsn streams in
+    let answered : ℕ = number_answered number reset.is_new in
+    let parameter : ParameterContent = outgoing_ssn_reset_request number answered reset.last_tsn streams in
     let value : List ℕ = parameter_value parameter in
     omega (
       arith,
       streams_len reset.streams,
-      length-append (to_be_bytes w32 number ++ to_be_bytes w32 number ++ to_be_bytes w32 reset.last_tsn) streams,
+      length-append (to_be_bytes w32 number ++ to_be_bytes w32 answered ++ to_be_bytes w32 reset.last_tsn) streams,
       length-append value (zeros (padding_of (parameter_len parameter))),
       length-replicate {A = ℕ} (padding_of (parameter_len parameter)) 0,
       length-append (parameter_bytes parameter) [],
@@ -72,22 +73,22 @@ request_len number reset =
     )
 
 -- Where it names as many streams as fit, its chunk fits.
-begun_len : (outstanding : Option ℕ) (number last_tsn room : ℕ) (streams : List ℕ) → length streams ≤ streams_within room → contents_len (request_contents (begun_where outstanding number last_tsn streams)) ≤ room
-begun_len None number last_tsn room [] few = omega arith
-begun_len None number last_tsn room (stream ∷ streams) few =
-    let all = request_len number (record { last_tsn = last_tsn; streams = stream ∷ streams }) in
+begun_len : (follows : Bool) (outstanding : Option ℕ) (number last_tsn room : ℕ) (streams : List ℕ) → length streams ≤ streams_within room → contents_len (request_contents (begun_where follows outstanding number last_tsn streams)) ≤ room
+begun_len follows None number last_tsn room [] few = omega arith
+begun_len follows None number last_tsn room (stream ∷ streams) few =
+    let all = request_len number (record { last_tsn = last_tsn; streams = stream ∷ streams; is_new = follows }) in
     omega (arith, few, all)
-begun_len (Some other) number last_tsn room [] few = omega arith
-begun_len (Some other) number last_tsn room (stream ∷ streams) few = omega arith
+begun_len follows (Some other) number last_tsn room [] few = omega arith
+begun_len follows (Some other) number last_tsn room (stream ∷ streams) few = omega arith
 
-begun_in_len : (held : Option Held) (room last_tsn : ℕ) (queue : SendQueueState) → contents_len (request_contents (begun_in held room last_tsn queue)) ≤ room
-begun_in_len None room last_tsn queue = omega arith
-begun_in_len (Some held) room last_tsn queue =
+begun_in_len : (follows : Bool) (held : Option Held) (room last_tsn : ℕ) (queue : SendQueueState) → contents_len (request_contents (begun_in follows held room last_tsn queue)) ≤ room
+begun_in_len follows None room last_tsn queue = omega arith
+begun_in_len follows (Some held) room last_tsn queue =
     let streams : List ℕ = take (streams_within room) (ready_streams queue) in
     let few = length-take (streams_within room) (ready_streams queue) in
     let same = length-map streams stream_field in
-    begun_len held.own_outstanding held.own_next last_tsn room (map stream_field streams) (omega (arith, few, same))
+    begun_len follows held.own_outstanding held.own_next last_tsn room (map stream_field streams) (omega (arith, few, same))
 
-pub begun_at_len : (ask : Ask) (held : Option Held) (room last_tsn : ℕ) (queue : SendQueueState) → contents_len (request_contents (begun_at ask held room last_tsn queue)) ≤ room
-begun_at_len first_ask held room last_tsn queue = begun_in_len held room last_tsn queue
-begun_at_len later_ask held room last_tsn queue = omega arith
+pub begun_at_len : (ask : Ask) (follows : Bool) (held : Option Held) (room last_tsn : ℕ) (queue : SendQueueState) → contents_len (request_contents (begun_at ask follows held room last_tsn queue)) ≤ room
+begun_at_len first_ask follows held room last_tsn queue = begun_in_len follows held room last_tsn queue
+begun_at_len later_ask follows held room last_tsn queue = omega arith

@@ -4,7 +4,7 @@ use Rattle.dcsctp_spec_lemmas.specs.types.declared.association.Pair.{Pair}
 use Rattle.dcsctp_spec_lemmas.specs.types.declared.association.Held.{Held}
 use Rattle.dcsctp_spec_lemmas.specs.types.declared.options.Options.{Options}
 use Rattle.dcsctp_spec_lemmas.specs.types.Offer.{Offer, offer_of}
-use Rattle.dcsctp_spec_lemmas.specs.spec.Reconfiguration.{RequestedReset}
+use Rattle.dcsctp_spec_lemmas.specs.spec.Reconfiguration.{RequestedReset, renewed_reset}
 use Rattle.dcsctp_spec_lemmas.specs.spec.endpoint.Endpoint.{Core, closed, cookie_wait, cookie_echoed, open_in, OpenPhase, established, shutdown_pending, shutdown_sent, shutdown_received, shutdown_ack_sent}
 use Rattle.dcsctp_spec_lemmas.specs.spec.endpoint.Following.{next_chunk}
 use Rattle.dcsctp_spec_lemmas.specs.spec.association.Effect.{Effect, begins, gives_up}
@@ -93,7 +93,7 @@ renewed_true : (my_offer their_offer : Offer) (mine theirs : List Effect) (held 
 renewed_true my_offer their_offer mine theirs held None reset fits = tt
 renewed_true my_offer their_offer mine theirs held (Some number) reset false = tt
 renewed_true my_offer their_offer mine theirs held (Some number) reset true =
-    (tt, (tt, alone_true my_offer their_offer (begins held.own_next ∷ gives_up number ∷ mine) theirs true held.peer.tag (reset_request held.own_next reset) (tt, tt)))
+    (tt, (tt, alone_true my_offer their_offer (begins held.own_next ∷ gives_up number ∷ mine) theirs true held.peer.tag (reset_request held.own_next (renewed_reset reset)) (tt, tt)))
 
 renewed_free : (held : Held) (outstanding : Option ℕ) (reset : RequestedReset) (fits : Bool) → AllEchoFree (renewed_by held outstanding reset fits).effects
 renewed_free held None reset fits = tt

@@ -1,6 +1,6 @@
 -- Outside examples of whole stream resets, computed by the definitions: a wrong rule in specs/ would not
 -- check here.
-use Rattle.std.proofs.Common.{◌≡◌, ℕ, None, Some, List, [], ◌∷◌, inl, inr, refl}
+use Rattle.std.proofs.Common.{false, ◌≡◌, ℕ, None, Some, List, [], ◌∷◌, inl, inr, refl}
 use Rattle.dcsctp_spec_lemmas.specs.wire.declared.reconfiguration.ReconfigurationResponseResult.{ReconfigurationResponseResult}
 use Rattle.dcsctp_spec_lemmas.specs.wire.declared.reconfiguration.ReconfigurationResponseResult.TheVariants.{SuccessNothingToDo, SuccessPerformed, InProgress}
 use Rattle.dcsctp_spec_lemmas.specs.types.declared.association.Pair.{Pair}
@@ -18,7 +18,7 @@ use Rattle.dcsctp_theorem_association.proofs.ScheduleFacts.{one, two, first_cook
 
 -- of stream 1, after the TSN 99
 abbrev wanted : RequestedReset
-wanted = record { last_tsn = 99; streams = 1 ∷ [] }
+wanted = record { last_tsn = 99; streams = 1 ∷ []; is_new = false }
 
 abbrev request : ℕ → Content
 request number = re_config (outgoing_reset_request number number wanted ∷ [])

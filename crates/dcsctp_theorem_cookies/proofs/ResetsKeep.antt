@@ -5,7 +5,7 @@ use Rattle.dcsctp_spec_lemmas.specs.wire.declared.reconfiguration.Reconfiguratio
 use Rattle.dcsctp_spec_lemmas.specs.wire.declared.reconfiguration.ReconfigurationResponseResult.TheVariants.{InProgress}
 use Rattle.dcsctp_spec_lemmas.specs.types.declared.association.Pair.{Pair}
 use Rattle.dcsctp_spec_lemmas.specs.types.declared.association.Held.{Held}
-use Rattle.dcsctp_spec_lemmas.specs.spec.Reconfiguration.{RequestState, early, due, renewed, ResetParameter, RequestedReset, outgoing_reset_request, incoming_reset_request, reconfiguration_response, other_reset_parameter}
+use Rattle.dcsctp_spec_lemmas.specs.spec.Reconfiguration.{RequestState, early, due, renewed, ResetParameter, RequestedReset, outgoing_reset_request, incoming_reset_request, reconfiguration_response, other_reset_parameter, renewed_reset}
 use Rattle.dcsctp_spec_lemmas.specs.spec.Packet.{re_config}
 use Rattle.dcsctp_spec_lemmas.specs.spec.endpoint.Endpoint.{Core, cookie_echoed, open_in}
 use Rattle.dcsctp_spec_lemmas.specs.spec.association.Choices.{Choices}
@@ -100,7 +100,7 @@ module _ (rules : Rules) where
   renewed_keeps : (held : Held) (number : Option ℕ) (reset : RequestedReset) (fits : Bool) → EffectsKeep rules (renewed_by held number reset fits).effects
   renewed_keeps held None reset fits = tt
   renewed_keeps held (Some number) reset false = tt
-  renewed_keeps held (Some number) reset true = (tt, (tt, alone_keeps rules true held.peer.tag (reset_request held.own_next reset) tt))
+  renewed_keeps held (Some number) reset true = (tt, (tt, alone_keeps rules true held.peer.tag (reset_request held.own_next (renewed_reset reset)) tt))
 
   pub request_renewed_keeps : (core : Core) (reset : RequestedReset) (fits : Bool) → CoreKeeps rules core → ChangeKeeps rules (request_renewed_change core reset fits)
   request_renewed_keeps (cookie_echoed my held bytes) reset fits h = record { effects = renewed_keeps held held.own_outstanding reset fits; core = h }

@@ -1,5 +1,5 @@
 -- The request of a reset that a flush begins is read as itself, and what is kept of it fits.
-use Rattle.std.proofs.Common.{Bool, true, false, ◌≡◌, ℕ, ◌+◌, ◌%◌, ◌^◌, ◌<◌, Option, None, Some, List, [], ◌∷◌, ◌++◌, map, length, take, flat_map, refl, ap, ◌∙◌, arith}
+use Rattle.std.proofs.Common.{Bool, true, false, ◌≡◌, ◌==◌, ℕ, ◌+◌, ◌%◌, ◌^◌, ◌<◌, Option, None, Some, List, [], ◌∷◌, ◌++◌, map, length, take, flat_map, refl, ap, ◌∙◌, arith, eqb-true, eq-eqb}
 use Rattle.std.specs.List.{AllByRecursion}
 use Rattle.std.specs.Int.{w16, to_be_bytes, from_be_bytes}
 use Rattle.std.proofs.lemmas.Nat.{from_be_bytes-to_be_bytes_2}
@@ -9,7 +9,7 @@ use Rattle.dcsctp_spec_lemmas.specs.wire.Spelling.{chunk_bytes}
 use Rattle.dcsctp_spec_lemmas.proofs.wire_lemmas.Lengths.{length-chunk_bytes}
 use Rattle.dcsctp_spec_lemmas.specs.types.declared.association.Held.{Held}
 use Rattle.dcsctp_spec_lemmas.specs.spec.Packet.{Content, re_config, chunk_out}
-use Rattle.dcsctp_spec_lemmas.specs.spec.Reconfiguration.{outgoing_reset_request, reset_streams_in}
+use Rattle.dcsctp_spec_lemmas.specs.spec.Reconfiguration.{RequestedReset, outgoing_reset_request, reset_streams_in, number_answered, previous_number}
 use Rattle.dcsctp_spec_lemmas.specs.spec.queues.OwnResets.{ready_streams}
 use Rattle.dcsctp_spec_lemmas.specs.spec.queues.SendQueue.{SendQueueState}
 use Rattle.dcsctp_spec_runs.specs.Deadlines.{T1Runs}
@@ -35,11 +35,29 @@ streams_in_bytes : (streams : List ℕ) → AllByRecursion IsByte (flat_map (to_
 streams_in_bytes [] = tt
 streams_in_bytes (stream ∷ streams) = both (to_be_bytes w16 stream) (flat_map (to_be_bytes w16) streams) (in_two stream) (streams_in_bytes streams)
 
-pub request_sendable : (number last_tsn : ℕ) (streams : List ℕ) → number < 2 ^ 32 → last_tsn < 2 ^ 32
-    → contents_len (reset_request number (record { last_tsn = last_tsn; streams = map stream_field streams }) ∷ []) < 2 ^ 16
-    → Sendable (reset_request number (record { last_tsn = last_tsn; streams = map stream_field streams }))
-request_sendable number last_tsn streams number_fits tsn_fits short =
-    let content : Content = reset_request number (record { last_tsn = last_tsn; streams = map stream_field streams }) in
+-- What a request bears as the number that it answers says whether it is new.
+pub reads_new : (number : ℕ) (is_new : Bool) → number < 2 ^ 32 → number_answered number is_new == previous_number number ≡ is_new
+reads_new number true fits = eq-eqb (previous_number number) (previous_number number) refl
+reads_new number false fits = go (number == previous_number number) refl
+  where
+    go : (b : Bool) → number == previous_number number ≡ b → b ≡ false
+    go true is = absurd (let same : number ≡ previous_number number = eqb-true number (previous_number number) is in omega (arith, same, fits))
+    go false is = refl
+
+answered_below : (number : ℕ) (is_new : Bool) → number < 2 ^ 32 → number_answered number is_new < 2 ^ 32
+answered_below number true fits = omega arith
+answered_below number false fits = fits
+
+-- what a request wants whose streams are these
+abbrev asked_for : Bool → ℕ → List ℕ → RequestedReset
+asked_for is_new last_tsn streams = record { last_tsn = last_tsn; streams = streams; is_new = is_new }
+
+pub request_sendable : (is_new : Bool) (number last_tsn : ℕ) (streams : List ℕ) → number < 2 ^ 32 → last_tsn < 2 ^ 32
+    → contents_len (reset_request number (asked_for is_new last_tsn (map stream_field streams)) ∷ []) < 2 ^ 16
+    → Sendable (reset_request number (asked_for is_new last_tsn (map stream_field streams)))
+request_sendable is_new number last_tsn streams number_fits tsn_fits short =
+    let answered : ℕ = number_answered number is_new in
+    let content : Content = reset_request number (asked_for is_new last_tsn (map stream_field streams)) in
     let bytes : List ℕ = chunk_bytes (chunk_out content) in
     let whole : length (bytes ++ []) ≡ length bytes = ap length (append-nil bytes) in
     let entries = streams_len (map stream_field streams) in
@@ -49,24 +67,26 @@ request_sendable number last_tsn streams number_fits tsn_fits short =
         parameters_fit = (
           record {
             number_fits = number_fits;
-            answered_fits = number_fits;
+            answered_fits = answered_below number is_new number_fits;
             last_tsn_fits = tsn_fits;
             streams_fit = record { whole = omega (arith, entries); entries_in_bytes = streams_in_bytes (map stream_field streams) };
           },
           tt,
         );
       };
-      reads = ap (λ (ss : List ℕ). re_config (outgoing_reset_request number number (record { last_tsn = last_tsn; streams = ss }) ∷ [])) (streams_read streams);
+      reads =
+          ap (λ (b : Bool). re_config (outgoing_reset_request number answered (asked_for b last_tsn (reset_streams_in (flat_map (to_be_bytes w16) (map stream_field streams)))) ∷ [])) (reads_new number is_new number_fits)
+          ∙ ap (λ (ss : List ℕ). re_config (outgoing_reset_request number answered (asked_for is_new last_tsn ss) ∷ [])) (streams_read streams);
       said = tt;
     }
 
-where_sends : (outstanding : Option ℕ) (number last_tsn : ℕ) (streams : List ℕ) → number < 2 ^ 32 → last_tsn < 2 ^ 32
-    → contents_len (request_contents (begun_where outstanding number last_tsn (map stream_field streams))) < 2 ^ 16
-    → AllByRecursion Sendable (request_contents (begun_where outstanding number last_tsn (map stream_field streams)))
-where_sends None number last_tsn [] number_fits tsn_fits short = tt
-where_sends None number last_tsn (stream ∷ streams) number_fits tsn_fits short = (request_sendable number last_tsn (stream ∷ streams) number_fits tsn_fits short, tt)
-where_sends (Some other) number last_tsn [] number_fits tsn_fits short = tt
-where_sends (Some other) number last_tsn (stream ∷ streams) number_fits tsn_fits short = tt
+where_sends : (follows : Bool) (outstanding : Option ℕ) (number last_tsn : ℕ) (streams : List ℕ) → number < 2 ^ 32 → last_tsn < 2 ^ 32
+    → contents_len (request_contents (begun_where follows outstanding number last_tsn (map stream_field streams))) < 2 ^ 16
+    → AllByRecursion Sendable (request_contents (begun_where follows outstanding number last_tsn (map stream_field streams)))
+where_sends follows None number last_tsn [] number_fits tsn_fits short = tt
+where_sends follows None number last_tsn (stream ∷ streams) number_fits tsn_fits short = (request_sendable follows number last_tsn (stream ∷ streams) number_fits tsn_fits short, tt)
+where_sends follows (Some other) number last_tsn [] number_fits tsn_fits short = tt
+where_sends follows (Some other) number last_tsn (stream ∷ streams) number_fits tsn_fits short = tt
 
 -- what is known of the peer fits, where one is held
 abbrev pub FitsPeer : Option Held → Type 0
@@ -86,18 +106,18 @@ asked_fits (cookie_echoed my held cookie) true own = tt
 asked_fits (cookie_echoed my held cookie) false own = own.1
 asked_fits (open_in phase my held) follows own = own.1
 
-in_sends : (held : Option Held) (room last_tsn : ℕ) (queue : SendQueueState) → FitsPeer held → last_tsn < 2 ^ 32
-    → contents_len (request_contents (begun_in held room last_tsn queue)) < 2 ^ 16 → AllByRecursion Sendable (request_contents (begun_in held room last_tsn queue))
-in_sends None room last_tsn queue fits tsn_fits short = tt
-in_sends (Some held) room last_tsn queue fits tsn_fits short =
-    where_sends held.own_outstanding held.own_next last_tsn (take (streams_within room) (ready_streams queue)) fits.own_next tsn_fits short
+in_sends : (follows : Bool) (held : Option Held) (room last_tsn : ℕ) (queue : SendQueueState) → FitsPeer held → last_tsn < 2 ^ 32
+    → contents_len (request_contents (begun_in follows held room last_tsn queue)) < 2 ^ 16 → AllByRecursion Sendable (request_contents (begun_in follows held room last_tsn queue))
+in_sends follows None room last_tsn queue fits tsn_fits short = tt
+in_sends follows (Some held) room last_tsn queue fits tsn_fits short =
+    where_sends follows held.own_outstanding held.own_next last_tsn (take (streams_within room) (ready_streams queue)) fits.own_next tsn_fits short
 
-pub begun_sends : (ask : Ask) (held : Option Held) (room last_tsn : ℕ) (queue : SendQueueState) → FitsPeer held → last_tsn < 2 ^ 32 → room < 2 ^ 16
-    → AllByRecursion Sendable (request_contents (begun_at ask held room last_tsn queue))
-begun_sends later_ask held room last_tsn queue fits tsn_fits small = tt
-begun_sends first_ask held room last_tsn queue fits tsn_fits small =
-    let len = begun_at_len first_ask held room last_tsn queue in
-    in_sends held room last_tsn queue fits tsn_fits (omega (arith, len, small))
+pub begun_sends : (ask : Ask) (follows : Bool) (held : Option Held) (room last_tsn : ℕ) (queue : SendQueueState) → FitsPeer held → last_tsn < 2 ^ 32 → room < 2 ^ 16
+    → AllByRecursion Sendable (request_contents (begun_at ask follows held room last_tsn queue))
+begun_sends later_ask follows held room last_tsn queue fits tsn_fits small = tt
+begun_sends first_ask follows held room last_tsn queue fits tsn_fits small =
+    let len = begun_at_len first_ask follows held room last_tsn queue in
+    in_sends follows held room last_tsn queue fits tsn_fits (omega (arith, len, small))
 
 -- ---- what is kept of it
 

@@ -10,7 +10,7 @@ use Rattle.dcsctp_spec_lemmas.specs.types.declared.kinds.ErrorKind.TheVariants.{
 use Rattle.dcsctp_spec_lemmas.specs.spec.endpoint.Cause.{Cause}
 use Rattle.dcsctp_spec_lemmas.specs.spec.endpoint.Event.{Event, error}
 use Rattle.dcsctp_spec_lemmas.specs.spec.Packet.{Plain, plain, unknown, heartbeat, heartbeat_ack, unworked, Content, re_config, Emission}
-use Rattle.dcsctp_spec_lemmas.specs.spec.Reconfiguration.{RequestedReset, ResetParameter}
+use Rattle.dcsctp_spec_lemmas.specs.spec.Reconfiguration.{RequestedReset, ResetParameter, renewed_reset}
 use Rattle.dcsctp_spec_lemmas.specs.spec.queues.Arrivals.{data_arrival, i_data_arrival, skipped_in, messages_skipped_in}
 use Rattle.dcsctp_spec_lemmas.specs.spec.endpoint.Endpoint.{Endpoint, Core, closed, cookie_wait, cookie_echoed, open_in, OutstandingRequest, held_in}
 use Rattle.dcsctp_spec_lemmas.specs.spec.endpoint.Outcome.{Outcome, still, fits, answers_with, to_peer}
@@ -84,7 +84,7 @@ renewed_few false e held number request = none 1
 
 anew_few : (e : Endpoint) (held : Held) (number : Option ℕ) (reset : RequestedReset) → Few 1 (request_renewed e held number reset)
 anew_few e held None reset = none 1
-anew_few e held (Some number) reset = renewed_few (fits e (to_peer held (reset_request held.own_next reset))) e held number (reset_request held.own_next reset)
+anew_few e held (Some number) reset = renewed_few (fits e (to_peer held (reset_request held.own_next (renewed_reset reset)))) e held number (reset_request held.own_next (renewed_reset reset))
 
 unless_few : (b is_new : Bool) (e : Endpoint) (held : Held) (reset : RequestedReset) → Few 1 (request_unless b is_new e held reset)
 unless_few true is_new e held reset = none 1

@@ -111,7 +111,7 @@ given_sends ask e draft transfer answer own h =
     let small : room < 2 ^ 16 = omega (arith, own.valid.greatest_size) in
     let request : AllByRecursion Sendable (request_contents answer.begun) =
     subst (λ (b : Option BegunReset). AllByRecursion Sendable (request_contents b)) (sym h.begins)
-    (begun_sends ask (may_be_asked e.core e.options.follow_rfc) room (last_assigned_tsn h.gave_up.queue) h.gave_up.waiting
+    (begun_sends ask e.options.follow_rfc (may_be_asked e.core e.options.follow_rfc) room (last_assigned_tsn h.gave_up.queue) h.gave_up.waiting
     (asked_fits e.core e.options.follow_rfc own.core) (omega arith) small) in
     both_sendable (plain_contents answer.acknowledgements) (request_contents answer.begun ++ plain_contents answer.data_chunks)
     (subst (λ (cs : List Plain). AllByRecursion Sendable (plain_contents cs)) (sym h.parts) (plain_sendable h.sacks h.forwards sacks forwards))

@@ -3,13 +3,13 @@ use Rattle.std.proofs.Common.{◌≡◌, ℕ, ◌+◌, ◌%◌, ◌^◌, ◌<◌
 use Rattle.std.proofs.lemmas.Bool.Decides.{nat_tests}
 use Rattle.dcsctp_spec_lemmas.specs.types.declared.association.Held.{Held}
 use Rattle.dcsctp_spec_lemmas.specs.types.Settings.{packet_size_limit, IsValid}
-use Rattle.dcsctp_spec_lemmas.specs.spec.Reconfiguration.{RequestedReset}
+use Rattle.dcsctp_spec_lemmas.specs.spec.Reconfiguration.{RequestedReset, renewed_reset}
 use Rattle.dcsctp_spec_lemmas.specs.spec.endpoint.Endpoint.{Endpoint, OutstandingRequest}
 use Rattle.dcsctp_spec_lemmas.specs.spec.endpoint.Outcome.{quiet, sends, contents_len, to_peer}
 use Rattle.dcsctp_spec_lemmas.specs.spec.endpoint.Outcome.{fits as fits_mtu}
 use Rattle.dcsctp_spec_lemmas.specs.spec.association.FlushChanges.{reset_request}
 use Rattle.dcsctp_spec_lemmas.specs.spec.endpoint.HeartbeatOutcomes.{is_exhausted}
-use Rattle.dcsctp_spec_lemmas.specs.spec.endpoint.ReconfigurationOutcomes.{reset_again, request_emitted, renewed_request_where, request_renewed, request_unless, is_renewed, request_errors, request_expired, reconfiguration_outcome}
+use Rattle.dcsctp_spec_lemmas.specs.spec.endpoint.ReconfigurationOutcomes.{reset_again, request_emitted, renewed_request_where, request_renewed, request_unless, is_renewed, request_errors, request_expired, reconfiguration_outcome, as_renewed}
 use Rattle.dcsctp_spec_runs.specs.Fitting.{FitsNumber, FitsHeld, FitsEndpoint, Sendable, TurnFits}
 use Rattle.dcsctp_theorem_sockets.proofs.BegunSends.{FitsPeer, request_sendable, asking_fits, asking_runs}
 use Rattle.dcsctp_theorem_sockets.proofs.FlushFits.{still_fits}
@@ -28,7 +28,7 @@ short_enough e held number reset valid fits =
 again_sendable : (e : Endpoint) (held : Held) (number : ℕ) (request : OutstandingRequest) → IsValid e.options → fits_mtu e (to_peer held (reset_request number (reset_again (Some request)))) ≡ true
     → number < 2 ^ 32 → Sendable (reset_request number (reset_again (Some request)))
 again_sendable e held number request valid fits number_fits =
-    request_sendable number (request.last_tsn % 2 ^ 32) request.streams number_fits (omega arith)
+    request_sendable request.is_new number (request.last_tsn % 2 ^ 32) request.streams number_fits (omega arith)
     (short_enough e held number (reset_again (Some request)) valid fits)
 
 packet_fits : (b : Bool) (e : Endpoint) (held : Held) (number : ℕ) (request : OutstandingRequest) → fits_mtu e (to_peer held (reset_request number (reset_again (Some request)))) ≡ b
@@ -49,12 +49,12 @@ emitted_fits e held (Some number) request h fits number_fits =
 
 -- under the next number, which is outstanding then
 renewed_fits : (b : Bool) (e : Endpoint) (held : Held) (number : ℕ) (request : OutstandingRequest)
-    → fits_mtu e (to_peer held (reset_request held.own_next (reset_again (Some request)))) ≡ b → FitsEndpoint e → FitsHeld held
-    → TurnFits (renewed_request_where b e held number (reset_request held.own_next (reset_again (Some request))))
+    → fits_mtu e (to_peer held (reset_request held.own_next (renewed_reset (reset_again (Some request))))) ≡ b → FitsEndpoint e → FitsHeld held
+    → TurnFits (renewed_request_where b e held number (reset_request held.own_next (renewed_reset (reset_again (Some request)))))
 renewed_fits true e held number request is h fits =
     record {
       after = record { valid = h.valid; options = h.options; core = asking_fits e.core h.core; t1 = asking_runs e.core e.timers.t1 h.t1 };
-      sends = (record { tag = fits.peer.tag; contents = (again_sendable e held held.own_next request h.valid is fits.own_next, tt) }, tt);
+      sends = (record { tag = fits.peer.tag; contents = (again_sendable e held held.own_next (as_renewed request) h.valid is fits.own_next, tt) }, tt);
     }
 renewed_fits false e held number request is h fits = still_fits e h
 
@@ -62,7 +62,7 @@ anew_fits : (e : Endpoint) (held : Held) (number : Option ℕ) (request : Outsta
     → TurnFits (request_renewed e held number (reset_again (Some request)))
 anew_fits e held None request h fits = still_fits e h
 anew_fits e held (Some number) request h fits =
-    renewed_fits (fits_mtu e (to_peer held (reset_request held.own_next (reset_again (Some request))))) e held number request refl h fits
+    renewed_fits (fits_mtu e (to_peer held (reset_request held.own_next (renewed_reset (reset_again (Some request)))))) e held number request refl h fits
 
 -- ---- the turn
 

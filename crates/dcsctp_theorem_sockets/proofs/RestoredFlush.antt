@@ -25,15 +25,15 @@ none_taken zero [] none = refl
 none_taken (suc count) [] none = refl
 none_taken count (stream ∷ streams) none = absurd (cc)
 
-no_stream : (outstanding : Option ℕ) (number last_tsn : ℕ) → begun_where outstanding number last_tsn [] ≡ None
-no_stream None number last_tsn = refl
-no_stream (Some other) number last_tsn = refl
+no_stream : (follows : Bool) (outstanding : Option ℕ) (number last_tsn : ℕ) → begun_where follows outstanding number last_tsn [] ≡ None
+no_stream follows None number last_tsn = refl
+no_stream follows (Some other) number last_tsn = refl
 
-begins_nothing : (peer : Option Held) (room last_tsn : ℕ) (queue : SendQueueState) → AreOpen queue.streams → begun_in peer room last_tsn queue ≡ None
-begins_nothing None room last_tsn queue are = refl
-begins_nothing (Some held) room last_tsn queue are =
-    ap (λ (streams : List ℕ). begun_where held.own_outstanding held.own_next last_tsn (map stream_field streams)) (none_taken (streams_within room) (ready_streams queue) (nothing_ready queue are))
-    ∙ no_stream held.own_outstanding held.own_next last_tsn
+begins_nothing : (follows : Bool) (peer : Option Held) (room last_tsn : ℕ) (queue : SendQueueState) → AreOpen queue.streams → begun_in follows peer room last_tsn queue ≡ None
+begins_nothing follows None room last_tsn queue are = refl
+begins_nothing follows (Some held) room last_tsn queue are =
+    ap (λ (streams : List ℕ). begun_where follows held.own_outstanding held.own_next last_tsn (map stream_field streams)) (none_taken (streams_within room) (ready_streams queue) (nothing_ready queue are))
+    ∙ no_stream follows held.own_outstanding held.own_next last_tsn
 
 gave_up_open : (b : Bool) (now : ℕ) (transfer : Transfer) (room : ℕ) (old new : Stage) (next : Option ℕ) (chunks : List Plain) → GivesUpWhere b now transfer room old new next chunks
     → IsStageOpen old → IsStageOpen new
@@ -45,7 +45,7 @@ first_where : (b : Bool) (e : Endpoint) (draft : Emission) (transfer : Transfer)
 first_where true e draft transfer answer h are = ap (λ (a : Answer). a.begun) h
 first_where false e draft transfer answer h are =
     h.begins
-    ∙ begins_nothing (may_be_asked e.core e.options.follow_rfc) (room_in e (filled draft (plain_contents answer.acknowledgements))) (last_assigned_tsn h.gave_up.queue) h.gave_up.waiting
+    ∙ begins_nothing e.options.follow_rfc (may_be_asked e.core e.options.follow_rfc) (room_in e (filled draft (plain_contents answer.acknowledgements))) (last_assigned_tsn h.gave_up.queue) h.gave_up.waiting
     (gave_up_open (may_forward first_ask e transfer.retransmission) e.moment transfer (room_in e (filled draft (plain_contents h.sacks)))
     (stage_of e.queues.queue transfer.retransmission [] 0) h.gave_up h.next h.forwards h.gives_up are)
 

@@ -13,7 +13,7 @@ use Rattle.dcsctp_spec_lemmas.specs.spec.endpoint.Cause.{Cause}
 use Rattle.dcsctp_spec_lemmas.specs.types.Settings.{packet_size_limit}
 use Rattle.dcsctp_spec_lemmas.specs.spec.endpoint.Event.{Event}
 use Rattle.dcsctp_spec_lemmas.specs.spec.Packet.{Plain, plain, unknown, heartbeat, heartbeat_ack, unworked, error_of, chunk_out, Content, re_config, Emission}
-use Rattle.dcsctp_spec_lemmas.specs.spec.Reconfiguration.{RequestedReset, ResetParameter}
+use Rattle.dcsctp_spec_lemmas.specs.spec.Reconfiguration.{RequestedReset, ResetParameter, renewed_reset}
 use Rattle.dcsctp_spec_lemmas.specs.spec.queues.Arrivals.{data_arrival, i_data_arrival, skipped_in, messages_skipped_in}
 use Rattle.dcsctp_spec_lemmas.specs.spec.endpoint.Endpoint.{Endpoint, Core, closed, cookie_wait, cookie_echoed, open_in, OutstandingRequest, held_in}
 use Rattle.dcsctp_spec_lemmas.specs.spec.endpoint.Outcome.{Outcome, contents_len, still, fits, answers_with, to_peer}
@@ -109,7 +109,7 @@ renewed_sizes false limit e held number request is h = (h, tt)
 anew_sizes : (limit : ℕ) (e : Endpoint) (held : Held) (number : Option ℕ) (reset : RequestedReset) → AtLimit limit e → TurnSizes limit (request_renewed e held number reset)
 anew_sizes limit e held None reset h = (h, tt)
 anew_sizes limit e held (Some number) reset h =
-    renewed_sizes (fits e (to_peer held (reset_request held.own_next reset))) limit e held number (reset_request held.own_next reset) refl h
+    renewed_sizes (fits e (to_peer held (reset_request held.own_next (renewed_reset reset)))) limit e held number (reset_request held.own_next (renewed_reset reset)) refl h
 
 unless_sizes : (b is_new : Bool) (limit : ℕ) (e : Endpoint) (held : Held) (reset : RequestedReset) → AtLimit limit e → TurnSizes limit (request_unless b is_new e held reset)
 unless_sizes true is_new limit e held reset h = (h, tt)

@@ -11,7 +11,7 @@ use Rattle.dcsctp_spec_lemmas.specs.wire.Content.{ParameterContent, data_chunk, 
 use Rattle.dcsctp_spec_lemmas.specs.spec.endpoint.HeartbeatOutcomes.{heartbeat_outcome, info_in, counter_of, answered, heartbeat_ack_outcome, interval_expired, beating, heartbeat_emission, beat, interval_outcome, is_exhausted}
 use Rattle.dcsctp_spec_lemmas.specs.spec.endpoint.OwnTimers.{OwnTimer, acknowledgement_delay, retransmission, heartbeat_interval, heartbeat_timeout, reconfiguration, TimerTurn}
 use Rattle.dcsctp_spec_lemmas.specs.spec.endpoint.ReconfigurationOutcomes.{reset_again, request_emitted, renewed_request_where, request_renewed, request_unless, is_renewed, request_errors, request_expired, reconfiguration_outcome}
-use Rattle.dcsctp_spec_lemmas.specs.spec.Reconfiguration.{RequestedReset}
+use Rattle.dcsctp_spec_lemmas.specs.spec.Reconfiguration.{RequestedReset, renewed_reset}
 use Rattle.dcsctp_spec_lemmas.specs.spec.association.FlushChanges.{reset_request}
 use Rattle.dcsctp_spec_lemmas.specs.spec.endpoint.PlainOutcomes.{PlainTurn, PlainTurnBy, violation_at, is_reported, after_unknown, unknown_bytes, unknown_chunk_outcome, error_outcome}
 use Rattle.dcsctp_spec_lemmas.specs.spec.queues.Arrivals.{data_arrival, i_data_arrival, skipped_in, messages_skipped_in}
@@ -78,7 +78,7 @@ renewed_up false e held number request h = h
 
 anew_up : (e : Endpoint) (held : Held) (number : Option ℕ) (reset : RequestedReset) → Up e → UpAfter (request_renewed e held number reset)
 anew_up e held None reset h = h
-anew_up e held (Some number) reset h = renewed_up (fits e (to_peer held (reset_request held.own_next reset))) e held number (reset_request held.own_next reset) h
+anew_up e held (Some number) reset h = renewed_up (fits e (to_peer held (reset_request held.own_next (renewed_reset reset)))) e held number (reset_request held.own_next (renewed_reset reset)) h
 
 unless_up : (b is_new : Bool) (e : Endpoint) (held : Held) (reset : RequestedReset) → Up e → UpAfter (request_unless b is_new e held reset)
 unless_up true is_new e held reset h = h

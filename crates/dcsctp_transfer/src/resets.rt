@@ -1,7 +1,7 @@
 //! Streams that are reset: those of the peer (RFC 6525, section 5.2.2), and our own ones (section 5.1.2).
 
 ghost use Rattle.dcsctp_send_retransmission.specs.spec.queues.Tracker.{cumulative_tsn};
-ghost use Rattle.std.specs.Prelude.{◌≡◌, not, take, IfOk, OnOk, OnErr};
+ghost use Rattle.std.specs.Prelude.{◌≡◌, false, not, take, IfOk, OnOk, OnErr};
 ghost use Rattle.std.specs.Duration.{as_nanos};
 ghost use Rattle.dcsctp_send_retransmission.specs.types.Ids.{stream_numbers};
 ghost use Rattle.dcsctp_send_retransmission.specs.spec.queues.OwnResets.{ready_streams, queue_handing_out, queue_committed, queue_rolled_back};
@@ -35,7 +35,8 @@ impl Transfer {
     pub fn defer_reset(&mut self, last_tsn: u32, streams: &[StreamId]) -> Result<(), AllocError>
         ensures ok { OnOk result
             (self.new ≡ defers_reset
-            (record { last_tsn = last_tsn; streams = stream_numbers streams.now }) self.old) }
+            (record { last_tsn = last_tsn; streams = stream_numbers streams.now; is_new = false })
+            self.old) }
         ensures err { OnErr result (self.new ≡ self.old) }
     {
         self.reassembly_queue

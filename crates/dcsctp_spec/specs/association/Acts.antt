@@ -5,7 +5,7 @@ use Rattle.dcsctp_types.specs.declared.association.Held.{Held}
 use Rattle.dcsctp_types.specs.declared.options.Options.{Options}
 use Rattle.dcsctp_types.specs.declared.ends.AbortReason.{AbortReason}
 use Rattle.dcsctp_spec.specs.endpoint.Cause.{causes_of}
-use Rattle.dcsctp_spec.specs.Reconfiguration.{RequestedReset}
+use Rattle.dcsctp_spec.specs.Reconfiguration.{RequestedReset, renewed_reset}
 use Rattle.dcsctp_spec.specs.Packet.{Content, init, init_ack, cookie_echo, cookie_ack, re_config, abort, shutdown, shutdown_ack, shutdown_complete, plain}
 use Rattle.dcsctp_spec.specs.endpoint.Endpoint.{Core, closed, cookie_wait, cookie_echoed, open_in, OpenPhase, established}
 use Rattle.dcsctp_spec.specs.endpoint.Following.{Following, next_chunk}
@@ -87,7 +87,7 @@ renewed_by held (Some number) reset false = record { held = held; effects = [] }
 renewed_by held (Some number) reset true =
     record {
       held = held_asking held;
-      effects = gives_up number ∷ begins held.own_next ∷ emitted held.peer.tag (reset_request held.own_next reset ∷ []);
+      effects = gives_up number ∷ begins held.own_next ∷ emitted held.peer.tag (reset_request held.own_next (renewed_reset reset) ∷ []);
     }
 
 abbrev pub request_renewed_change : Core → RequestedReset → Bool → Change

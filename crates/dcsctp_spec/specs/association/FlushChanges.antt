@@ -3,7 +3,7 @@
 use Rattle.std.specs.Prelude.{ℕ, Bool, true, false, ◌+◌, ◌%◌, ◌^◌, Option, None, Some, List, [], ◌∷◌, ◌++◌}
 use Rattle.dcsctp_types.specs.declared.association.Held.{Held}
 use Rattle.dcsctp_spec.specs.Packet.{Plain, Content, re_config}
-use Rattle.dcsctp_spec.specs.Reconfiguration.{RequestedReset, outgoing_reset_request}
+use Rattle.dcsctp_spec.specs.Reconfiguration.{RequestedReset, outgoing_reset_request, number_answered}
 use Rattle.dcsctp_spec.specs.association.Effect.{Effect, begins, emitted}
 use Rattle.dcsctp_spec.specs.association.Choices.{plain_contents, Filling}
 
@@ -11,10 +11,9 @@ use Rattle.dcsctp_spec.specs.association.Choices.{plain_contents, Filling}
 abbrev pub next_number : ℕ → ℕ
 next_number number = (number + 1) % 2 ^ 32
 
--- RE-CONFIG with one Outgoing SSN Reset Request. It answers no request of the peer, and carries its own number where RFC 6525,
--- section 4.1, has the peer's next number less 1.
+-- RE-CONFIG with one Outgoing SSN Reset Request
 abbrev pub reset_request : ℕ → RequestedReset → Content
-reset_request number reset = re_config (outgoing_reset_request number number reset ∷ [])
+reset_request number reset = re_config (outgoing_reset_request number (number_answered number reset.is_new) reset ∷ [])
 
 -- The request of the next number is outstanding.
 abbrev pub held_asking : Held → Held

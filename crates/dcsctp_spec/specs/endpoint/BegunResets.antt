@@ -1,5 +1,5 @@
 -- A stream reset that a flush begins (RFC 6525, section 5.1.2): which streams its request names, and what is kept of it.
-use Rattle.std.specs.Prelude.{ℕ, ◌+◌, ◌-◌, ◌*◌, ◌/◌, ◌%◌, ◌^◌, false, Option, None, Some, List, [], ◌∷◌, map, take}
+use Rattle.std.specs.Prelude.{ℕ, ◌+◌, ◌-◌, ◌*◌, ◌/◌, ◌%◌, ◌^◌, Bool, false, Option, None, Some, List, [], ◌∷◌, map, take}
 use Rattle.dcsctp_types.specs.declared.association.Held.{Held}
 use Rattle.dcsctp_types.specs.declared.kinds.BackoffAlgorithm.TheVariants.{Exponential}
 use Rattle.dcsctp_types.specs.Sizes.{chunk_header_size, parameter_header_size, word_size}
@@ -36,19 +36,20 @@ streams_within room = (room - request_size) / 4 * 2
 abbrev pub last_assigned_tsn : RetransmissionState → ℕ
 last_assigned_tsn state = (next_tsn state.outstanding + (2 ^ 32 - 1)) % 2 ^ 32
 
--- It is begun if none is outstanding, and a stream is to be reset.
-abbrev pub begun_where : Option ℕ → ℕ → ℕ → List ℕ → Option BegunReset
-begun_where None number last_tsn (stream ∷ streams) = Some (record { number = number; reset = record { last_tsn = last_tsn; streams = stream ∷ streams } })
-begun_where outstanding number last_tsn streams = None
+-- It is begun if none is outstanding, and a stream is to be reset. With the option it says that it is new.
+abbrev pub begun_where : Bool → Option ℕ → ℕ → ℕ → List ℕ → Option BegunReset
+begun_where follows None number last_tsn (stream ∷ streams) =
+    Some (record { number = number; reset = record { last_tsn = last_tsn; streams = stream ∷ streams; is_new = follows } })
+begun_where follows outstanding number last_tsn streams = None
 
 -- a stream, as its field of 16 bits holds it
 abbrev pub stream_field : ℕ → ℕ
 stream_field stream = stream % 2 ^ 16
 
 -- Of the streams that are ready it names as many as fit, the first of them; the others stay ready.
-abbrev pub begun_in : Option Held → ℕ → ℕ → SendQueueState → Option BegunReset
-begun_in None room last_tsn queue = None
-begun_in (Some held) room last_tsn queue = begun_where held.own_outstanding held.own_next last_tsn (map stream_field (take (streams_within room) (ready_streams queue)))
+abbrev pub begun_in : Bool → Option Held → ℕ → ℕ → SendQueueState → Option BegunReset
+begun_in follows None room last_tsn queue = None
+begun_in follows (Some held) room last_tsn queue = begun_where follows held.own_outstanding held.own_next last_tsn (map stream_field (take (streams_within room) (ready_streams queue)))
 
 -- ---- its chunk and its effects
 
@@ -105,6 +106,6 @@ after_begun None e = e
 after_begun (Some begun) e =
     record e {
       core = core_asking e.core;
-      outstanding = Some (record { last_tsn = begun.reset.last_tsn; streams = begun.reset.streams; waits_for_retry = false });
+      outstanding = Some (record { last_tsn = begun.reset.last_tsn; streams = begun.reset.streams; is_new = begun.reset.is_new; waits_for_retry = false });
       timers = record e.timers { reconfiguration = started e.moment (reconfiguration_settings e.queues.transfer) };
     }

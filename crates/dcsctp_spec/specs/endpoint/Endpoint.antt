@@ -105,6 +105,8 @@ heartbeat_wait options tag =
 pub record OutstandingRequest : Type 0 where
   pub last_tsn : ℕ
   pub streams : List ℕ
+  -- Does it say that it is new?
+  pub is_new : Bool
   -- It was answered 'in progress', and waits to be sent again.
   pub waits_for_retry : Bool
 

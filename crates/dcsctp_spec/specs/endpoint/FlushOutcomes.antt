@@ -208,9 +208,9 @@ may_be_asked (cookie_echoed my held cookie) true = None
 may_be_asked (cookie_echoed my held cookie) false = Some held
 may_be_asked core follows_rfc = held_in core
 
-abbrev pub begun_at : Ask → Option Held → ℕ → ℕ → SendQueueState → Option BegunReset
-begun_at first_ask held room last_tsn queue = begun_in held room last_tsn queue
-begun_at later_ask held room last_tsn queue = None
+abbrev pub begun_at : Ask → Bool → Option Held → ℕ → ℕ → SendQueueState → Option BegunReset
+begun_at first_ask follows held room last_tsn queue = begun_in follows held room last_tsn queue
+begun_at later_ask follows held room last_tsn queue = None
 
 -- What the transfer layer of an association gives: what acknowledges, what abandons messages, a request to reset streams, and data
 -- as far as it may go.
@@ -227,7 +227,7 @@ pub record Gives (ask : Ask) (e : Endpoint) (draft : Emission) (transfer : Trans
       (stage_of e.queues.queue transfer.retransmission [] 0) gave_up next forwards
   pub later : answer.after.no_forward_tsn_before ≡ forward_where next e.no_forward_tsn_before
   pub begins : answer.begun
-      ≡ begun_at ask (may_be_asked e.core e.options.follow_rfc) (room_in e (filled draft (plain_contents answer.acknowledgements))) (last_assigned_tsn gave_up.queue) gave_up.waiting
+      ≡ begun_at ask e.options.follow_rfc (may_be_asked e.core e.options.follow_rfc) (room_in e (filled draft (plain_contents answer.acknowledgements))) (last_assigned_tsn gave_up.queue) gave_up.waiting
   -- once the packet is full
   pub sent : Stage
   pub fills : let left : SendQueueState =

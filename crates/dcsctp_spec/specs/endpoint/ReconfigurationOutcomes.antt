@@ -1,7 +1,8 @@
 -- The reconfiguration timer: its own request to reset streams that hasn't ended is sent again (RFC 6525, sections 5.1.1 and 5.2.7).
 use Rattle.std.specs.Prelude.{ℕ, ◌%◌, ◌^◌, Bool, true, false, ◌&&◌, Option, None, Some, [], ◌∷◌, map, if◌then◌else◌}
+use Rattle.std.specs.Option.{option_map}
 use Rattle.dcsctp_types.specs.declared.association.Held.{Held}
-use Rattle.dcsctp_spec.specs.Reconfiguration.{RequestedReset}
+use Rattle.dcsctp_spec.specs.Reconfiguration.{RequestedReset, renewed_reset}
 use Rattle.dcsctp_spec.specs.endpoint.Endpoint.{Endpoint, OutstandingRequest}
 use Rattle.dcsctp_spec.specs.endpoint.Outcome.{Outcome, still, noting, fits, sends, emits, to_peer}
 use Rattle.dcsctp_spec.specs.Packet.{Content}
@@ -14,24 +15,28 @@ use Rattle.dcsctp_spec.specs.endpoint.HeartbeatOutcomes.{error_counted, is_exhau
 
 -- what the outstanding request wants, as its fields hold it
 abbrev pub reset_again : Option OutstandingRequest → RequestedReset
-reset_again None = record { last_tsn = 0; streams = [] }
-reset_again (Some request) = record { last_tsn = request.last_tsn % 2 ^ 32; streams = map stream_field request.streams }
+reset_again None = record { last_tsn = 0; streams = []; is_new = false }
+reset_again (Some request) = record { last_tsn = request.last_tsn % 2 ^ 32; streams = map stream_field request.streams; is_new = request.is_new }
 
 -- It is sent again under its number, in a packet of its own, if that fits.
 abbrev pub request_emitted : Endpoint → Held → Option ℕ → RequestedReset → Outcome
 request_emitted e held None reset = still e
 request_emitted e held (Some number) reset = emits e [] (to_peer held (reset_request number reset))
 
+-- It is the one before, once more.
+abbrev pub as_renewed : OutstandingRequest → OutstandingRequest
+as_renewed request = record request { is_new = false }
+
 -- The next number takes the place of its number, if the packet fits.
 abbrev pub renewed_request_where : Bool → Endpoint → Held → ℕ → Content → Outcome
 renewed_request_where false e held number request = still e
 renewed_request_where true e held number request =
-    noting (gives_up number ∷ begins held.own_next ∷ []) (sends (record e { core = core_asking e.core }) [] [] (to_peer held request))
+    noting (gives_up number ∷ begins held.own_next ∷ []) (sends (record e { core = core_asking e.core; outstanding = option_map as_renewed e.outstanding }) [] [] (to_peer held request))
 
 abbrev pub request_renewed : Endpoint → Held → Option ℕ → RequestedReset → Outcome
 request_renewed e held None reset = still e
 request_renewed e held (Some number) reset =
-    let request : Content = reset_request held.own_next reset in
+    let request : Content = reset_request held.own_next (renewed_reset reset) in
     renewed_request_where (fits e (to_peer held request)) e held number request
 
 -- With `follow_rfc` a request that the peer has answered as in progress (RFC 6525, section 5.2.7) is sent under the next number,

@@ -9,7 +9,7 @@ use Rattle.dcsctp_types.specs.declared.association.Held.{Held}
 use Rattle.dcsctp_types.specs.declared.kinds.ErrorKind.TheVariants.{ProtocolViolation}
 use Rattle.dcsctp_spec.specs.endpoint.Event.{Event, error, incoming_stream_reset, streams_reset_failed, streams_reset_performed}
 use Rattle.dcsctp_spec.specs.Packet.{re_config, Emission}
-use Rattle.dcsctp_spec.specs.Reconfiguration.{RequestedReset, NumberedReset, RequestState, early, due, renewed, ResetParameter, outgoing_reset_request, incoming_reset_request, reconfiguration_response, other_reset_parameter}
+use Rattle.dcsctp_spec.specs.Reconfiguration.{RequestedReset, renewed_reset, NumberedReset, RequestState, early, due, renewed, ResetParameter, outgoing_reset_request, incoming_reset_request, reconfiguration_response, other_reset_parameter}
 use Rattle.dcsctp_spec.specs.queues.Reassembly.{deferring, EndsDeferral}
 use Rattle.dcsctp_spec.specs.queues.Tracker.{cumulative_tsn}
 use Rattle.dcsctp_spec.specs.queues.OwnResets.{queue_committed, queue_rolled_back}
@@ -58,9 +58,9 @@ is_same_list one other = length one == length other && starts_with nat_eq one ot
 abbrev pub is_same_reset : RequestedReset → RequestedReset → Bool
 is_same_reset one other = one.last_tsn == other.last_tsn && is_same_list one.streams other.streams
 
--- is this request of the peer the last one of its, once more under the next number?
+-- Is this request of the peer the last one of its, once more under the next number? One that says that it is new isn't.
 abbrev pub is_renewal : Option NumberedReset → ℕ → Option ℕ → Option RequestedReset → Bool
-is_renewal (Some old) last (Some number) (Some reset) = old.number == last && (number == next_number last && is_same_reset old.reset reset)
+is_renewal (Some old) last (Some number) (Some reset) = old.number == last && (number == next_number last && (not reset.is_new && is_same_reset old.reset reset))
 is_renewal old last number reset = false
 
 -- what a request finds that was reached, if it is renewed, and if it isn't
@@ -92,7 +92,7 @@ has_reset (effect ∷ effects) = has_reset effects
 -- What may come again under the next number, once this was performed: it, if it was in progress before, under the last number. It is
 -- recorded with the option alone.
 abbrev pub renewable_by : Endpoint → ℕ → Option ℕ → Option RequestedReset → Option NumberedReset
-renewable_by e last (Some number) (Some reset) = if e.options.follow_rfc && number == last then Some (record { number = number; reset = reset }) else None
+renewable_by e last (Some number) (Some reset) = if e.options.follow_rfc && number == last then Some (record { number = number; reset = renewed_reset reset }) else None
 renewable_by e last number reset = None
 
 -- the same once the parameters of a chunk were handled

@@ -4,8 +4,8 @@ use Rattle.dcsctp_core_resets.proofs.reconfiguration.handle_reconfiguration.Goal
 
 pub returns : goal.returns
 returns g c =
-    expired_then g.R.Rng.stream c.args.context.now c.expire_reconfiguration.new.self c.send_unless_exhausted.new.context c.expire_reconfiguration.result c.is_renewed-is_new.result
-    c.is_renewed-is_new.ensures c.expire_reconfiguration.ensures.answer c.if-not-expire_reconfiguration.false c.expire_reconfiguration.ensures.left c.in_ok-send_unless_exhausted.ensures
+    expired_then g.R.Rng.stream c.args.context.now c.expire_reconfiguration.new.self c.send_unless_exhausted.new.context c.expire_reconfiguration.result c.is_renewed-is_renewed.result
+    c.is_renewed-is_renewed.ensures c.expire_reconfiguration.ensures.answer c.if-not-expire_reconfiguration.false c.expire_reconfiguration.ensures.left c.in_ok-send_unless_exhausted.ensures
 
 pub returns-in_err-send_unless_exhausted : goal.returns-in_err-send_unless_exhausted
 returns-in_err-send_unless_exhausted g c =

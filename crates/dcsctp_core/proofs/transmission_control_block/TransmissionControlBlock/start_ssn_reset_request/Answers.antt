@@ -7,4 +7,4 @@ use Rattle.dcsctp_core.proofs.transmission_control_block.TransmissionControlBloc
 pub add_prepared_ssn_reset_request-requires : goal.add_prepared_ssn_reset_request-requires
 add_prepared_ssn_reset_request-requires c =
     let count = length-map c.args.streams.items (λ id. id.0) in
-    request_room c.args.self.now.next_outgoing_reset_req_seq_nbr (record { last_tsn = c.begin_reset_streams-last_tsn.result; streams = stream_numbers c.args.streams.items }) _ (omega (arith, count, c.requires))
+    request_room c.args.self.now.next_outgoing_reset_req_seq_nbr (record { last_tsn = c.begin_reset_streams-last_tsn.result; streams = stream_numbers c.args.streams.items; is_new = c.args.start.is_new }) _ (omega (arith, count, c.requires))
