@@ -1,26 +1,27 @@
 -- What the calls of a socket do.
 use Rattle.std.specs.Prelude.{◌≡◌, ℕ, Bool, true, false, Option, Some, None, Result, Ok, Err, List, [], ◌∷◌, ◌++◌, map}
 use Rattle.rand_core.specs.Stream.{Stream, next_u32, next_u64}
-use Rattle.dcsctp_spec.specs.types.Settings.{Ports, ports_of}
-use Rattle.dcsctp_spec.specs.types.declared.association.Pair.{Pair}
-use Rattle.dcsctp_spec.specs.types.declared.word.Word.{Word}
-use Rattle.dcsctp_spec.specs.types.declared.word.Word.TheVariants.{U32, U64}
-use Rattle.dcsctp_spec.specs.types.Schedule.{CallContent, connect_call, close_call, shutdown_call}
-use Rattle.dcsctp_spec.specs.endpoint.Event.{Event, event_map}
-use Rattle.dcsctp_spec.specs.Packet.{Emission, emission_bytes}
-use Rattle.dcsctp_spec.specs.endpoint.Endpoint.{Endpoint, Core, closed, cookie_wait, cookie_echoed, open_in, OpenPhase, established, shutdown_pending, shutdown_sent, shutdown_received, shutdown_ack_sent}
-use Rattle.dcsctp_spec.specs.queues.SendQueue.{queue_stream}
-use Rattle.dcsctp_spec.specs.types.queues.SendStreams as send_streams
-use Rattle.dcsctp_spec.specs.types.Setting.{Setting}
-use Rattle.dcsctp_spec.specs.endpoint.SettingOutcomes.{endpoint_with}
-use Rattle.dcsctp_spec.specs.endpoint.CallTurns.{Transition, HandleInput, CutInput, after_all, words_of, pairs_of, events_of}
-use Rattle.dcsctp_spec.specs.endpoint.UserTurns.{UserTurns}
+use Rattle.dcsctp_spec_lemmas.specs.types.Settings.{Ports, ports_of}
+use Rattle.dcsctp_spec_lemmas.specs.types.declared.association.Pair.{Pair}
+use Rattle.dcsctp_spec_lemmas.specs.types.declared.word.Word.{Word}
+use Rattle.dcsctp_spec_lemmas.specs.types.declared.word.Word.TheVariants.{U32, U64}
+use Rattle.dcsctp_spec_lemmas.specs.types.Schedule.{CallContent, connect_call, close_call, shutdown_call}
+use Rattle.dcsctp_spec_lemmas.specs.spec.endpoint.Event.{Event, event_map}
+use Rattle.dcsctp_spec_lemmas.specs.spec.Packet.{Emission, emission_bytes}
+use Rattle.dcsctp_spec_lemmas.specs.spec.endpoint.Endpoint.{Endpoint, Core, closed, cookie_wait, cookie_echoed, open_in, OpenPhase, established, shutdown_pending, shutdown_sent, shutdown_received, shutdown_ack_sent}
+use Rattle.dcsctp_spec_lemmas.specs.spec.queues.SendQueue.{queue_stream}
+use Rattle.dcsctp_spec_lemmas.specs.types.queues.SendStreams as send_streams
+use Rattle.dcsctp_spec_lemmas.specs.types.Setting.{Setting}
+use Rattle.dcsctp_spec_lemmas.specs.spec.endpoint.SettingOutcomes.{endpoint_with}
+use Rattle.dcsctp_spec_lemmas.specs.spec.endpoint.CallTurns.{Transition, HandleInput, CutInput, after_all, words_of, pairs_of, events_of}
+use Rattle.dcsctp_spec_lemmas.specs.spec.endpoint.UserTurns.{UserTurns}
 use Rattle.dcsctp_api.specs.declared.errors.SocketFault.{SocketFault}
 use Rattle.dcsctp_api.specs.declared.errors.SocketFault.TheVariants.{OutOfMemory, Failed}
 use Rattle.dcsctp_api.specs.declared.events.SocketEvent.{SocketEvent}
 use Rattle.dcsctp_api.specs.declared.state.SocketState.{SocketState}
 use Rattle.dcsctp_api.specs.declared.state.SocketState.TheVariants as states
 use Rattle.dcsctp_api.specs.Events.{event_content}
+use Rattle.dcsctp_api.specs.Packets.{cleared_event}
 
 -- What a socket is to its user: the endpoint, the events that wait, and what the socket's generator gives next. Also the words
 -- that the last call drew, the pairs that it made of them, and whether an allocation failed.
@@ -155,6 +156,13 @@ stream_shown view id = queue_stream view.endpoint.queues.queue id
 abbrev pub PollsEvent : UserView → Option SocketEvent → UserView → Type 0
 PollsEvent old None new = (old.events ≡ []) × (new ≡ old)
 PollsEvent old (Some event) new = (old.events ≡ event_content event ∷ new.events) × (new ≡ record old { events = new.events })
+
+-- The same, but that a packet has 0 in the place of its checksum.
+abbrev pub PollsCleared : UserView → Option SocketEvent → UserView → Type 0
+PollsCleared old None new = PollsEvent old None new
+PollsCleared old (Some event) new =
+    (first : Event (List ℕ)) × (old.events ≡ first ∷ new.events) × (event_content event ≡ cleared_event first)
+    × (new ≡ record old { events = new.events })
 
 -- is there an association?
 abbrev pub is_closed : Core → Bool

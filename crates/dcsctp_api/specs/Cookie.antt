@@ -1,8 +1,8 @@
 -- What a `StateCookie` says (RFC 9260, section 5.1.3).
 use Rattle.std.specs.Prelude.{◌≡◌, Ok}
-use Rattle.dcsctp_spec.specs.Cookie.{Cookie, cookie_bytes, cookie_at}
-use Rattle.dcsctp_spec.specs.CookieFits.{FitsCookie}
-use Rattle.dcsctp_spec.specs.types.Offer.{offer_in}
+pub use Rattle.dcsctp_spec_lemmas.specs.spec.Cookie.{Cookie, cookie_bytes, cookie_at}
+use Rattle.dcsctp_spec_lemmas.specs.spec.CookieFits.{FitsCookie}
+use Rattle.dcsctp_spec_lemmas.specs.types.Offer.{offer_in}
 use Rattle.dcsctp_api.specs.declared.state_cookie.StateCookie.{StateCookie}
 
 abbrev pub cookie_of : StateCookie → Cookie

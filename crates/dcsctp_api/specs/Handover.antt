@@ -1,13 +1,13 @@
 -- What the calls that hand a socket over and restore it do.
 use Rattle.std.specs.Prelude.{◌≡◌, ◌≢◌, ◌⊎◌, true, false, Result, Ok, Err, List, []}
-use Rattle.dcsctp_spec.specs.endpoint.Endpoint.{Endpoint, Core}
-use Rattle.dcsctp_spec.specs.Handover.{readiness_of}
-use Rattle.dcsctp_spec.specs.types.Snapshot.{Snapshot, snapshot, is_valid_snapshot}
-use Rattle.dcsctp_spec.specs.SocketSnapshot.{snapshot_of}
-use Rattle.dcsctp_spec.specs.HandoverInputs.{inputs_of_restore}
-use Rattle.dcsctp_spec.specs.types.Schedule.{hand_over_call}
-use Rattle.dcsctp_spec.specs.endpoint.CallTurns.{Transition, Turns}
-use Rattle.dcsctp_spec.specs.types.declared.snapshot.SocketHandoverState.{SocketHandoverState}
+use Rattle.dcsctp_spec_lemmas.specs.spec.endpoint.Endpoint.{Endpoint, Core}
+use Rattle.dcsctp_spec_lemmas.specs.spec.Handover.{readiness_of}
+use Rattle.dcsctp_spec_lemmas.specs.types.Snapshot.{Snapshot, snapshot, is_valid_snapshot}
+use Rattle.dcsctp_spec_lemmas.specs.spec.SocketSnapshot.{snapshot_of}
+use Rattle.dcsctp_spec_lemmas.specs.spec.HandoverInputs.{inputs_of_restore}
+use Rattle.dcsctp_spec_lemmas.specs.types.Schedule.{hand_over_call}
+use Rattle.dcsctp_spec_lemmas.specs.spec.endpoint.CallTurns.{Transition, Turns}
+use Rattle.dcsctp_spec_lemmas.specs.types.declared.snapshot.SocketHandoverState.{SocketHandoverState}
 use Rattle.dcsctp_api.specs.declared.errors.HandoverError.{HandoverError}
 use Rattle.dcsctp_api.specs.declared.errors.HandoverError.TheVariants.{NotReady}
 use Rattle.dcsctp_api.specs.declared.errors.RestoreError.{RestoreError}

@@ -1,15 +1,15 @@
 -- What the calls that send and take messages do.
 use Rattle.std.specs.Prelude.{◌≡◌, ℕ, Option, Some, None, Result, Ok, Err, List, [], ◌∷◌, map, length}
-use Rattle.dcsctp_spec.specs.types.declared.message.Message.{Message}
-use Rattle.dcsctp_spec.specs.types.declared.message.SendOptions.{SendOptions}
-use Rattle.dcsctp_spec.specs.types.queues.Messages.{MessageContent, message_content}
-use Rattle.dcsctp_spec.specs.types.Schedule.{send_call, send_many_call}
-use Rattle.dcsctp_spec.specs.queues.Transfer.{Transfer}
-use Rattle.dcsctp_spec.specs.queues.IncomingStreams.{StreamModel}
-use Rattle.dcsctp_spec.specs.endpoint.Endpoint.{Endpoint}
-use Rattle.dcsctp_spec.specs.endpoint.Outcome.{Outcome}
-use Rattle.dcsctp_spec.specs.endpoint.DataOutcomes.{ready_where, TakeTurn}
-use Rattle.dcsctp_spec.specs.endpoint.MessageOutcomes.{MessageRefusal, empty_payload, message_too_large, shutting_down, resource_exhaustion, message_refusal, sending_of, RefusedMessage, refused_from}
+use Rattle.dcsctp_spec_lemmas.specs.types.declared.message.Message.{Message}
+use Rattle.dcsctp_spec_lemmas.specs.types.declared.message.SendOptions.{SendOptions}
+use Rattle.dcsctp_spec_lemmas.specs.types.queues.Messages.{MessageContent, message_content}
+use Rattle.dcsctp_spec_lemmas.specs.types.Schedule.{send_call, send_many_call}
+use Rattle.dcsctp_spec_lemmas.specs.spec.queues.Transfer.{Transfer}
+use Rattle.dcsctp_spec_lemmas.specs.spec.queues.IncomingStreams.{StreamModel}
+use Rattle.dcsctp_spec_lemmas.specs.spec.endpoint.Endpoint.{Endpoint}
+use Rattle.dcsctp_spec_lemmas.specs.spec.endpoint.Outcome.{Outcome}
+use Rattle.dcsctp_spec_lemmas.specs.spec.endpoint.DataOutcomes.{ready_where, TakeTurn}
+use Rattle.dcsctp_spec_lemmas.specs.spec.endpoint.MessageOutcomes.{MessageRefusal, empty_payload, message_too_large, shutting_down, resource_exhaustion, message_refusal, sending_of, RefusedMessage, refused_from}
 use Rattle.dcsctp_api.specs.declared.errors.BatchSendError.{BatchSendError}
 use Rattle.dcsctp_api.specs.declared.errors.SendError.{SendError}
 use Rattle.dcsctp_api.specs.declared.errors.SendError.TheVariants.{EmptyPayload, MessageTooLarge, ResourceExhaustion, ShuttingDown}

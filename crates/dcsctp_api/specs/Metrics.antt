@@ -2,13 +2,13 @@
 use Rattle.std.specs.Prelude.{◌≡◌, ◌==◌, ℕ, ◌+◌, ◌-◌, ◌^◌, min, not, Option, None, Some}
 use Rattle.std.specs.Int.{div_ceil}
 use Rattle.std.specs.Duration.{as_nanos}
-use Rattle.dcsctp_spec.specs.types.declared.association.Held.{Held}
-use Rattle.dcsctp_spec.specs.types.declared.capabilities.Capabilities.{Capabilities}
-use Rattle.dcsctp_spec.specs.endpoint.Endpoint.{Endpoint, Counts, held_in}
-use Rattle.dcsctp_spec.specs.queues.Items.{unacknowledged_items}
-use Rattle.dcsctp_spec.specs.queues.Retransmission.{RetransmissionState, window_left}
-use Rattle.dcsctp_spec.specs.queues.SendQueue.{SendQueueState}
-use Rattle.dcsctp_spec.specs.queues.Transfer.{Transfer}
+use Rattle.dcsctp_spec_lemmas.specs.types.declared.association.Held.{Held}
+use Rattle.dcsctp_spec_lemmas.specs.types.declared.capabilities.Capabilities.{Capabilities}
+use Rattle.dcsctp_spec_lemmas.specs.spec.endpoint.Endpoint.{Endpoint, Counts, held_in}
+use Rattle.dcsctp_spec_lemmas.specs.spec.queues.Items.{unacknowledged_items}
+use Rattle.dcsctp_spec_lemmas.specs.spec.queues.Retransmission.{RetransmissionState, window_left}
+use Rattle.dcsctp_spec_lemmas.specs.spec.queues.SendQueue.{SendQueueState}
+use Rattle.dcsctp_spec_lemmas.specs.spec.queues.Transfer.{Transfer}
 use Rattle.dcsctp_api.specs.declared.metrics.Counts as shown
 use Rattle.dcsctp_api.specs.declared.metrics.Metrics.{Metrics}
 

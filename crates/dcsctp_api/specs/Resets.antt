@@ -1,8 +1,8 @@
 -- What the call that resets streams does.
 use Rattle.std.specs.Prelude.{◌≡◌, ℕ, Option, Some, None, Result, Ok, Err, List}
-use Rattle.dcsctp_spec.specs.types.Schedule.{reset_call}
-use Rattle.dcsctp_spec.specs.endpoint.Endpoint.{Endpoint}
-use Rattle.dcsctp_spec.specs.endpoint.PreparedResets.{ResetRefusal, not_connected, not_supported, reset_refusal}
+use Rattle.dcsctp_spec_lemmas.specs.types.Schedule.{reset_call}
+use Rattle.dcsctp_spec_lemmas.specs.spec.endpoint.Endpoint.{Endpoint}
+use Rattle.dcsctp_spec_lemmas.specs.spec.endpoint.PreparedResets.{ResetRefusal, not_connected, not_supported, reset_refusal}
 use Rattle.dcsctp_api.specs.declared.errors.ResetStreamsError.{ResetStreamsError}
 use Rattle.dcsctp_api.specs.declared.errors.ResetStreamsError.TheVariants.{NotConnected, NotSupported}
 use Rattle.dcsctp_api.specs.declared.errors.SocketFault.{SocketFault}

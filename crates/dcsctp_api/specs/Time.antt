@@ -1,7 +1,7 @@
 -- What `advance_time` does to a socket.
 use Rattle.std.specs.Prelude.{◌≡◌, ℕ, Result, IsOk, []}
-use Rattle.dcsctp_spec.specs.endpoint.Turn.{clock_at}
-use Rattle.dcsctp_spec.specs.types.Schedule.{advance_call}
+use Rattle.dcsctp_spec_lemmas.specs.spec.endpoint.Turn.{clock_at}
+use Rattle.dcsctp_spec_lemmas.specs.types.Schedule.{advance_call}
 use Rattle.dcsctp_api.specs.declared.errors.SocketFault.{SocketFault}
 use Rattle.dcsctp_api.specs.Calls.{UserView, NoAnswer, UserCalls}
 

@@ -4,18 +4,18 @@ ghost use Rattle.std.specs.Prelude.{◌≡◌, ◌≢◌, [], true, false, None,
 ghost use Rattle.dcsctp_api.specs.Calls.{UserView, PollsEvent, HandlesInput, Connects, ClosesSocket, ShutsDown, takes_shutdown, Sets, with_setting, stream_shown, is_closed, socket_state_of};
 ghost use Rattle.dcsctp_api.specs.Handover.{HandsOver, RestoresSocket};
 ghost use Rattle.dcsctp_api.specs.Messages.{SendsMessage, SendsMany, TakesNextMessage, ready_messages, incoming_streams};
-ghost use Rattle.dcsctp_spec.specs.queues.Incoming.{AreInOrder};
-ghost use Rattle.dcsctp_spec.specs.queues.SendQueue.{IsWellFormed};
+ghost use Rattle.dcsctp_spec_lemmas.specs.spec.queues.Incoming.{AreInOrder};
+ghost use Rattle.dcsctp_spec_lemmas.specs.spec.queues.SendQueue.{IsWellFormed};
 ghost use Rattle.dcsctp_api.specs.Metrics.{ShowsMetrics};
 ghost use Rattle.dcsctp_api.specs.Resets.{ResetsOwn};
-ghost use Rattle.dcsctp_spec.specs.Handover.{readiness_of};
-ghost use Rattle.dcsctp_spec.specs.types.Ids.{stream_numbers};
-ghost use Rattle.dcsctp_spec.specs.types.Snapshot.{snapshot, is_valid_snapshot};
-ghost use Rattle.dcsctp_spec.specs.HandoverInputs.{inputs_of_restore};
-ghost use Rattle.dcsctp_spec.specs.types.queues.Messages.{message_content};
-ghost use Rattle.dcsctp_spec.specs.endpoint.PreparedResets.{reset_refusal};
-ghost use Rattle.dcsctp_spec.specs.types.Setting.{stream_priority, stream_low_threshold, longest_message};
-ghost use Rattle.dcsctp_spec.specs.endpoint.TimeTurns.{Waits, next_moment};
+ghost use Rattle.dcsctp_spec_lemmas.specs.spec.Handover.{readiness_of};
+ghost use Rattle.dcsctp_spec_lemmas.specs.types.Ids.{stream_numbers};
+ghost use Rattle.dcsctp_spec_lemmas.specs.types.Snapshot.{snapshot, is_valid_snapshot};
+ghost use Rattle.dcsctp_spec_lemmas.specs.spec.HandoverInputs.{inputs_of_restore};
+ghost use Rattle.dcsctp_spec_lemmas.specs.types.queues.Messages.{message_content};
+ghost use Rattle.dcsctp_spec_lemmas.specs.spec.endpoint.PreparedResets.{reset_refusal};
+ghost use Rattle.dcsctp_spec_lemmas.specs.types.Setting.{stream_priority, stream_low_threshold, longest_message};
+ghost use Rattle.dcsctp_spec_lemmas.specs.spec.endpoint.TimeTurns.{Waits, next_moment};
 ghost use Rattle.dcsctp_api.specs.Time.{AdvancesClock, OnlyMovesClock};
 
 use crate::errors::{
@@ -24,7 +24,7 @@ use crate::errors::{
 use crate::events::SocketEvent;
 use crate::metrics::Metrics;
 use crate::state::SocketState;
-use dcsctp_spec::types::{
+use dcsctp_spec_lemmas::types::{
     HandoverReadiness, Message, Options, SendOptions, SocketHandoverState, SocketTime, StreamId,
 };
 

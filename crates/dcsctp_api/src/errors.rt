@@ -1,6 +1,6 @@
 //! How a call on a socket can fail for reasons that lie outside SCTP.
 
-use dcsctp_spec::types::HandoverReadiness;
+use dcsctp_spec_lemmas::types::HandoverReadiness;
 use std::alloc::{AllocError, AllocFailed};
 use thiserror::Error;
 

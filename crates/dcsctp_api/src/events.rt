@@ -1,6 +1,13 @@
 //! The events of a socket, and the queue in which they wait for its user.
 
-use dcsctp_spec::types::{ErrorKind, LifecycleId, StreamId};
+ghost use Rattle.std.specs.Prelude.{◌≡◌};
+ghost use Rattle.std.specs.Vec.{with_items};
+ghost use Rattle.dcsctp_wire_build.specs.Checksums.{checksum_filled, checksum_cleared};
+ghost use Rattle.dcsctp_api.specs.Events.{event_content};
+ghost use Rattle.dcsctp_api.specs.Packets.{entry_event, packet_event, cleared_event};
+
+use dcsctp_spec_lemmas::types::{ErrorKind, LifecycleId, StreamId};
+use dcsctp_wire_build::{SctpPacketBuilder, clear_checksum, fill_checksum};
 use std::alloc::{AllocError, Global};
 use std::collections::VecDeque;
 use std::marker::Model;
@@ -64,25 +71,89 @@ pub enum SocketEvent {
     OnLifecycleEnd(LifecycleId),
 }
 
+// An event that waits.
+#[derive(Drop)]
+enum Entry {
+    // As it is taken.
+    Whole(SocketEvent),
+
+    // A packet with 0 in the place of its checksum. That is filled in when the packet is taken, since a user who
+    // makes checksums takes it without.
+    Unfilled(Vec<u8>),
+}
+
 /// The events that the user has not taken yet, in the order in which they came.
 ///
-/// A contract sees the list of them, the earliest first.
+/// A contract sees the list of them, the earliest first, each packet with its checksum.
 #[derive(Drop)]
 pub struct Events {
-    items: VecDeque<SocketEvent>,
+    items: VecDeque<Entry>,
 }
 
 impl Model for Events {
-    ghost use Rattle.std.specs.Prelude.{List};
+    ghost use Rattle.std.specs.Prelude.{List, map};
     ghost use Rattle.dcsctp_api.specs.declared.events.SocketEvent.{SocketEvent};
+    ghost use Rattle.dcsctp_api.specs.Packets.{entry_event};
 
     ghost Value = { List SocketEvent };
 
-    ghost view = { λ events. events.items.items };
+    ghost view = { λ events. map entry_event events.items.items };
+}
+
+// The packet with its checksum.
+fn filled(mut packet: Vec<u8>) -> Vec<u8>
+    ensures { result ≡ with_items packet (checksum_filled packet.items) }
+{
+    fill_checksum(&mut packet);
+    packet
+}
+
+// The packet with 0 in the place of its checksum.
+fn cleared(mut packet: Vec<u8>) -> Vec<u8>
+    ensures { result.items ≡ checksum_cleared packet.items }
+{
+    clear_checksum(&mut packet);
+    packet
+}
+
+impl Entry {
+    // A packet that was built.
+    fn of(packet: SctpPacketBuilder) -> Entry
+        ensures { event_content (entry_event result) ≡ packet_event packet }
+    {
+        if packet.writes_checksum() {
+            return Entry::Unfilled(packet.build_without_checksum());
+        }
+        Entry::Whole(SocketEvent::SendPacket(packet.build()))
+    }
+
+    // The event.
+    fn event(self) -> SocketEvent
+        ensures { result ≡ entry_event self }
+    {
+        match self {
+            Entry::Whole(event) => event,
+            Entry::Unfilled(packet) => SocketEvent::SendPacket(filled(packet)),
+        }
+    }
+
+    // The event, but that its packet has 0 in the place of its checksum.
+    fn event_without_checksum(self) -> SocketEvent
+        ensures { event_content result ≡ cleared_event (event_content (entry_event self)) }
+    {
+        match self {
+            Entry::Whole(SocketEvent::SendPacket(packet)) => {
+                SocketEvent::SendPacket(cleared(packet))
+            }
+            Entry::Whole(event) => event,
+            Entry::Unfilled(packet) => SocketEvent::SendPacket(cleared(packet)),
+        }
+    }
 }
 
 impl Events {
-    ghost use Rattle.std.specs.Prelude.{◌≡◌, [], ◌∷◌, ◌++◌, OnOk, OnErr, IfSome, IfNone};
+    ghost use Rattle.std.specs.Prelude.{◌≡◌, [], ◌∷◌, ◌++◌, map, OnOk, OnErr, IfSome, IfNone};
+    ghost use Rattle.dcsctp_api.specs.Packets.{TakesCleared};
 
     /// No events yet. Allocates nothing until the first is added.
     pub fn new(alloc: Global) -> Events
@@ -98,7 +169,18 @@ impl Events {
         ensures ok { OnOk result (self.new ≡ self.old ++ event ∷ []) }
         ensures err { OnErr result (self.new ≡ self.old) }
     {
-        self.items.push_back(event)?;
+        self.items.push_back(Entry::Whole(event))?;
+        Ok(())
+    }
+
+    /// Adds a packet after all others, as `SocketEvent::SendPacket`. If an allocation fails, the packet is dropped and
+    /// the others are kept.
+    pub fn add_packet(&mut self, packet: SctpPacketBuilder) -> Result<(), AllocError>
+        ensures ok { OnOk result (map event_content self.new
+            ≡ map event_content self.old ++ packet_event packet ∷ []) }
+        ensures err { OnErr result (self.new ≡ self.old) }
+    {
+        self.items.push_back(Entry::of(packet))?;
         Ok(())
     }
 
@@ -107,6 +189,16 @@ impl Events {
         ensures some { IfSome result (λ event. self.old ≡ event ∷ self.new) }
         ensures none { IfNone result ((self.old ≡ []) × (self.new ≡ [])) }
     {
-        self.items.pop_front()
+        let entry = self.items.pop_front()?;
+        Some(entry.event())
+    }
+
+    /// The same for a user who makes checksums: a packet has 0 in the place of its checksum, which isn't computed.
+    pub fn next_event_without_checksum(&mut self) -> Option<SocketEvent>
+        ensures some { IfSome result (λ event. TakesCleared self.old event self.new) }
+        ensures none { IfNone result ((self.old ≡ []) × (self.new ≡ [])) }
+    {
+        let first = self.items.pop_front()?;
+        Some(first.event_without_checksum())
     }
 }

@@ -5,13 +5,13 @@ ghost use Rattle.std.specs.Prelude.{◌≡◌, ◌↔◌, ℕ, IsTrue, false};
 ghost use Rattle.std.specs.Cmp.{IsTotalOrder};
 ghost use Rattle.std.specs.Ordering.{nat_cmp};
 ghost use Rattle.dcsctp_api.specs.Cookie.{StateCookieReadsBack};
-ghost use Rattle.dcsctp_spec.specs.types.Ids.{lifecycle_number};
-ghost use Rattle.dcsctp_spec.specs.types.declared.ids.LifecycleId.{LifecycleId};
-ghost use Rattle.dcsctp_spec.specs.types.declared.ids.StreamId.{StreamId};
-ghost use Rattle.dcsctp_spec.specs.types.declared.ids.PpId.{PpId};
-ghost use Rattle.dcsctp_spec.specs.types.declared.message.SendOptions.{SendOptions};
+ghost use Rattle.dcsctp_spec_lemmas.specs.types.Ids.{lifecycle_number};
+ghost use Rattle.dcsctp_spec_lemmas.specs.types.declared.ids.LifecycleId.{LifecycleId};
+ghost use Rattle.dcsctp_spec_lemmas.specs.types.declared.ids.StreamId.{StreamId};
+ghost use Rattle.dcsctp_spec_lemmas.specs.types.declared.ids.PpId.{PpId};
+ghost use Rattle.dcsctp_spec_lemmas.specs.types.declared.message.SendOptions.{SendOptions};
 
-use dcsctp_spec::types::{LifecycleId, PpId, SendOptions, SocketTime, StreamId};
+use dcsctp_spec_lemmas::types::{LifecycleId, PpId, SendOptions, SocketTime, StreamId};
 use std::hash::Hash;
 
 /// Moments are compared by their nanoseconds: `==` holds only of equal ones. `cmp`, `<` and the rest order

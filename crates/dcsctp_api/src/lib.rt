@@ -5,7 +5,7 @@
 
 /// A snapshot of a socket, by which it is handed over to another process.
 pub mod handover {
-    pub use dcsctp_spec::types::{
+    pub use dcsctp_spec_lemmas::types::{
         HandoverCapabilities, HandoverOrderedStream, HandoverOutgoingStream,
         HandoverOutstandingData, HandoverReadiness, HandoverReceive, HandoverSocketState,
         HandoverStreamMessage, HandoverTransmission, HandoverUnorderedStream, SocketHandoverState,
@@ -21,7 +21,7 @@ mod state;
 mod state_cookie;
 
 pub use calls::DcSctpSocket;
-pub use dcsctp_spec::types::{
+pub use dcsctp_spec_lemmas::types::{
     Association, Capabilities, ErrorKind, HandoverReadiness, Held, LifecycleId, Message, Options,
     Pair, Phase, PpId, ReconfigurationResponseResult, SctpImplementation, SendOptions, SocketTime,
     StreamId, Word, ZERO_CHECKSUM_ALTERNATE_ERROR_DETECTION_METHOD_LOWER_LAYER_DTLS,
@@ -40,4 +40,4 @@ pub use state::SocketState;
 pub use state_cookie::StateCookie;
 
 // Lower crates, re-exported for those above.
-pub use dcsctp_spec::{types, wire};
+pub use dcsctp_spec_lemmas::{types, wire};

@@ -1,6 +1,6 @@
 //! What a socket shows of its work.
 
-use dcsctp_spec::types::SctpImplementation;
+use dcsctp_spec_lemmas::types::SctpImplementation;
 use std::time::Duration;
 
 /// What was counted over the socket's life, also while there is no association. Each count stops at the

@@ -4,12 +4,14 @@
 
 ghost use Rattle.std.specs.Prelude.{◌≡◌, ◌+◌, ◌≤◌, length};
 ghost use Rattle.std.specs.Duration.{as_nanos};
-ghost use Rattle.dcsctp_spec.specs.Cookie.{u64_at, cookie_fields, cut, is_stale};
-ghost use Rattle.dcsctp_spec.specs.types.Offer.{capabilities_offered};
+ghost use Rattle.dcsctp_spec_lemmas.specs.spec.Cookie.{u64_at, cookie_fields, cut, is_stale};
+ghost use Rattle.dcsctp_spec_lemmas.specs.types.Offer.{capabilities_offered};
 ghost use Rattle.dcsctp_api.specs.Cookie.{cookie_of};
 
-use dcsctp_spec::types::{Capabilities, SocketTime, ZeroChecksumAlternateErrorDetectionMethod};
-use dcsctp_spec::wire::{u16_at, u32_at};
+use dcsctp_spec_lemmas::types::{
+    Capabilities, SocketTime, ZeroChecksumAlternateErrorDetectionMethod,
+};
+use dcsctp_spec_lemmas::wire::{u16_at, u32_at};
 use std::alloc::{AllocError, Global};
 use std::time::Duration;
 
@@ -71,14 +73,14 @@ pub struct StateCookie {
 
 impl StateCookie {
     ghost use Rattle.std.specs.Prelude.{MatchResult, IfOk, Ok, Err};
-    ghost use Rattle.dcsctp_spec.specs.Cookie.{cookie_bytes, cookie_at};
+    ghost use Rattle.dcsctp_spec_lemmas.specs.spec.Cookie.{cookie_bytes, cookie_at};
 
     /// Reads a cookie. Allocates nothing.
     ///
     /// The first fault decides: `Invalid state cookie size` unless there are 56 bytes. Then
     /// `Invalid state cookie magic` unless they begin with the magic. Then
     /// `Invalid verification tag in state cookie` if a tag is 0.
-    #[tactic(auto, unfolding(dcsctp_spec::specs::Cookie::cookie_at))]
+    #[tactic(auto, unfolding(crate::specs::Cookie::cookie_at))]
     pub fn from_bytes(bytes: &[u8]) -> Result<StateCookie, &'static str>
         ensures { MatchResult result (λ cookie. cookie_at bytes.now ≡ Ok (cookie_of cookie))
             (λ text. cookie_at bytes.now ≡ Err text.now) }
@@ -114,7 +116,7 @@ impl StateCookie {
     }
 
     /// The 56 bytes of the cookie.
-    #[tactic(auto, unfolding(dcsctp_spec::specs::Cookie::cookie_bytes))]
+    #[tactic(auto, unfolding(crate::specs::Cookie::cookie_bytes))]
     pub fn serialize(&self, alloc: Global) -> Result<Vec<u8>, AllocError>
         ensures { IfOk result (λ bytes. bytes.items ≡ cookie_bytes (cookie_of self.now)) }
     {

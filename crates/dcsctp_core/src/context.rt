@@ -304,7 +304,7 @@ impl<R: Rng> Context<R> {
         )?;
         let mut builder = builder.write_checksum(write_checksum);
         builder.add(chunk);
-        self.events.add(SocketEvent::SendPacket(builder.build()))?;
+        self.events.add_packet(builder)?;
         self.count_emitted();
         Ok(())
     }

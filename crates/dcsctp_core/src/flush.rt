@@ -12,7 +12,7 @@ ghost use Rattle.dcsctp_core.specs.Handling.{TakesOne, FlushAt};
 use crate::context::Context;
 use crate::resetting::RequestStart;
 use crate::state::State;
-use dcsctp_transfer::api::{Options, SocketEvent, SocketTime};
+use dcsctp_transfer::api::{Options, SocketTime};
 use dcsctp_transfer::wire_build::SctpPacketBuilder;
 use dcsctp_transfer::{SendQueue, Transfer};
 use rand_core::Rng;
@@ -263,7 +263,7 @@ impl<R: Rng> Context<R> {
         if packet.is_empty() {
             return Ok(false);
         }
-        self.events.add(SocketEvent::SendPacket(packet.build()))?;
+        self.events.add_packet(packet)?;
         self.count_emitted();
         Ok(true)
     }

@@ -27,9 +27,9 @@
 //! ```
 //!
 //! Packets go to the peer, other events to the application. Events come in the order in which they
-//! happened. A later call invalidates none of them. Messages that are ready are dropped when their
-//! association ends, so take them before the next call; with `Options::follow_rfc` they can be taken until the
-//! next association begins.
+//! happened. A later call invalidates none of them. A user who makes checksums takes events by
+//! `Socket::poll_event_without_checksum`. Messages that are ready are dropped when their association ends, so take
+//! them before the next call; with `Options::follow_rfc` they can be taken until the next association begins.
 //!
 //! The socket reads no clock. After each call ask `poll_timeout`, and call `advance_time` at that moment or
 //! earlier. A packet that the peer never answered is sent again then. Each call may move that moment.

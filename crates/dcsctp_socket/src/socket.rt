@@ -74,7 +74,8 @@ impl<R: Rng + Drop> Socket<R> {
     ghost use Rattle.dcsctp_core.specs.spec.endpoint.Endpoint.{association_of, own_tag};
     ghost use Rattle.dcsctp_core.specs.api.Metrics.{counts_of};
     ghost use Rattle.dcsctp_core.specs.types.Settings.{IsValid};
-    ghost use Rattle.dcsctp_socket.specs.SocketView.{fresh_socket};
+    ghost use Rattle.dcsctp_core.specs.api.Calls.{PollsCleared};
+    ghost use Rattle.dcsctp_socket.specs.SocketView.{fresh_socket, user_view_of};
 
     /// Makes a closed socket, at moment zero. Random words come from `rng`; `name` has no effect.
     ///
@@ -142,6 +143,15 @@ impl<R: Rng + Drop> Socket<R> {
         ensures { result.now ≡ self.now.view.generator }
     {
         self.context.generator()
+    }
+
+    /// Takes an event as `poll_event` does, but a packet with 0 in the place of its checksum, which isn't computed.
+    /// It is for a user who makes checksums. Allocates nothing.
+    pub fn poll_event_without_checksum(&mut self) -> Option<SocketEvent>
+        ensures { PollsCleared (user_view_of R.stream self.old) result
+            (user_view_of R.stream self.new) }
+    {
+        self.context.events.next_event_without_checksum()
     }
 
     /// Did an allocation fail in an earlier call? Allocates nothing.

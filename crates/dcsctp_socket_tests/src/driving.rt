@@ -23,6 +23,10 @@ const COOKIE_ECHO: &str =
     "1388138800000009f2f7dfea0a00003c6463534354507230000000070000000900000064000000c800500000\
     00000000000000000100010000000000ffffffff0000000000000000";
 
+// The INIT with 0 in the place of its checksum.
+const UNSUMMED: &str =
+    "1388138800000000000000000100001e0000000700500000ffffffff00000064c00000048008000682c00000";
+
 // The packet of these digits.
 fn packet_of(rt: &impl Abort, alloc: Global, digits: &str) -> Vec<u8> {
     hex::decode(alloc, digits).expect(rt, "no packet")
@@ -115,6 +119,30 @@ fn a_text_is_said_and_read(rt: HostRuntime) {
     let mut a = socket(&rt, 100, 6);
     let mut b = socket(&rt, 200, 8);
     talks(&rt, rt.alloc(), &mut a, &mut b);
+}
+
+// An event must be the packet of these digits.
+fn sends(rt: &impl Abort, alloc: Global, event: Option<SocketEvent>, digits: &str) {
+    let Some(SocketEvent::SendPacket(packet)) = event else {
+        rt.panic("there is no packet")
+    };
+    same(rt, digits, &packet, &packet_of(rt, alloc, digits));
+}
+
+#[test]
+fn a_packet_is_polled_with_its_checksum_or_without(rt: HostRuntime) {
+    let mut a = socket(&rt, 100, 6);
+    let mut b = socket(&rt, 100, 6);
+    a.connect().expect(&rt, "no connect");
+    b.connect().expect(&rt, "no connect");
+    sends(&rt, rt.alloc(), a.poll_event(), INIT);
+    sends(&rt, rt.alloc(), b.poll_event_without_checksum(), UNSUMMED);
+    same(
+        &rt,
+        "no more",
+        b.poll_event_without_checksum().is_none(),
+        true,
+    );
 }
 
 // A closed socket that draws these words.

@@ -1,16 +1,16 @@
 //! Writing a packet (RFC 9260, section 3.1).
 
-ghost use Rattle.std.specs.Prelude.{◌≡◌, ◌≤◌, ◌↔◌, ℕ, ◌+◌, ◌-◌, ◌%◌, List, [], ◌++◌, length, take, drop, true, IfOk, IsTrue};
+ghost use Rattle.std.specs.Prelude.{◌≡◌, ◌≤◌, ◌↔◌, ℕ, ◌+◌, ◌-◌, ◌%◌, List, [], ◌++◌, length, true, false, IfOk, IsTrue};
 ghost use Rattle.std.specs.Vec.{vec_len};
-ghost use Rattle.std.specs.Int.{w32, to_le_bytes};
 ghost use Rattle.dcsctp_wire_build.specs.Building.{bytes_remaining};
+ghost use Rattle.dcsctp_wire_build.specs.Checksums.{checksum_filled};
 ghost use Rattle.dcsctp_wire.specs.Content.{chunk_content};
 ghost use Rattle.dcsctp_wire.specs.Spelling.{zeros, chunk_bytes, header_bytes, packet_bytes_of};
 
+use crate::checksum::fill_checksum;
 use crate::chunks::put_chunk;
 use crate::putting::put;
 use dcsctp_wire::{Chunk, CommonHeader};
-use dcsctp_wire_checksum::packet_checksum;
 use std::alloc::{AllocError, Global};
 use std::marker::Model;
 
@@ -66,14 +66,6 @@ fn header_without_checksum(header: CommonHeader) -> [u8; 12]
         tag[0], tag[1], tag[2], tag[3],
         0, 0, 0, 0,
     ]
-}
-
-// Puts the checksum into its field.
-fn set_checksum(packet: &mut [u8], checksum: u32)
-    requires { 12 ≤ length packet.old }
-    ensures { packet.new ≡ take 8 packet.old ++ to_le_bytes w32 checksum ++ drop 12 packet.old }
-{
-    packet[8..12].copy_from_slice(&checksum.to_le_bytes());
 }
 
 impl SctpPacketBuilder {
@@ -152,6 +144,26 @@ impl SctpPacketBuilder {
         put_chunk(&mut self.bytes, chunk);
     }
 
+    /// Is a checksum written?
+    pub fn writes_checksum(&self) -> bool
+        ensures { result ≡ self.now.with_checksum }
+    {
+        self.with_checksum
+    }
+
+    /// The packet in bytes, never more than the builder's size, with 0 in the place of its checksum.
+    /// `fill_checksum` makes it the packet with its checksum.
+    pub fn build_without_checksum(self) -> Vec<u8>
+        ensures bytes { result.items ≡ packet_bytes_of false
+            (header_bytes self.source_port self.destination_port self.verification_tag) self.body }
+        ensures filled { checksum_filled result.items ≡ packet_bytes_of true
+            (header_bytes self.source_port self.destination_port self.verification_tag) self.body }
+        ensures len { vec_len result ≡ 12 + length self.body }
+        ensures within { vec_len result ≤ self.size }
+    {
+        self.bytes
+    }
+
     /// The packet in bytes, never more than the builder's size.
     pub fn build(self) -> Vec<u8>
         ensures bytes { result.items ≡ packet_bytes_of self.with_checksum
@@ -159,10 +171,10 @@ impl SctpPacketBuilder {
         ensures len { vec_len result ≡ 12 + length self.body }
         ensures within { vec_len result ≤ self.size }
     {
-        let mut bytes = self.bytes;
-        if self.with_checksum {
-            let checksum = packet_checksum(&bytes);
-            set_checksum(&mut bytes, checksum);
+        let with_checksum = self.with_checksum;
+        let mut bytes = self.build_without_checksum();
+        if with_checksum {
+            fill_checksum(&mut bytes);
         }
         bytes
     }

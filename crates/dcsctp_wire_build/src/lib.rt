@@ -5,9 +5,11 @@
 #![tactic(auto)]
 
 mod builder;
+mod checksum;
 mod chunks;
 mod fixed;
 mod parameters;
 mod putting;
 
 pub use builder::SctpPacketBuilder;
+pub use checksum::{clear_checksum, fill_checksum};

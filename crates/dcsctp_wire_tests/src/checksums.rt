@@ -1,6 +1,7 @@
 //! Checksums, with the values that others publish (RFC 9260, appendix A).
 
 use crate::checks::same;
+use dcsctp_wire_build::{clear_checksum, fill_checksum};
 use dcsctp_wire_checksum::{crc32c, packet_checksum};
 
 #[rattlefmt::skip]
@@ -59,5 +60,50 @@ fn checksum_field_counts_as_zeros(rt: HostRuntime) {
     for (name, packet, is_that_of_zeros) in &FIELDS {
         let checksum = packet_checksum(packet.as_slice());
         same(&rt, name, checksum == 0x8A91_36AA, *is_that_of_zeros);
+    }
+}
+
+// A named packet, the same with its checksum, and with 0 in its place.
+type Packet = (&'static str, &'static [u8], &'static [u8], &'static [u8]);
+
+// Another program computed the checksum of the INIT. That of 32 zeros is published.
+#[rattlefmt::skip]
+static PACKETS: [Packet; 4] = [
+    (
+        "an INIT",
+        &[
+            0x13, 0x88, 0x13, 0x88, 0, 0, 0, 0, 1, 2, 3, 4,
+            1, 0, 0, 30, 0, 0, 0, 7, 0, 80, 0, 0, 255, 255, 255, 255, 0, 0, 0, 100, 0xc0, 0, 0, 4, 0x80, 8, 0, 6, 0x82, 0xc0, 0, 0,
+        ],
+        &[
+            0x13, 0x88, 0x13, 0x88, 0, 0, 0, 0, 0x64, 0x53, 0x50, 0xc7,
+            1, 0, 0, 30, 0, 0, 0, 7, 0, 80, 0, 0, 255, 255, 255, 255, 0, 0, 0, 100, 0xc0, 0, 0, 4, 0x80, 8, 0, 6, 0x82, 0xc0, 0, 0,
+        ],
+        &[
+            0x13, 0x88, 0x13, 0x88, 0, 0, 0, 0, 0, 0, 0, 0,
+            1, 0, 0, 30, 0, 0, 0, 7, 0, 80, 0, 0, 255, 255, 255, 255, 0, 0, 0, 100, 0xc0, 0, 0, 4, 0x80, 8, 0, 6, 0x82, 0xc0, 0, 0,
+        ],
+    ),
+    (
+        "zeros",
+        &[0; 32],
+        &[
+            0, 0, 0, 0, 0, 0, 0, 0, 0xaa, 0x36, 0x91, 0x8a, 0, 0, 0, 0,
+            0, 0, 0, 0, 0, 0, 0, 0, 0, 0, 0, 0, 0, 0, 0, 0,
+        ],
+        &[0; 32],
+    ),
+    ("a byte less than a header", &[7; 11], &[7; 11], &[7; 11]),
+    ("nothing", &[], &[], &[]),
+];
+
+#[test]
+fn checksum_is_filled_in_and_left_out(rt: HostRuntime) {
+    for (name, packet, filled, cleared) in &PACKETS {
+        let mut bytes = packet.to_vec(rt.alloc()).expect(&rt, "memory for a packet");
+        fill_checksum(&mut bytes);
+        same(&rt, name, bytes.as_slice(), *filled);
+        clear_checksum(&mut bytes);
+        same(&rt, name, bytes.as_slice(), *cleared);
     }
 }

@@ -2,7 +2,7 @@
 use Rattle.std.proofs.Common.{rules, ◌≡◌, ◌<◌}
 use Rattle.std.specs.Coded.{le_prop}
 use mathlib.Core.HLevel.{is_prop→PathP}
-use Rattle.dcsctp_spec.specs.types.declared.ids.LifecycleId.{LifecycleId}
+use Rattle.dcsctp_spec_lemmas.specs.types.declared.ids.LifecycleId.{LifecycleId}
 use Rattle.dcsctp_api.proofs.laws.lifecycle_id_order.Goals as goal
 
 -- identifiers of equal numbers are equal

@@ -1,6 +1,6 @@
 use Rattle.std.proofs.Common.{◌≡◌, ap, sym, ◌∙◌, ℕ, List, Result, Ok}
-use Rattle.dcsctp_spec.specs.Cookie.{Cookie}
-use Rattle.dcsctp_spec.specs.types.Offer.{capabilities_offered}
+use Rattle.dcsctp_spec_lemmas.specs.spec.Cookie.{Cookie}
+use Rattle.dcsctp_spec_lemmas.specs.types.Offer.{capabilities_offered}
 use Rattle.dcsctp_spec_lemmas.proofs.CookieLemmas.{cookie_reads_back}
 use Rattle.dcsctp_api.specs.declared.state_cookie.StateCookie.{StateCookie}
 use Rattle.dcsctp_api.specs.Cookie.{cookie_of}

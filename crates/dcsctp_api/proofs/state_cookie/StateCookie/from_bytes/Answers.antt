@@ -1,8 +1,8 @@
 use Rattle.std.proofs.Common.{rules, ◌≡◌, ◌≢◌, Ok, ℕ, Bool, true, false, not, cond, eqb, ◌&&◌, ◌||◌, length, List, ap, ◌∙◌, arith, refl}
 use Rattle.std.proofs.lemmas.Bool.Decides.{nat_tests}
 use Rattle.std.specs.Prelude.{Result}
-use Rattle.dcsctp_spec.specs.wire.Fields.{u32_at}
-use Rattle.dcsctp_spec.specs.Cookie.{Cookie, cookie_fields, cookie_at, has_magic, has_zero_tag}
+use Rattle.dcsctp_spec_lemmas.specs.wire.Fields.{u32_at}
+use Rattle.dcsctp_spec_lemmas.specs.spec.Cookie.{Cookie, cookie_fields, cookie_at, has_magic, has_zero_tag}
 use Rattle.dcsctp_api.proofs.state_cookie.StateCookie.from_bytes.Goals as goal
 
 abbrev read : Cookie → Result Cookie (List ℕ)
