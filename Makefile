@@ -47,7 +47,7 @@ VERSION := $(shell awk '/define DCSCTP_VERSION_[MP]/ { v = v s $$3; s = "." } EN
     include/dcsctp.h)
 
 TESTS = names calls queries many options events ends kept handover refusals random threads channels \
-    deadlines trace seed
+    deadlines trace seed checksum
 EXAMPLES = demo two_sockets file_transfer channels server load
 WARNINGS = -Wall -Wextra -Wshadow -pedantic -Werror
 COMPILE = $(CC) -std=c11 $(WARNINGS) $(CFLAGS) -Iinclude
@@ -134,11 +134,12 @@ $(OUT)/$(NAME)%: packaging/dcsctp%.in include/dcsctp.h FORCE
 
 # ---- Packages ---------------------------------------------------------------------------------
 
+HEADERS = include/dcsctp.h include/dcsctp_checksum.h
 INCLUDE_TO = $(DESTDIR)$(PREFIX)/include
 LIB_TO = $(DESTDIR)$(LIBDIR)
 install: all
 	install -d $(INCLUDE_TO) $(LIB_TO)/pkgconfig $(LIB_TO)/cmake/$(NAME)
-	install -m 644 include/dcsctp.h $(INCLUDE_TO)/
+	install -m 644 $(HEADERS) $(INCLUDE_TO)/
 	install -m 644 $(LIBRARY) $(LIB_TO)/
 	install -m 755 $(SHARED) $(LIB_TO)/
 	ln -sf $(notdir $(SHARED)) $(LIB_TO)/lib$(NAME).so
@@ -152,11 +153,11 @@ install: all
 
 NAMES = dcsctp dcsctp-unproved
 uninstall:
-	rm -f $(INCLUDE_TO)/dcsctp.h $(NAMES:%=$(LIB_TO)/pkgconfig/%.pc) \
+	rm -f $(HEADERS:include/%=$(INCLUDE_TO)/%) $(NAMES:%=$(LIB_TO)/pkgconfig/%.pc) \
 	    $(foreach it,.a .so .so.0,$(NAMES:%=$(LIB_TO)/lib%$(it)))
 	rm -rf $(NAMES:%=$(LIB_TO)/cmake/%)
 
-# The libraries, the header, the bindings, and the documents and examples, whose .c and .h files users copy. The same bytes
+# The libraries, the headers, the bindings, and the documents and examples, whose .c and .h files users copy. The same bytes
 # from the same files, wherever it is packed.
 PACKED = $(shell find bindings docs examples \( -name target -o -name __pycache__ -o -name '*.script*' \) -prune -o \
     -type f -print)
@@ -197,7 +198,7 @@ doc:
 # The tests refuse allocations, and count what isn't given back.
 WRAP = -Wl,--wrap=malloc,--wrap=realloc,--wrap=free
 
-$(OUT)/tests/%: tests/c/%.c $(wildcard tests/c/*.h) include/dcsctp.h $(LIBRARY)
+$(OUT)/tests/%: tests/c/%.c $(wildcard tests/c/*.h) $(HEADERS) $(LIBRARY)
 	@mkdir -p $(OUT)/tests
 	$(COMPILE) $(if $(MARK),-DUNPROVED) $(filter %.c,$^) $(LIBRARY) \
 	    $(if $(filter refusals random costs,$*),$(WRAP)) -pthread -o $@
@@ -235,23 +236,25 @@ test:
 check: check-header check-symbols check-tests check-cpp check-cffi check-examples check-install check-dist \
     check-valgrind check-sanitizers check-bindings check-webrtc check-rust
 
-# The header alone, in C and C++, and of which lines a compiler warns.
+# Each header alone, in C and C++, and of which lines a compiler warns.
 WARNED = tests/c/warned.c 2>&1 | sed -n 's/^[^:]*warned.c:\([0-9]*\):.* warning: .*/\1/p' | sort -nu | \
     diff $(OUT)/marked -
 check-header:
 	@mkdir -p $(OUT)
-	echo '#include <dcsctp.h>' | $(CC) -std=c11 $(WARNINGS) -Iinclude -fsyntax-only -x c -
+	for it in $(HEADERS:include/%=%); do \
+	    echo "#include <$$it>" | $(CC) -std=c11 $(WARNINGS) -Iinclude -fsyntax-only -x c - || exit 1; done
 	sed -n '/\/\* warned \*\/$$/=' tests/c/warned.c >$(OUT)/marked
 	$(CC) -std=c11 -Wall -Wextra -Iinclude -c -o /dev/null $(WARNED)
 	@if command -v $(CXX) >/dev/null; then set -e; \
-	echo '#include <dcsctp.h>' | $(CXX) -std=c++11 $(WARNINGS) -Iinclude -fsyntax-only -x c++ -; \
+	for it in $(HEADERS:include/%=%); do \
+	    echo "#include <$$it>" | $(CXX) -std=c++11 $(WARNINGS) -Iinclude -fsyntax-only -x c++ -; done; \
 	$(CXX) -std=c++11 -Wall -Wextra -Iinclude -c -o /dev/null -x c++ $(WARNED); \
-	echo "check: dcsctp.h in C++"; \
-	else echo "skipped: dcsctp.h in C++: no $(CXX) (apt install g++)"; fi
+	echo "check: the headers in C++"; \
+	else echo "skipped: the headers in C++: no $(CXX) (apt install g++)"; fi
 	printf '#undef __linux__\n#include <dcsctp.h>\nint dcsctp_random_seed;\n' | \
 	    $(CC) -std=c11 $(WARNINGS) -Iinclude -fsyntax-only -x c -
-	! grep -n '.\{101\}' include/dcsctp.h
-	@echo "check: dcsctp.h in C"
+	! grep -n '.\{101\}' $(HEADERS)
+	@echo "check: the headers in C"
 
 # What is exported is what is declared, and nothing is needed but these functions of the C library. In the
 # shared library each call has the version of the series.

@@ -386,6 +386,12 @@ typedef struct dcsctp_socket {
  * `rto_initial`: make it longer than any round trip. Otherwise the first flight is sent twice or
  *   more. Without `follow_rfc`, if the round trip is twice as long or more, all data is, for the
  *   whole association.
+ * `checksum_offload`: you make and check the checksums of packets, and answer for both. The header
+ *   dcsctp_checksum.h does it by the processor's instructions. A packet that leaves has 0 for its
+ *   checksum, and is otherwise the one without this switch: finish your copy of it, or peers drop
+ *   it. The checksum of a packet that comes in isn't looked at: hand in only those that you have
+ *   found right. `disable_checksum_verification` has no effect then, and dcsctp_get_options writes
+ *   0 for it. A snapshot keeps nothing of this: each socket has its own switch.
  * `follow_rfc`: the socket keeps rules of the RFCs that upstream, dcsctp 0.1.16, doesn't. A
  *   shutdown first sends queued messages. Data without room, or that fills a gap, is acknowledged
  *   at once. A full receive window that opens is reported to the peer. A peer's SHUTDOWN
@@ -443,7 +449,7 @@ typedef struct dcsctp_options {
     uint16_t announced_maximum_incoming_streams;         /* that the peer may use: 65,535 */
     uint16_t announced_maximum_outgoing_streams;         /* that we ask for: 65,535 */
     uint16_t default_stream_priority;                    /* of each stream: 256 */
-    uint16_t reserved;                                   /* write 0; not read yet */
+    uint16_t checksum_offload;                           /* switch, see above: 0 */
     uint32_t follow_rfc;                                 /* switch, see above: 1 */
 } dcsctp_options;
 

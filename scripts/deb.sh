@@ -77,9 +77,9 @@ if find "$root" -not -type d -printf '%P\n' | "${marked[@]}"; then
     exit 1
 fi
 
-# The libraries and the header are those of the archive, and the links of the documents lead to files.
+# The libraries and the headers are those of the archive, and the links of the documents lead to files.
 lib=$(dirname "$(find "$root" -name "lib$name.a")")
-(cd "$folder/build" && sha256sum "lib/lib$name.a" "lib/lib$name.so.0" include/dcsctp.h) | sed \
+(cd "$folder/build" && sha256sum "lib/lib$name.a" "lib/lib$name.so.0" include/*.h) | sed \
     -e "s|  lib/|  $lib/|" -e "s|  include/|  $root/$include/|" | sha256sum -c --quiet
 quiet bash scripts/links.sh "$root/usr/share/doc/lib$name-dev"
 echo "check: $library and $dev"

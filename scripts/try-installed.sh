@@ -23,9 +23,10 @@ run_shared() {
     LD_LIBRARY_PATH=$prefix/$lib run "$1"
 }
 
-# The loop in the header's first comment compiles.
+# The loop in the header's first comment compiles, and the other header is there.
 {
     echo '#include "loop.h"'
+    echo '#include <dcsctp_checksum.h>'
     echo 'int main(void) {'
     sed -n '/^ \* *dcsctp_socket s = /,/^ \* *dcsctp_destroy(&s);/s/^ \*//p' "$prefix/include/dcsctp.h"
     echo '}'

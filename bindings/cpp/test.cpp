@@ -232,6 +232,19 @@ void tag_of_the_packets() {
     EXPECT(pair.a.verification_tag() == 0 && pair.b.verification_tag() == 0 && create().verification_tag() == 0);
 }
 
+void checksums_of_the_caller() {
+    dcsctp::options how;
+    how.checksum_offload = 1;
+    couple pair(how);
+    dcsctp::event event;
+    EXPECT(pair.a.send(1, 51, "hello") == error::ok);
+    while (event.kind != event_kind::send_packet)
+        EXPECT(pair.a.poll_event(event));
+    for (std::size_t at = 8; at < 12; at++)
+        EXPECT(event.bytes[at]++ == 0);
+    EXPECT(pair.b.handle_input(event.bytes) == error::ok && pair.b.messages_ready_count() == 1);
+}
+
 void message_after_an_end(bool follow_rfc) {
     dcsctp::options how;
     how.follow_rfc = follow_rfc;
@@ -464,6 +477,7 @@ int main() {
     long_message();
     counts_after_an_end();
     tag_of_the_packets();
+    checksums_of_the_caller();
     message_after_an_end(true);
     message_after_an_end(false);
     message_until_the_next();

@@ -122,6 +122,7 @@ func TestOptionsComeBack(t *testing.T) {
 		t.Fatal(err)
 	}
 	defer s.Destroy()
+	options.DisableChecksumVerification = false // (it has no effect with ChecksumOffload)
 	if s.Options() != options {
 		t.Errorf("%+v, not %+v", s.Options(), options)
 	}
@@ -325,6 +326,24 @@ func TestVerificationTagIsThatOfThePacketsOfThePeer(t *testing.T) {
 	expect(t, "close", a.Close(), nil)
 	if a.VerificationTag() != 0 {
 		t.Error("a closed socket has a tag")
+	}
+}
+
+func TestChecksumsAreLeftToWhoMakesThem(t *testing.T) {
+	a, b := connected(t, func(o *Options) { o.ChecksumOffload = true })
+	expect(t, "send", a.Send(1, 51, []byte("hello"), SendOptions{}), nil)
+	for event := a.PollEvent(); event != nil; event = a.PollEvent() {
+		if it, ok := event.(SendPacket); ok {
+			// (RFC 9260, section 3.1)
+			if binary.BigEndian.Uint32(it.Packet[8:]) != 0 {
+				t.Errorf("%v has a checksum", it.Packet)
+			}
+			it.Packet[8] = 1
+			expect(t, "a packet", b.HandleInput(it.Packet), nil)
+		}
+	}
+	if b.MessagesReadyCount() != 1 {
+		t.Error("no message came")
 	}
 }
 

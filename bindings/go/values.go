@@ -109,6 +109,7 @@ type Options struct {
 	AnnouncedMaximumIncomingStreams         uint16
 	AnnouncedMaximumOutgoingStreams         uint16
 	DefaultStreamPriority                   uint16
+	ChecksumOffload                         bool
 	FollowRFC                               bool
 }
 
@@ -160,6 +161,7 @@ func (o *Options) inC() C.dcsctp_options {
 		announced_maximum_incoming_streams:    C.uint16_t(o.AnnouncedMaximumIncomingStreams),
 		announced_maximum_outgoing_streams:    C.uint16_t(o.AnnouncedMaximumOutgoingStreams),
 		default_stream_priority:               C.uint16_t(o.DefaultStreamPriority),
+		checksum_offload:                      C.uint16_t(number(o.ChecksumOffload)),
 		follow_rfc:                            number(o.FollowRFC),
 	}
 }
@@ -199,6 +201,7 @@ func optionsOf(it *C.dcsctp_options) Options {
 		AnnouncedMaximumIncomingStreams:         uint16(it.announced_maximum_incoming_streams),
 		AnnouncedMaximumOutgoingStreams:         uint16(it.announced_maximum_outgoing_streams),
 		DefaultStreamPriority:                   uint16(it.default_stream_priority),
+		ChecksumOffload:                         it.checksum_offload != 0,
 		FollowRFC:                               it.follow_rfc != 0,
 	}
 }

@@ -454,6 +454,7 @@ class Options:
     announced_maximum_incoming_streams: int = 65_535
     announced_maximum_outgoing_streams: int = 65_535
     default_stream_priority: int = 256
+    checksum_offload: bool = False
     follow_rfc: bool = True
 
 
@@ -592,7 +593,7 @@ class _Options(ctypes.Structure):
         ("announced_maximum_incoming_streams", ctypes.c_uint16),
         ("announced_maximum_outgoing_streams", ctypes.c_uint16),
         ("default_stream_priority", ctypes.c_uint16),
-        ("reserved", ctypes.c_uint16),
+        ("checksum_offload", ctypes.c_uint16),
         ("follow_rfc", ctypes.c_uint32),
     ]
 

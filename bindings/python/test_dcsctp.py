@@ -428,6 +428,15 @@ class Ends(unittest.TestCase):
         a.close()
         self.assertEqual(a.verification_tag(), 0)
 
+    def test_checksums_are_left_to_who_makes_them(self):
+        a, b = self.connected(checksum_offload=True)
+        a.send(1, 51, b"hello")
+        packet = next(it.packet for it in a.events() if isinstance(it, dcsctp.SendPacket))
+        self.assertEqual(packet[8:12], bytes(4))  # RFC 9260, section 3.1
+        b.handle_input(packet[:8] + b"\1\2\3\4" + packet[12:])
+        self.assertEqual([it.payload for it in b.messages()], [b"hello"])
+        self.assertTrue(a.options().checksum_offload)
+
     def test_message_outlasts_its_association_by_follow_rfc(self):
         for follow_rfc in (True, False):
             a, b = self.connected(follow_rfc=follow_rfc)

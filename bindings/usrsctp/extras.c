@@ -1,6 +1,7 @@
 /* Dumps, checksums, and the calls that aren't there: see facade.c. */
 #include "facade.h"
 
+#include <dcsctp_checksum.h>
 #include <stdio.h>
 #include <stdlib.h>
 #include <string.h>
@@ -43,14 +44,7 @@ void usrsctp_freedumpbuffer(char *text) {
 
 /* The CRC32c of a packet whose sum is 0, in the order of its bytes in memory. */
 uint32_t usrsctp_crc32c(void *packet, size_t length) {
-    const uint8_t *bytes = packet;
-    uint32_t crc = UINT32_MAX;
-    for (size_t i = 0; i < length; i++) {
-        crc ^= bytes[i];
-        for (int bit = 0; bit < 8; bit++)
-            crc = crc & 1 ? crc >> 1 ^ 0x82f63b78 : crc >> 1;
-    }
-    crc = ~crc;
+    uint32_t crc = ~dcsctp_sum_after(UINT32_MAX, packet, length);
 #if __BYTE_ORDER__ == __ORDER_BIG_ENDIAN__
     crc = __builtin_bswap32(crc);
 #endif

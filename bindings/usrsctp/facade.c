@@ -53,7 +53,7 @@
  *     an INIT without an answer         is repeated after waits that double without a limit: by
  *                                       default SCTP_CANT_STR_ASSOC comes after 1,533 s
  *     a packet for no socket            is dropped, where usrsctp answers by an ABORT
- *     usrsctp_enable_crc32c_offload     sums aren't checked, but are written
+ *     usrsctp_enable_crc32c_offload     counts for sockets that begin to connect after it
  *     usrsctp_get_stat                  counts packets, and nothing else
  *     usrsctp_sysctl_set_..             sysctl.c lists which do what
  *     usrsctp_finish                    fails with -1, too, while closed sockets shut down
@@ -77,7 +77,7 @@ struct sctpstat facade_statistics;
 pthread_mutex_t facade_lock = PTHREAD_MUTEX_INITIALIZER;
 pthread_cond_t facade_changed = PTHREAD_COND_INITIALIZER;
 output_call *facade_output;
-int facade_skips_checksums;
+uint16_t facade_checksum_offload;
 
 static struct address *addresses;
 static uint64_t ticks = MILLISECOND; /* the clock without a thread; never 0 */
@@ -438,18 +438,18 @@ void usrsctp_deregister_address(void *at) {
     pthread_mutex_unlock(&facade_lock);
 }
 
-static void skip_checksums(int skips) {
+static void offload_checksums(uint16_t offload) {
     pthread_mutex_lock(&facade_lock);
-    facade_skips_checksums = skips;
+    facade_checksum_offload = offload;
     pthread_mutex_unlock(&facade_lock);
 }
 
 void usrsctp_enable_crc32c_offload(void) {
-    skip_checksums(1);
+    offload_checksums(1);
 }
 
 void usrsctp_disable_crc32c_offload(void) {
-    skip_checksums(0);
+    offload_checksums(0);
 }
 
 void usrsctp_get_stat(struct sctpstat *to) {

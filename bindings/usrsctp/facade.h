@@ -116,7 +116,7 @@ extern struct sctpstat facade_statistics;
 extern pthread_mutex_t facade_lock;
 extern pthread_cond_t facade_changed;
 extern output_call *facade_output;
-extern int facade_skips_checksums;
+extern uint16_t facade_checksum_offload;
 uint64_t facade_now(void);
 int facade_fail(int error);
 void facade_enter(struct socket *s);

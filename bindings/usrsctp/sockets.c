@@ -51,7 +51,7 @@ struct socket *usrsctp_socket(int domain, int type, int protocol, receive_call *
 static int create(struct socket *s) {
     uint8_t seed[32];
     int32_t result = dcsctp_random_seed(seed);
-    s->options.disable_checksum_verification = (uint32_t)facade_skips_checksums;
+    s->options.checksum_offload = facade_checksum_offload;
     if (result == DCSCTP_OK)
         result = dcsctp_create(&s->it, &s->options, seed, facade_now());
     if (result == DCSCTP_OK)

@@ -8,6 +8,8 @@
 #include "pair.h"
 #include "wrapped.h"
 
+#include <dcsctp_checksum.h>
+
 /* ---- Heap: each block has its length in front of it ----------------------------------------- */
 
 enum { FRONT = 16 };
@@ -49,7 +51,7 @@ void __wrap_free(void *block) {
 
 static struct pair pair;
 static dcsctp_options options;
-static uint8_t buffer[2000];
+static uint8_t buffer[70000];
 
 static void options_init(void) {
     dcsctp_options_init(&options);
@@ -103,7 +105,7 @@ static void event_bytes(void) {
     EQUAL("event_bytes", dcsctp_event_bytes(&pair.b.socket, buffer, sizeof buffer, &length), 0);
 }
 
-/* Hands packets over, until none is left. */
+/* Hands packets over, until none is left. With `checksum_offload` they are finished and checked. */
 static void settle_plainly(void) {
     dcsctp_socket *from = &pair.a.socket, *to = &pair.b.socket, *other;
     dcsctp_event event;
@@ -112,6 +114,10 @@ static void settle_plainly(void) {
         while (dcsctp_poll_event(from, &event) == 1)
             if (event.kind == DCSCTP_EVENT_SEND_PACKET) {
                 EQUAL("bytes", dcsctp_event_bytes(from, buffer, sizeof buffer, &length), 0);
+                if (options.checksum_offload) {
+                    EQUAL("finished", dcsctp_finish_packet(buffer, length), 1);
+                    EQUAL("right", dcsctp_check_packet(buffer, length, 0), 1);
+                }
                 EQUAL("input", dcsctp_handle_input(to, buffer, length), 0);
                 idle = -1;
             }
@@ -121,31 +127,43 @@ static void settle_plainly(void) {
     }
 }
 
-/* A message of 1,024 bytes: sent, carried, taken and acknowledged. */
-static void message(void) {
+/* A message of so many bytes: sent, carried, taken and acknowledged. */
+static void carry_message(size_t size) {
     dcsctp_message taken;
     size_t length;
-    EQUAL("send", send_bytes(&pair.a, 1, 1024), DCSCTP_OK);
+    EQUAL("send", send_bytes(&pair.a, 1, size), DCSCTP_OK);
     settle_plainly();
     EQUAL("message", dcsctp_get_next_message(&pair.b.socket, &taken), 1);
     EQUAL("bytes", dcsctp_message_bytes(&pair.b.socket, buffer, sizeof buffer, &length), 0);
 }
 
+static void message(void) {
+    carry_message(1024);
+}
+
+static void long_message(void) {
+    carry_message(65536);
+}
+
 static const struct {
     const char *name;
     void (*call)(void);
+    uint16_t checksum_offload;
 } calls[] = {
-    {"options_init", options_init},
-    {"create_and_destroy", create_and_destroy},
-    {"state", state},
-    {"poll_timeout", poll_timeout},
-    {"advance_time", advance_time},
-    {"poll_event", poll_event},
-    {"event_bytes", event_bytes},
-    {"buffered_amount", buffered_amount},
-    {"get_options", get_options},
-    {"get_metrics", get_metrics},
-    {"message", message},
+    {"options_init", options_init, 0},
+    {"create_and_destroy", create_and_destroy, 0},
+    {"state", state, 0},
+    {"poll_timeout", poll_timeout, 0},
+    {"advance_time", advance_time, 0},
+    {"poll_event", poll_event, 0},
+    {"event_bytes", event_bytes, 0},
+    {"buffered_amount", buffered_amount, 0},
+    {"get_options", get_options, 0},
+    {"get_metrics", get_metrics, 0},
+    {"message", message, 0},
+    {"message_offload", message, 1},
+    {"long_message", long_message, 0},
+    {"long_message_offload", long_message, 1},
 };
 
 /* Connects A and B, so that B's event of the INIT ACK is the one that was taken last. */
@@ -181,6 +199,7 @@ int main(int argc, char **argv) {
     for (size_t i = 0; argc == 3 && i < sizeof calls / sizeof calls[0]; i++) {
         if (strcmp(argv[1], calls[i].name) != 0)
             continue;
+        options.checksum_offload = calls[i].checksum_offload;
         connect_both();
         if (calls[i].call != event_bytes) {
             settle(&pair);

@@ -9,6 +9,8 @@
 #include "pair.h"
 #include "refusing.h"
 
+#include <dcsctp_checksum.h>
+
 #define EXPECT(what, is_so)                                                                        \
     do {                                                                                           \
         if (!(is_so)) {                                                                            \
@@ -225,6 +227,7 @@ static void keep(struct side *side, const uint8_t *bytes, size_t length) {
 /* Takes an event. Returns its kind. */
 static uint32_t take_event(struct side *side) {
     dcsctp_event event;
+    static uint8_t finished[65535];
     const uint8_t *view, *bytes;
     size_t length;
     int32_t taken = CALL_TO(1, side, 0, dcsctp_poll_event, &event);
@@ -244,6 +247,13 @@ static uint32_t take_event(struct side *side) {
         bytes = copied(side, "dcsctp_event_bytes", dcsctp_event_bytes, event.length);
         EXPECT("a packet", CALL(side, 0, dcsctp_event_view, &view, &length) == DCSCTP_OK);
         EXPECT("a packet", length == event.length && memcmp(view, bytes, length) == 0);
+        if (side->options.checksum_offload) {
+            EXPECT("no checksum", u32_at(bytes + 8) == 0);
+            memcpy(finished, bytes, length);
+            EXPECT("finished", dcsctp_finish_packet(finished, length));
+            bytes = finished;
+        }
+        EXPECT("a checksum", dcsctp_check_packet(bytes, length, side->options.zero_checksum_method));
         keep(side, bytes, length);
         break;
     case DCSCTP_EVENT_ABORTED:
@@ -602,7 +612,7 @@ static void query(struct side *side) {
     EXPECT("metrics", metrics.uses_message_interleaving <= 1 && metrics.uses_zero_checksum <= 1);
     CALL(side, 0, dcsctp_get_counts, &counts);
     CALL(side, 0, dcsctp_get_options, &options);
-    EXPECT("options", options.mtu == side->options.mtu && options.reserved == 0);
+    EXPECT("options", options.mtu == side->options.mtu && options.checksum_offload <= 1);
     CALL(side, 0, dcsctp_buffered_amount, stream_id, &bytes);
     CALL(side, 0, dcsctp_buffered_amount_low_threshold, stream_id, &bytes);
     CALL(side, 0, dcsctp_get_stream_priority, stream_id, &priority);
@@ -742,6 +752,7 @@ static int choose_options(dcsctp_options *options) {
     options->zero_checksum_method = switches >> 3 & 1;
     options->disable_checksum_verification = switches & 16;
     options->enable_handover_with_outstanding_data = switches & 32;
+    options->checksum_offload = switches & 64;
     if (changes & 1)
         options->mtu = ONE_OF(mtus);
     if (changes & 2)

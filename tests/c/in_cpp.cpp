@@ -1,6 +1,7 @@
 /* dcsctp.h in C++11: what stands for no socket and for no send options is an expression, wherever one
  * may stand. */
 #include <dcsctp.h>
+#include <dcsctp_checksum.h>
 
 #include <cstdio>
 #include <cstdlib>
@@ -86,11 +87,19 @@ void one_socket() {
     dcsctp_destroy(&moved);
 }
 
+void checksum() {
+    uint8_t packet[1200] = {19, 136, 19, 136};
+    EQUAL("none", dcsctp_check_packet(packet, sizeof packet, 0), 0);
+    EQUAL("finished", dcsctp_finish_packet(packet, sizeof packet), 1);
+    EQUAL("right", dcsctp_check_packet(packet, sizeof packet, 0), 1);
+}
+
 } // namespace
 
 int main() {
     no_sockets();
     one_socket();
+    checksum();
     std::puts("in_cpp: what stands for none is an expression");
     return 0;
 }

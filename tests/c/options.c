@@ -52,7 +52,7 @@ static void defaults(void) {
         {"announced_maximum_incoming_streams", options.announced_maximum_incoming_streams, 65535},
         {"announced_maximum_outgoing_streams", options.announced_maximum_outgoing_streams, 65535},
         {"default_stream_priority", options.default_stream_priority, 256},
-        {"reserved", options.reserved, 0},
+        {"checksum_offload", options.checksum_offload, 0},
         {"follow_rfc", options.follow_rfc, 1},
     };
     for (size_t i = 0; i < sizeof rows / sizeof rows[0]; i++)
@@ -95,7 +95,7 @@ static const dcsctp_options DIFFERENT = {
     .announced_maximum_incoming_streams = 1030,
     .announced_maximum_outgoing_streams = 1031,
     .default_stream_priority = 1032,
-    .reserved = 1033,
+    .checksum_offload = 1033,
     .follow_rfc = 0,
 };
 
@@ -104,9 +104,9 @@ static void given_back(void) {
     dcsctp_options options, expected = DIFFERENT;
     struct end end;
     expected.enable_message_interleaving = 1;
-    expected.disable_checksum_verification = 1;
+    expected.disable_checksum_verification = 0; /* it has no effect with checksum_offload */
     expected.enable_handover_with_outstanding_data = 1;
-    expected.reserved = 0;
+    expected.checksum_offload = 1;
     memset(&options, 77, sizeof options);
     options.size = sizeof options;
     EQUAL("create", create(&end, &DIFFERENT, 1, BEGIN), DCSCTP_OK);
@@ -146,7 +146,7 @@ static void given_back(void) {
     SAME(announced_maximum_incoming_streams);
     SAME(announced_maximum_outgoing_streams);
     SAME(default_stream_priority);
-    SAME(reserved);
+    SAME(checksum_offload);
     SAME(follow_rfc);
     EQUAL("set", dcsctp_set_max_message_size(&end.socket, 5), DCSCTP_OK);
     EQUAL("options", dcsctp_get_options(&end.socket, &options), DCSCTP_OK);

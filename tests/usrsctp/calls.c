@@ -54,6 +54,7 @@ static struct end a, b;
 static struct packet *first, **last = &first;
 static unsigned to_lose; /* so many packets are lost from now on */
 static int in_real_time; /* usrsctp repeats data by the clock of the system */
+static unsigned unsummed; /* packets that came from a stack without a sum */
 static uint8_t payload[LONGEST + 1];
 
 /* ---- The link ------------------------------------------------------------------------------- */
@@ -67,6 +68,7 @@ static int output(void *address, void *bytes, size_t length, uint8_t tos, uint8_
     packet->from = address;
     packet->length = length;
     memcpy(packet->bytes, bytes, length);
+    unsummed += memcmp(packet->bytes + 8, "\0\0\0", 4) == 0;
     *last = packet;
     last = &packet->next;
     return 0;
@@ -676,6 +678,23 @@ static void test_silent_peer(void) {
     usrsctp_deregister_address(&b);
 }
 
+/* Packets without a sum, or with a wrong one, are as good; then such packets are refused again. */
+static void test_offload(void) {
+    usrsctp_enable_crc32c_offload();
+    unsummed = 0;
+    connect_ends();
+    CHECK("a message without sums", send_to(&a, 0, 51, 5000, 0, 0, 0), 5000);
+    run_until(&b.count, 1);
+    CHECK("it came", b.count, 1);
+    CHECK("no packet has a sum", unsummed >= 9, 1);
+    abort_ends();
+    usrsctp_disable_crc32c_offload();
+    unsummed = 0;
+    connect_ends();
+    CHECK("each packet has a sum", unsummed, 0);
+    abort_ends();
+}
+
 static void test_dump(void) {
     static uint8_t sample[] = {0x13, 0x88, 0x13, 0x88, 0, 0, 0, 0, 0, 0, 0, 0, '1', '2', '3'};
     char *text = usrsctp_dumppacket(sample, sizeof sample, SCTP_DUMP_OUTBOUND);
@@ -713,6 +732,7 @@ int main(void) {
     test_explicit_end();
     test_sender_dry();
     test_silent_peer();
+    test_offload();
     test_dump();
     run(10000);
     CHECK("usrsctp_finish", usrsctp_finish(), 0);

@@ -40,7 +40,7 @@ abbrev pub WritesAnswer : {T : Type 0} → (Session → T → Type 0) → Sessio
 WritesAnswer Says session before status after = Says session after × (status ≡ statuses.Done)
 
 abbrev pub WritesOptions : Session → OptionsRecord → Status → OptionsRecord → Type 0
-WritesOptions = WritesAnswer (λ session told. ShowsOptions told (view session).endpoint.options)
+WritesOptions = WritesAnswer (λ session told. ShowsOptions told (view session).endpoint.options session.checksum_offload)
 
 abbrev pub OptionsGiven : Option Session → OptionsRecord → ℤ → OptionsRecord → Type 0
 OptionsGiven held before result after = AskedIf (has_options_size before) WritesOptions held before result after

@@ -2,4 +2,5 @@ mod CopyingLemmas
 mod FrontTurns
 mod ManyLemmas
 mod ManySending
+mod OffloadLaws
 mod SendingLemmas

@@ -19,9 +19,9 @@ pub copies_sent : (options : SendOptions) (messages : List OutgoingRecord) (fron
     (old : Session) (before : List ℤ) (status : Status) (after : List ℤ) (new : Session)
     → AreFronts (view old).endpoint.options.max_message_size (map outgoing_content messages) fronts
     → SendsMany fronts options (view old) outcome (view new)
-    → status ≡ outcome_status outcome → after ≡ results_by outcome (length messages) before → new.taken ≡ old.taken
+    → status ≡ outcome_status outcome → after ≡ results_by outcome (length messages) before → new.taken ≡ old.taken → new.checksum_offload ≡ old.checksum_offload
     → CopiesSent messages options old before status after new
-copies_sent options messages fronts outcome old before status after new are sends told results taken =
+copies_sent options messages fronts outcome old before status after new are sends told results taken offload =
     let wholes : List MessageContent = map outgoing_content messages in
     inr (record {
       outcome = whole_outcome options wholes fronts (view old) (view new) are outcome;
@@ -31,4 +31,5 @@ copies_sent options messages fronts outcome old before status after new are send
           results ∙ ap (λ n. results_by outcome n before) (sym (length-map wholes (sending_of options) ∙ length-map messages outgoing_content))
           ∙ whole_results options wholes fronts (view old) (view new) are outcome before sends;
       taken = taken;
+      offload = offload;
     })

@@ -129,6 +129,7 @@ settled_whole options stream ppid front whole old status new (inr (front_long, w
       call = same_sends (view old) options stream ppid front whole front_long whole_long (view new) settled.outcome settled.call;
       told = settled.told ∙ sym (same_status (view old) options stream ppid front whole front_long whole_long (view new) settled.outcome settled.call);
       taken = settled.taken;
+      offload = settled.offload;
     }
 
 pub message_sent : (numbers : SendOptionsRecord) (options : SendOptions) (stream ppid : ℕ) (front whole : List ℕ) (old : Session) (status : Status) (new : Session)

@@ -9,8 +9,9 @@ use Rattle.dcsctp_core.specs.types.declared.message.SendOptions.{SendOptions}
 use Rattle.dcsctp_core.specs.types.queues.Messages.{MessageContent}
 use Rattle.dcsctp_core.specs.types.Setting.{Setting, longest_message}
 use Rattle.dcsctp_core.specs.api.declared.errors.SocketFault.{SocketFault}
+use Rattle.dcsctp_core.specs.api.declared.events.SocketEvent.{SocketEvent}
 use Rattle.dcsctp_core.specs.api.declared.metrics.Metrics.{Metrics}
-use Rattle.dcsctp_core.specs.api.Calls.{UserView, Connects, ClosesSocket, ShutsDown, HandlesInput, PollsEvent, Sets, with_setting, is_closed, takes_shutdown}
+use Rattle.dcsctp_core.specs.api.Calls.{UserView, Connects, ClosesSocket, ShutsDown, HandlesInput, PollsEvent, PollsCleared, Sets, with_setting, is_closed, takes_shutdown}
 use Rattle.dcsctp_core.specs.api.Messages.{SendsMessage, TakesNextMessage}
 use Rattle.dcsctp_core.specs.api.Metrics.{ShowsMetrics}
 use Rattle.dcsctp_core.specs.api.Resets.{ResetsOwn}
@@ -26,7 +27,7 @@ use Rattle.dcsctp_session.specs.declared.records.CountsRecord.{CountsRecord}
 use Rattle.dcsctp_session.specs.declared.records.EventRecord.{EventRecord}
 use Rattle.dcsctp_session.specs.declared.records.MessageRecord.{MessageRecord}
 use Rattle.dcsctp_session.specs.declared.records.MetricsRecord.{MetricsRecord}
-use Rattle.dcsctp_session.specs.Options.{SaysOptions, SaysSendOptions, has_options_size, is_valid_sending}
+use Rattle.dcsctp_session.specs.Options.{SaysOptions, SaysSendOptions, has_options_size, is_valid_sending, flag}
 use Rattle.dcsctp_session.specs.Records.{event_record, message_record, SaysMetrics, counts_size}
 use Rattle.dcsctp_session.specs.Status.{done_status, send_status, reset_status}
 use Rattle.dcsctp_session.specs.Views.{view, words_ahead, nothing_taken}
@@ -46,6 +47,7 @@ pub record IsCreated (numbers : OptionsRecord) (seed : List ℕ) (moment : ℕ) 
   pub says : SaysOptions numbers options
   pub moves : AdvancesClock (user_view_of words_ahead (fresh_socket options (of_seed seed))) moment (Ok tt) (view session)
   pub taken : session.taken ≡ nothing_taken
+  pub offload : session.checksum_offload ≡ flag numbers.checksum_offload
 
 -- No socket can be made with these options.
 pub record AreOptionsRefused (numbers : OptionsRecord) : Type 0 where
@@ -77,6 +79,7 @@ pub record Settled {A : Type 0} (status_of : Result A SocketFault → Status) (C
   pub call : Call (view old) outcome (view new)
   pub told : status ≡ status_of outcome
   pub taken : new.taken ≡ old.taken
+  pub offload : new.checksum_offload ≡ old.checksum_offload
 
 -- The clauses of `connect`: on a socket that isn't closed it succeeds.
 abbrev pub ConnectCall : UserView → Result (Unit {0}) SocketFault → UserView → Type 0
@@ -145,13 +148,20 @@ pub record SizeLimited (bytes : ℕ) (old : Session) (status : Status) (new : Se
   pub told : status ≡ statuses.Done
   pub call : view new ≡ with_setting (longest_message bytes) (view old)
   pub taken : new.taken ≡ old.taken
+  pub offload : new.checksum_offload ≡ old.checksum_offload
+
+-- The next event is taken, by whether the caller makes checksums.
+abbrev pub PollsBy : Bool → UserView → Option SocketEvent → UserView → Type 0
+PollsBy false old event new = PollsEvent old event new
+PollsBy true old event new = PollsCleared old event new
 
 -- The next event is taken and kept, and the record says it.
 pub record EventTaken (old : Session) (told : Option EventRecord) (new : Session) : Type 0 where
-  pub call : PollsEvent (view old) new.taken.event (view new)
+  pub call : PollsBy old.checksum_offload (view old) new.taken.event (view new)
   pub says : told ≡ option_map event_record new.taken.event
   pub message : new.taken.message ≡ old.taken.message
   pub snapshot : new.taken.snapshot ≡ old.taken.snapshot
+  pub offload : new.checksum_offload ≡ old.checksum_offload
 
 -- The next message is taken and kept, and the record says it.
 pub record MessageTaken (old : Session) (told : Option MessageRecord) (new : Session) : Type 0 where
@@ -159,6 +169,7 @@ pub record MessageTaken (old : Session) (told : Option MessageRecord) (new : Ses
   pub says : told ≡ option_map message_record new.taken.message
   pub event : new.taken.event ≡ old.taken.event
   pub snapshot : new.taken.snapshot ≡ old.taken.snapshot
+  pub offload : new.checksum_offload ≡ old.checksum_offload
 
 -- The record says the metrics of the socket, if there are any.
 abbrev pub SaysShown : Option Metrics → Option MetricsRecord → Type 0

@@ -42,6 +42,7 @@ pub record HandedOver (old : Session) (status : Status) (new : Session) : Type 0
   pub call : HandoverCall (view old) outcome (view new)
   pub told : status ≡ handover_status outcome
   pub taken : new.taken ≡ taken_after outcome old.taken
+  pub offload : new.checksum_offload ≡ old.checksum_offload
 
 -- The bytes of the snapshot are read as that snapshot.
 abbrev pub IsReadBack : SocketHandoverState → Type 0

@@ -7,3 +7,4 @@ pub mod Calls
 pub mod Answering
 pub mod Many
 pub mod Handover
+pub mod Offload

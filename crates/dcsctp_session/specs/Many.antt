@@ -65,6 +65,7 @@ pub record ManySettled (messages : List MessageContent) (options : SendOptions) 
   pub told : status ≡ many_status outcome
   pub results : after ≡ results_after outcome before
   pub taken : new.taken ≡ old.taken
+  pub offload : new.checksum_offload ≡ old.checksum_offload
 
 -- Nothing has changed, for this reason, and no result is written.
 pub record NothingSent (why : Status) (old : Session) (before : List ℤ) (status : Status) (after : List ℤ) (new : Session) : Type 0 where

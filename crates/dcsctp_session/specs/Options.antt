@@ -1,5 +1,5 @@
 -- What the numbers that C writes say of options.
-use Rattle.std.specs.Prelude.{◌≡◌, ◌==◌, ◌-◌, ◌^◌, ◌&&◌, nat_lt, bit_and, ℕ, min, not, if◌then◌else◌, Bool, true, false, Option, Some, None, option_map}
+use Rattle.std.specs.Prelude.{◌≡◌, ◌==◌, ◌-◌, ◌^◌, ◌&&◌, ◌||◌, nat_lt, bit_and, ℕ, min, not, if◌then◌else◌, Bool, true, false, Option, Some, None, option_map}
 use Rattle.std.specs.Duration.{as_nanos}
 use Rattle.std.specs.declared.time.Duration.{Duration}
 use Rattle.dcsctp_core.specs.types.Ids.{lifecycle_number}
@@ -102,37 +102,37 @@ pub record SaysOffers (numbers : OptionsRecord) (options : Options) : Type 0 whe
   pub zero_checksum_method : options.zero_checksum_alternate_error_detection_method.0 ≡ numbers.zero_checksum_method
   pub partial_reliability : options.enable_partial_reliability ≡ flag numbers.enable_partial_reliability
   pub message_interleaving : options.enable_message_interleaving ≡ flag numbers.enable_message_interleaving
-  pub checksum_verification : options.disable_checksum_verification ≡ flag numbers.disable_checksum_verification
   pub handover : options.enable_handover_with_outstanding_data ≡ flag numbers.enable_handover_with_outstanding_data
   pub follow_rfc : options.follow_rfc ≡ flag numbers.follow_rfc
 
--- The numbers say these options, as far as options have an effect.
+-- The numbers say these options, as far as options have an effect. Where the caller checks checksums, the socket accepts each.
 pub record SaysOptions (numbers : OptionsRecord) (options : Options) : Type 0 where
   pub sizes : SaysSizes numbers options
   pub times : SaysTimes numbers options
   pub offers : SaysOffers numbers options
+  pub checksum_verification : options.disable_checksum_verification ≡ (flag numbers.disable_checksum_verification || flag numbers.checksum_offload)
 
 -- what is written of a switch
 abbrev pub flag_number : Bool → ℕ
 flag_number false = 0
 flag_number true = 1
 
--- Switches are written as 0 or 1, and what is reserved as 0.
-pub record ShowsFlags (numbers : OptionsRecord) (options : Options) : Type 0 where
+-- Switches are written as 0 or 1. A caller who checks checksums has switched no check off.
+pub record ShowsFlags (numbers : OptionsRecord) (options : Options) (offload : Bool) : Type 0 where
   pub partial_reliability : numbers.enable_partial_reliability ≡ flag_number options.enable_partial_reliability
   pub message_interleaving : numbers.enable_message_interleaving ≡ flag_number options.enable_message_interleaving
-  pub checksum_verification : numbers.disable_checksum_verification ≡ flag_number options.disable_checksum_verification
+  pub checksum_verification : numbers.disable_checksum_verification ≡ flag_number (options.disable_checksum_verification && not offload)
   pub handover : numbers.enable_handover_with_outstanding_data ≡ flag_number options.enable_handover_with_outstanding_data
   pub follow_rfc : numbers.follow_rfc ≡ flag_number options.follow_rfc
-  pub reserved : numbers.reserved ≡ 0
+  pub checksum_offload : numbers.checksum_offload ≡ flag_number offload
 
--- The numbers are written for these options.
-pub record ShowsOptions (numbers : OptionsRecord) (options : Options) : Type 0 where
+-- The numbers are written for these options, and for whether the caller makes and checks checksums.
+pub record ShowsOptions (numbers : OptionsRecord) (options : Options) (offload : Bool) : Type 0 where
   pub size : numbers.size ≡ options_size
   pub sizes : SaysSizes numbers options
   pub times : ShowsTimes numbers options
   pub offers : SaysOffers numbers options
-  pub flags : ShowsFlags numbers options
+  pub flags : ShowsFlags numbers options offload
 
 -- The options of a caller in C who sets none: the default ones, but that the RFCs are followed where the port doesn't, that no wait
 -- for an answer but the first is longer than this, and that 60 of them may be in vain, in a handshake too.
@@ -149,7 +149,7 @@ standard_options longest options =
 pub record ShowsDefault (numbers : OptionsRecord) : Type 0 where
   pub options : Options
   pub longest : Duration
-  pub shows : ShowsOptions numbers (standard_options longest options)
+  pub shows : ShowsOptions numbers (standard_options longest options) false
   pub default : IsDefault options
   pub wait : as_nanos longest ≡ milliseconds 3000
 

@@ -7,6 +7,7 @@
 
 mod copying;
 mod handover;
+mod laws;
 mod many;
 mod options;
 mod records;
@@ -15,6 +16,7 @@ mod status;
 mod taking;
 
 pub use dcsctp_socket::SocketState;
+pub use laws::packets_are_read_as_checked;
 pub use many::OutgoingRecord;
 pub use options::{OptionsRecord, SendOptionsRecord};
 pub use records::{CountsRecord, EventRecord, MessageRecord, MetricsRecord};

@@ -3,7 +3,7 @@
 
 ghost use Rattle.std.specs.Prelude.{◌≡◌, option_map};
 ghost use Rattle.std.specs.Duration.{as_nanos};
-ghost use Rattle.dcsctp_session.specs.Options.{SaysOptions, ShowsOptions, ShowsDefault, SaysSendOptions, has_options_size, is_valid_sending, time_number, optional_time_number, optional_nanos, limit_number, optional_limit};
+ghost use Rattle.dcsctp_session.specs.Options.{SaysOptions, ShowsOptions, ShowsDefault, SaysSendOptions, has_options_size, is_valid_sending, time_number, optional_time_number, optional_nanos, limit_number, optional_limit, flag};
 
 use dcsctp_socket::{LifecycleId, Options, SendOptions, ZeroChecksumAlternateErrorDetectionMethod};
 use std::time::Duration;
@@ -56,7 +56,7 @@ pub struct OptionsRecord {
     pub announced_maximum_incoming_streams: u16,
     pub announced_maximum_outgoing_streams: u16,
     pub default_stream_priority: u16,
-    pub reserved: u16,
+    pub checksum_offload: u16,
     pub follow_rfc: u32,
 }
 
@@ -129,14 +129,16 @@ impl OptionsRecord {
         options.max_timer_backoff_duration = Some(Duration::from_secs(3));
         options.max_retransmissions = Some(60);
         options.max_init_retransmits = Some(60);
-        OptionsRecord::of(&options)
+        OptionsRecord::of(&options, false)
     }
 
-    /// The numbers that encode the options.
-    pub fn of(options: &Options) -> OptionsRecord
-        ensures { ShowsOptions result options.now }
+    /// The numbers that encode the options, and whether the caller makes and checks checksums. One who does has
+    /// switched no check off.
+    pub fn of(options: &Options, checksum_offload: bool) -> OptionsRecord
+        ensures { ShowsOptions result options.now checksum_offload }
     {
         let method = options.zero_checksum_alternate_error_detection_method;
+        let is_unverified = options.disable_checksum_verification && !checksum_offload;
         OptionsRecord {
             size: SIZE,
             mtu: options.mtu,
@@ -165,14 +167,14 @@ impl OptionsRecord {
             zero_checksum_method: method.0,
             enable_partial_reliability: options.enable_partial_reliability as u32,
             enable_message_interleaving: options.enable_message_interleaving as u32,
-            disable_checksum_verification: options.disable_checksum_verification as u32,
+            disable_checksum_verification: is_unverified as u32,
             enable_handover_with_outstanding_data: options.enable_handover_with_outstanding_data as u32,
             local_port: options.local_port,
             remote_port: options.remote_port,
             announced_maximum_incoming_streams: options.announced_maximum_incoming_streams,
             announced_maximum_outgoing_streams: options.announced_maximum_outgoing_streams,
             default_stream_priority: options.default_stream_priority,
-            reserved: 0,
+            checksum_offload: checksum_offload as u16,
             follow_rfc: options.follow_rfc as u32,
         }
     }
@@ -184,8 +186,15 @@ impl OptionsRecord {
         self.size == SIZE
     }
 
+    /// Does the caller make the checksums of packets that leave, and check those of packets that come in?
+    pub fn is_checksum_offload(&self) -> bool
+        ensures { result ≡ flag self.now.checksum_offload }
+    {
+        self.checksum_offload != 0
+    }
+
     /// The options that the numbers encode. They may be invalid. An option that has no effect is as by
-    /// default.
+    /// default. A socket whose caller checks checksums accepts each.
     pub fn options(&self) -> Options
         ensures { SaysOptions self.now result }
     {
@@ -218,7 +227,8 @@ impl OptionsRecord {
             ),
             enable_partial_reliability: self.enable_partial_reliability != 0,
             enable_message_interleaving: self.enable_message_interleaving != 0,
-            disable_checksum_verification: self.disable_checksum_verification != 0,
+            disable_checksum_verification: self.disable_checksum_verification != 0
+                || self.is_checksum_offload(),
             enable_handover_with_outstanding_data: self.enable_handover_with_outstanding_data != 0,
             local_port: self.local_port,
             remote_port: self.remote_port,

@@ -42,6 +42,9 @@ pub struct Session {
     pub alloc: Global,
     pub socket: Socket<ChaCha20Rng>,
     pub taken: Taken,
+
+    /// Does the caller make and check the checksums of packets?
+    pub checksum_offload: bool,
 }
 
 // Written out, so that the drop is proved here once.
@@ -51,6 +54,7 @@ impl Drop for Session {
             alloc: _,
             socket: _,
             taken: _,
+            checksum_offload: _,
         } = self;
     }
 }
@@ -91,6 +95,7 @@ impl Session {
         if is_zero(&seed) {
             return Err(Status::InvalidOptions);
         }
+        let checksum_offload = options.is_checksum_offload();
         let options = options.options();
         if !options.is_valid() {
             return Err(Status::InvalidOptions);
@@ -110,6 +115,7 @@ impl Session {
                 message: None,
                 snapshot: None,
             },
+            checksum_offload,
         })
     }
 
@@ -252,9 +258,9 @@ impl Session {
 
     /// The options of the socket.
     pub fn options(&self) -> OptionsRecord
-        ensures { ShowsOptions result (view self.now).endpoint.options }
+        ensures { ShowsOptions result (view self.now).endpoint.options self.now.checksum_offload }
     {
-        OptionsRecord::of(&self.socket.options())
+        OptionsRecord::of(&self.socket.options(), self.checksum_offload)
     }
 
     /// The payload bytes that wait to be sent on a stream.

@@ -1,22 +1,35 @@
 //! Taking events, messages and metrics from a session, and copying what they hold.
 
-ghost use Rattle.dcsctp_session.specs.Views.{bytes_in, packet_in_event, streams_in_event, payload_in, message_in};
-ghost use Rattle.dcsctp_session.specs.Calls.{EventTaken, MessageTaken, MetricsShown, CountsShown};
+ghost use Rattle.dcsctp_socket.specs.SocketView.{user_view_of};
+ghost use Rattle.dcsctp_session.specs.Views.{words_ahead, bytes_in, packet_in_event, streams_in_event, payload_in, message_in};
+ghost use Rattle.dcsctp_session.specs.Calls.{PollsBy, EventTaken, MessageTaken, MetricsShown, CountsShown};
 ghost use Rattle.dcsctp_session.specs.Copying.{CopiesTaken, ShowsPlace};
 
 use crate::copying::{copy_bytes, copy_streams, show_place};
 use crate::records::{CountsRecord, EventRecord, MessageRecord, MetricsRecord};
 use crate::session::Session;
 use crate::status::Status;
-use dcsctp_socket::{DcSctpSocket, SocketEvent};
+use dcsctp_socket::{DcSctpSocket, Socket, SocketEvent};
+use rand_chacha::ChaCha20Rng;
+
+// Takes the event that was added first, by whether the caller makes checksums.
+fn next_event(socket: &mut Socket<ChaCha20Rng>, checksum_offload: bool) -> Option<SocketEvent>
+    ensures { PollsBy checksum_offload (user_view_of words_ahead socket.old) result
+        (user_view_of words_ahead socket.new) }
+{
+    if checksum_offload {
+        return socket.poll_event_without_checksum();
+    }
+    socket.poll_event()
+}
 
 impl Session {
     /// Takes the event that was added first; none if no event waits. The one that was taken before is
-    /// dropped.
+    /// dropped. A caller who makes checksums gets a packet with 0 in the place of its checksum.
     pub fn poll_event(&mut self) -> Option<EventRecord>
         ensures { EventTaken self.old result self.new }
     {
-        self.taken.event = self.socket.poll_event();
+        self.taken.event = next_event(&mut self.socket, self.checksum_offload);
         let event = self.taken.event.as_ref()?;
         Some(EventRecord::of(event))
     }

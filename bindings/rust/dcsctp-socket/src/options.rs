@@ -77,6 +77,10 @@ pub struct Options {
     pub announced_maximum_outgoing_streams: u16,
     /// Of each stream: 256.
     pub default_stream_priority: u16,
+    /// Whether you make and check the checksums of packets: off. With it each packet that leaves has 0 for its checksum,
+    /// and that of a packet that comes in isn't looked at. The checksum is the CRC32c of the packet with 0 in bytes 8 to
+    /// 11, where it is then written, lowest byte first.
+    pub checksum_offload: bool,
     /// Whether the socket keeps rules of the RFCs that upstream, dcsctp 0.1.16, doesn't: on.
     pub follow_rfc: bool,
 }
@@ -117,6 +121,7 @@ impl Default for Options {
             announced_maximum_incoming_streams: 65535,
             announced_maximum_outgoing_streams: 65535,
             default_stream_priority: 256,
+            checksum_offload: false,
             follow_rfc: true,
         }
     }
@@ -165,7 +170,7 @@ impl Options {
             announced_maximum_incoming_streams: self.announced_maximum_incoming_streams,
             announced_maximum_outgoing_streams: self.announced_maximum_outgoing_streams,
             default_stream_priority: self.default_stream_priority,
-            reserved: 0,
+            checksum_offload: self.checksum_offload.into(),
             follow_rfc: self.follow_rfc.into(),
         }
     }
@@ -208,6 +213,7 @@ impl Options {
             announced_maximum_incoming_streams: it.announced_maximum_incoming_streams,
             announced_maximum_outgoing_streams: it.announced_maximum_outgoing_streams,
             default_stream_priority: it.default_stream_priority,
+            checksum_offload: it.checksum_offload != 0,
             follow_rfc: it.follow_rfc != 0,
         }
     }
@@ -274,6 +280,7 @@ mod tests {
             announced_maximum_incoming_streams: 27,
             announced_maximum_outgoing_streams: 28,
             default_stream_priority: 29,
+            checksum_offload: true,
             follow_rfc: false,
         };
         assert_eq!(Options::from_sys(&options.to_sys()), options);

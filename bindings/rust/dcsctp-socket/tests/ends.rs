@@ -106,6 +106,21 @@ fn verification_tag_is_that_of_the_packets_of_the_peer() {
 }
 
 #[test]
+fn checksums_are_left_to_who_makes_them() {
+    let [mut a, mut b] = connected(&Options { checksum_offload: true, ..Default::default() });
+    send(&mut a, "hello");
+    for event in a.events() {
+        if let Event::SendPacket(mut packet) = event {
+            assert_eq!(packet[8..12], [0; 4]); // RFC 9260, section 3.1
+            packet[8] = 1;
+            b.handle_input(&packet).expect("a packet");
+        }
+    }
+    assert_eq!(b.messages().next().map(|it| it.payload), Some(b"hello".to_vec()));
+    assert!(a.options().checksum_offload);
+}
+
+#[test]
 fn message_outlasts_its_association_by_follow_rfc() {
     for follow_rfc in [true, false] {
         let [mut a, mut b] = connected(&Options { follow_rfc, ..Default::default() });

@@ -90,7 +90,7 @@ pub struct dcsctp_options {
     pub announced_maximum_incoming_streams: u16,
     pub announced_maximum_outgoing_streams: u16,
     pub default_stream_priority: u16,
-    pub reserved: u16,
+    pub checksum_offload: u16,
     pub follow_rfc: u32,
 }
 

@@ -89,7 +89,7 @@ fn layout_here() -> BTreeMap<String, (usize, usize)> {
             enable_partial_reliability enable_message_interleaving disable_checksum_verification
             enable_handover_with_outstanding_data local_port remote_port
             announced_maximum_incoming_streams announced_maximum_outgoing_streams
-            default_stream_priority reserved follow_rfc
+            default_stream_priority checksum_offload follow_rfc
         }
         dcsctp_event { lifecycle_id length kind error_kind stream_id reserved }
         dcsctp_message { length ppid stream_id reserved }

@@ -58,6 +58,7 @@ pub(crate) fn options(o: &Options) -> inner::Options {
         announced_maximum_incoming_streams: o.announced_maximum_incoming_streams,
         announced_maximum_outgoing_streams: o.announced_maximum_outgoing_streams,
         default_stream_priority: o.default_stream_priority,
+        checksum_offload: false,
         follow_rfc: cfg!(feature = "follow_rfc"),
     }
 }

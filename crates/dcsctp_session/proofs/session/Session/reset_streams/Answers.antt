@@ -17,4 +17,5 @@ returns c =
       call = subst (λ (numbers : List ℕ). ResetsOwn numbers (view old) c.reset_streams.result (view new)) ids c.reset_streams.ensures.call;
       told = c.of_reset.ensures;
       taken = refl;
+      offload = refl;
     })

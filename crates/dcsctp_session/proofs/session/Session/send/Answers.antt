@@ -9,4 +9,4 @@ returns c =
     message_sent c.args.options.now c.options.result c.args.stream_id c.args.ppid c.front.result.now c.args.payload.now
     c.args.self.now c.of_send.result (record c.args.self.now { socket = c.send.new.self })
     (grind arith) (rw (← c.options-limit.ensures) c.front.ensures) c.options.ensures
-    (record { outcome = c.send.result; call = rw (← sent) c.send.ensures; told = c.of_send.ensures; taken = refl })
+    (record { outcome = c.send.result; call = rw (← sent) c.send.ensures; told = c.of_send.ensures; taken = refl; offload = refl })
