@@ -27,7 +27,7 @@ ifneq ($(filter unproved,$(MAKECMDGOALS)),)
 ARCHIVE := $(UNPROVED_ARCHIVE)
 else ifneq ($(filter prove,$(MAKECMDGOALS))$(wildcard $(PROVED_ARCHIVE)),)
 ARCHIVE := $(PROVED_ARCHIVE)
-else ifneq ($(filter demo test fuzz bench,$(MAKECMDGOALS))$(wildcard $(UNPROVED_ARCHIVE)),)
+else ifneq ($(filter demo test fuzz bench check-restart,$(MAKECMDGOALS))$(wildcard $(UNPROVED_ARCHIVE)),)
 ARCHIVE := $(UNPROVED_ARCHIVE)
 else
 ARCHIVE := no-library
@@ -69,6 +69,7 @@ help:
 	@echo "make doc               pages of C, Rust and Python, too               1 min, into out/doc"
 	@echo "make fuzz MINUTES=5    calls the C library as libFuzzer's inputs say"
 	@echo "make bench             instructions, beside those of docs/figures.md  5 min"
+	@echo "make check-restart     restarts the server twenty times               1 min"
 	@echo "make check-browser     a page in Chromium uses data channels          1 min"
 	@echo "make check-usrsctp     programs for usrsctp run over this library     1 min"
 	@echo "make check-janus       Debian's Janus serves a text room over it      15 s"
@@ -203,9 +204,11 @@ $(OUT)/tests/%: tests/c/%.c $(wildcard tests/c/*.h) $(HEADERS) $(LIBRARY)
 	$(COMPILE) $(if $(MARK),-DUNPROVED) $(filter %.c,$^) $(LIBRARY) \
 	    $(if $(filter refusals random costs,$*),$(WRAP)) -pthread -o $@
 
+# The server has a store where hiredis is installed.
+STORE := $(shell echo '\#include <hiredis/hiredis.h>' | $(CC) -E -x c - >/dev/null 2>&1 && echo -DWITH_STORE -lhiredis)
 $(OUT)/examples/%: examples/c/%.c include/dcsctp.h $(LIBRARY)
 	@mkdir -p $(OUT)/examples
-	$(COMPILE) $(filter %.c,$^) $(LIBRARY) -o $@
+	$(COMPILE) $(filter %.c,$^) $(LIBRARY) $(if $(filter server,$*),-pthread $(STORE)) -o $@
 
 c-programs: $(TESTS:%=$(OUT)/tests/%) $(EXAMPLES:%=$(OUT)/examples/%)
 examples: $(EXAMPLES:%=$(OUT)/examples/%)
@@ -215,6 +218,7 @@ examples: $(EXAMPLES:%=$(OUT)/examples/%)
 $(OUT)/tests/channels $(OUT)/examples/channels: examples/c/data_channel.c examples/c/data_channel.h
 $(OUT)/tests/deadlines $(OUT)/examples/server $(OUT)/examples/load: examples/c/deadlines.c \
     examples/c/deadlines.h
+$(OUT)/examples/server: examples/c/server.h $(wildcard examples/c/server_*.c)
 $(OUT)/tests/trace $(OUT)/examples/demo $(OUT)/examples/server $(OUT)/examples/file_transfer: \
     examples/c/trace.c examples/c/trace.h
 
@@ -325,6 +329,16 @@ check-examples: $(EXAMPLES:%=$(OUT)/examples/%)
 	@echo "check: file_transfer"
 	timeout 120 bash scripts/try-server.sh $(OUT)/examples
 	@echo "check: server and load"
+	@$(MAKE) -s check-small-restart
+
+# Restarts of the server of examples/c, by processes and by a store.
+RESTARTED = $(OUT)/examples/server $(OUT)/examples/load
+check-restart: $(RESTARTED)
+	@bash scripts/check-restart.sh $(OUT)/examples 20
+	@bash scripts/check-restart.sh --store $(OUT)/examples 4
+
+check-small-restart: $(RESTARTED)
+	EVERY=0.2 timeout 120 bash scripts/check-restart.sh $(OUT)/examples 5 20
 
 # A caller finds both libraries where they were installed, also in a folder of the machine's kind, and where
 # what was packed has been unpacked elsewhere. What was installed can be removed.
@@ -359,9 +373,11 @@ check-valgrind: $(TESTS:%=$(OUT)/tests/%) $(EXAMPLES:%=$(OUT)/examples/%)
 	echo "check: valgrind $(OUT)/examples/file_transfer"; timeout 300 $(VALGRIND) \
 	    --trace-children=yes $(OUT)/examples/file_transfer --loss 20 include/dcsctp.h >/dev/null; \
 	echo "check: valgrind $(OUT)/examples/server"; \
-	timeout 300 bash scripts/try-server.sh $(OUT)/examples $(VALGRIND); \
+	timeout 300 bash scripts/try-server.sh $(OUT)/examples $(VALGRIND) --trace-children=yes; \
+	COMMAND='$(VALGRIND) --trace-children=yes' timeout 300 bash scripts/check-restart.sh $(OUT)/examples 2 10; \
 	else echo "skipped: all under valgrind: no valgrind (apt install valgrind)"; fi
 
+# (that of threads can't see that the ends of a channel that was inherited belong together)
 SANITIZE = -fsanitize=address,undefined -fno-sanitize-recover=all
 check-sanitizers: $(LIBRARY)
 	@mkdir -p $(OUT)/sanitize
@@ -370,6 +386,12 @@ check-sanitizers: $(LIBRARY)
 	then echo "check: $(SANITIZE)"; $(MAKE) -s OUT=$(OUT)/sanitize LIBRARY=$(LIBRARY) \
 	    CFLAGS='-O1 -g $(SANITIZE)' check-tests check-examples; \
 	else echo "skipped: all under sanitizers: $(CC) has none (apt install gcc)"; fi
+	@if echo 'int main(void) { return 0; }' | $(CC) -fsanitize=thread -x c - -o $(OUT)/sanitize/try 2>/dev/null && \
+	    $(OUT)/sanitize/try; \
+	then echo "check: the server, -fsanitize=thread"; echo race:channel_open >$(OUT)/sanitize/known; \
+	    TSAN_OPTIONS=suppressions=$(abspath $(OUT))/sanitize/known $(MAKE) -s OUT=$(OUT)/sanitize/thread \
+	    LIBRARY=$(LIBRARY) CFLAGS='-O1 -g -fsanitize=thread' check-small-restart; \
+	else echo "skipped: the server, -fsanitize=thread: $(CC) has none (apt install gcc)"; fi
 
 # What is packed is enough for each binding.
 check-bindings: dist
@@ -424,4 +446,5 @@ bench: $(if $(MARK),$(FAST) $(FAST_BENCH),$(LIBRARY) $(or $(PROVED_BENCH),$(FAST
 .PHONY: FORCE help demo test prove unproved all no-library examples c-programs reference doc install uninstall dist \
     deb wheel crate clean check check-header check-symbols check-tests \
     check-cpp check-cffi check-examples check-install check-dist check-valgrind check-sanitizers \
-    check-bindings check-webrtc check-rust check-browser check-usrsctp check-janus fuzz bench
+    check-bindings check-webrtc check-rust check-browser check-usrsctp check-janus check-restart check-small-restart fuzz \
+    bench

@@ -1,331 +1,90 @@
 /*
- * A server with many associations on one UDP port, in one thread. It sends each message back.
+ * A server with many associations on one UDP port, in a thread a core. It sends each message back.
  *
- *     server [--pcap FILE] [PORT [ASSOCIATIONS [SECONDS]]]
+ *     server [--threads COUNT] [--pcap FILE] [--give STORE] [--take STORE]
+ *            [PORT [ASSOCIATIONS [SECONDS]]]
  *
- * It listens on 127.0.0.1, at a free port if PORT is 0, and takes 1,000 associations at once. Every
- * SECONDS it prints what they cost. SIGTERM or SIGINT ends all in an orderly way; those that
- * haven't ended five seconds later are aborted. load.c is a client of it. FILE gets the packets of
- * all associations, and Wireshark opens it.
+ * It listens on 127.0.0.1, at a free port if PORT is 0, and takes 1,000 associations a thread.
+ * Every SECONDS it prints what they cost. load.c is a client of it. FILE gets the packets of all
+ * associations, and Wireshark opens it: then there is one thread.
+ *
+ * SIGTERM or SIGINT ends all in an orderly way; those that haven't ended five seconds later are
+ * aborted. SIGUSR2 starts the program anew, and hands the port and all associations to that
+ * process, each as soon as it is ready. Their peers notice nothing. With --give the associations
+ * go to STORE instead, HOST:PORT/KEY of a Redis or Valkey server, and to a process that was begun
+ * with --take, perhaps on another machine. Their packets follow them for two seconds more, by
+ * when something else must send them there.
+ *
+ * server_thread.c has the associations of a thread, and server.h says how the files go together.
  *
  * DTLS would be below each association, and it is missing here: so this server is for your own
  * machine. With DTLS an association is made where a handshake of DTLS has succeeded. Here any INIT
  * makes one, as anyone can send it under any address, and it has ten seconds to connect.
  */
 #define _GNU_SOURCE
-#include "deadlines.h"
+#include "server.h"
 #include "trace.h"
 
-#include <dcsctp.h>
-
-#include <arpa/inet.h>
 #include <errno.h>
+#include <fcntl.h>
+#include <pthread.h>
+#include <sched.h>
 #include <signal.h>
-#include <stdio.h>
+#include <spawn.h>
 #include <stdlib.h>
 #include <string.h>
 #include <sys/epoll.h>
-#include <sys/random.h>
 #include <sys/resource.h>
 #include <sys/signalfd.h>
 #include <sys/socket.h>
+#include <sys/wait.h>
 #include <time.h>
 #include <unistd.h>
 
-static const uint64_t SECOND = 1000000000;
+extern char **environ;
 
-/* Times, in seconds: to connect, to answer the last packet again, and to end all. */
-enum { TO_CONNECT = 10, LINGER = 4, TO_END = 5 };
+/* How long packets follow to a store, in seconds, and how many arguments the next process gets. */
+enum { TO_DRAIN = 2, ARGUMENTS = 16 };
 
-/* Bytes that wait at most for a peer, and that one has sent at most before they are taken. So no
- * message is longer than a window. */
-enum { SEND_BUFFER = 256 << 10, WINDOW = 256 << 10, PACKET = 1500 };
-
-/* Packets that are handed in before timers have their turn. */
-enum { BATCH = 64 };
-
-/* An association, whose peer is known by its address. */
-struct association {
-    struct deadline deadline; /* the first field: so a deadline's address is its association's */
-    dcsctp_socket socket;
-    struct sockaddr_in peer;
-    struct association *next; /* in its list of the table */
-    uint64_t gone_at;         /* when it is forgotten: a peer that doesn't connect, or has ended */
-    dcsctp_message message;   /* the one that was taken last */
-    int is_connected;
-    int has_message;          /* it isn't sent back yet */
-    int is_full;              /* and there is no room for it */
-};
+/* What counts are asked for. */
+enum purpose { TO_REPORT, TO_END, TO_TELL, PURPOSES };
 
 struct server {
-    int udp, epoll, signals;
-    FILE *pcap; /* where packets go, or NULL */
-    dcsctp_options options;
-    struct association **table; /* lists by the hash of the peer's address */
-    unsigned table_bits;
-    uint64_t secret;            /* so that peers can't choose addresses of one list */
-    struct deadlines deadlines;
+    char **arguments;
+    unsigned wanted; /* threads; 0: one a core */
     size_t capacity;
-    uint64_t now, ends_at;      /* ends_at: when all is aborted; DCSCTP_NEVER: no signal came */
-    uint64_t report_every, report_at;
-    uint64_t made, connected, aborted, failed, refused; /* associations */
-    uint64_t messages, received, sent;                  /* messages and packets */
+    FILE *pcap;
+    const char *gives, *takes; /* stores, or NULL */
+    struct start starts[THREADS];
+    pthread_t threads[THREADS];
+    unsigned count, socket_count;
+    int sockets[THREADS], inputs[THREADS], channels[THREADS];
+    int is_read[THREADS];           /* each socket: does a thread of this process read it? */
+    unsigned reads, left, ended;    /* sockets that are; threads that handed over all; that ended */
+    int epoll, signals, own, first; /* own, first: the ends of the first thread's channel */
+    int before;                     /* the first thread of the process before, or -1 */
+    pid_t next;                     /* the process after this one, or 0 */
+    int next_channels[THREADS];
+    unsigned next_count;
+    int must_restart, is_ending;
+    uint64_t now, begun_at, report_every, report_at;
+    uint64_t drained_at; /* when no packets follow to the next process */
+    struct {
+        unsigned answers;
+        struct counts sum;
+    } tallies[PURPOSES];
 };
 
-static void fail(const char *what) {
+_Noreturn void fail(const char *what) {
     fprintf(stderr, "server: %s: %s\n", what, strerror(errno));
     exit(1);
 }
 
-static uint64_t clock_now(void) {
+uint64_t clock_now(void) {
     struct timespec time;
     if (clock_gettime(CLOCK_MONOTONIC, &time) != 0)
         fail("clock_gettime");
     return (uint64_t)time.tv_sec * SECOND + (uint64_t)time.tv_nsec;
-}
-
-static void fill_random(void *bytes, size_t length) {
-    if (getrandom(bytes, length, 0) != (ssize_t)length)
-        fail("getrandom");
-}
-
-/* Writes a packet to the file for Wireshark, if there is one, with the time of day. */
-static void record(const struct server *server, const uint8_t *packet, size_t length) {
-    struct timespec time;
-    if (!server->pcap)
-        return;
-    if (clock_gettime(CLOCK_REALTIME, &time) != 0 ||
-        dcsctp_pcap_packet(server->pcap, (uint64_t)time.tv_sec * SECOND + (uint64_t)time.tv_nsec,
-                           packet, length) != 0)
-        fail("pcap");
-}
-
-/* ---- The table of associations -------------------------------------------------------------- */
-
-static struct association **list_of(struct server *server, const struct sockaddr_in *peer) {
-    uint64_t key = (uint64_t)peer->sin_addr.s_addr << 16 | peer->sin_port;
-    key = (key ^ server->secret) * 0x9e3779b97f4a7c15u;
-    key = (key ^ key >> 32) * 0x9e3779b97f4a7c15u;
-    return &server->table[key >> (64 - server->table_bits)];
-}
-
-static struct association *find(struct server *server, const struct sockaddr_in *peer) {
-    struct association *it = *list_of(server, peer);
-    while (it && (it->peer.sin_addr.s_addr != peer->sin_addr.s_addr ||
-                  it->peer.sin_port != peer->sin_port))
-        it = it->next;
-    return it;
-}
-
-/* Is it an INIT alone, under the verification tag 0 (RFC 9260, section 8.5.1)? */
-static int is_init(const uint8_t *packet, size_t length) {
-    return length >= 16 && packet[12] == 1 &&
-           !(packet[4] | packet[5] | packet[6] | packet[7]);
-}
-
-/* Makes an association with a peer; NULL where there are enough, or no memory is left. */
-static struct association *make(struct server *server, const struct sockaddr_in *peer) {
-    struct association **list = list_of(server, peer), *it;
-    uint8_t seed[32];
-    if (server->deadlines.count == server->capacity || !(it = calloc(1, sizeof *it))) {
-        server->refused++;
-        return NULL;
-    }
-    fill_random(seed, sizeof seed);
-    if (dcsctp_create(&it->socket, &server->options, seed, server->now) != DCSCTP_OK) {
-        free(it);
-        server->refused++;
-        return NULL;
-    }
-    it->peer = *peer;
-    it->gone_at = server->now + TO_CONNECT * SECOND;
-    it->deadline.moment = it->gone_at;
-    deadlines_add(&server->deadlines, &it->deadline);
-    it->next = *list;
-    *list = it;
-    server->made++;
-    return it;
-}
-
-static void forget(struct server *server, struct association *gone) {
-    struct association **it = list_of(server, &gone->peer);
-    while (*it != gone)
-        it = &(*it)->next;
-    *it = gone->next;
-    deadlines_remove(&server->deadlines, &gone->deadline);
-    server->connected -= (uint64_t)gone->is_connected;
-    dcsctp_destroy(&gone->socket);
-    free(gone);
-}
-
-/* ---- One association ------------------------------------------------------------------------ */
-
-/* Sends the packet that was taken. If the system doesn't, it is lost, as it may be on its way. */
-static int32_t send_packet(struct server *server, struct association *it) {
-    uint8_t packet[PACKET];
-    size_t length;
-    int32_t result = dcsctp_event_bytes(&it->socket, packet, sizeof packet, &length);
-    if (result != DCSCTP_OK)
-        return result;
-    record(server, packet, length);
-    if (sendto(server->udp, packet, length, MSG_DONTWAIT, (struct sockaddr *)&it->peer,
-               sizeof it->peer) >= 0)
-        server->sent++;
-    return DCSCTP_OK;
-}
-
-static int32_t handle_event(struct server *server, struct association *it,
-                            const dcsctp_event *event) {
-    switch (event->kind) {
-    case DCSCTP_EVENT_SEND_PACKET:
-        return send_packet(server, it);
-    case DCSCTP_EVENT_CONNECTED:
-        /* A peer that restarts is connected already. */
-        server->connected += (uint64_t)!it->is_connected;
-        it->is_connected = 1;
-        it->has_message = it->is_full = 0;
-        it->gone_at = DCSCTP_NEVER;
-        return server->ends_at == DCSCTP_NEVER ? DCSCTP_OK : dcsctp_shutdown(&it->socket);
-    case DCSCTP_EVENT_CLOSED:
-    case DCSCTP_EVENT_ABORTED:
-        /* The last packet may be lost. Then the peer sends its own again, and needs an answer. */
-        server->connected -= (uint64_t)it->is_connected;
-        server->aborted += event->kind == DCSCTP_EVENT_ABORTED;
-        it->is_connected = it->has_message = it->is_full = 0;
-        it->gone_at = server->now + LINGER * SECOND;
-        break;
-    case DCSCTP_EVENT_TOTAL_BUFFERED_AMOUNT_LOW:
-        it->is_full = 0;
-        break;
-    default:
-        break;
-    }
-    return DCSCTP_OK;
-}
-
-/* Sends back the message that was taken last. If there is no room, it stays taken, and no other is
- * taken: so the receive window fills, and the peer waits. */
-static int32_t echo(struct server *server, struct association *it) {
-    static uint8_t bytes[WINDOW];
-    const dcsctp_send_options how = DCSCTP_SEND_INIT;
-    size_t length;
-    int32_t result = dcsctp_message_bytes(&it->socket, bytes, sizeof bytes, &length);
-    if (result == DCSCTP_OK)
-        result = dcsctp_send(&it->socket, it->message.stream_id, it->message.ppid, bytes, length,
-                             &how);
-    it->is_full = result == DCSCTP_ERROR_RESOURCE_EXHAUSTION;
-    it->has_message = it->is_full;
-    server->messages += result == DCSCTP_OK;
-    return it->is_full || result == DCSCTP_ERROR_SHUTTING_DOWN ? DCSCTP_OK : result;
-}
-
-/* Takes all events, and as many messages as can be sent back. */
-static int32_t take_all(struct server *server, struct association *it) {
-    dcsctp_event event;
-    for (;;) {
-        int32_t result = DCSCTP_OK;
-        while (result == DCSCTP_OK && dcsctp_poll_event(&it->socket, &event) == 1)
-            result = handle_event(server, it, &event);
-        if (result == DCSCTP_OK && !it->has_message)
-            it->has_message = dcsctp_get_next_message(&it->socket, &it->message) == 1;
-        if (result != DCSCTP_OK || !it->has_message || it->is_full)
-            return result;
-        result = echo(server, it);
-        if (result != DCSCTP_OK)
-            return result;
-    }
-}
-
-/* Follows each call that hands something to an association, with its result. Where that is an
- * error, no memory above all, this association is given up, and no other. */
-static void serve(struct server *server, struct association *it, int32_t result) {
-    uint64_t moment;
-    if (result == DCSCTP_OK)
-        result = take_all(server, it);
-    if (result == DCSCTP_OK)
-        result = dcsctp_poll_timeout(&it->socket, &moment);
-    if (result == DCSCTP_OK) {
-        deadlines_move(&server->deadlines, &it->deadline,
-                       moment < it->gone_at ? moment : it->gone_at);
-        return;
-    }
-    server->failed++;
-    forget(server, it);
-}
-
-/* ---- All of them ---------------------------------------------------------------------------- */
-
-/* The association that a packet is for, or NULL. An INIT makes one, or gives its peer time. */
-static struct association *receiver_of(struct server *server, const struct sockaddr_in *peer,
-                                       const uint8_t *packet, size_t length) {
-    struct association *it = find(server, peer);
-    if (server->ends_at != DCSCTP_NEVER || !is_init(packet, length))
-        return it;
-    if (!it)
-        return make(server, peer);
-    if (!it->is_connected)
-        it->gone_at = server->now + TO_CONNECT * SECOND;
-    return it;
-}
-
-/* Hands in the packets that have come, so many at most. */
-static void handle_packets(struct server *server) {
-    uint8_t packet[PACKET];
-    for (int i = 0; i < BATCH; i++) {
-        struct sockaddr_in peer;
-        socklen_t size = sizeof peer;
-        ssize_t length = recvfrom(server->udp, packet, sizeof packet, MSG_DONTWAIT,
-                                  (struct sockaddr *)&peer, &size);
-        if (length < 0)
-            break;
-        server->received++;
-        record(server, packet, (size_t)length);
-        struct association *it = receiver_of(server, &peer, packet, (size_t)length);
-        if (!it)
-            continue;
-        int32_t result = dcsctp_advance_time(&it->socket, server->now);
-        if (result == DCSCTP_OK)
-            result = dcsctp_handle_input(&it->socket, packet, (size_t)length);
-        serve(server, it, result);
-    }
-}
-
-static void handle_timers(struct server *server) {
-    struct deadline *first;
-    while ((first = deadlines_first(&server->deadlines)) && first->moment <= server->now) {
-        struct association *it = (struct association *)first;
-        if (it->gone_at <= server->now)
-            forget(server, it);
-        else
-            serve(server, it, dcsctp_advance_time(&it->socket, server->now));
-    }
-}
-
-/* Makes a call for each association that is connected. */
-static void call_all(struct server *server, int32_t (*call)(dcsctp_socket *)) {
-    for (size_t i = 0; i < (size_t)1 << server->table_bits; i++)
-        for (struct association *it = server->table[i], *next; it; it = next) {
-            next = it->next;
-            if (it->is_connected)
-                serve(server, it, call(&it->socket));
-        }
-}
-
-static void forget_all(struct server *server) {
-    struct deadline *first;
-    while ((first = deadlines_first(&server->deadlines)))
-        forget(server, (struct association *)first);
-}
-
-/* Begins to end, by the first signal. */
-static void handle_signal(struct server *server) {
-    struct signalfd_siginfo signal;
-    if (read(server->signals, &signal, sizeof signal) != sizeof signal ||
-        server->ends_at != DCSCTP_NEVER)
-        return;
-    server->ends_at = server->now + TO_END * SECOND;
-    printf("ending %llu associations\n", (unsigned long long)server->connected);
-    call_all(server, dcsctp_shutdown);
 }
 
 /* ---- What it costs -------------------------------------------------------------------------- */
@@ -349,165 +108,480 @@ static double resident_bytes(void) {
 }
 
 /* Prints what was done since it was called last. The first call prints nothing. */
-static void report(struct server *server) {
+static void report(const struct server *server, const struct counts *counts) {
     static double empty, user, kernel;
-    static uint64_t messages, received, sent;
+    static struct counts last;
     const double seconds = (double)server->report_every / 1e9, resident = resident_bytes();
     double user_now, kernel_now;
     processor_time(&user_now, &kernel_now);
     if (empty > 0)
         printf("%llu connected, %.0f bytes each; a second: %.1f ms of processor and %.1f in the "
                "kernel, %.0f messages, %.0f packets received, %.0f sent\n",
-               (unsigned long long)server->connected,
-               server->connected ? (resident - empty) / (double)server->connected : 0,
+               (unsigned long long)counts->connected,
+               counts->connected ? (resident - empty) / (double)counts->connected : 0,
                (user_now - user) / seconds, (kernel_now - kernel) / seconds,
-               (double)(server->messages - messages) / seconds,
-               (double)(server->received - received) / seconds,
-               (double)(server->sent - sent) / seconds);
+               (double)(counts->messages - last.messages) / seconds,
+               (double)(counts->received - last.received) / seconds,
+               (double)(counts->sent - last.sent) / seconds);
     else
         empty = resident;
     user = user_now;
     kernel = kernel_now;
-    messages = server->messages;
-    received = server->received;
-    sent = server->sent;
-    server->report_at = server->now + server->report_every;
+    last = *counts;
 }
 
-/* ---- The loop ------------------------------------------------------------------------------- */
+static void print_end(const struct counts *all) {
+    printf("%llu associations made, %llu aborted, %llu failed, %llu refused; %llu messages",
+           (unsigned long long)all->made, (unsigned long long)all->aborted,
+           (unsigned long long)all->failed, (unsigned long long)all->refused,
+           (unsigned long long)all->messages);
+    if (all->handed > 0)
+        printf("; %llu handed over, %llu asked to be silent, %llu packets forwarded",
+               (unsigned long long)all->handed, (unsigned long long)all->silenced,
+               (unsigned long long)all->forwarded);
+    if (all->taken > 0)
+        printf("; %llu taken over", (unsigned long long)all->taken);
+    puts("");
+}
 
-static void watch(struct server *server, int fd) {
-    struct epoll_event event = {EPOLLIN, {.fd = fd}};
-    if (fd < 0 || epoll_ctl(server->epoll, EPOLL_CTL_ADD, fd, &event) != 0)
+/* Adds what a thread has done. */
+static void add_counts(struct counts *sum, const struct counts *one) {
+    uint64_t *to = &sum->connected;
+    const uint64_t *from = &one->connected;
+    const uint64_t away = sum->away > one->away ? sum->away : one->away;
+    for (size_t i = 0; i < sizeof *sum / sizeof *to; i++)
+        to[i] += from[i];
+    sum->away = away;
+}
+
+/* ---- Notes ---------------------------------------------------------------------------------- */
+
+static void tell_all(const struct server *server, enum note_kind kind, uint32_t index,
+                     const void *bytes, size_t length) {
+    const struct note note = {kind, index, {0}, 0, 0};
+    for (unsigned i = 0; i < server->count; i++)
+        note_send(server->channels[i], &note, bytes, length);
+}
+
+/* Prints what all threads have answered. */
+static void tell(struct server *server, enum purpose purpose) {
+    struct counts *sum = &server->tallies[purpose].sum;
+    if (purpose == TO_REPORT)
+        report(server, sum);
+    else if (purpose == TO_END)
+        printf("ending %llu associations\n", (unsigned long long)sum->connected);
+    else
+        printf("process %d: %u threads, took over %llu associations in %.1f ms, the longest away "
+               "for %.1f ms\n", (int)getpid(), server->count, (unsigned long long)sum->taken,
+               (double)(server->now - server->begun_at) / 1e6, (double)sum->away / 1e6);
+    memset(&server->tallies[purpose], 0, sizeof server->tallies[purpose]);
+}
+
+static void restart(struct server *server);
+
+/* One more socket is read. Once all are, this process has all that the one before had. */
+static void handle_reads(struct server *server, unsigned index) {
+    server->is_read[index] = 1;
+    if (++server->reads < server->socket_count)
+        return;
+    if (port_steer(server->sockets[0], server->count) != 0)
+        fail("SO_ATTACH_REUSEPORT_CBPF");
+    if (server->before >= 0) {
+        close(server->before);
+        server->before = -1;
+        tell_all(server, NOTE_REPORT, TO_TELL, NULL, 0);
+    } else {
+        printf("port %u\nprocess %d: %u threads\n", port_number(server->sockets[0]),
+               (int)getpid(), server->count);
+    }
+    if (server->must_restart)
+        restart(server);
+}
+
+static void end(struct server *server) {
+    if (!server->is_ending)
+        tell_all(server, NOTE_END, 0, NULL, 0);
+    server->is_ending = 1;
+}
+
+static void handle_note(struct server *server, const struct note *note, const void *bytes) {
+    switch (note->kind) {
+    case NOTE_COUNTS:
+        add_counts(&server->tallies[note->index].sum, bytes);
+        if (++server->tallies[note->index].answers == server->count)
+            tell(server, note->index);
+        break;
+    case NOTE_READY:
+        tell_all(server, NOTE_LEAVE, 0, server->next_channels,
+                 server->next_count * sizeof server->next_channels[0]);
+        break;
+    case NOTE_READS:
+        handle_reads(server, note->index);
+        break;
+    case NOTE_LEFT:
+        if (++server->left == server->count)
+            server->drained_at = server->now + (server->gives ? TO_DRAIN : 0) * SECOND;
+        break;
+    case NOTE_ENDED:
+        server->ended++;
+        break;
+    default:
+        break;
+    }
+}
+
+static void take_notes(struct server *server) {
+    static _Alignas(struct counts) uint8_t bytes[NOTE];
+    struct note note;
+    size_t length;
+    while (note_take(server->own, &note, bytes, &length))
+        handle_note(server, &note, bytes);
+}
+
+/* ---- The next process ----------------------------------------------------------------------- */
+
+/* How many threads there are to be. */
+static unsigned thread_count(const struct server *server) {
+    cpu_set_t cores;
+    unsigned count = server->wanted;
+    if (count == 0 && sched_getaffinity(0, sizeof cores, &cores) == 0)
+        count = (unsigned)CPU_COUNT(&cores);
+    return count < 1 ? 1 : count > THREADS ? THREADS : count;
+}
+
+/* Writes what the next process gets: how many sockets and channels, and the number of each file. */
+static void write_files(const struct server *server, const int *inputs, char *text, size_t size) {
+    size_t length = (size_t)snprintf(text, size, "%d,%u,%u", server->first, server->socket_count,
+                                     server->next_count);
+    for (unsigned i = 0; i < server->socket_count; i++)
+        length += (size_t)snprintf(text + length, size - length, ",%d", server->sockets[i]);
+    for (unsigned i = 0; i < server->next_count; i++)
+        length += (size_t)snprintf(text + length, size - length, ",%d,%d", inputs[i],
+                                   server->next_channels[i]);
+}
+
+/* Starts the program anew, with these files alone. */
+static int start_program(struct server *server, const int *inputs, char **arguments) {
+    posix_spawn_file_actions_t files;
+    posix_spawn_file_actions_init(&files);
+    posix_spawn_file_actions_adddup2(&files, server->first, server->first);
+    for (unsigned i = 0; i < server->socket_count; i++)
+        posix_spawn_file_actions_adddup2(&files, server->sockets[i], server->sockets[i]);
+    for (unsigned i = 0; i < server->next_count; i++) {
+        posix_spawn_file_actions_adddup2(&files, inputs[i], inputs[i]);
+        posix_spawn_file_actions_adddup2(&files, server->next_channels[i],
+                                         server->next_channels[i]);
+    }
+    int failed = posix_spawnp(&server->next, arguments[0], &files, NULL, arguments, environ);
+    posix_spawn_file_actions_destroy(&files);
+    return failed;
+}
+
+static void close_next(struct server *server) {
+    for (unsigned i = 0; i < server->next_count && !server->gives; i++)
+        close(server->next_channels[i]);
+    server->next_count = 0;
+    server->next = 0;
+}
+
+/* Gives all to the store. */
+static void give(struct server *server) {
+    int channel = store_give(server->gives, server->count, server->channels);
+    if (channel < 0)
+        return;
+    server->left = 0;
+    server->next_count = 1;
+    tell_all(server, NOTE_LEAVE, 1, &channel, sizeof channel);
+}
+
+/* Starts the next process. Once its threads run, it says NOTE_READY. */
+static void restart(struct server *server) {
+    char text[THREADS * 40], *arguments[ARGUMENTS + 3] = {server->arguments[0], "--after", text};
+    int inputs[THREADS], ends[2];
+    server->must_restart = server->reads < server->socket_count;
+    if (server->must_restart || server->next_count > 0 || server->is_ending || server->pcap)
+        return;
+    if (server->gives) {
+        give(server);
+        return;
+    }
+    for (int i = 1; i < ARGUMENTS && server->arguments[i]; i++)
+        arguments[i + 2] = server->arguments[i];
+    server->left = 0;
+    server->next_count = thread_count(server);
+    for (unsigned i = 0; i < server->next_count; i++) {
+        channel_open(ends);
+        inputs[i] = ends[0];
+        server->next_channels[i] = ends[1];
+    }
+    write_files(server, inputs, text, sizeof text);
+    const int failed = start_program(server, inputs, arguments);
+    for (unsigned i = 0; i < server->next_count; i++)
+        close(inputs[i]);
+    if (failed != 0) {
+        fprintf(stderr, "server: %s: %s\n", arguments[0], strerror(failed));
+        close_next(server);
+    }
+}
+
+/* The next process has ended before it had all: what is still here stays. */
+static void handle_child(struct server *server) {
+    int status;
+    if (server->next == 0 || waitpid(server->next, &status, WNOHANG) != server->next ||
+        server->is_ending)
+        return;
+    fprintf(stderr, "server: the next process has ended\n");
+    tell_all(server, NOTE_STAY, 0, NULL, 0);
+    server->next = 0; /* (threads may still send to its channels, so these stay open) */
+    server->next_count = 0;
+}
+
+/* Takes the files that the process before has written. */
+static void inherit(struct server *server, char *text) {
+    int numbers[3 + 3 * THREADS];
+    unsigned count = 0;
+    for (char *it = strtok(text, ","); it && count < 3 + 3 * THREADS; it = strtok(NULL, ",")) {
+        numbers[count] = (int)strtol(it, NULL, 10);
+        if (count != 1 && count != 2)
+            fcntl(numbers[count], F_SETFD, FD_CLOEXEC);
+        count++;
+    }
+    server->before = numbers[0];
+    server->socket_count = (unsigned)numbers[1];
+    server->count = (unsigned)numbers[2];
+    memcpy(server->sockets, numbers + 3, server->socket_count * sizeof numbers[0]);
+    for (unsigned i = 0; i < server->count; i++) {
+        server->inputs[i] = numbers[3 + server->socket_count + 2 * i];
+        server->channels[i] = numbers[4 + server->socket_count + 2 * i];
+    }
+}
+
+/* ---- The first thread ----------------------------------------------------------------------- */
+
+static void handle_signal(struct server *server) {
+    struct signalfd_siginfo signal;
+    if (read(server->signals, &signal, sizeof signal) != sizeof signal)
+        return;
+    if (signal.ssi_signo == SIGCHLD) {
+        handle_child(server);
+    } else if (signal.ssi_signo == SIGUSR2) {
+        restart(server);
+    } else if (!server->is_ending) {
+        tell_all(server, NOTE_REPORT, TO_END, NULL, 0);
+        end(server);
+        if (server->next > 0)
+            kill(server->next, SIGTERM);
+    }
+}
+
+/* The process before has ended too early. What it had left is lost, and its sockets aren't. */
+static void handle_orphaned(struct server *server) {
+    struct note note = {NOTE_SOCKET, 0, {0}, 0, 0};
+    epoll_ctl(server->epoll, EPOLL_CTL_DEL, server->before, NULL);
+    for (; note.index < server->socket_count; note.index++)
+        if (!server->is_read[note.index])
+            note_send(server->channels[note.index % server->count], &note, NULL, 0);
+}
+
+static void watch(const struct server *server, int file, uint32_t what) {
+    struct epoll_event event = {what, {.fd = file}};
+    if (file < 0 || epoll_ctl(server->epoll, EPOLL_CTL_ADD, file, &event) != 0)
         fail("epoll");
 }
 
-/* Opens the port, and takes signals as something to read. */
-static void open_files(struct server *server, uint16_t port) {
-    struct sockaddr_in at;
-    socklen_t length = sizeof at;
-    const int size = 4 << 20;
+/* Takes signals as something to read. */
+static void open_files(struct server *server) {
+    int ends[2];
     sigset_t signals;
-    memset(&at, 0, sizeof at);
-    at.sin_family = AF_INET;
-    at.sin_port = htons(port);
-    at.sin_addr.s_addr = htonl(INADDR_LOOPBACK);
-    server->udp = socket(AF_INET, SOCK_DGRAM | SOCK_CLOEXEC, 0);
-    if (server->udp < 0 || bind(server->udp, (struct sockaddr *)&at, length) != 0 ||
-        getsockname(server->udp, (struct sockaddr *)&at, &length) != 0)
-        fail("socket");
-    setsockopt(server->udp, SOL_SOCKET, SO_RCVBUF, &size, sizeof size);
     sigemptyset(&signals);
     sigaddset(&signals, SIGTERM);
     sigaddset(&signals, SIGINT);
+    sigaddset(&signals, SIGUSR2);
+    sigaddset(&signals, SIGCHLD);
     if (sigprocmask(SIG_BLOCK, &signals, NULL) != 0)
         fail("sigprocmask");
+    channel_open(ends);
+    server->own = ends[0];
+    server->first = ends[1];
     server->signals = signalfd(-1, &signals, SFD_CLOEXEC | SFD_NONBLOCK);
     server->epoll = epoll_create1(EPOLL_CLOEXEC);
-    watch(server, server->udp);
-    watch(server, server->signals);
-    printf("port %u\n", (unsigned)ntohs(at.sin_port));
+    watch(server, server->own, EPOLLIN);
+    watch(server, server->signals, EPOLLIN);
+    if (server->before >= 0)
+        watch(server, server->before, 0); /* its end is reported */
 }
 
-static void create(struct server *server, size_t capacity, uint64_t report_every) {
-    memset(server, 0, sizeof *server);
-    server->now = clock_now();
-    server->ends_at = server->report_at = DCSCTP_NEVER;
-    server->report_every = report_every;
-    server->capacity = capacity;
-    server->table_bits = 1;
-    while ((size_t)1 << server->table_bits < capacity)
-        server->table_bits++;
-    server->table = calloc((size_t)1 << server->table_bits, sizeof *server->table);
-    server->deadlines.entries = calloc(capacity, sizeof *server->deadlines.entries);
-    if (!server->table || !server->deadlines.entries)
-        fail("calloc");
-    fill_random(&server->secret, sizeof server->secret);
-    dcsctp_options_init(&server->options);
-    server->options.max_receiver_window_buffer_size = WINDOW;
-    server->options.max_send_buffer_size = SEND_BUFFER;
-    server->options.per_stream_send_queue_limit = SEND_BUFFER;
-    server->options.total_buffered_amount_low_threshold = SEND_BUFFER / 2;
-    if (report_every > 0)
-        report(server);
+/* Opens the port, with a socket and a channel for each thread, unless they are there already. */
+static void open_port(struct server *server, uint16_t port) {
+    int ends[2];
+    for (unsigned i = server->count; i < thread_count(server) && server->before < 0; i++) {
+        channel_open(ends);
+        server->inputs[i] = ends[0];
+        server->channels[i] = ends[1];
+        server->count++;
+    }
+    if (server->socket_count > 0)
+        port = port_number(server->sockets[0]);
+    while (server->socket_count < server->count) {
+        server->sockets[server->socket_count] = port_open(port);
+        port = port_number(server->sockets[server->socket_count++]);
+    }
 }
 
-/* How many milliseconds there are until the next deadline of all; -1 if there is none. */
+static void start_threads(struct server *server) {
+    for (unsigned i = 0; i < server->count; i++) {
+        struct start *start = &server->starts[i];
+        start->index = i;
+        start->threads = server->count;
+        start->first = server->first;
+        start->own = server->inputs[i];
+        memcpy(start->channels, server->channels, sizeof start->channels);
+        memcpy(start->sockets, server->sockets, sizeof start->sockets);
+        start->socket_count = server->socket_count;
+        start->capacity = server->capacity;
+        start->pcap = server->pcap;
+        errno = pthread_create(&server->threads[i], NULL, thread_run, start);
+        if (errno != 0)
+            fail("pthread_create");
+    }
+}
+
+/* Lets the threads read: the sockets that this process has opened, and the others once the process
+ * before has handed over all. */
+static void begin(struct server *server, unsigned inherited) {
+    struct note note = {NOTE_READY, 0, {0}, 0, 0};
+    if (server->before >= 0)
+        note_send(server->before, &note, NULL, 0);
+    note.kind = NOTE_SOCKET;
+    for (note.index = inherited; note.index < server->socket_count; note.index++)
+        note_send(server->channels[note.index % server->count], &note, NULL, 0);
+}
+
+/* How many milliseconds there are until there is something to do; -1 if there is nothing. */
 static int milliseconds(const struct server *server) {
-    const struct deadline *first = deadlines_first(&server->deadlines);
-    const uint64_t now = clock_now();
-    uint64_t moment = first ? first->moment : DCSCTP_NEVER;
-    moment = moment < server->report_at ? moment : server->report_at;
-    moment = moment < server->ends_at ? moment : server->ends_at;
+    uint64_t moment = server->report_every > 0 ? server->report_at : DCSCTP_NEVER;
+    moment = moment < server->drained_at ? moment : server->drained_at;
     if (moment == DCSCTP_NEVER)
         return -1;
-    if (moment <= now)
-        return 0;
-    return moment - now < 60 * SECOND ? (int)((moment - now + 999999) / 1000000) : 60000;
+    return moment > server->now ? (int)((moment - server->now + 999999) / 1000000) : 0;
 }
 
 static void turn(struct server *server) {
-    struct epoll_event events[2];
-    int count = epoll_wait(server->epoll, events, 2, milliseconds(server));
+    struct epoll_event events[3];
+    int count = epoll_wait(server->epoll, events, 3, milliseconds(server));
     if (count < 0 && errno != EINTR)
         fail("epoll_wait");
     server->now = clock_now();
     for (int i = 0; i < count; i++) {
-        if (events[i].data.fd == server->udp)
-            handle_packets(server);
-        else
+        if (events[i].data.fd == server->own)
+            take_notes(server);
+        else if (events[i].data.fd == server->signals)
             handle_signal(server);
+        else if (server->before >= 0)
+            handle_orphaned(server);
     }
-    handle_timers(server);
-    if (server->report_at <= server->now)
-        report(server);
+    if (server->report_every > 0 && server->report_at <= server->now) {
+        tell_all(server, NOTE_REPORT, TO_REPORT, NULL, 0);
+        server->report_at = server->now + server->report_every;
+    }
+    if (server->drained_at <= server->now) {
+        server->drained_at = DCSCTP_NEVER;
+        end(server);
+    }
 }
 
-/* Serves until a signal comes and all associations have ended. */
-static void run(struct server *server) {
-    while (server->ends_at == DCSCTP_NEVER || server->deadlines.count > 0) {
+/* Serves until a signal comes or the next process has all, and all threads have ended. */
+static struct counts run(struct server *server) {
+    struct counts all = {0};
+    while (server->ended < server->count)
         turn(server);
-        if (server->now >= server->ends_at)
-            break;
+    store_end();
+    for (unsigned i = 0; i < server->count; i++) {
+        pthread_join(server->threads[i], NULL);
+        add_counts(&all, &server->starts[i].counts);
+        close(server->channels[i]);
+        close(server->inputs[i]);
     }
-    const uint64_t left = server->connected;
-    call_all(server, dcsctp_close);
-    forget_all(server);
-    server->aborted += left;
+    for (unsigned i = 0; i < server->socket_count; i++)
+        close(server->sockets[i]);
+    close_next(server);
+    close(server->own);
+    close(server->first);
+    close(server->signals);
+    close(server->epoll);
+    return all;
+}
+
+/* ---- Its arguments -------------------------------------------------------------------------- */
+
+/* Takes the options; what is left of the arguments begins after the place that is returned. */
+static int take_options(struct server *server, char **argv, char **path, char **files) {
+    int i = 1;
+    for (; argv[i] && argv[i + 1] && argv[i][0] == '-'; i += 2) {
+        if (strcmp(argv[i], "--after") == 0) {
+            *files = argv[i + 1];
+            server->arguments = argv + i + 1;
+        } else if (strcmp(argv[i], "--threads") == 0) {
+            server->wanted = (unsigned)strtoul(argv[i + 1], NULL, 10);
+        } else if (strcmp(argv[i], "--pcap") == 0) {
+            *path = argv[i + 1];
+        } else if (strcmp(argv[i], "--give") == 0) {
+            server->gives = argv[i + 1];
+        } else if (strcmp(argv[i], "--take") == 0) {
+            server->takes = argv[i + 1];
+        } else {
+            break;
+        }
+    }
+    return i - 1;
+}
+
+static void serve(struct server *server, uint16_t port, char *path, char *files) {
+    unsigned inherited;
+    if (path && !(server->pcap = dcsctp_pcap_open(path)))
+        fail(path);
+    if (path)
+        server->wanted = 1;
+    if (files)
+        inherit(server, files);
+    server->arguments[0] = program_invocation_name;
+    open_files(server);
+    inherited = server->socket_count;
+    open_port(server, port);
+    start_threads(server);
+    begin(server, inherited);
+    if (server->takes && store_take(server->takes, server->count, server->channels) != 0)
+        exit(1);
+    const struct counts all = run(server);
+    if (server->pcap && dcsctp_pcap_close(server->pcap) != 0)
+        fail(path);
+    print_end(&all);
+    if (all.aborted + all.failed > 0)
+        exit(1);
 }
 
 int main(int argc, char **argv) {
     static struct server server;
-    const char *path = NULL;
-    if (argc > 2 && strcmp(argv[1], "--pcap") == 0) {
-        path = argv[2];
-        argv += 2;
-        argc -= 2;
-    }
+    char *path = NULL, *files = NULL;
+    server.arguments = argv;
+    server.before = -1;
+    server.drained_at = DCSCTP_NEVER;
+    server.now = server.begun_at = clock_now();
+    const int options = take_options(&server, argv, &path, &files);
+    argc -= options;
+    argv += options;
     const long port = argc > 1 ? strtol(argv[1], NULL, 10) : 5000;
     const long capacity = argc > 2 ? strtol(argv[2], NULL, 10) : 1000;
     const long seconds = argc > 3 ? strtol(argv[3], NULL, 10) : 0;
     if (argc > 4 || port < 0 || port > 65535 || capacity < 1 || capacity > 1000000 ||
         seconds < 0 || seconds > 86400) {
-        fprintf(stderr, "usage: server [--pcap FILE] [PORT [ASSOCIATIONS [SECONDS]]]\n");
+        fprintf(stderr, "usage: server [--threads COUNT] [--pcap FILE] [--give STORE] "
+                        "[--take STORE] [PORT [ASSOCIATIONS [SECONDS]]]\n");
         return 2;
     }
     setvbuf(stdout, NULL, _IOLBF, 0);
-    create(&server, (size_t)capacity, (uint64_t)seconds * SECOND);
-    if (path && !(server.pcap = dcsctp_pcap_open(path)))
-        fail(path);
-    open_files(&server, (uint16_t)port);
-    run(&server);
-    if (server.pcap && dcsctp_pcap_close(server.pcap) != 0)
-        fail(path);
-    printf("%llu associations made, %llu aborted, %llu failed, %llu refused; %llu messages\n",
-           (unsigned long long)server.made, (unsigned long long)server.aborted,
-           (unsigned long long)server.failed, (unsigned long long)server.refused,
-           (unsigned long long)server.messages);
-    close(server.udp);
-    close(server.signals);
-    close(server.epoll);
-    free(server.table);
-    free(server.deadlines.entries);
-    return server.aborted + server.failed > 0;
+    server.capacity = (size_t)capacity;
+    server.report_every = (uint64_t)seconds * SECOND;
+    serve(&server, (uint16_t)port, path, files);
+    return 0;
 }
