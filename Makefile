@@ -27,7 +27,7 @@ ifneq ($(filter unproved,$(MAKECMDGOALS)),)
 ARCHIVE := $(UNPROVED_ARCHIVE)
 else ifneq ($(filter prove,$(MAKECMDGOALS))$(wildcard $(PROVED_ARCHIVE)),)
 ARCHIVE := $(PROVED_ARCHIVE)
-else ifneq ($(filter demo test fuzz bench check-restart,$(MAKECMDGOALS))$(wildcard $(UNPROVED_ARCHIVE)),)
+else ifneq ($(filter demo test fuzz bench bench-server check-restart,$(MAKECMDGOALS))$(wildcard $(UNPROVED_ARCHIVE)),)
 ARCHIVE := $(UNPROVED_ARCHIVE)
 else
 ARCHIVE := no-library
@@ -69,6 +69,7 @@ help:
 	@echo "make doc               pages of C, Rust and Python, too               1 min, into out/doc"
 	@echo "make fuzz MINUTES=5    calls the C library as libFuzzer's inputs say"
 	@echo "make bench             instructions, beside those of docs/figures.md  5 min"
+	@echo "make bench-server      messages a second of the server on 1, 2, 4 cores 6 min"
 	@echo "make check-restart     restarts the server twenty times               1 min"
 	@echo "make check-browser     a page in Chromium uses data channels          1 min"
 	@echo "make check-usrsctp     programs for usrsctp run over this library     1 min"
@@ -441,10 +442,19 @@ bench: $(if $(MARK),$(FAST) $(FAST_BENCH),$(LIBRARY) $(or $(PROVED_BENCH),$(FAST
 	@$(if $(MARK),$(MAKE) -s --no-print-directory ARCHIVE=$(FAST) OUT=out/fast out/fast/libdcsctp-unproved.a)
 	@bash scripts/bench.sh $(filter %/dcsctp_bench,$^) $(if $(MARK),out/fast,$(OUT))
 
+# Messages a second of the server on 1, 2 and 4 cores, by the same builds, and what it costs to steer a packet.
+$(OUT)/tests/steering: examples/c/server_port.c examples/c/server_note.c examples/c/server.h
+bench-server: $(if $(MARK),$(FAST),$(OUT)/tests/steering $(RESTARTED))
+	@$(if $(MARK),$(MAKE) -s --no-print-directory ARCHIVE=$(FAST) OUT=out/fast bench-server-programs)
+	@bash scripts/bench-server.sh $(if $(MARK),out/fast,$(OUT))/examples
+	@$(if $(MARK),out/fast,$(OUT))/tests/steering
+
+bench-server-programs: $(OUT)/tests/steering $(RESTARTED)
+
 # (dist and install write the same files)
 .NOTPARALLEL:
 .PHONY: FORCE help demo test prove unproved all no-library examples c-programs reference doc install uninstall dist \
     deb wheel crate clean check check-header check-symbols check-tests \
     check-cpp check-cffi check-examples check-install check-dist check-valgrind check-sanitizers \
     check-bindings check-webrtc check-rust check-browser check-usrsctp check-janus check-restart check-small-restart fuzz \
-    bench
+    bench bench-server bench-server-programs
