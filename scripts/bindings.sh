@@ -1,6 +1,6 @@
 #!/usr/bin/env bash
 # Tries the bindings in a package of `make dist`, which is unpacked elsewhere: their tests, their programs, which must
-# print bindings/expected.txt, and what bindings/README.md shows. A tool that isn't installed is named, and left out.
+# print bindings/expected.txt or hello. A tool that isn't installed is named, and left out.
 #
 #     scripts/bindings.sh PACKAGE NAME        PACKAGE: a .tar.gz; NAME: dcsctp or dcsctp-unproved
 set -euo pipefail
@@ -26,11 +26,6 @@ tours() {
     timeout 300 "$@" | diff "$bindings/expected.txt" -
 }
 
-# shown LANGUAGE: the program of bindings/README.md.
-shown() {
-    sed -n "/^\`\`\`$1\$/,/^\`\`\`\$/p" "$bindings/README.md" | sed '1d; $d'
-}
-
 # says_hello COMMAND..: that is all that it prints.
 says_hello() {
     timeout 300 "$@" | diff <(echo hello) -
@@ -51,9 +46,7 @@ try_rust() {
     done
     tours cargo run --offline --quiet --example tour
     under_valgrind tours "$CARGO_TARGET_DIR/debug/examples/tour"
-    { echo "//! Shown." && shown rust; } >dcsctp-socket/examples/shown.rs
-    says_hello cargo run --offline --quiet --example shown
-    rm dcsctp-socket/examples/shown.rs
+    says_hello cargo run --offline --quiet --example hello
 }
 
 command -v valgrind >/dev/null || echo "skipped: bindings under valgrind: no valgrind (apt install valgrind)"
@@ -65,8 +58,7 @@ if has python3 Python python3; then
     export PYTHONDONTWRITEBYTECODE=1
     (cd "$bindings/python" && timeout 300 python3 -m unittest -q 2>"$folder/log" || { cat "$folder/log" >&2; exit 1; })
     tours python3 "$bindings/python/tour.py"
-    shown python >"$bindings/python/shown.py"
-    says_hello python3 "$bindings/python/shown.py"
+    says_hello python3 "$bindings/python/hello.py"
     echo "check: bindings/python"
 fi
 
@@ -76,13 +68,12 @@ try_cpp() {
     local strict=(-std=c++17 -Wall -Wextra -Wshadow -pedantic -Werror)
     echo '#include "dcsctp.hpp"' |
         "$@" "${strict[@]}" -fno-exceptions -fno-rtti "${include[@]}" -fsyntax-only -x c++ -
-    shown cpp >"$bindings/cpp/shown.cpp"
-    for it in tour test shown; do
+    for it in tour test hello; do
         "$@" "${strict[@]}" -O1 -gdwarf-4 "${include[@]}" "$bindings/cpp/$it.cpp" "$folder/lib/lib$name.a" \
             -o "$folder/$it"
     done
     tours "$folder/tour"
-    says_hello "$folder/shown"
+    says_hello "$folder/hello"
     timeout 300 "$folder/test"
     under_valgrind tours "$folder/tour"
     under_valgrind env "$folder/test"
@@ -105,10 +96,10 @@ try_go() {
     go build "${tags[@]}" -o "$folder/tour-go" ./tour
     tours "$folder/tour-go"
     # (in a module of its own, as of a user)
-    mkdir "$folder/shown-go"
-    cd "$folder/shown-go"
-    shown go >main.go
-    go mod init shown 2>"$folder/log"
+    mkdir "$folder/hello-go"
+    cd "$folder/hello-go"
+    cp "$bindings/go/hello/main.go" .
+    go mod init hello 2>"$folder/log"
     go mod edit -replace "dcsctp=$bindings/go"
     go get "${tags[@]}" dcsctp 2>"$folder/log" || { cat "$folder/log" >&2; return 1; }
     says_hello go run "${tags[@]}" .
