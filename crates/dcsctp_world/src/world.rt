@@ -238,8 +238,8 @@ impl<R: Rng + Drop> World<R> {
     /// and no message is read twice, in any association. That has further premises. Each verification tag serves one
     /// association: what `associations` shows after an act was there before it, or has an own tag and a peer's tag that
     /// are new, and where one side's own tag is the other's peer tag, both pairs are crossed. Or with `follow_rfc` one
-    /// takes the place of another under the same own pair, which had begun no request to reset streams, and which the
-    /// other side never has (RFC 9260, section 5.2.4, action B): both sides connect, and a COOKIE ECHO is late or lost.
+    /// takes the place of another under the same own pair, which the other side never shows (RFC 9260, section 5.2.4,
+    /// action B): both sides connect, and a COOKIE ECHO is late or lost.
     /// Fewer than 2^30 chunks of data, to both peers' tags together, and fewer than 2^32 - 1 requests to reset streams
     /// go to each tag, each counted as often as it is sent, and a side sends fewer than 2^64 messages. In an
     /// association with interleaving (RFC 8260) no such request ends by OnStreamsResetFailed. Where a tag serves a
@@ -248,15 +248,16 @@ impl<R: Rng + Drop> World<R> {
     /// lives.
     ///
     /// In one association, or after it has ended, the ordered messages of a stream are read in the order in which they
-    /// were sent (RFC 9260, section 6.6). That has two more premises. The sender has `follow_rfc`, or had no other
-    /// association. And one of two holds. In this association messages interleave; then streams may be reset. Or the
+    /// were sent (RFC 9260, section 6.6). That has two more premises. The sender has `follow_rfc`, or had no other own
+    /// tag. And one of two holds. In this association messages interleave; then streams may be reset. Or the
     /// sender sent no request to reset streams to the peer's verification tag, and of the messages that it ever sent, on
     /// any stream, either none has a lifetime or a limit on retransmissions, or fewer than 2^15 on each stream are ordered.
     ///
-    /// None is missing before one that was read, if the sender had one association, no message that it ever sent has
-    /// such a limit, and its user never called `reset_streams`, for any stream, refused calls included. Then what was
-    /// read of a stream's ordered messages is a prefix of what was sent on it. From the first such message or call on,
-    /// this is promised of no stream.
+    /// None is missing before one that was read on a stream for which the sender's user never called `reset_streams`,
+    /// refused calls included, if the sender had no other own tag, and no message of the stream has such a limit. Other
+    /// streams may be reset. Where messages don't interleave, no message of any stream may have a limit either, or
+    /// fewer than 2^15 ordered ones are sent on this stream. Then what was read of its ordered messages is a prefix of
+    /// what was sent on it.
     ///
     /// The rest holds whatever comes from outside. In one lifetime an association connects at most once, and
     /// the numbers of requests to reset streams go up by one. Each request that was accepted is performed at
