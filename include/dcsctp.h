@@ -406,14 +406,15 @@ typedef struct dcsctp_socket {
  *   association begins none. A stale cookie is answered by an ERROR, and such an answer ends an
  *   attempt to connect. A shutdown and resets of streams wait for the end of the handshake. Data,
  *   SACKs and resets that come before the COOKIE ACK are dropped. Where both ends connect, what was
- *   sent before it is sent again, and may be read twice, if our pair and what both ends support
- *   stay. Parts of messages count 256 bytes more in the receive window. Of a packet's HEARTBEATs,
- *   INITs and RE-CONFIG requests one is answered. A shutdown also waits for a message behind a
- *   reset of its stream, if it has no lifetime. I-DATA while a SHUTDOWN awaits its answer brings
- *   another. A closed socket takes only its own cookies, unless they are forged by one who saw its
- *   packets. The heartbeat interval of a restored association starts at once, not with its next
- *   data. At 0, and with upstream's limits (above), the socket behaves as upstream, but for a few
- *   differences: docs/design/differences.md has a row for each, and for each rule. */
+ *   sent before it is sent again, if our tag, our first TSN and what both ends support stay; it is
+ *   read twice only if the peer had ended the association in which it was sent. Parts of messages
+ *   count 256 bytes more in the receive window. Of a packet's HEARTBEATs, INITs and RE-CONFIG
+ *   requests one is answered. A shutdown also waits for a message behind a reset of its stream, if
+ *   it has no lifetime. I-DATA while a SHUTDOWN awaits its answer brings another. A closed socket
+ *   takes only its own cookies, unless they are forged by one who saw its packets. The heartbeat
+ *   interval of a restored association starts at once, not with its next data. At 0, and with
+ *   upstream's limits (above), the socket behaves as upstream, but for a few differences:
+ *   docs/design/differences.md has a row for each, and for each rule. */
 typedef struct dcsctp_options {
     size_t size;                                         /* sizeof(dcsctp_options) */
     size_t mtu;                                          /* longest packet that is sent: 1,191 */
