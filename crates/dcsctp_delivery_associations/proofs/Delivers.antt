@@ -139,7 +139,7 @@ module _ (options : Options) (ends : Ends) (e : Endpoint) (queued : List Message
 
 -- ---- two sockets that were just made
 
-pub ends_begin : (never_resets : ℕ → Bool) (mine options : Options) → AreEnds never_resets options (fresh_endpoint mine) [] [] [] (fresh_endpoint options) [] nothing_read
+pub ends_begin : (never_resets : ℕ → Bool) (mine options : Options) → AreEnds never_resets [] options (fresh_endpoint mine) [] [] [] (fresh_endpoint options) [] nothing_read
 ends_begin never_resets mine options =
     record {
       ends = record { sends = λ tag. nothing; gets = λ tag. new_end options 0; firsts = λ tag. 0; latest = λ tag. 0; former = λ tag. None; never_resets = never_resets };
@@ -167,6 +167,7 @@ ends_begin never_resets mine options =
           known = λ link has. absurd has;
         };
         mine = λ link is. absurd (cc);
+        idle = λ unlinked. refl;
         asks = tt;
         numbered = λ tag some anew. refl;
         kept = λ tag some only id never. never;
@@ -191,6 +192,7 @@ ends_begin never_resets mine options =
         };
         unlinked = λ none. refl;
       };
+      reported = tt;
     }
   where
     nothing : SendingEnd

@@ -30,7 +30,7 @@ less_than n k below ne = elim (le_or_lt k n) [ inl above ↦ absurd (ne (omega (
 same_message : {one two : Message} → Some one ≡ Some two → one ≡ two
 same_message is = cc
 
-pub fewer_marks : (id : ℕ) (queued marks : List Message) → length marks ≤ length queued → AllFound marks queued → ordered_on id marks ≤ ordered_on id queued
+fewer_marks : (id : ℕ) (queued marks : List Message) → length marks ≤ length queued → AllFound marks queued → ordered_on id marks ≤ ordered_on id queued
 fewer_marks id queued [] long found = omega arith
 fewer_marks id [] (mark ∷ marks) long found = absurd (omega (arith, long))
 fewer_marks id (message ∷ queued) (mark ∷ marks) long found =

@@ -28,10 +28,10 @@ use Rattle.dcsctp_delivery_order.proofs.PlainDirections.{plain_directions_delive
 use Rattle.dcsctp_delivery_order.proofs.StreamDirections.{streams_deliver_without_gaps, directions_deliver_without_gaps}
 use Rattle.dcsctp_delivery_order.proofs.FewDirections.{plain_few_deliver_in_order}
 use Rattle.dcsctp_delivery_order.specs.PlainDirections.{FewOnEachStream}
-use Rattle.dcsctp_delivery_associations.proofs.FewMarks.{fewer_marks, few_marks}
-use Rattle.dcsctp_delivery_order.proofs.PlainFront.{few_streams_deliver_without_gaps, plain_streams_deliver_without_gaps, plain_directions_deliver_without_gaps}
+use Rattle.dcsctp_delivery_associations.proofs.FewMarks.{few_marks}
+use Rattle.dcsctp_delivery_order.proofs.PlainFront.{plain_streams_deliver_without_gaps, plain_directions_deliver_without_gaps}
 use Rattle.dcsctp_delivery_associations.specs.Ends.{ReceivingEnd, joined, Ends, HadKind, IsOnlyOwn, BeginsAnew, Awaits, chunks_before, Between}
-use Rattle.dcsctp_delivery_associations.specs.InOrder.{InterleavesUnder, IsFewKept}
+use Rattle.dcsctp_delivery_associations.specs.InOrder.{InterleavesUnder, IsReliableKept}
 use Rattle.dcsctp_delivery_associations.specs.Reads.{Reading, with_key}
 use Rattle.dcsctp_delivery_associations.proofs.Delivers.{were_unmarked}
 use Rattle.dcsctp_delivery_associations.proofs.Growing.{AllFound}
@@ -240,30 +240,6 @@ module _ (options : Options) (ends : Ends) (e : Endpoint) (queued : List Message
       (streams_deliver_without_gaps options (ends.firsts tag) options.max_receiver_window_buffer_size (own tag) (h.runs tag) (h.small tag) (little tag) (short tag)
       (sym (had.kind_is interleaves.0 interleaves.1 interleaves.2) ∙ interleaves.3) (h.numbered tag some (inr only)))))
 
-  -- Either way of numbering leaves no gap on a stream with few messages that is kept.
-  module _ (these : ℕ → Bool) (reliable : (id : ℕ) → these id ≡ true → IsFewKept ends.never_resets queued id) where
-    own_few : (tag : ℕ) → tag ≢ 0 → IsOnlyOwn past tag → (kind : Bool) → (ends.sends tag).queues.queue.is_interleaved ≡ kind → DeliveredOn these (ends.sends tag).queued (ends.gets tag).read
-    own_few tag some only true is =
-        let d = streams_deliver_without_gaps options (ends.firsts tag) options.max_receiver_window_buffer_size (own tag) (h.runs tag) (h.small tag) (little tag) (short tag) is (h.numbered tag some (inr only)) in
-        record {
-          delivered = d.ordered.delivered;
-          in_order = λ id mine. d.ordered.in_order id;
-          no_gap = λ id mine. d.no_gap id (h.kept tag some only id (reliable id mine).never) (unlimited_on_marks id (ends.sends tag).queued queued (h.sender.marks tag) (reliable id mine).unlimited);
-        }
-    own_few tag some only false is =
-        few_streams_deliver_without_gaps these options (ends.firsts tag) options.max_receiver_window_buffer_size (own tag) (h.runs tag) (h.small tag) (little tag) (short tag) is (h.numbered tag some (inr only))
-        (λ id mine. record {
-          keeps = h.kept tag some only id (reliable id mine).never;
-          unlimited = unlimited_on_marks id (ends.sends tag).queued queued (h.sender.marks tag) (reliable id mine).unlimited;
-          few = (let fewer = fewer_marks id queued (ends.sends tag).queued (h.sender.short tag) (h.sender.marks tag) in let all = (reliable id mine).few in omega (arith, fewer, all));
-        })
-
-    pub ends_deliver_few_by_stream : (tag : ℕ) → IsOnlyOwn past tag → DeliveredOn these queued (with_key tag reading.reads)
-    ends_deliver_few_by_stream tag only =
-        by_begun tag (nothing_on these queued (with_key tag reading.reads))
-        (λ some had. on_unmarked these these (ends.sends tag).queued queued (with_key tag reading.reads) (h.sender.marks tag) (λ id mine. mine)
-        (subst (DeliveredOn these (ends.sends tag).queued) (sym (h.receiver.were_read tag)) (own_few tag some only (ends.sends tag).queues.queue.is_interleaved refl)))
-
   module _ (window : options.max_receiver_window_buffer_size < 2 ^ 32) where
     room : options.max_receiver_window_buffer_size ≤ 2 ^ 63
     room = omega (arith, window)
@@ -287,24 +263,25 @@ module _ (options : Options) (ends : Ends) (e : Endpoint) (queued : List Message
         by_begun tag (nothing_in_order queued (with_key tag reading.reads))
         (λ some had. in_order_so tag (own_data tag (ends.sends tag).queues.queue.is_interleaved refl (h.numbered tag some anew) (unasked tag none) which))
 
-    -- Either way of numbering leaves no gap on a stream that is kept.
-    own_on : AreUnlimited queued → (tag : ℕ) → tag ≢ 0 → IsOnlyOwn past tag → (kind : Bool) → (ends.sends tag).queues.queue.is_interleaved ≡ kind → DeliveredOn (ends.sends tag).beginning.keeps (ends.sends tag).queued (ends.gets tag).read
-    own_on are tag some only true is =
-        let d = streams_deliver_without_gaps options (ends.firsts tag) options.max_receiver_window_buffer_size (own tag) (h.runs tag) (h.small tag) (little tag) (short tag) is (h.numbered tag some (inr only)) in
-        record {
-          delivered = d.ordered.delivered;
-          in_order = λ id keeps. d.ordered.in_order id;
-          no_gap = λ id keeps. d.no_gap id keeps (unlimited_on_of id (ends.sends tag).queued (λ place mark at on. unlimited_at (ends.sends tag).queued place mark (unlimited are tag) at));
-        }
-    own_on are tag some only false is =
-        plain_streams_deliver_without_gaps options (ends.firsts tag) options.max_receiver_window_buffer_size (own tag) (h.runs tag) (h.small tag) (little tag) (short tag) room is
-        (h.numbered tag some (inr only)) (unlimited are tag)
+    -- Either way of numbering leaves no gap on a stream that is kept and has no limits.
+    module _ (these : ℕ → Bool) (reliable : (id : ℕ) → these id ≡ true → IsReliableKept ends.never_resets queued id) where
+      own_on : (tag : ℕ) → tag ≢ 0 → IsOnlyOwn past tag → (kind : Bool) → (ends.sends tag).queues.queue.is_interleaved ≡ kind → DeliveredOn these (ends.sends tag).queued (ends.gets tag).read
+      own_on tag some only true is =
+          let d = streams_deliver_without_gaps options (ends.firsts tag) options.max_receiver_window_buffer_size (own tag) (h.runs tag) (h.small tag) (little tag) (short tag) is (h.numbered tag some (inr only)) in
+          record {
+            delivered = d.ordered.delivered;
+            in_order = λ id mine. d.ordered.in_order id;
+            no_gap = λ id mine. d.no_gap id (h.kept tag some only id (reliable id mine).never) (unlimited_on_marks id (ends.sends tag).queued queued (h.sender.marks tag) (reliable id mine).unlimited);
+          }
+      own_on tag some only false is =
+          plain_streams_deliver_without_gaps these options (ends.firsts tag) options.max_receiver_window_buffer_size (own tag) (h.runs tag) (h.small tag) (little tag) (short tag) room is (h.numbered tag some (inr only))
+          (λ id mine. record { keeps = h.kept tag some only id (reliable id mine).never; unlimited = unlimited_on_marks id (ends.sends tag).queued queued (h.sender.marks tag) (reliable id mine).unlimited })
 
-    pub ends_deliver_data_by_stream : AreUnlimited queued → (tag : ℕ) → IsOnlyOwn past tag → DeliveredOn ends.never_resets queued (with_key tag reading.reads)
-    ends_deliver_data_by_stream are tag only =
-        by_begun tag (nothing_on ends.never_resets queued (with_key tag reading.reads))
-        (λ some had. on_unmarked (ends.sends tag).beginning.keeps ends.never_resets (ends.sends tag).queued queued (with_key tag reading.reads) (h.sender.marks tag) (h.kept tag some only)
-        (subst (DeliveredOn (ends.sends tag).beginning.keeps (ends.sends tag).queued) (sym (h.receiver.were_read tag)) (own_on are tag some only (ends.sends tag).queues.queue.is_interleaved refl)))
+      pub ends_deliver_on_streams : (tag : ℕ) → IsOnlyOwn past tag → DeliveredOn these queued (with_key tag reading.reads)
+      ends_deliver_on_streams tag only =
+          by_begun tag (nothing_on these queued (with_key tag reading.reads))
+          (λ some had. on_unmarked these these (ends.sends tag).queued queued (with_key tag reading.reads) (h.sender.marks tag) (λ id mine. mine)
+          (subst (DeliveredOn these (ends.sends tag).queued) (sym (h.receiver.were_read tag)) (own_on tag some only (ends.sends tag).queues.queue.is_interleaved refl)))
 
     -- Either way of numbering leaves no gap.
     own_front : AreUnlimited queued → (tag : ℕ) → tag ≢ 0 → ((id : ℕ) → ends.never_resets id ≡ true) → IsOnlyOwn past tag → (kind : Bool) → (ends.sends tag).queues.queue.is_interleaved ≡ kind

@@ -1,5 +1,6 @@
 pub mod Counting
 pub mod Growing
+pub mod Heard
 pub mod Own
 pub mod RequestNumbers
 pub mod AskedOn

@@ -1,10 +1,11 @@
 -- A turn of the receiver in which an association begins.
-use Rattle.std.proofs.Common.{false, ◌≡◌, ◌≢◌, ℕ, ◌<◌, ◌^◌, Option, Some, List, [], ◌∷◌, length, refl, sym, ◌∙◌, ap, arith, subst, inl, inr}
+use Rattle.std.proofs.Common.{false, ◌≡◌, ◌≢◌, ℕ, ◌<◌, ◌+◌, ◌-◌, ◌%◌, ◌^◌, Option, None, Some, List, ◌++◌, [], ◌∷◌, length, refl, sym, ◌∙◌, ap, arith, subst, inl, inr}
 use Rattle.std.specs.Prelude.{◌⊎◌}
 use Rattle.dcsctp_spec_lemmas.specs.types.declared.association.Pair.{Pair}
 use Rattle.dcsctp_spec_lemmas.specs.types.declared.options.Options.{Options}
 use Rattle.dcsctp_spec_lemmas.specs.types.Settings.{SameOptions}
 use Rattle.dcsctp_spec_lemmas.specs.spec.endpoint.Endpoint.{Endpoint}
+use Rattle.dcsctp_spec_lemmas.specs.spec.endpoint.Event.{packets_in}
 use Rattle.dcsctp_spec_lemmas.specs.spec.endpoint.Outcome.{Outcome}
 use Rattle.dcsctp_spec_lemmas.specs.spec.Packet.{Emission}
 use Rattle.dcsctp_spec_runs.specs.Past.{HasEffect}
@@ -19,15 +20,17 @@ use Rattle.dcsctp_delivery_sending.specs.Places.{set_at}
 use Rattle.dcsctp_delivery_sending.specs.Log.{Message}
 use Rattle.dcsctp_delivery_sending.proofs.Places.{decide, set_same, set_other}
 use Rattle.dcsctp_delivery_directions.specs.Directions as steps
-use Rattle.dcsctp_delivery_directions.specs.Directions.{DirectionRun}
+use Rattle.dcsctp_delivery_directions.specs.Directions.{HasReached, DirectionRun}
 use Rattle.dcsctp_delivery_directions.proofs.Directions.{direction_queues}
-use Rattle.dcsctp_delivery_turns.specs.Actions.{peer_tag, IsCall}
+use Rattle.dcsctp_delivery_turns.specs.Actions.{AreReports, begun_transfer, peer_tag, IsCall}
+use Rattle.dcsctp_delivery_turns.specs.Reporting.{IsReachedBetween, TurnReports, reports_on, reports_anew, reports_nothing, reports_nowhere}
 use Rattle.dcsctp_delivery_turns.specs.Asking.{own_of, AsksFit}
 use Rattle.dcsctp_delivery_turns.specs.Runs.{OpensAssociation}
-use Rattle.dcsctp_delivery_associations.specs.Ends.{SendingEnd, ReceivingEnd, joined, new_end, Ends, sender_key, HadPeer, Awaits, Sender, NewTag, HadTag, Receiver, unbegun_end, MetOrAlone, Between}
+use Rattle.dcsctp_delivery_associations.specs.Ends.{SendingEnd, ReceivingEnd, joined, new_end, Ends, sender_key, HadPeer, Awaits, Sender, NewTag, HadTag, Receiver, unbegun_end, MetOrAlone, AreHeard, Between}
 use Rattle.dcsctp_delivery_associations.specs.Reads.{Tags, tags_of, Reading, tags_or, with_key}
 use Rattle.dcsctp_delivery_associations.proofs.Growing.{set_all}
 use Rattle.dcsctp_delivery_associations.proofs.Growing.{set_three}
+use Rattle.dcsctp_delivery_associations.proofs.Heard.{same_grown, heard_later, heard_both, heard_there, heard_nothing, passed_reached}
 use Rattle.dcsctp_delivery_associations.proofs.Senders.{alone_later}
 use Rattle.dcsctp_delivery_associations.proofs.WhatIsRead.{all_of_later}
 use Rattle.dcsctp_delivery_turns.proofs.Runs.{senders_begin}
@@ -39,9 +42,9 @@ use Rattle.dcsctp_delivery_associations.proofs.ReceiverStays.{tag_later, sender_
 
 -- What an association has received that just begins.
 begun_end : (options other : Options) (first : ℕ) → SameOptions options other
-    → ◌≡◌ {A = ReceivingEnd} (record { tracker = new_tracker other first; reassembly = new_reassembly other.max_receiver_window_buffer_size (part_overhead other); read = [] }) (new_end options first)
+    → ◌≡◌ {A = ReceivingEnd} (record { first_tsn = first; tracker = new_tracker other first; reassembly = new_reassembly other.max_receiver_window_buffer_size (part_overhead other); read = [] }) (new_end options first)
 begun_end options other first same =
-    ap (λ (o : Options). record { tracker = new_tracker o first; reassembly = new_reassembly o.max_receiver_window_buffer_size (part_overhead o); read = [] }) same
+    ap (λ (o : Options). record { first_tsn = first; tracker = new_tracker o first; reassembly = new_reassembly o.max_receiver_window_buffer_size (part_overhead o); read = [] }) same
 
 -- At the sender there is the matching association, or none yet.
 data Known (ends : Ends) (key : ℕ) (new : AssociationIdentity) : Type 0 where
@@ -62,7 +65,7 @@ known ends key to below queued past their_past packets new s is =
     of_had had = sym had.first_is ∙ ap (λ (p : Pair). p.first_tsn) (is.match had.link had.held had.tag_is)
 
 module _ (options : Options) (ends : Ends) (e : Endpoint) (queued : List Message) (past : List Effect) (packets : List Emission) (d : Endpoint) (their_past : List Effect) (reading : Reading)
-    (h : Between options ends e queued past packets d their_past reading) (few : length queued < 2 ^ 64) (same : SameOptions options d.options) (input : Input) (o : Outcome) (w : AreAnswered ends e past d their_past) (may : IsCall input) (turn : Turn d input o) where
+    (h : Between options ends e queued past packets d their_past reading) (few : length queued < 2 ^ 64) (same : SameOptions options d.options) (input : Input) (o : Outcome) (w : AreAnswered ends e past d their_past) (may : IsCall input) (turn : Turn d input o) (heard : List Emission) (reported : AreHeard ends.gets their_past heard) (reports : TurnReports d input o) where
   module _ (opens : OpensAssociation d input o) (is : NewTag their_past past (identity_of opens.begun.my opens.begun.held)) where
     abbrev tag : ℕ
     tag = opens.begun.held.peer.tag
@@ -71,7 +74,7 @@ module _ (options : Options) (ends : Ends) (e : Endpoint) (queued : List Message
     first = opens.begun.held.peer.first_tsn
 
     abbrev got : ReceivingEnd
-    got = record { tracker = opens.left.tracker; reassembly = opens.left.reassembly; read = [] }
+    got = record { first_tsn = first; tracker = opens.left.tracker; reassembly = opens.left.reassembly; read = [] }
 
     new_held : HasEffect (holds (identity_of opens.begun.my opens.begun.held)) (after_effects o.effects their_past)
     new_held =
@@ -153,7 +156,46 @@ module _ (options : Options) (ends : Ends) (e : Endpoint) (queued : List Message
         other t ne (inl new) = inl (set_other tag t got ends.gets ne ∙ new ∙ ap (new_end options) (sym (others t ne)))
         other t ne (inr had) = inr (subst (λ (n : ℕ). HadTag (after_effects o.effects their_past) t n) (sym (others t ne)) (tag_later o.effects their_past t (ends.firsts t) had))
 
-    crossed_opens : ends.firsts tag ≡ first → ends.gets tag ≡ new_end options (ends.firsts tag) → AreEnds ends.never_resets options e queued past packets o.after (after_effects o.effects their_past) (record { reads = reading.reads; last = tags_of (identity_of opens.begun.my opens.begun.held) })
+    -- What is reported in the turn was reached in it.
+    new_reports : AreHeard (set_at tag got ends.gets) (after_effects o.effects their_past) (packets_in o.events)
+    new_reports = go reports
+      where
+        same_link : (found : Option AssociationIdentity) (one two : AssociationIdentity) → found ≡ Some one → found ≡ Some two → one ≡ two
+        same_link found one two a b = cc
+
+        same_transfer : (found : Option Transfer) (one two : Transfer) → found ≡ Some one → found ≡ Some two → one ≡ two
+        same_transfer found one two a b = cc
+
+        there : HadTag (after_effects o.effects their_past) tag (set_at tag got ends.gets tag).first_tsn
+        there = subst (λ (g : ReceivingEnd). HadTag (after_effects o.effects their_past) tag g.first_tsn) (sym (set_same tag got ends.gets)) had_new
+
+        go : TurnReports d input o → AreHeard (set_at tag got ends.gets) (after_effects o.effects their_past) (packets_in o.events)
+        go (reports_on old left linked was left_is grows says) =
+            let c = h.receiver.current old was in
+            let one : c.link ≡ identity_of opens.begun.my opens.begun.held = same_link (identity_in d.core) c.link (identity_of opens.begun.my opens.begun.held) c.linked (sym linked ∙ opens.linked) in
+            absurd (is.other c.link c.held (ap (λ (l : AssociationIdentity). l.peer.tag) one))
+        go (reports_anew begun left opening linked left_is grows says) =
+            let one : identity_of begun.my begun.held ≡ identity_of opens.begun.my opens.begun.held =
+            same_link (identity_in o.after.core) (identity_of begun.my begun.held) (identity_of opens.begun.my opens.begun.held) linked opens.linked in
+            let peer : begun.held.peer ≡ opens.begun.held.peer = ap (λ (l : AssociationIdentity). l.peer) one in
+            let same' : left ≡ opens.left = same_transfer o.after.queues.transfer left opens.left left_is opens.is in
+            let to : AreReports tag (IsReachedBetween (begun_transfer d o begun).tracker.cumulative left.tracker.cumulative) (packets_in o.events) =
+            subst (λ (p : Pair). AreReports p.tag (IsReachedBetween (begun_transfer d o begun).tracker.cumulative left.tracker.cumulative) (packets_in o.events)) peer says in
+            let start : (begun_transfer d o begun).tracker.cumulative ≡ (first + (2 ^ 32 - 1)) % 2 ^ 32 = ap (λ (p : Pair). (p.first_tsn + (2 ^ 32 - 1)) % 2 ^ 32) peer in
+            heard_there (set_at tag got ends.gets) (after_effects o.effects their_past) tag (IsReachedBetween (begun_transfer d o begun).tracker.cumulative left.tracker.cumulative) (packets_in o.events) there
+            (λ tsn passed. subst (λ (g : ReceivingEnd). HasReached g.first_tsn g.tracker tsn) (sym (set_same tag got ends.gets))
+            (subst (λ (t : Transfer). HasReached first t.tracker tsn) same' (passed_reached first (begun_transfer d o begun).tracker.cumulative left.tracker tsn (omega (arith, start)) passed))) to
+        go (reports_nothing gone says) = heard_nothing (set_at tag got ends.gets) (after_effects o.effects their_past) _ (packets_in o.events) says
+        go (reports_nowhere none linked says) =
+            (let clash : ◌≡◌ {A = Option AssociationIdentity} None (Some (identity_of opens.begun.my opens.begun.held)) = sym (w.unlinked none) ∙ sym linked ∙ opens.linked in absurd (cc))
+
+    heard_opened : AreHeard (set_at tag got ends.gets) (after_effects o.effects their_past) (heard ++ packets_in o.events)
+    heard_opened =
+        heard_both (set_at tag got ends.gets) (after_effects o.effects their_past) heard (packets_in o.events)
+        (heard_later ends.gets (set_at tag got ends.gets) their_past (after_effects o.effects their_past) (after_within o.effects their_past)
+        (λ t had. same_grown (ends.gets t) (set_at tag got ends.gets t) (set_other tag t got ends.gets (λ here. is.other had.link had.held (had.tag_is ∙ here)))) heard reported) new_reports
+
+    crossed_opens : ends.firsts tag ≡ first → ends.gets tag ≡ new_end options (ends.firsts tag) → AreEnds ends.never_resets (heard ++ packets_in o.events) options e queued past packets o.after (after_effects o.effects their_past) (record { reads = reading.reads; last = tags_of (identity_of opens.begun.my opens.begun.held) })
     crossed_opens here fresh =
         let end : ends.gets tag ≡ new_end options first = fresh ∙ ap (new_end options) here in
         let start : DirectionRun options first options.max_receiver_window_buffer_size (joined (ends.sends tag) (new_end options first)) =
@@ -174,12 +216,14 @@ module _ (options : Options) (ends : Ends) (e : Endpoint) (queued : List Message
             unbegun = h.unbegun;
             receiver = later_receiver ends.firsts here (λ t ne. refl) fresh;
             mine = h.mine;
+            idle = h.idle;
             alone = later_alone ends.firsts here (λ t ne. refl);
           };
           answered = opens_answered ends e past d their_past w input o may turn opens is (set_at tag got ends.gets) ends.firsts here (λ t ne. refl) (inl here);
+          reported = heard_opened;
         }
 
-    awaited_opens : Awaits (ends.sends tag) → tag ≢ sender_key e.core → ends.gets tag ≡ new_end options (ends.firsts tag) → AreEnds ends.never_resets options e queued past packets o.after (after_effects o.effects their_past) (record { reads = reading.reads; last = tags_of (identity_of opens.begun.my opens.begun.held) })
+    awaited_opens : Awaits (ends.sends tag) → tag ≢ sender_key e.core → ends.gets tag ≡ new_end options (ends.firsts tag) → AreEnds ends.never_resets (heard ++ packets_in o.events) options e queued past packets o.after (after_effects o.effects their_past) (record { reads = reading.reads; last = tags_of (identity_of opens.begun.my opens.begun.held) })
     awaited_opens waits apart fresh =
         let queues = direction_queues options (ends.firsts tag) options.max_receiver_window_buffer_size (joined (ends.sends tag) (ends.gets tag)) (h.runs tag) (h.small tag)
         (let short = h.sender.short tag in omega (arith, few, short)) in
@@ -191,6 +235,7 @@ module _ (options : Options) (ends : Ends) (e : Endpoint) (queued : List Message
           flight = subst (steps.NoneInFlight first (ends.sends tag).queues.queue.is_interleaved) (sym waits.transfer) tt;
           acknowledged = waits.acknowledged;
           sent = waits.sent;
+          first_is = refl;
           tracker = refl;
           reassembly = refl;
           read = refl;
@@ -211,23 +256,25 @@ module _ (options : Options) (ends : Ends) (e : Endpoint) (queued : List Message
             unbegun = h.unbegun;
             receiver = later_receiver (set_at tag first ends.firsts) (set_same tag first ends.firsts) (λ t ne. set_other tag t first ends.firsts ne) fresh;
             mine = h.mine;
+            idle = h.idle;
             alone = later_alone (set_at tag first ends.firsts) (set_same tag first ends.firsts) (λ t ne. set_other tag t first ends.firsts ne);
           };
           answered = opens_answered ends e past d their_past w input o may turn opens is (set_at tag got ends.gets) (set_at tag first ends.firsts) (set_same tag first ends.firsts) (λ t ne. set_other tag t first ends.firsts ne)
               (inr (waits.asking, apart));
+          reported = heard_opened;
         }
 
-    opens_last : AreEnds ends.never_resets options e queued past packets o.after (after_effects o.effects their_past) (record { reads = reading.reads; last = tags_of (identity_of opens.begun.my opens.begun.held) })
+    opens_last : AreEnds ends.never_resets (heard ++ packets_in o.events) options e queued past packets o.after (after_effects o.effects their_past) (record { reads = reading.reads; last = tags_of (identity_of opens.begun.my opens.begun.held) })
     opens_last =
         elim (h.receiver.begun tag) [
           | inl fresh ↦ go fresh (known ends (sender_key e.core) (peer_tag e.core) e.queues queued past their_past packets (identity_of opens.begun.my opens.begun.held) h.sender is)
           | inr had ↦ absurd (is.other had.link had.held had.tag_is)
         ]
       where
-        go : ends.gets tag ≡ new_end options (ends.firsts tag) → Known ends (sender_key e.core) (identity_of opens.begun.my opens.begun.held) → AreEnds ends.never_resets options e queued past packets o.after (after_effects o.effects their_past) (record { reads = reading.reads; last = tags_of (identity_of opens.begun.my opens.begun.held) })
+        go : ends.gets tag ≡ new_end options (ends.firsts tag) → Known ends (sender_key e.core) (identity_of opens.begun.my opens.begun.held) → AreEnds ends.never_resets (heard ++ packets_in o.events) options e queued past packets o.after (after_effects o.effects their_past) (record { reads = reading.reads; last = tags_of (identity_of opens.begun.my opens.begun.held) })
         go fresh (is_crossed here) = crossed_opens here fresh
         go fresh (is_awaited waits apart) = awaited_opens waits apart fresh
 
-    pub opens_goes : AreEnds ends.never_resets options e queued past packets o.after (after_effects o.effects their_past) (record { reads = reading.reads; last = tags_or reading.last (identity_in o.after.core) })
+    pub opens_goes : AreEnds ends.never_resets (heard ++ packets_in o.events) options e queued past packets o.after (after_effects o.effects their_past) (record { reads = reading.reads; last = tags_or reading.last (identity_in o.after.core) })
     opens_goes =
-        subst (λ (n : Tags). AreEnds ends.never_resets options e queued past packets o.after (after_effects o.effects their_past) (record { reads = reading.reads; last = n })) (sym (ap (tags_or reading.last) opens.linked)) opens_last
+        subst (λ (n : Tags). AreEnds ends.never_resets (heard ++ packets_in o.events) options e queued past packets o.after (after_effects o.effects their_past) (record { reads = reading.reads; last = n })) (sym (ap (tags_or reading.last) opens.linked)) opens_last

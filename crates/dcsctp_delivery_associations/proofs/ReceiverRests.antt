@@ -1,10 +1,11 @@
 -- A turn of the receiver after which it has no association: one ends in it, or there is none
 -- before. Then its user may read what was left.
-use Rattle.std.proofs.Common.{◌≡◌, ℕ, Option, None, Some, List, [], ◌∷◌, ◌++◌, refl, sym, ◌∙◌, ap, subst, inl, inr}
+use Rattle.std.proofs.Common.{◌≡◌, ℕ, Option, None, Some, List, [], ◌∷◌, ◌++◌, refl, sym, ◌∙◌, ap, subst, inl, inr, arith}
 use Rattle.std.specs.Prelude.{◌⊎◌}
 use Rattle.dcsctp_spec_lemmas.specs.types.declared.options.Options.{Options}
 use Rattle.dcsctp_spec_lemmas.specs.spec.endpoint.DataOutcomes.{ready_where}
 use Rattle.dcsctp_spec_lemmas.specs.spec.endpoint.Endpoint.{Endpoint}
+use Rattle.dcsctp_spec_lemmas.specs.spec.endpoint.Event.{packets_in}
 use Rattle.dcsctp_spec_lemmas.specs.spec.endpoint.Outcome.{Outcome}
 use Rattle.dcsctp_spec_lemmas.specs.spec.Packet.{Emission}
 use Rattle.dcsctp_spec_lemmas.specs.spec.endpoint.Turn.{Input, user_takes, Turn}
@@ -26,32 +27,46 @@ use Rattle.dcsctp_spec_lemmas.specs.types.declared.association.Pair.{Pair}
 use Rattle.dcsctp_spec_runs.specs.Past.{WasPerformed}
 use Rattle.dcsctp_delivery_turns.specs.Actions.{peer_tag, IsCall}
 use Rattle.dcsctp_delivery_turns.specs.Asking.{own_of, SomeFit}
-use Rattle.dcsctp_delivery_associations.specs.Ends.{ReceivingEnd, joined, new_end, Ends, sender_key, HadTag, LeavesReady, unbegun_end, MetOrAlone, Between}
+use Rattle.dcsctp_delivery_associations.specs.Ends.{ReceivingEnd, joined, new_end, Ends, sender_key, HadTag, LeavesReady, unbegun_end, MetOrAlone, AreHeard, Between}
 use Rattle.dcsctp_delivery_associations.specs.Reads.{Tags, Read, Reading, tags_or, reading_after, tagged_after, and_first, with_key}
 use Rattle.dcsctp_delivery_associations.proofs.WhatIsLeft.{left_idle, left_taken}
 use Rattle.dcsctp_delivery_associations.proofs.WhatIsRead.{all_of_first, all_of_later, of_link_later, MayRead, reads_first, reads_none, may_read, first_own, first_other}
 use Rattle.dcsctp_delivery_associations.proofs.Growing.{set_all}
 use Rattle.dcsctp_delivery_associations.specs.Laws.{AreEnds}
 use Rattle.dcsctp_theorem_association.proofs.Growth.{after_within}
-use Rattle.dcsctp_delivery_associations.proofs.Senders.{alone_later, met_later}
+use Rattle.dcsctp_delivery_associations.proofs.Heard.{HasGrown, not_grown, heard_later, heard_both, heard_nothing, heard_nowhere}
+use Rattle.dcsctp_delivery_turns.specs.Reporting.{TurnReports, reports_on, reports_anew, reports_nothing, reports_nowhere}
+use Rattle.dcsctp_delivery_associations.proofs.Senders.{no_peer, alone_later, met_later}
 use Rattle.dcsctp_delivery_associations.proofs.ReceiverStays.{tag_later, begun_later, sender_same}
 
 module _ (options : Options) (ends : Ends) (e : Endpoint) (queued : List Message) (past : List Effect) (packets : List Emission) (d : Endpoint) (their_past : List Effect) (reading : Reading)
-    (h : Between options ends e queued past packets d their_past reading) (input : Input) (o : Outcome) (w : AreAnswered ends e past d their_past) (may : IsCall input) (turn : Turn d input o) where
+    (h : Between options ends e queued past packets d their_past reading) (input : Input) (o : Outcome) (w : AreAnswered ends e past d their_past) (may : IsCall input) (turn : Turn d input o) (heard : List Emission) (reported : AreHeard ends.gets their_past heard) (reports : TurnReports d input o) where
   -- what is to be shown of the turn
   abbrev Turned : Type 0
-  Turned = AreEnds ends.never_resets options e queued past packets o.after (after_effects o.effects their_past) (reading_after d input o.after reading)
+  Turned = AreEnds ends.never_resets (heard ++ packets_in o.events) options e queued past packets o.after (after_effects o.effects their_past) (reading_after d input o.after reading)
 
   -- what is known after the turn, once this was read
   abbrev After : List Read → Type 0
-  After reads = AreEnds ends.never_resets options e queued past packets o.after (after_effects o.effects their_past) (record { reads = reads; last = tags_or reading.last (identity_in o.after.core) })
+  After reads = AreEnds ends.never_resets (heard ++ packets_in o.events) options e queued past packets o.after (after_effects o.effects their_past) (record { reads = reads; last = tags_or reading.last (identity_in o.after.core) })
 
   unread_goes : tagged_after reading.last d input reading.reads ≡ reading.reads → After reading.reads → Turned
   unread_goes unread goes = subst After (sym unread) goes
 
   -- Without an association the last one stays the last.
-  still_last : identity_in o.after.core ≡ None → (reads : List Read) → AreEnds ends.never_resets options e queued past packets o.after (after_effects o.effects their_past) (record { reads = reads; last = reading.last }) → After reads
-  still_last unlinked reads = subst (λ (n : Tags). AreEnds ends.never_resets options e queued past packets o.after (after_effects o.effects their_past) (record { reads = reads; last = n })) (sym (ap (tags_or reading.last) unlinked))
+  still_last : identity_in o.after.core ≡ None → (reads : List Read) → AreEnds ends.never_resets (heard ++ packets_in o.events) options e queued past packets o.after (after_effects o.effects their_past) (record { reads = reads; last = reading.last }) → After reads
+  still_last unlinked reads = subst (λ (n : Tags). AreEnds ends.never_resets (heard ++ packets_in o.events) options e queued past packets o.after (after_effects o.effects their_past) (record { reads = reads; last = n })) (sym (ap (tags_or reading.last) unlinked))
+
+  -- What is reported in the turn is heard.
+  heard_resting : o.after.queues.transfer ≡ None → identity_in o.after.core ≡ None → AreHeard ends.gets (after_effects o.effects their_past) (heard ++ packets_in o.events)
+  heard_resting none unlinked =
+      heard_both ends.gets (after_effects o.effects their_past) heard (packets_in o.events)
+      (heard_later ends.gets ends.gets their_past (after_effects o.effects their_past) (after_within o.effects their_past) (λ t had. not_grown (ends.gets t)) heard reported) (go reports)
+    where
+      go : TurnReports d input o → AreHeard ends.gets (after_effects o.effects their_past) (packets_in o.events)
+      go (reports_on old left linked was left_is grows says) = (let clash : ◌≡◌ {A = Option Transfer} None (Some left) = sym none ∙ left_is in absurd (cc))
+      go (reports_anew begun left opening linked left_is grows says) = (let clash : ◌≡◌ {A = Option Transfer} None (Some left) = sym none ∙ left_is in absurd (cc))
+      go (reports_nothing gone says) = heard_nothing ends.gets (after_effects o.effects their_past) _ (packets_in o.events) says
+      go (reports_nowhere nowhere linked says) = heard_nowhere ends.gets (after_effects o.effects their_past) _ _ (packets_in o.events) (no_peer d.core (sym linked ∙ unlinked)) says
 
   -- there is none after the turn
   pub rests : o.after.queues.transfer ≡ None → SomeFit (own_of o.after) → identity_in o.after.core ≡ None → ((my : Pair) (number : ℕ) → WasPerformed my number o.effects → ⊥) → LeavesReady ends.gets reading.last.peer o.after.left o.after.queues.transfer
@@ -80,9 +95,11 @@ module _ (options : Options) (ends : Ends) (e : Endpoint) (queued : List Message
             reads_of = all_of_later o.effects their_past reading.reads h.receiver.reads_of;
           };
           mine = h.mine;
+          idle = h.idle;
           alone = λ tag. alone_later options ends ends past past their_past (after_effects o.effects their_past) (λ effect has. has) (after_within o.effects their_past) tag refl refl (h.alone tag);
         };
         answered = rests_answered ends e past d their_past w input o may turn unlinked no_performs;
+        reported = heard_resting none unlinked;
       })
 
   -- ---- without an association
@@ -101,7 +118,7 @@ module _ (options : Options) (ends : Ends) (e : Endpoint) (queued : List Message
     left_read : (message : MessageContent) (messages : List MessageContent) → (ends.gets reading.last.peer).reassembly.incoming.ready ≡ message ∷ messages → o.after.left ≡ messages → After (and_first reading.last (message ∷ messages) reading.reads)
     left_read message messages ready left =
         let tag : ℕ = reading.last.peer in
-        let got : ReceivingEnd = record { tracker = (ends.gets tag).tracker; reassembly = with_ready messages (ends.gets tag).reassembly; read = (ends.gets tag).read ++ message ∷ [] } in
+        let got : ReceivingEnd = record { first_tsn = (ends.gets tag).first_tsn; tracker = (ends.gets tag).tracker; reassembly = with_ready messages (ends.gets tag).reassembly; read = (ends.gets tag).read ++ message ∷ [] } in
         let rest = rests_answered ends e past d their_past w input o may turn unlinked no_performs in
         still_last unlinked (and_first reading.last (message ∷ messages) reading.reads) (record {
           ends = record ends { gets = set_at tag got ends.gets };
@@ -132,6 +149,7 @@ module _ (options : Options) (ends : Ends) (e : Endpoint) (queued : List Message
                   (all_of_first their_past reading.last (message ∷ messages) reading.reads h.receiver.last_of h.receiver.reads_of);
             };
             mine = h.mine;
+            idle = h.idle;
             alone = λ t. elim (decide t tag) [
               | inl e' ↦ subst (MetOrAlone options (record ends { gets = set_at tag got ends.gets }) past (after_effects o.effects their_past)) (sym e') (alone_here (h.alone tag))
               | inr ne ↦ alone_later options ends (record ends { gets = set_at tag got ends.gets }) past past their_past (after_effects o.effects their_past) (λ effect has. has) (after_within o.effects their_past) t (set_other tag t got ends.gets ne) refl (h.alone t)
@@ -142,6 +160,8 @@ module _ (options : Options) (ends : Ends) (e : Endpoint) (queued : List Message
             answers = same_requests (requests_of (record ends { gets = set_at tag got ends.gets }) rest.pairs) (requests_of ends rest.pairs) (identity_in e.core) past (identity_in o.after.core) (after_effects o.effects their_past) (waiting_deferral o.after.queues.transfer) (λ t. refl) rest.answers;
             unlinked = rest.unlinked;
           };
+          reported = heard_later ends.gets (set_at tag got ends.gets) (after_effects o.effects their_past) (after_effects o.effects their_past) (λ effect has. has)
+              (λ t met. set_all (λ t g. HasGrown (ends.gets t) g) tag got ends.gets (record { first_is = refl; grows = omega arith }) (λ t ne. not_grown (ends.gets t)) t) (heard ++ packets_in o.events) (heard_resting gone unlinked);
         })
       where
         -- Something was received under this tag.
@@ -151,12 +171,12 @@ module _ (options : Options) (ends : Ends) (e : Endpoint) (queued : List Message
 
         -- It is read whether the sender is met or not.
         alone_here : MetOrAlone options ends past their_past reading.last.peer
-            → MetOrAlone options (record ends { gets = set_at reading.last.peer (record { tracker = (ends.gets reading.last.peer).tracker; reassembly = with_ready messages (ends.gets reading.last.peer).reassembly; read = (ends.gets reading.last.peer).read ++ message ∷ [] }) ends.gets }) past (after_effects o.effects their_past) reading.last.peer
+            → MetOrAlone options (record ends { gets = set_at reading.last.peer (record { first_tsn = (ends.gets reading.last.peer).first_tsn; tracker = (ends.gets reading.last.peer).tracker; reassembly = with_ready messages (ends.gets reading.last.peer).reassembly; read = (ends.gets reading.last.peer).read ++ message ∷ [] }) ends.gets }) past (after_effects o.effects their_past) reading.last.peer
         alone_here (inl met) = inl (met_later past past their_past (after_effects o.effects their_past) (λ effect has. has) (after_within o.effects their_past) reading.last.peer met)
         alone_here (inr run) =
             inr
-            (subst (λ (g : ReceivingEnd). DirectionRun options (ends.firsts reading.last.peer) options.max_receiver_window_buffer_size (joined (unbegun_end options) g)) (sym (set_same reading.last.peer (record { tracker = (ends.gets reading.last.peer).tracker; reassembly = with_ready messages (ends.gets reading.last.peer).reassembly; read = (ends.gets reading.last.peer).read ++ message ∷ [] }) ends.gets))
-            (directions.goes_on (joined (unbegun_end options) (ends.gets reading.last.peer)) (joined (unbegun_end options) (record { tracker = (ends.gets reading.last.peer).tracker; reassembly = with_ready messages (ends.gets reading.last.peer).reassembly; read = (ends.gets reading.last.peer).read ++ message ∷ [] })) run (directions.takes message messages ready)))
+            (subst (λ (g : ReceivingEnd). DirectionRun options (ends.firsts reading.last.peer) options.max_receiver_window_buffer_size (joined (unbegun_end options) g)) (sym (set_same reading.last.peer (record { first_tsn = (ends.gets reading.last.peer).first_tsn; tracker = (ends.gets reading.last.peer).tracker; reassembly = with_ready messages (ends.gets reading.last.peer).reassembly; read = (ends.gets reading.last.peer).read ++ message ∷ [] }) ends.gets))
+            (directions.goes_on (joined (unbegun_end options) (ends.gets reading.last.peer)) (joined (unbegun_end options) (record { first_tsn = (ends.gets reading.last.peer).first_tsn; tracker = (ends.gets reading.last.peer).tracker; reassembly = with_ready messages (ends.gets reading.last.peer).reassembly; read = (ends.gets reading.last.peer).read ++ message ∷ [] })) run (directions.takes message messages ready)))
 
     takes_goes : (left : List MessageContent) → IsLeft left → o.after.left ≡ without_first_message left → and_first reading.last left reading.reads ≡ tagged_after reading.last d input reading.reads → Turned
     takes_goes [] is stays same' = unread_rests (sym same') (inl stays)

@@ -1,9 +1,10 @@
 -- Each turn of the receiver.
-use Rattle.std.proofs.Common.{[], ◌≡◌, ◌≢◌, ℕ, Bool, true, false, ◌<◌, ◌-◌, ◌^◌, Option, None, Some, List, length, arith, refl, sym, ◌∙◌, ap, subst, inl, inr}
+use Rattle.std.proofs.Common.{[], ◌++◌, ◌≡◌, ◌≢◌, ℕ, Bool, true, false, ◌<◌, ◌≤◌, ◌+◌, ◌-◌, ◌%◌, ◌^◌, Option, None, Some, List, length, arith, refl, sym, ◌∙◌, ap, subst, inl, inr}
 use Rattle.std.specs.Prelude.{◌⊎◌}
 use Rattle.dcsctp_spec_lemmas.specs.types.declared.options.Options.{Options}
 use Rattle.dcsctp_spec_lemmas.specs.types.Settings.{SameOptions}
 use Rattle.dcsctp_spec_lemmas.specs.spec.endpoint.Endpoint.{Endpoint}
+use Rattle.dcsctp_spec_lemmas.specs.spec.endpoint.Event.{packets_in}
 use Rattle.dcsctp_spec_lemmas.specs.spec.endpoint.Outcome.{Outcome}
 use Rattle.dcsctp_spec_lemmas.specs.spec.Packet.{Emission}
 use Rattle.dcsctp_spec_lemmas.specs.spec.endpoint.Turn.{Input, Turn}
@@ -15,7 +16,7 @@ use Rattle.dcsctp_spec_lemmas.specs.spec.queues.Transfer.{Transfer}
 use Rattle.dcsctp_delivery_sending.specs.Places.{set_at}
 use Rattle.dcsctp_delivery_sending.specs.Log.{Message}
 use Rattle.dcsctp_delivery_sending.proofs.Places.{decide, set_same, set_other}
-use Rattle.dcsctp_delivery_directions.specs.Directions.{Asking, nothing_asked, Direction, DirectionRun}
+use Rattle.dcsctp_delivery_directions.specs.Directions.{Asking, nothing_asked, Direction, HasReached, DirectionRun}
 use Rattle.dcsctp_delivery_directions.proofs.RequestCounts.{requests_are_sent}
 use Rattle.dcsctp_delivery_turns.specs.Asking.{Own, AsksFit, OutIs}
 use Rattle.dcsctp_delivery_turns.specs.PeerRequests.{KnowsPeerIn}
@@ -31,12 +32,14 @@ use Rattle.dcsctp_spec_runs.specs.Past.{HasEffect}
 use Rattle.dcsctp_spec_lemmas.specs.spec.Reconfiguration.{RequestedReset, ResetParameter}
 use Rattle.dcsctp_spec_lemmas.specs.spec.association.Effect.{holds}
 use Rattle.dcsctp_spec_lemmas.specs.spec.endpoint.ResetOutcomes.{has_reset, requested_in}
-use Rattle.dcsctp_delivery_turns.specs.Actions.{IsOpening, came_by, peer_tag, read_after, Begun, IsCall}
+use Rattle.dcsctp_delivery_turns.specs.Actions.{AreReports, IsOpening, came_by, peer_tag, read_after, Begun, IsCall}
+use Rattle.dcsctp_delivery_turns.specs.Reporting.{IsReachedBetween, TurnReports, reports_on, reports_anew, reports_nothing, reports_nowhere}
 use Rattle.dcsctp_delivery_turns.specs.Asking.{own_of, SomeFit}
 use Rattle.dcsctp_delivery_turns.specs.Sides.{WasSent, receiving}
 use Rattle.dcsctp_delivery_turns.specs.Runs.{ReceiverTurns, receiver_goes_on, receiver_ends, receiver_begins, IdleTurns, idle_stays, idle_begins}
 use Rattle.dcsctp_delivery_turns.proofs.Runs.{receivers_go_on, receivers_begin}
-use Rattle.dcsctp_delivery_associations.specs.Ends.{LeavesReady, ReceivingEnd, joined, new_end, Ends, sender_key, HadBoth, NewTag, HadTag, IsCurrentEnd, unbegun_end, MetOrAlone, Between}
+use Rattle.dcsctp_delivery_turns.proofs.Reporting.{turns_report}
+use Rattle.dcsctp_delivery_associations.specs.Ends.{LeavesReady, ReceivingEnd, joined, new_end, Ends, sender_key, HadBoth, NewTag, HadTag, IsCurrentEnd, unbegun_end, MetOrAlone, AreHeard, Between}
 use Rattle.dcsctp_delivery_associations.specs.Reads.{Tags, tags_of, Read, Reading, tags_or, reading_after, tagged_after, with_key}
 use Rattle.dcsctp_delivery_associations.proofs.WhatIsLeft.{goes_left, ends_left}
 use Rattle.dcsctp_delivery_associations.proofs.WhatIsRead.{all_of_after, all_of_later, reads_still, opening_still, own_read, other_read}
@@ -44,7 +47,8 @@ use Rattle.dcsctp_delivery_associations.proofs.Growing.{set_all}
 use Rattle.dcsctp_delivery_associations.proofs.Own.{unlinked_some}
 use Rattle.dcsctp_delivery_associations.specs.Laws.{AreEnds}
 use Rattle.dcsctp_theorem_association.proofs.Growth.{after_within}
-use Rattle.dcsctp_delivery_associations.proofs.Senders.{alone_later, met_later}
+use Rattle.dcsctp_delivery_associations.proofs.Heard.{HasGrown, not_grown, heard_later, heard_both, heard_there, passed_reached, begun_with}
+use Rattle.dcsctp_delivery_associations.proofs.Senders.{link_peer, alone_later, met_later}
 use Rattle.dcsctp_delivery_associations.proofs.ReceiverStays.{tag_later, begun_later, sender_asked}
 use Rattle.dcsctp_delivery_associations.proofs.ReceiverBegins.{opens_goes}
 use Rattle.dcsctp_delivery_associations.proofs.ReceiverRests.{rests, idle_rests}
@@ -52,22 +56,26 @@ use Rattle.dcsctp_delivery_associations.proofs.ReceiverRests.{rests, idle_rests}
 module _ (options : Options) (ends : Ends) (e : Endpoint) (queued : List Message) (past : List Effect) (packets : List Emission) (d : Endpoint) (their_past : List Effect) (reading : Reading)
     (h : Between options ends e queued past packets d their_past reading) (few : length queued < 2 ^ 64) (same : SameOptions options d.options) (input : Input) (o : Outcome)
     (new : (begun : Begun d o) → IsOpening (came_by input) → identity_in o.after.core ≡ Some (identity_of begun.my begun.held) → NewTag their_past past (identity_of begun.my begun.held)) (w : AreAnswered ends e past d their_past)
-    (little : AsksLittle packets) (new_tags : (link old : AssociationIdentity) → HasEffect (holds link) o.effects → HasEffect (holds old) their_past → old.peer.tag ≢ link.peer.tag) (may : IsCall input) (turn : Turn d input o) where
+    (little : AsksLittle packets) (new_tags : (link old : AssociationIdentity) → HasEffect (holds link) o.effects → HasEffect (holds old) their_past → old.peer.tag ≢ link.peer.tag) (may : IsCall input) (turn : Turn d input o) (heard : List Emission) (reported : AreHeard ends.gets their_past heard) where
   -- what is to be shown of the turn
   abbrev pub Turned : Type 0
-  Turned = AreEnds ends.never_resets options e queued past packets o.after (after_effects o.effects their_past) (reading_after d input o.after reading)
+  Turned = AreEnds ends.never_resets (heard ++ packets_in o.events) options e queued past packets o.after (after_effects o.effects their_past) (reading_after d input o.after reading)
+
+  -- what its packets report
+  reports : TurnReports d input o
+  reports = turns_report d input o h.receiver.fits (λ begun opening linked. (new begun opening linked).own_small) may turn
 
   unread_goes : tagged_after reading.last d input reading.reads ≡ reading.reads
-      → AreEnds ends.never_resets options e queued past packets o.after (after_effects o.effects their_past) (record { reads = reading.reads; last = tags_or reading.last (identity_in o.after.core) }) → Turned
+      → AreEnds ends.never_resets (heard ++ packets_in o.events) options e queued past packets o.after (after_effects o.effects their_past) (record { reads = reading.reads; last = tags_or reading.last (identity_in o.after.core) }) → Turned
   unread_goes unread goes =
-      subst (λ (l : List Read). AreEnds ends.never_resets options e queued past packets o.after (after_effects o.effects their_past) (record { reads = l; last = tags_or reading.last (identity_in o.after.core) })) (sym unread) goes
+      subst (λ (l : List Read). AreEnds ends.never_resets (heard ++ packets_in o.events) options e queued past packets o.after (after_effects o.effects their_past) (record { reads = l; last = tags_or reading.last (identity_in o.after.core) })) (sym unread) goes
 
   -- ---- an association continues
 
   module _ (transfer : Transfer) (there : d.queues.transfer ≡ Some transfer) (c : IsCurrentEnd ends d their_past transfer) where
     -- the sender's end is of no account
     abbrev alone_end : Transfer → ReceivingEnd
-    alone_end left = record { tracker = left.tracker; reassembly = left.reassembly; read = read_after d input (ends.gets c.link.peer.tag).read }
+    alone_end left = record { first_tsn = (ends.gets c.link.peer.tag).first_tsn; tracker = left.tracker; reassembly = left.reassembly; read = read_after d input (ends.gets c.link.peer.tag).read }
 
     alone_run : (left : Transfer) → o.after.queues.transfer ≡ Some left → WasSent [] (came_by input) → DirectionRun options (ends.firsts c.link.peer.tag) options.max_receiver_window_buffer_size (joined (unbegun_end options) (ends.gets c.link.peer.tag))
         → identity_in o.after.core ≡ identity_in d.core
@@ -75,8 +83,8 @@ module _ (options : Options) (ends : Ends) (e : Endpoint) (queued : List Message
     alone_run left is none run same' =
         go
         (receivers_go_on false options (ends.firsts c.link.peer.tag) options.max_receiver_window_buffer_size (joined (unbegun_end options) (ends.gets c.link.peer.tag)) transfer d input o
-        (subst (λ (t : TrackerState). DirectionRun options (ends.firsts c.link.peer.tag) options.max_receiver_window_buffer_size (joined (unbegun_end options) (record { tracker = t; reassembly = transfer.reassembly; read = (ends.gets c.link.peer.tag).read }))) c.tracker
-        (subst (λ (r : ReassemblyState). DirectionRun options (ends.firsts c.link.peer.tag) options.max_receiver_window_buffer_size (joined (unbegun_end options) (record { tracker = (ends.gets c.link.peer.tag).tracker; reassembly = r; read = (ends.gets c.link.peer.tag).read }))) c.reassembly run))
+        (subst (λ (t : TrackerState). DirectionRun options (ends.firsts c.link.peer.tag) options.max_receiver_window_buffer_size (joined (unbegun_end options) (record { first_tsn = (ends.gets c.link.peer.tag).first_tsn; tracker = t; reassembly = transfer.reassembly; read = (ends.gets c.link.peer.tag).read }))) c.tracker
+        (subst (λ (r : ReassemblyState). DirectionRun options (ends.firsts c.link.peer.tag) options.max_receiver_window_buffer_size (joined (unbegun_end options) (record { first_tsn = (ends.gets c.link.peer.tag).first_tsn; tracker = (ends.gets c.link.peer.tag).tracker; reassembly = r; read = (ends.gets c.link.peer.tag).read }))) c.reassembly run))
         there none (inl refl) h.receiver.fits (λ begun opening linked. (new begun opening linked).own_small) may turn)
       where
         one : (found : Option Transfer) (first second : Transfer) → found ≡ Some first → found ≡ Some second → first ≡ second
@@ -108,17 +116,70 @@ module _ (options : Options) (ends : Ends) (e : Endpoint) (queued : List Message
         (subst (λ (g : ReceivingEnd). DirectionRun options (ends.firsts c.link.peer.tag) options.max_receiver_window_buffer_size (joined (unbegun_end options) g)) (sym (set_same c.link.peer.tag (alone_end left) ends.gets))
         (alone_run left is none run same'))
 
+    -- What is reported in the turn was reached in it.
+    heard_going : identity_in o.after.core ≡ identity_in d.core → (left : Transfer) → o.after.queues.transfer ≡ Some left
+        → AreHeard (set_at c.link.peer.tag (alone_end left) ends.gets) (after_effects o.effects their_past) (heard ++ packets_in o.events)
+    heard_going linked left is = go reports
+      where
+        same_link : (found : Option AssociationIdentity) (one two : AssociationIdentity) → found ≡ Some one → found ≡ Some two → one ≡ two
+        same_link found one two a b = cc
+
+        same_transfer : (found : Option Transfer) (one two : Transfer) → found ≡ Some one → found ≡ Some two → one ≡ two
+        same_transfer found one two a b = cc
+
+        -- The end had begun with its first TSN.
+        started : ((ends.gets c.link.peer.tag).first_tsn ≡ ends.firsts c.link.peer.tag) × ((ends.firsts c.link.peer.tag + (2 ^ 32 - 1)) % 2 ^ 32 ≤ (ends.gets c.link.peer.tag).tracker.cumulative)
+        started = begun_with options (ends.firsts c.link.peer.tag) options.max_receiver_window_buffer_size (ends.sends c.link.peer.tag) (ends.gets c.link.peer.tag) (h.runs c.link.peer.tag)
+
+        number : (ends.gets c.link.peer.tag).tracker.cumulative ≡ transfer.tracker.cumulative
+        number = ap (λ (t : TrackerState). t.cumulative) c.tracker
+
+        met : HadTag (after_effects o.effects their_past) c.link.peer.tag (ends.gets c.link.peer.tag).first_tsn
+        met = subst (HadTag (after_effects o.effects their_past) c.link.peer.tag) (sym started.0) (tag_later o.effects their_past c.link.peer.tag (ends.firsts c.link.peer.tag) c.had)
+
+        grown : transfer.tracker.cumulative ≤ left.tracker.cumulative → (t : ℕ) → HasGrown (ends.gets t) (set_at c.link.peer.tag (alone_end left) ends.gets t)
+        grown grows =
+            set_all (λ t g. HasGrown (ends.gets t) g) c.link.peer.tag (alone_end left) ends.gets (record { first_is = refl; grows = (let same' = number in omega (arith, same', grows)) }) (λ t ne. not_grown (ends.gets t))
+
+        turn_heard : transfer.tracker.cumulative ≤ left.tracker.cumulative → AreReports c.link.peer.tag (IsReachedBetween transfer.tracker.cumulative left.tracker.cumulative) (packets_in o.events)
+            → AreHeard (set_at c.link.peer.tag (alone_end left) ends.gets) (after_effects o.effects their_past) (packets_in o.events)
+        turn_heard grows says =
+            heard_there (set_at c.link.peer.tag (alone_end left) ends.gets) (after_effects o.effects their_past) c.link.peer.tag (IsReachedBetween transfer.tracker.cumulative left.tracker.cumulative) (packets_in o.events)
+            (subst (λ (g : ReceivingEnd). HadTag (after_effects o.effects their_past) c.link.peer.tag g.first_tsn) (sym (set_same c.link.peer.tag (alone_end left) ends.gets)) met)
+            (λ tsn passed. subst (λ (g : ReceivingEnd). HasReached g.first_tsn g.tracker tsn) (sym (set_same c.link.peer.tag (alone_end left) ends.gets))
+            (subst (λ (n : ℕ). HasReached n left.tracker tsn) (sym started.0)
+            (passed_reached (ends.firsts c.link.peer.tag) transfer.tracker.cumulative left.tracker tsn (let from = started.1 in let same' = number in omega (arith, from, same')) passed))) says
+
+        go : TurnReports d input o → AreHeard (set_at c.link.peer.tag (alone_end left) ends.gets) (after_effects o.effects their_past) (heard ++ packets_in o.events)
+        go (reports_on old other same' was other_is grows says) =
+            let one : old ≡ transfer = same_transfer d.queues.transfer old transfer was there in
+            let two : other ≡ left = same_transfer o.after.queues.transfer other left other_is is in
+            let more : transfer.tracker.cumulative ≤ left.tracker.cumulative =
+            subst (λ (t : Transfer). t.tracker.cumulative ≤ left.tracker.cumulative) one (subst (λ (t : Transfer). old.tracker.cumulative ≤ t.tracker.cumulative) two grows) in
+            let to : AreReports c.link.peer.tag (IsReachedBetween transfer.tracker.cumulative left.tracker.cumulative) (packets_in o.events) =
+            subst (λ (t : Transfer). AreReports c.link.peer.tag (IsReachedBetween t.tracker.cumulative left.tracker.cumulative) (packets_in o.events)) one
+            (subst (λ (t : Transfer). AreReports c.link.peer.tag (IsReachedBetween old.tracker.cumulative t.tracker.cumulative) (packets_in o.events)) two
+            (subst (λ (n : ℕ). AreReports n (IsReachedBetween old.tracker.cumulative other.tracker.cumulative) (packets_in o.events)) (link_peer d.core c.link c.linked) says)) in
+            heard_both (set_at c.link.peer.tag (alone_end left) ends.gets) (after_effects o.effects their_past) heard (packets_in o.events)
+            (heard_later ends.gets (set_at c.link.peer.tag (alone_end left) ends.gets) their_past (after_effects o.effects their_past) (after_within o.effects their_past) (λ t had. grown more t) heard reported)
+            (turn_heard more to)
+        go (reports_anew begun other opening linked' other_is grows says) =
+            absurd ((new begun opening linked').other c.link c.held
+            (ap (λ (l : AssociationIdentity). l.peer.tag) (same_link (identity_in o.after.core) c.link (identity_of begun.my begun.held) (linked ∙ c.linked) linked')))
+        go (reports_nothing gone says) = (let clash : ◌≡◌ {A = Option AssociationIdentity} None (Some c.link) = sym gone ∙ linked ∙ c.linked in absurd (cc))
+        go (reports_nowhere none same' says) = (let clash : ◌≡◌ {A = Option Transfer} None (Some transfer) = sym none ∙ there in absurd (cc))
+
     receives : identity_in o.after.core ≡ identity_in d.core → (left : Transfer) → o.after.queues.transfer ≡ Some left → SomeFit (own_of o.after) → (asking : Asking)
         → ((ends.sends c.link.peer.tag).asking ≡ nothing_asked → asking ≡ nothing_asked) → ((first : ℕ) (own : Option Own) → AsksFit first own (ends.sends c.link.peer.tag).asking → AsksFit first own asking)
-        → AreAnswered (asked_ends ends c.link.peer.tag asking (record { tracker = left.tracker; reassembly = left.reassembly; read = read_after d input (ends.gets c.link.peer.tag).read })) e past o.after (after_effects o.effects their_past)
+        → AreAnswered (asked_ends ends c.link.peer.tag asking (record { first_tsn = (ends.gets c.link.peer.tag).first_tsn; tracker = left.tracker; reassembly = left.reassembly; read = read_after d input (ends.gets c.link.peer.tag).read })) e past o.after (after_effects o.effects their_past)
         → (HadBoth past c.link.peer.tag c.link.my.tag ⊎ WasSent [] (came_by input)) → DirectionRun options (ends.firsts c.link.peer.tag) options.max_receiver_window_buffer_size
         (record (receiving (joined (ends.sends c.link.peer.tag) (ends.gets c.link.peer.tag)) left (read_after d input (ends.gets c.link.peer.tag).read)) { asking = asking })
         → Turned
     receives linked left is fits asking still fit answered met run =
         let tag : ℕ = c.link.peer.tag in
-        let got : ReceivingEnd = record { tracker = left.tracker; reassembly = left.reassembly; read = read_after d input (ends.gets tag).read } in
-        subst (λ (n : Tags). AreEnds ends.never_resets options e queued past packets o.after (after_effects o.effects their_past) (record { reads = tagged_after n d input reading.reads; last = tags_or reading.last (identity_in o.after.core) })) (sym (h.receiver.last c.link c.linked))
-        (subst (λ (n : Tags). AreEnds ends.never_resets options e queued past packets o.after (after_effects o.effects their_past) (record { reads = tagged_after (tags_of c.link) d input reading.reads; last = n })) (sym (ap (tags_or reading.last) (linked ∙ c.linked)))
+        let got : ReceivingEnd = record { first_tsn = (ends.gets tag).first_tsn; tracker = left.tracker; reassembly = left.reassembly; read = read_after d input (ends.gets tag).read } in
+        subst (λ (n : Tags). AreEnds ends.never_resets (heard ++ packets_in o.events) options e queued past packets o.after (after_effects o.effects their_past) (record { reads = tagged_after n d input reading.reads; last = tags_or reading.last (identity_in o.after.core) })) (sym (h.receiver.last c.link c.linked))
+        (subst (λ (n : Tags). AreEnds ends.never_resets (heard ++ packets_in o.events) options e queued past packets o.after (after_effects o.effects their_past) (record { reads = tagged_after (tags_of c.link) d input reading.reads; last = n })) (sym (ap (tags_or reading.last) (linked ∙ c.linked)))
         (record {
           ends = asked_ends ends tag asking got;
           is = refl;
@@ -172,12 +233,14 @@ module _ (options : Options) (ends : Ends) (e : Endpoint) (queued : List Message
                   (all_of_after their_past (tags_of c.link) d input reading.reads (inr (c.link, c.held, refl)) h.receiver.reads_of);
             };
             mine = h.mine;
+            idle = h.idle;
             alone = λ t. elim (decide t tag) [
               | inl e' ↦ subst (MetOrAlone options (asked_ends ends tag asking got) past (after_effects o.effects their_past)) (sym e') (alone_so left asking is linked met (h.alone tag))
               | inr ne ↦ alone_later options ends (asked_ends ends tag asking got) past past their_past (after_effects o.effects their_past) (λ effect has. has) (after_within o.effects their_past) t (set_other tag t got ends.gets ne) refl (h.alone t)
             ];
           };
           answered = answered;
+          reported = heard_going linked left is;
         }))
       where
         same_link : (found : Option AssociationIdentity) (one two : AssociationIdentity) → found ≡ Some one → found ≡ Some two → one ≡ two
@@ -193,8 +256,8 @@ module _ (options : Options) (ends : Ends) (e : Endpoint) (queued : List Message
 
     now : DirectionRun options (ends.firsts c.link.peer.tag) options.max_receiver_window_buffer_size (receiving (joined (ends.sends c.link.peer.tag) (ends.gets c.link.peer.tag)) transfer (ends.gets c.link.peer.tag).read)
     now =
-        subst (λ (t : TrackerState). DirectionRun options (ends.firsts c.link.peer.tag) options.max_receiver_window_buffer_size (joined (ends.sends c.link.peer.tag) (record { tracker = t; reassembly = transfer.reassembly; read = (ends.gets c.link.peer.tag).read }))) c.tracker
-        (subst (λ (r : ReassemblyState). DirectionRun options (ends.firsts c.link.peer.tag) options.max_receiver_window_buffer_size (joined (ends.sends c.link.peer.tag) (record { tracker = (ends.gets c.link.peer.tag).tracker; reassembly = r; read = (ends.gets c.link.peer.tag).read }))) c.reassembly
+        subst (λ (t : TrackerState). DirectionRun options (ends.firsts c.link.peer.tag) options.max_receiver_window_buffer_size (joined (ends.sends c.link.peer.tag) (record { first_tsn = (ends.gets c.link.peer.tag).first_tsn; tracker = t; reassembly = transfer.reassembly; read = (ends.gets c.link.peer.tag).read }))) c.tracker
+        (subst (λ (r : ReassemblyState). DirectionRun options (ends.firsts c.link.peer.tag) options.max_receiver_window_buffer_size (joined (ends.sends c.link.peer.tag) (record { first_tsn = (ends.gets c.link.peer.tag).first_tsn; tracker = (ends.gets c.link.peer.tag).tracker; reassembly = r; read = (ends.gets c.link.peer.tag).read }))) c.reassembly
         (h.runs c.link.peer.tag))
 
     -- ---- what is known of the request that is handled
@@ -253,10 +316,10 @@ module _ (options : Options) (ends : Ends) (e : Endpoint) (queued : List Message
           (joined (ends.sends c.link.peer.tag) (ends.gets c.link.peer.tag)) (ends.firsts c.link.peer.tag) (h.runs c.link.peer.tag) refl sent few_asked knows new_same linked is_known (stands left is) asking by _) met run
       by_turn is_known stands (receiver_ends none gone unread) =
           unread_goes (reads_still reading.last d input transfer reading.reads there unread)
-          (rests options ends e queued past packets d their_past reading h input o w may turn gone (unlinked_some o.after none) none (none_performed o.effects (ends_ask_nothing d input o transfer may turn there gone))
+          (rests options ends e queued past packets d their_past reading h input o w may turn heard reported reports gone (unlinked_some o.after none) none (none_performed o.effects (ends_ask_nothing d input o transfer may turn there gone))
           (subst (λ (n : Tags). LeavesReady ends.gets n.peer o.after.left o.after.queues.transfer) (sym (h.receiver.last c.link c.linked)) (ends_left d input o may turn ends.gets reading.last.peer c.link.peer.tag transfer there gone c.reassembly h.receiver.left)))
       by_turn is_known stands (receiver_begins opens) =
-          unread_goes (opening_still reading.last d input reading.reads opens.opening) (opens_goes options ends e queued past packets d their_past reading h few same input o w may turn opens (new opens.begun opens.opening opens.linked))
+          unread_goes (opening_still reading.last d input reading.reads opens.opening) (opens_goes options ends e queued past packets d their_past reading h few same input o w may turn heard reported reports opens (new opens.begun opens.opening opens.linked))
 
       goes_known : (is_known : Bool) → KnowsRequest is_known (joined (ends.sends c.link.peer.tag) (ends.gets c.link.peer.tag)) transfer (came_by input) o.effects
           → ReceiverTurns is_known options (ends.firsts c.link.peer.tag) options.max_receiver_window_buffer_size (joined (ends.sends c.link.peer.tag) (ends.gets c.link.peer.tag)) transfer d input o
@@ -293,9 +356,9 @@ module _ (options : Options) (ends : Ends) (e : Endpoint) (queued : List Message
 
   idle_goes : d.queues.transfer ≡ None → IdleTurns d input o → Turned
   idle_goes nowhere (idle_stays which none fits unread) =
-      idle_rests options ends e queued past packets d their_past reading h input o w may turn nowhere none fits (elim which [ inl gone ↦ gone | inr same' ↦ same' ∙ w.unlinked nowhere ]) (none_performed o.effects (unlinked_asks_nothing d input o may turn (w.unlinked nowhere)).0)
+      idle_rests options ends e queued past packets d their_past reading h input o w may turn heard reported reports nowhere none fits (elim which [ inl gone ↦ gone | inr same' ↦ same' ∙ w.unlinked nowhere ]) (none_performed o.effects (unlinked_asks_nothing d input o may turn (w.unlinked nowhere)).0)
   idle_goes nowhere (idle_begins opens) =
-      unread_goes (opening_still reading.last d input reading.reads opens.opening) (opens_goes options ends e queued past packets d their_past reading h few same input o w may turn opens (new opens.begun opens.opening opens.linked))
+      unread_goes (opening_still reading.last d input reading.reads opens.opening) (opens_goes options ends e queued past packets d their_past reading h few same input o w may turn heard reported reports opens (new opens.begun opens.opening opens.linked))
 
   -- What is handled in an association was sent in it.
   abbrev pub Sent : Type 0

@@ -31,7 +31,7 @@ use Rattle.dcsctp_delivery_turns.proofs.Beginnings.{begun_at_zero}
 use Rattle.dcsctp_delivery_turns.proofs.Runs.{senders_begin}
 use Rattle.dcsctp_delivery_turns.proofs.Unbegun.{unbegun_begins_at_zero, unbegun_begins_waiting}
 use Rattle.dcsctp_delivery_associations.proofs.Held.{never_held, none_held, some_held}
-use Rattle.dcsctp_delivery_associations.specs.Ends.{SendingEnd, ReceivingEnd, joined, new_end, Ends, HadPeer, HadKind, HadBoth, sender_key, unbegun_end, MetOrAlone, KeepsThese, KeepsOnlyThese, BeginsAnew, Awaits, Sender, NewPeer, HadTag, IsCurrentEnd, Receiver, Between, IsOnlyOwn, IsBefore}
+use Rattle.dcsctp_delivery_associations.specs.Ends.{SendingEnd, ReceivingEnd, joined, new_end, Ends, HadPeer, HadKind, HadBoth, sender_key, unbegun_end, MetOrAlone, KeepsThese, KeepsOnlyThese, BeginsAnew, Awaits, Sender, NewPeer, HadTag, IsCurrentEnd, Receiver, AreHeard, Between, IsOnlyOwn, IsBefore}
 use Rattle.dcsctp_delivery_directions.proofs.RequestCounts.{requests_more_to, requests_are_sent}
 use Rattle.dcsctp_delivery_associations.specs.Answered.{AnswersRequests, requests_of, waiting_deferral, AreAnswered}
 use Rattle.dcsctp_delivery_associations.proofs.AskedOn.{MayBegin}
@@ -42,6 +42,7 @@ use Rattle.dcsctp_delivery_associations.specs.Reads.{Reading, with_key}
 use Rattle.dcsctp_delivery_associations.proofs.Growing.{set_all, set_three}
 use Rattle.dcsctp_delivery_associations.proofs.AnsweringRests.{after_split}
 use Rattle.dcsctp_delivery_associations.proofs.Senders.{link_tag, link_peer, alone_later, renewed_end, renewed_ends, renewed}
+use Rattle.dcsctp_delivery_associations.proofs.Heard.{HasGrown, same_grown, heard_later}
 use Rattle.dcsctp_delivery_associations.proofs.SenderStays.{receiver_same, all_wait_marked}
 use Rattle.dcsctp_delivery_associations.proofs.WhatIsLeft.{ready_same}
 
@@ -278,10 +279,13 @@ module _ (options : Options) (ends : Ends) (e : Endpoint) (queued : List Message
   none_former is None none = none
   none_former is (Some former) some = (let was = h.sender.replaced begun.my.tag former some in absurd (is.other was.old (before_held was.old was.link past was.before) was.old_is))
 
-  crossed_begins : NewPeer past their_past new → Awaits (ends.sends begun.my.tag) → identity_in o.after.core ≡ Some new → AreAddressed begun.held.peer.tag (packets_in o.events)
+  none_there : identity_in o.after.core ≡ Some new → identity_in o.after.core ≡ None → o.after.queues.transfer ≡ None
+  none_there linked unlinked = (let clash : ◌≡◌ {A = Option AssociationIdentity} None (Some new) = sym unlinked ∙ linked in absurd (cc))
+
+  crossed_begins : (heard : List Emission) → AreHeard ends.gets their_past heard → NewPeer past their_past new → Awaits (ends.sends begun.my.tag) → identity_in o.after.core ≡ Some new → AreAddressed begun.held.peer.tag (packets_in o.events)
       → QueueWaits marks e.queues.queue → AllByRecursion Fits marks → Later → ends.firsts begun.my.tag ≡ begun.my.first_tsn
-      → AreEnds ends.never_resets options o.after queued (after_effects o.effects past) (packets ++ packets_in o.events) d their_past reading
-  crossed_begins is waits linked addressed shown fit later same =
+      → AreEnds ends.never_resets heard options o.after queued (after_effects o.effects past) (packets ++ packets_in o.events) d their_past reading
+  crossed_begins heard reported is waits linked addressed shown fit later same =
       let to : ℕ = begun.my.tag in
       let ps : List Emission = packets_in o.events in
       let start : DirectionRun options begun.my.first_tsn options.max_receiver_window_buffer_size (joined (ends.sends to) (ends.gets to)) =
@@ -301,6 +305,7 @@ module _ (options : Options) (ends : Ends) (e : Endpoint) (queued : List Message
               (renewed ends (sender_key e.core) (peer_tag e.core) e.queues queued past packets h.sender o.effects to begun.held.peer.tag o.after.queues run.0 ps run.1 begins_anew ends.gets ends.firsts None (nothing_left is) (none_former is (ends.former begun.my.tag) refl)
               (λ some. subst (λ (n : ℕ). HadPeer (after_effects o.effects past) to n) (sym same) had_new) (λ tag ne. refl) addressed (λ some. kind_new is linked) (inr had_both) (λ former none. absurd (cc)) (which_is is linked));
           mine = mine_then linked;
+          idle = λ unlinked. none_there linked unlinked;
           asks = subst (λ (k : ℕ). AsksFit (ends.firsts k) (own_of o.after) (set_at to end ends.sends k).asking) (sym (link_tag o.after.core new linked))
               (subst (λ (s : SendingEnd). AsksFit (ends.firsts to) (own_of o.after) s.asking) (sym (set_same to end ends.sends))
               (subst (λ (n : ℕ). AsksFit n (own_of o.after) run.1) (sym same) run.3));
@@ -314,13 +319,14 @@ module _ (options : Options) (ends : Ends) (e : Endpoint) (queued : List Message
         answered = answered_by ends' linked (set_at to begun.my w.pairs)
             (begins_answers ends e past d their_past w new is.some is.match waits.asking end ends.gets ends.firsts same (λ tag ne. refl)
             (begins_little addressed options options.max_receiver_window_buffer_size run.0 run.1 (record (joined (ends.sends to) (ends.gets to)) { beginning = begins_anew }) run.2 run.3 linked run.4) (λ other there tag. same) (after_effects o.effects past) (after_within o.effects past) new_held);
+        reported = reported;
       }
 
-  fresh_begins : NewPeer past their_past new → Awaits (ends.sends begun.my.tag) → identity_in o.after.core ≡ Some new → AreAddressed begun.held.peer.tag (packets_in o.events)
+  fresh_begins : (heard : List Emission) → AreHeard ends.gets their_past heard → NewPeer past their_past new → Awaits (ends.sends begun.my.tag) → identity_in o.after.core ≡ Some new → AreAddressed begun.held.peer.tag (packets_in o.events)
       → QueueWaits marks e.queues.queue → AllByRecursion Fits marks → Later → ends.gets begun.my.tag ≡ new_end options (ends.firsts begun.my.tag)
       → ((transfer : Transfer) (link : AssociationIdentity) → d.queues.transfer ≡ Some transfer → identity_in d.core ≡ Some link → link.peer.tag ≢ begun.my.tag)
-      → AreEnds ends.never_resets options o.after queued (after_effects o.effects past) (packets ++ packets_in o.events) d their_past reading
-  fresh_begins is waits linked addressed shown fit later fresh apart =
+      → AreEnds ends.never_resets heard options o.after queued (after_effects o.effects past) (packets ++ packets_in o.events) d their_past reading
+  fresh_begins heard reported is waits linked addressed shown fit later fresh apart =
       let to : ℕ = begun.my.tag in
       let first : ℕ = begun.my.first_tsn in
       let ps : List Emission = packets_in o.events in
@@ -345,6 +351,7 @@ module _ (options : Options) (ends : Ends) (e : Endpoint) (queued : List Message
               (renewed ends (sender_key e.core) (peer_tag e.core) e.queues queued past packets h.sender o.effects to begun.held.peer.tag o.after.queues run.0 ps run.1 begins_anew gets firsts None (nothing_left is) (none_former is (ends.former begun.my.tag) refl)
               (λ some. subst (λ (n : ℕ). HadPeer (after_effects o.effects past) to n) (sym (set_same to first ends.firsts)) had_new) (λ tag ne. set_other to tag first ends.firsts ne) addressed (λ some. kind_new is linked) (inr had_both) (λ former none. absurd (cc)) (which_is is linked));
           mine = mine_then linked;
+          idle = λ unlinked. none_there linked unlinked;
           asks = subst (λ (k : ℕ). AsksFit (firsts k) (own_of o.after) (set_at to end ends.sends k).asking) (sym (link_tag o.after.core new linked))
               (subst (λ (s : SendingEnd). AsksFit (firsts to) (own_of o.after) s.asking) (sym (set_same to end ends.sends))
               (subst (λ (n : ℕ). AsksFit n (own_of o.after) run.1) (sym (set_same to first ends.firsts)) run.3));
@@ -363,16 +370,28 @@ module _ (options : Options) (ends : Ends) (e : Endpoint) (queued : List Message
             (begins_answers ends e past d their_past w new is.some is.match waits.asking end gets firsts (set_same to first ends.firsts) (λ tag ne. set_other to tag first ends.firsts ne)
             (begins_little addressed options options.max_receiver_window_buffer_size run.0 run.1 (new_direction options first options.max_receiver_window_buffer_size [] (record { queue = empty_queue options; transfer = None }) 0 [] begins_anew) run.2 run.3 linked run.4)
             (λ other there tag. absurd (nowhere d.queues.transfer refl other there tag)) (after_effects o.effects past) (after_within o.effects past) new_held);
+        reported = heard_later ends.gets gets their_past their_past (λ effect has. has) (λ tag had. stays is fresh tag had (decide tag to)) heard reported;
       }
     where
+      -- Nothing was received from this tag, and another association of it would have begun with the same TSN.
+      stays : NewPeer past their_past new → ends.gets begun.my.tag ≡ new_end options (ends.firsts begun.my.tag) → (tag : ℕ) → HadTag their_past tag (ends.gets tag).first_tsn → (tag ≡ begun.my.tag) ⊎ (tag ≢ begun.my.tag)
+          → HasGrown (ends.gets tag) (set_at begun.my.tag (new_end options begun.my.first_tsn) ends.gets tag)
+      stays is fresh tag had (inr ne) = same_grown (ends.gets tag) _ (set_other begun.my.tag tag (new_end options begun.my.first_tsn) ends.gets ne)
+      stays is fresh tag had (inl e') =
+          let here : HadTag their_past begun.my.tag (ends.gets begun.my.tag).first_tsn = subst (λ (t : ℕ). HadTag their_past t (ends.gets t).first_tsn) e' had in
+          let pair : here.link.peer ≡ begun.my = is.match here.link here.held here.tag_is in
+          let first_is : ends.firsts begun.my.tag ≡ begun.my.first_tsn = sym (ap (λ (g : ReceivingEnd). g.first_tsn) fresh) ∙ sym here.first_is ∙ ap (λ (p : Pair). p.first_tsn) pair in
+          subst (λ (t : ℕ). HasGrown (ends.gets t) (set_at begun.my.tag (new_end options begun.my.first_tsn) ends.gets t)) (sym e')
+          (same_grown (ends.gets begun.my.tag) _ (set_same begun.my.tag (new_end options begun.my.first_tsn) ends.gets ∙ sym (fresh ∙ ap (new_end options) first_is)))
+
       nowhere : (found : Option Transfer) → d.queues.transfer ≡ found → (other : AssociationIdentity) → identity_in d.core ≡ Some other → other.peer.tag ≡ begun.my.tag → ⊥
       nowhere None none other there tag = (let clash : ◌≡◌ {A = Option AssociationIdentity} None (Some other) = sym (w.unlinked none) ∙ there in absurd (cc))
       nowhere (Some transfer) some other there tag = apart transfer other some there tag
 
-  pub begins : NewPeer past their_past new → identity_in o.after.core ≡ Some new → AreAddressed begun.held.peer.tag (packets_in o.events)
+  pub begins : (heard : List Emission) → AreHeard ends.gets their_past heard → NewPeer past their_past new → identity_in o.after.core ≡ Some new → AreAddressed begun.held.peer.tag (packets_in o.events)
       → QueueWaits (ends.sends (sender_key e.core)).queued e.queues.queue → AllByRecursion Fits (ends.sends (sender_key e.core)).queued → Later
-      → AreEnds ends.never_resets options o.after queued (after_effects o.effects past) (packets ++ packets_in o.events) d their_past reading
-  begins is linked addressed shown fit later =
+      → AreEnds ends.never_resets heard options o.after queued (after_effects o.effects past) (packets ++ packets_in o.events) d their_past reading
+  begins heard reported is linked addressed shown fit later =
       elim (h.sender.begun begun.my.tag is.some) [
         | inl waits ↦ go waits (known options ends d past their_past reading h.receiver new is d.queues.transfer refl)
         | inr had ↦ absurd (is.other had.link had.held had.tag_is)
@@ -386,6 +405,6 @@ module _ (options : Options) (ends : Ends) (e : Endpoint) (queued : List Message
       fit_marks : AllByRecursion Fits marks
       fit_marks = all_marked_fit (length (ends.sends (sender_key e.core)).queued) (ends.sends (sender_key e.core)).queues.queue.streams (ends.sends (sender_key e.core)).queued fit
 
-      go : Awaits (ends.sends begun.my.tag) → Known options ends d new → AreEnds ends.never_resets options o.after queued (after_effects o.effects past) (packets ++ packets_in o.events) d their_past reading
-      go waits (is_crossed same) = crossed_begins is waits linked addressed holds_marks fit_marks later same
-      go waits (is_fresh fresh apart) = fresh_begins is waits linked addressed holds_marks fit_marks later fresh apart
+      go : Awaits (ends.sends begun.my.tag) → Known options ends d new → AreEnds ends.never_resets heard options o.after queued (after_effects o.effects past) (packets ++ packets_in o.events) d their_past reading
+      go waits (is_crossed same) = crossed_begins heard reported is waits linked addressed holds_marks fit_marks later same
+      go waits (is_fresh fresh apart) = fresh_begins heard reported is waits linked addressed holds_marks fit_marks later fresh apart

@@ -26,7 +26,7 @@ use Rattle.dcsctp_delivery_directions.proofs.RequestCounts.{requests_more, reque
 use Rattle.dcsctp_delivery_turns.specs.Actions.{came_by, peer_tag, Collides}
 use Rattle.dcsctp_delivery_turns.specs.Asking.{Own, own_in, own_of, IsAsking, AsksFit, AskingGrows}
 use Rattle.dcsctp_delivery_turns.specs.Runs.{sender_at, Outlasts}
-use Rattle.dcsctp_delivery_associations.specs.Ends.{SendingEnd, joined, Ends, HadKind, IsBefore, PlaceWasTaken, sender_key, chunks_before, Sender, BeginsAnew, KeepsThese, KeepsOnlyThese, Between, IsOnlyOwn, WentBefore}
+use Rattle.dcsctp_delivery_associations.specs.Ends.{SendingEnd, joined, Ends, HadKind, IsBefore, PlaceWasTaken, sender_key, chunks_before, Sender, BeginsAnew, KeepsThese, KeepsOnlyThese, Between, IsOnlyOwn, AreHeard, WentBefore}
 use Rattle.dcsctp_delivery_associations.specs.Answered.{AnswersRequests, Requests, requests_of, waiting_deferral, AreAnswered, SenderHadPeer, WasJoined}
 use Rattle.dcsctp_delivery_associations.specs.Laws.{AreEnds, AsksLittle}
 use Rattle.dcsctp_delivery_associations.specs.Reads.{Reading}
@@ -373,8 +373,8 @@ module _ (options : Options) (ends : Ends) (e : Endpoint) (queued : List Message
   only_before : (tag : ℕ) → IsOnlyOwn (after_effects o.effects past) tag → IsOnlyOwn past tag
   only_before tag only = λ each has. only each (within (holds each) has)
 
-  pub outlasts_goes_on : o.after.options.follow_rfc ≡ e.options.follow_rfc → AreEnds ends.never_resets options o.after queued (after_effects o.effects past) (packets ++ packets_in o.events) d their_past reading
-  outlasts_goes_on follows =
+  pub outlasts_goes_on : (heard : List Emission) → AreHeard ends.gets their_past heard → o.after.options.follow_rfc ≡ e.options.follow_rfc → AreEnds ends.never_resets heard options o.after queued (after_effects o.effects past) (packets ++ packets_in o.events) d their_past reading
+  outlasts_goes_on heard reported follows =
       record {
         ends = later;
         is = refl;
@@ -384,6 +384,7 @@ module _ (options : Options) (ends : Ends) (e : Endpoint) (queued : List Message
           sender = subst (λ (k : ℕ). Sender later k (peer_tag o.after.core) o.after.queues queued (after_effects o.effects past) (packets ++ ps)) (sym same_then)
               (subst (λ (n : ℕ). Sender later key n o.after.queues queued (after_effects o.effects past) (packets ++ ps)) (sym (link_peer o.after.core goes.collision.opened.link goes.collision.opened.linked)) sender_then);
           mine = λ each there. subst (λ (l : AssociationIdentity). HasEffect (holds l) (after_effects o.effects past)) (the_one each there) link_held;
+          idle = λ unlinked. (let linked = goes.collision.opened.linked in absurd (cc));
           asks = subst (λ (k : ℕ). AsksFit (ends.firsts k) (own_of o.after) (set_at key end ends.sends k).asking) (sym same_then)
               (subst (λ (s : SendingEnd). AsksFit (ends.firsts key) (own_of o.after) s.asking) (sym (set_same key end ends.sends)) outlasts.fits);
           numbered = set_all (λ tag s. tag ≢ 0 → BeginsAnew o.after (after_effects o.effects past) tag → s.beginning.from_zero ≡ true) key end ends.sends (λ some' anew. h.numbered key some' (anew_before follows key anew))
@@ -400,6 +401,7 @@ module _ (options : Options) (ends : Ends) (e : Endpoint) (queued : List Message
           answers = subst (λ (l : Option AssociationIdentity). AnswersRequests (requests_of later w.pairs) l (after_effects o.effects past) (identity_in d.core) their_past (waiting_deferral d.queues.transfer)) (sym goes.collision.opened.linked) answers_then;
           unlinked = w.unlinked;
         };
+        reported = reported;
       }
     where
       the_one : (each : AssociationIdentity) → identity_in o.after.core ≡ Some each → goes.collision.opened.link ≡ each

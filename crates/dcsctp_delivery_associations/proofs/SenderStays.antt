@@ -27,7 +27,7 @@ use Rattle.dcsctp_delivery_turns.specs.Asking.{own_of, AsksFit}
 use Rattle.dcsctp_delivery_turns.specs.Addressed.{AreAddressed}
 use Rattle.dcsctp_delivery_turns.specs.Runs.{sender_at}
 use Rattle.dcsctp_delivery_turns.proofs.Runs.{begins_anew}
-use Rattle.dcsctp_delivery_associations.specs.Ends.{SendingEnd, ReceivingEnd, joined, new_end, Ends, IsUnbegun, NeverHeld, KeepsThese, KeepsOnlyThese, BeginsAnew, sender_key, Sender, Receiver, Between, IsOnlyOwn, IsBefore}
+use Rattle.dcsctp_delivery_associations.specs.Ends.{SendingEnd, ReceivingEnd, joined, new_end, Ends, IsUnbegun, NeverHeld, KeepsThese, KeepsOnlyThese, BeginsAnew, sender_key, Sender, Receiver, AreHeard, Between, IsOnlyOwn, IsBefore}
 use Rattle.dcsctp_delivery_associations.specs.Answered.{AreAnswered}
 use Rattle.dcsctp_delivery_associations.specs.Laws.{AreEnds}
 use Rattle.dcsctp_delivery_associations.specs.Reads.{Reading}
@@ -76,15 +76,15 @@ module _ (options : Options) (ends : Ends) (e : Endpoint) (queued : List Message
   only_before tag only = λ link held. only link (after_within o.effects past (holds link) held)
 
   -- what is to be shown of the turn
-  abbrev pub Turned : Type 0
-  Turned = AreEnds ends.never_resets options o.after (queued_after e input queued) (after_effects o.effects past) (packets ++ packets_in o.events) d their_past reading
+  abbrev pub Turned : List Emission → Type 0
+  Turned heard = AreEnds ends.never_resets heard options o.after (queued_after e input queued) (after_effects o.effects past) (packets ++ packets_in o.events) d their_past reading
 
-  pub goes_on : ((each : AssociationIdentity) → HasEffect (holds each) (after_effects o.effects past) → HasEffect (holds each) past) → o.after.options.follow_rfc ≡ e.options.follow_rfc → (NeverHeld (after_effects o.effects past) → IsUnbegun ends.never_resets (queued_after e input (ends.sends (sender_key e.core)).queued) o.after) → identity_in o.after.core ≡ identity_in e.core → o.after.queues.queue.is_interleaved ≡ e.queues.queue.is_interleaved → AreAddressed (peer_tag e.core) (packets_in o.events) → (acknowledged : ℕ) (asking : Asking) → AsksFit (ends.firsts (sender_key e.core)) (own_of o.after) asking
+  pub goes_on : (heard : List Emission) → AreHeard ends.gets their_past heard → ((each : AssociationIdentity) → HasEffect (holds each) (after_effects o.effects past) → HasEffect (holds each) past) → o.after.options.follow_rfc ≡ e.options.follow_rfc → (NeverHeld (after_effects o.effects past) → IsUnbegun ends.never_resets (queued_after e input (ends.sends (sender_key e.core)).queued) o.after) → identity_in o.after.core ≡ identity_in e.core → o.after.queues.queue.is_interleaved ≡ e.queues.queue.is_interleaved → AreAddressed (peer_tag e.core) (packets_in o.events) → (acknowledged : ℕ) (asking : Asking) → AsksFit (ends.firsts (sender_key e.core)) (own_of o.after) asking
       → AreAnswered (grown_ends ends (sender_key e.core) (peer_tag e.core) e.queues queued past packets h.sender o.effects more o.after.queues acknowledged (packets_in o.events) asking) o.after (after_effects o.effects past) d their_past
       → DirectionRun options (ends.firsts (sender_key e.core)) options.max_receiver_window_buffer_size
       (sender_at (joined (ends.sends (sender_key e.core)) (ends.gets (sender_key e.core))) (queued_after e input (ends.sends (sender_key e.core)).queued) o.after.queues acknowledged ((ends.sends (sender_key e.core)).sent ++ packets_in o.events) asking)
-      → Turned
-  goes_on none_began follows unbegun linked kind addressed acknowledged asking fits answered run =
+      → (identity_in o.after.core ≡ None → o.after.queues.transfer ≡ None) → Turned heard
+  goes_on heard reported none_began follows unbegun linked kind addressed acknowledged asking fits answered run nowhere =
       let key : ℕ = sender_key e.core in
       let end : SendingEnd = grown_end ends key (peer_tag e.core) e.queues queued past packets h.sender o.effects more o.after.queues acknowledged (packets_in o.events) asking in
       let later : Ends = grown_ends ends key (peer_tag e.core) e.queues queued past packets h.sender o.effects more o.after.queues acknowledged (packets_in o.events) asking in
@@ -102,6 +102,7 @@ module _ (options : Options) (ends : Ends) (e : Endpoint) (queued : List Message
               (subst (λ (k : ℕ). Sender later k (peer_tag o.after.core) o.after.queues (more ++ queued) (after_effects o.effects past) (packets ++ packets_in o.events)) (sym (same_key o.after.core e.core linked))
               (subst (λ (n : ℕ). Sender later key n o.after.queues (more ++ queued) (after_effects o.effects past) (packets ++ packets_in o.events)) (sym (same_peer o.after.core e.core linked)) sender));
           mine = λ link there. after_within o.effects past (holds link) (h.mine link (sym linked ∙ there));
+          idle = nowhere;
           asks = subst (λ (k : ℕ). AsksFit (ends.firsts k) (own_of o.after) (set_at key end ends.sends k).asking) (sym (same_key o.after.core e.core linked))
               (subst (λ (s : SendingEnd). AsksFit (ends.firsts key) (own_of o.after) s.asking) (sym (set_same key end ends.sends)) fits);
           numbered = set_all (λ tag s. tag ≢ 0 → BeginsAnew o.after (after_effects o.effects past) tag → s.beginning.from_zero ≡ true) key end ends.sends (λ some anew. h.numbered key some (anew_before follows key anew))
@@ -117,6 +118,7 @@ module _ (options : Options) (ends : Ends) (e : Endpoint) (queued : List Message
           alone = λ tag. alone_later options ends later past (after_effects o.effects past) their_past their_past (after_within o.effects past) (λ effect has. has) tag refl refl (h.alone tag);
         };
         answered = answered;
+        reported = reported;
       }
 
   before_held : (one other : AssociationIdentity) (past : List Effect) → IsBefore one other past → HasEffect (holds one) past
@@ -136,13 +138,13 @@ module _ (options : Options) (ends : Ends) (e : Endpoint) (queued : List Message
       renewed_ends (grown_ends ends (sender_key e.core) (peer_tag e.core) e.queues queued past packets h.sender o.effects more last acknowledged (packets_in o.events) asking) (sender_key e.core) (peer_tag e.core) last (more ++ queued) (after_effects o.effects past)
       (packets ++ packets_in o.events) (grown ends (sender_key e.core) (peer_tag e.core) e.queues queued past packets h.sender o.effects more last acknowledged (packets_in o.events) asking addressed kind none_began) [] 0 0 o.after.queues 0 [] nothing_asked (record { from_zero = false; keeps = λ id. false }) ends.gets ends.firsts None
 
-  pub ended : (none_began : (each : AssociationIdentity) → HasEffect (holds each) (after_effects o.effects past) → HasEffect (holds each) past) → o.after.options.follow_rfc ≡ e.options.follow_rfc → (NeverHeld (after_effects o.effects past) → IsUnbegun ends.never_resets (queued_after e input (ends.sends (sender_key e.core)).queued) o.after) → identity_in o.after.core ≡ None → (addressed : AreAddressed (peer_tag e.core) (packets_in o.events)) → (last : EndpointQueues) → (kind : last.queue.is_interleaved ≡ e.queues.queue.is_interleaved) → o.after.queues ≡ record last { transfer = None }
+  pub ended : (heard : List Emission) → AreHeard ends.gets their_past heard → (none_began : (each : AssociationIdentity) → HasEffect (holds each) (after_effects o.effects past) → HasEffect (holds each) past) → o.after.options.follow_rfc ≡ e.options.follow_rfc → (NeverHeld (after_effects o.effects past) → IsUnbegun ends.never_resets (queued_after e input (ends.sends (sender_key e.core)).queued) o.after) → identity_in o.after.core ≡ None → (addressed : AreAddressed (peer_tag e.core) (packets_in o.events)) → (last : EndpointQueues) → (kind : last.queue.is_interleaved ≡ e.queues.queue.is_interleaved) → o.after.queues ≡ record last { transfer = None }
       → QueueWaits (queued_after e input (ends.sends (sender_key e.core)).queued) last.queue → AllByRecursion Fits (queued_after e input (ends.sends (sender_key e.core)).queued) → (acknowledged : ℕ) (asking : Asking)
       → AreAnswered (ended_ends none_began last acknowledged asking addressed kind) o.after (after_effects o.effects past) d their_past
       → DirectionRun options (ends.firsts (sender_key e.core)) options.max_receiver_window_buffer_size
       (sender_at (joined (ends.sends (sender_key e.core)) (ends.gets (sender_key e.core))) (queued_after e input (ends.sends (sender_key e.core)).queued) last acknowledged ((ends.sends (sender_key e.core)).sent ++ packets_in o.events) asking)
-      → Turned
-  ended none_began follows unbegun none addressed last kind is shown fit acknowledged asking answered run =
+      → Turned heard
+  ended heard reported none_began follows unbegun none addressed last kind is shown fit acknowledged asking answered run =
       let key : ℕ = sender_key e.core in
       let ps : List Emission = packets_in o.events in
       let end : SendingEnd = grown_end ends key (peer_tag e.core) e.queues queued past packets h.sender o.effects more last acknowledged ps asking in
@@ -179,6 +181,7 @@ module _ (options : Options) (ends : Ends) (e : Endpoint) (queued : List Message
               (subst (λ (n : ℕ). Sender later 0 n o.after.queues (more ++ queued) (after_effects o.effects past) (packets ++ ps)) (sym (no_peer o.after.core none))
               (subst (λ (l : List Emission). Sender later 0 0 o.after.queues (more ++ queued) (after_effects o.effects past) l) (append-nil (packets ++ ps)) second)));
           mine = λ link there. (let clash : ◌≡◌ {A = Option AssociationIdentity} None (Some link) = sym none ∙ there in absurd (cc));
+          idle = λ unlinked. ap (λ (b : EndpointQueues). b.transfer) is;
           asks = unlinked_fit o.after (ends.firsts (sender_key o.after.core)) (later.sends (sender_key o.after.core)).asking none;
           numbered = set_all (λ tag s. tag ≢ 0 → BeginsAnew o.after (after_effects o.effects past) tag → s.beginning.from_zero ≡ true) 0 new middle.sends (λ some anew. absurd (some refl))
               (λ tag ne. set_all (λ t s. t ≢ 0 → BeginsAnew o.after (after_effects o.effects past) t → s.beginning.from_zero ≡ true) key end ends.sends (λ some anew. h.numbered key some (anew_before follows key anew))
@@ -198,4 +201,5 @@ module _ (options : Options) (ends : Ends) (e : Endpoint) (queued : List Message
           alone = λ tag. alone_later options ends later past (after_effects o.effects past) their_past their_past (after_within o.effects past) (λ effect has. has) tag refl refl (h.alone tag);
         };
         answered = answered;
+        reported = reported;
       }

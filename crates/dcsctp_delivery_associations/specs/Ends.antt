@@ -5,7 +5,8 @@
 use Rattle.std.specs.Prelude.{◌≡◌, ◌≢◌, ◌<◌, ◌≤◌, ◌+◌, ◌^◌, ◌⊎◌, ℕ, Bool, true, false, Option, None, Some, List, [], ◌∷◌, length}
 use Rattle.dcsctp_spec_lemmas.specs.types.declared.options.Options.{Options}
 use Rattle.dcsctp_spec_lemmas.specs.spec.endpoint.Endpoint.{Endpoint, Core, closed, cookie_wait, cookie_echoed, open_in, is_cookie_echoed}
-use Rattle.dcsctp_spec_lemmas.specs.spec.Packet.{Emission}
+use Rattle.dcsctp_spec_lemmas.specs.wire.Content.{sack_chunk}
+use Rattle.dcsctp_spec_lemmas.specs.spec.Packet.{Content, shutdown, unworked, plain, Emission}
 use Rattle.dcsctp_spec_lemmas.specs.spec.endpoint.Turn.{Input}
 use Rattle.dcsctp_spec_runs.specs.Past.{HasEffect}
 use Rattle.dcsctp_spec_lemmas.specs.spec.association.Effect.{AssociationIdentity, Effect, holds, identity_in}
@@ -21,10 +22,11 @@ use Rattle.dcsctp_delivery_sending.specs.Losing.{AllWaitOn}
 use Rattle.dcsctp_delivery_sending.specs.Flushes.{NoData}
 use Rattle.dcsctp_delivery_sending.specs.ChunkCounts.{chunks_in, chunks_to}
 use Rattle.dcsctp_delivery_sending.specs.Marking.{WaitsNoLonger, FindsMarked, IsMarked}
-use Rattle.dcsctp_delivery_directions.specs.Directions.{Direction, Beginning, BeginsAs, Asking, nothing_asked, DirectionRun}
+use Rattle.dcsctp_delivery_directions.specs.Directions.{Direction, Beginning, HasReached, BeginsAs, Asking, nothing_asked, DirectionRun}
 use Rattle.dcsctp_delivery_directions.specs.Requests.{requests_in, requests_to}
 use Rattle.dcsctp_delivery_turns.specs.Asking.{Own, own_of, AsksFit, SomeFit}
 use Rattle.dcsctp_delivery_turns.specs.Actions.{NoEnd, peer_tag}
+use Rattle.dcsctp_delivery_turns.specs.Reports.{AllReportSo, NoReports}
 use Rattle.dcsctp_delivery_turns.specs.Unbegun.{IsAtZero}
 use Rattle.dcsctp_delivery_turns.specs.Untouched.{Untouched, EchoesMaker}
 use Rattle.dcsctp_delivery_associations.specs.Reads.{Reading, tags_of, with_key, AreOfLink, AllOfLinks}
@@ -40,6 +42,7 @@ pub record SendingEnd : Type 0 where
   pub beginning : Beginning
 
 pub record ReceivingEnd : Type 0 where
+  pub first_tsn : ℕ
   pub tracker : TrackerState
   pub reassembly : ReassemblyState
   pub read : List MessageContent
@@ -51,6 +54,7 @@ joined sends gets =
       queues = sends.queues;
       acknowledged = sends.acknowledged;
       sent = sends.sent;
+      first_tsn = gets.first_tsn;
       tracker = gets.tracker;
       reassembly = gets.reassembly;
       read = gets.read;
@@ -60,7 +64,7 @@ joined sends gets =
 
 -- one at which nothing was received yet
 abbrev pub new_end : Options → ℕ → ReceivingEnd
-new_end options first = record { tracker = new_tracker options first; reassembly = new_reassembly options.max_receiver_window_buffer_size (part_overhead options); read = [] }
+new_end options first = record { first_tsn = first; tracker = new_tracker options first; reassembly = new_reassembly options.max_receiver_window_buffer_size (part_overhead options); read = [] }
 
 -- For each tag of the sender both ends, and its first TSN; the tag of its peer, and that of the peer before.
 pub record Ends : Type 0 where
@@ -308,11 +312,43 @@ abbrev pub MetOrAlone : Options → Ends → List Effect → List Effect → ℕ
 MetOrAlone options ends past their_past tag =
     IsMet past their_past tag ⊎ DirectionRun options (ends.firsts tag) options.max_receiver_window_buffer_size (joined (unbegun_end options) (ends.gets tag))
 
+-- ---- what the receiver reports
+
+-- A packet of the receiver reports nothing. Or it goes to the tag 0, under which none is handled, or to a peer that it had, and each
+-- TSN that it reports was reached there.
+abbrev pub IsHeard : (ℕ → ReceivingEnd) → List Effect → Emission → Type 0
+IsHeard gets past emission =
+    NoReports emission.packet.contents
+    ⊎ (NoEnd emission.packet.contents
+    × ((emission.packet.tag ≡ 0)
+    ⊎ (HadTag past emission.packet.tag (gets emission.packet.tag).first_tsn × AllReportSo (HasReached (gets emission.packet.tag).first_tsn (gets emission.packet.tag).tracker) emission.packet.contents)))
+
+-- So is each.
+abbrev pub AreHeard : (ℕ → ReceivingEnd) → List Effect → List Emission → Type 0
+AreHeard gets past [] = Unit {0}
+AreHeard gets past (emission ∷ emissions) = IsHeard gets past emission × AreHeard gets past emissions
+
+-- The chunk was in a packet to this tag.
+pub record CameIn (heard : List Emission) (tag : ℕ) (content : Content) : Type 0 where
+  pub emission : Emission
+  pub was : places.HasEntry emission heard
+  pub holds : places.HasEntry content emission.packet.contents
+  pub to : emission.packet.tag ≡ tag
+
+-- So was the one that is handled, if it reports something.
+abbrev pub CameBack : List Emission → ℕ → Option Content → Type 0
+CameBack heard tag (Some (plain (unworked (sack_chunk sack)))) = CameIn heard tag (plain (unworked (sack_chunk sack)))
+CameBack heard tag (Some (shutdown tsn)) = CameIn heard tag (shutdown tsn)
+CameBack heard tag came = Unit {0}
+
+-- ---- all
+
 pub record Between (options : Options) (ends : Ends) (e : Endpoint) (queued : List Message) (past : List Effect) (packets : List Emission) (other : Endpoint) (their_past : List Effect) (reading : Reading) : Type 0 where
   pub runs : EndsRun options ends
   pub small : (tag : ℕ) → ends.firsts tag < 2 ^ 32
   pub sender : Sender ends (sender_key e.core) (peer_tag e.core) e.queues queued past packets
   pub mine : (link : AssociationIdentity) → identity_in e.core ≡ Some link → HasEffect (holds link) past
+  pub idle : identity_in e.core ≡ None → e.queues.transfer ≡ None
   pub asks : AsksFit (ends.firsts (sender_key e.core)) (own_of e) (ends.sends (sender_key e.core)).asking
   pub numbered : (tag : ℕ) → tag ≢ 0 → BeginsAnew e past tag → (ends.sends tag).beginning.from_zero ≡ true
   pub kept : (tag : ℕ) → tag ≢ 0 → IsOnlyOwn past tag → KeepsThese ends.never_resets (ends.sends tag).beginning

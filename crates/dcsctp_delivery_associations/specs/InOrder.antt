@@ -10,7 +10,7 @@ use Rattle.dcsctp_delivery_sending.specs.Log.{Message}
 use Rattle.dcsctp_delivery_sending.specs.ChunkCounts.{chunks_to}
 use Rattle.dcsctp_delivery_sending.specs.Losing.{AreUnlimited, AreUnlimitedOn}
 use Rattle.dcsctp_delivery_directions.specs.Requests.{requests_to}
-use Rattle.dcsctp_delivery_order.specs.PlainDirections.{ordered_on, FewOnEachStream}
+use Rattle.dcsctp_delivery_order.specs.PlainDirections.{FewOnEachStream}
 use Rattle.dcsctp_delivery_order.specs.Delivered.{DeliveredInOrder, DeliveredWithoutGaps}
 use Rattle.dcsctp_delivery_order.specs.Streams.{DeliveredByStream, DeliveredOn}
 use Rattle.dcsctp_delivery_associations.specs.Ends.{Ends, IsOnlyOwn, BeginsAnew, chunks_before, Between}
@@ -47,25 +47,17 @@ EndsDeliverByStream =
     → Between options ends e queued past packets other their_past reading → length queued < 2 ^ 64 → ((tag : ℕ) → chunks_before (ends.former tag) packets + chunks_to (ends.latest tag) packets < 2 ^ 30)
     → (tag : ℕ) → IsOnlyOwn past tag → InterleavesUnder past tag → DeliveredByStream ends.never_resets queued (with_key tag reading.reads)
 
--- Also where they don't it is so of each such stream, in the order of that stream, if no message of any may be abandoned.
-abbrev pub EndsDeliverDataByStream : Type 0
-EndsDeliverDataByStream =
-    (options : Options) (ends : Ends) (e : Endpoint) (queued : List Message) (past : List Effect) (packets : List Emission) (other : Endpoint) (their_past : List Effect) (reading : Reading)
-    → Between options ends e queued past packets other their_past reading → length queued < 2 ^ 64 → ((tag : ℕ) → chunks_before (ends.former tag) packets + chunks_to (ends.latest tag) packets < 2 ^ 30) → options.max_receiver_window_buffer_size < 2 ^ 32
-    → AreUnlimited queued → (tag : ℕ) → IsOnlyOwn past tag → DeliveredOn ends.never_resets queued (with_key tag reading.reads)
-
--- The stream is never reset, no message on it may be abandoned, and fewer than 2^15 ordered ones were queued on it.
-pub record IsFewKept (never_resets : ℕ → Bool) (queued : List Message) (id : ℕ) : Type 0 where
+-- The stream is never reset, and no message on it may be abandoned.
+pub record IsReliableKept (never_resets : ℕ → Bool) (queued : List Message) (id : ℕ) : Type 0 where
   pub never : never_resets id ≡ true
   pub unlimited : AreUnlimitedOn id queued
-  pub few : ordered_on id queued < 2 ^ 15
 
--- So it is of each of these streams, whatever happens on others.
-abbrev pub EndsDeliverFewByStream : Type 0
-EndsDeliverFewByStream =
+-- Whether they interleave or not it is so of each of these streams, in the order of that stream, whatever happens on others.
+abbrev pub EndsDeliverOnStreams : Type 0
+EndsDeliverOnStreams =
     (these : ℕ → Bool) (options : Options) (ends : Ends) (e : Endpoint) (queued : List Message) (past : List Effect) (packets : List Emission) (other : Endpoint) (their_past : List Effect) (reading : Reading)
-    → Between options ends e queued past packets other their_past reading → length queued < 2 ^ 64 → ((tag : ℕ) → chunks_before (ends.former tag) packets + chunks_to (ends.latest tag) packets < 2 ^ 30)
-    → ((id : ℕ) → these id ≡ true → IsFewKept ends.never_resets queued id) → (tag : ℕ) → IsOnlyOwn past tag → DeliveredOn these queued (with_key tag reading.reads)
+    → Between options ends e queued past packets other their_past reading → length queued < 2 ^ 64 → ((tag : ℕ) → chunks_before (ends.former tag) packets + chunks_to (ends.latest tag) packets < 2 ^ 30) → options.max_receiver_window_buffer_size < 2 ^ 32
+    → ((id : ℕ) → these id ≡ true → IsReliableKept ends.never_resets queued id) → (tag : ℕ) → IsOnlyOwn past tag → DeliveredOn these queued (with_key tag reading.reads)
 
 -- So it is of all, if no stream is reset.
 abbrev pub EndsDeliverWithoutGaps : Type 0

@@ -23,7 +23,7 @@ use Rattle.dcsctp_spec_lemmas.specs.spec.association.Effect.{holds, completes}
 use Rattle.dcsctp_delivery_directions.specs.Requests.{requests_to}
 use Rattle.dcsctp_delivery_associations.specs.Answered.{request_number_at, AreAnswered}
 use Rattle.dcsctp_delivery_turns.specs.Sides.{WasSent}
-use Rattle.dcsctp_delivery_associations.specs.Ends.{Ends, NewPeer, TakesOver, NewTag, chunks_before, HadBoth, Between}
+use Rattle.dcsctp_delivery_associations.specs.Ends.{Ends, NewPeer, TakesOver, NewTag, chunks_before, HadBoth, AreHeard, CameBack, Between}
 use Rattle.dcsctp_delivery_associations.specs.Reads.{Reading, nothing_read, reading_after, messages_of}
 
 -- A request of ours that ends as performed was performed by the peer, or it is the 2^32nd of its association.
@@ -38,39 +38,42 @@ AsksLittle packets = (tag : ℕ) → requests_to tag packets < 2 ^ 32 - 1
 abbrev pub ResetsAs : (ℕ → Bool) → Input → Type 0
 ResetsAs never_resets input = (id : ℕ) → never_resets id ≡ true → resets_stream id input ≡ false
 
--- There are ends for what was done so far, and for what was read, where the sender's user never resets these streams.
-pub record AreEnds (never_resets : ℕ → Bool) (options : Options) (e : Endpoint) (queued : List Message) (past : List Effect) (packets : List Emission) (other : Endpoint) (their_past : List Effect) (reading : Reading) : Type 0 where
+-- There are ends for what was done so far, and for what was read, where the sender's user never resets these streams. What the
+-- receiver reported in these packets was reached.
+pub record AreEnds (never_resets : ℕ → Bool) (heard : List Emission) (options : Options) (e : Endpoint) (queued : List Message) (past : List Effect) (packets : List Emission) (other : Endpoint) (their_past : List Effect) (reading : Reading) : Type 0 where
   pub ends : Ends
   pub is : ends.never_resets ≡ never_resets
   pub between : Between options ends e queued past packets other their_past reading
   pub answered : AreAnswered ends e past other their_past
+  pub reported : AreHeard ends.gets their_past heard
 
 -- Two sockets that were just made have them; `options` are those of the receiver.
 abbrev pub EndsBegin : Type 0
-EndsBegin = (never_resets : ℕ → Bool) (mine options : Options) → AreEnds never_resets options (fresh_endpoint mine) [] [] [] (fresh_endpoint options) [] nothing_read
+EndsBegin = (never_resets : ℕ → Bool) (mine options : Options) → AreEnds never_resets [] options (fresh_endpoint mine) [] [] [] (fresh_endpoint options) [] nothing_read
 
 -- Each association that is recorded has another peer's tag than those before.
 abbrev pub NewPeerTags : List Effect → Outcome → Type 0
 NewPeerTags past o = (link old : AssociationIdentity) → HasEffect (holds link) o.effects → HasEffect (holds old) past → old.peer.tag ≢ link.peer.tag
 
 -- A turn of the sender leaves them, with `follow_rfc` as it is, if an association that begins is of a new tag, or takes the place of the
--- one that is there, few requests to reset streams went to each tag, with interleaving none fails, and one that ends as performed was performed by the
--- receiver.
+-- one that is there, few requests to reset streams went to each tag, with interleaving none fails, one that ends as performed was performed by the
+-- receiver, and what acknowledges came in a packet of the receiver to our own tag.
 abbrev pub SendersTurn : Type 0
 SendersTurn =
-    (options : Options) (ends : Ends) (e : Endpoint) (queued : List Message) (past : List Effect) (packets : List Emission) (other : Endpoint) (their_past : List Effect) (reading : Reading) (input : Input) (o : Outcome)
-    → Between options ends e queued past packets other their_past reading → AreAnswered ends e past other their_past → ((begun : Begun e o) → IsOpening (came_by input) → identity_in o.after.core ≡ Some (identity_of begun.my begun.held) → NewPeer past their_past (identity_of begun.my begun.held) ⊎ TakesOver past their_past e input (identity_of begun.my begun.held)) → length (queued_after e input queued) < 2 ^ 64 → AsksLittle (packets ++ packets_in o.events)
-    → RefusesNone e o → ResetsAs ends.never_resets input → CompletesPerformed their_past o → o.after.options.follow_rfc ≡ e.options.follow_rfc → IsCall input → Turn e input o → AreEnds ends.never_resets options o.after (queued_after e input queued) (after_effects o.effects past) (packets ++ packets_in o.events) other their_past reading
+    (heard : List Emission) (options : Options) (ends : Ends) (e : Endpoint) (queued : List Message) (past : List Effect) (packets : List Emission) (other : Endpoint) (their_past : List Effect) (reading : Reading) (input : Input) (o : Outcome)
+    → Between options ends e queued past packets other their_past reading → AreAnswered ends e past other their_past → AreHeard ends.gets their_past heard
+    → ((link : AssociationIdentity) → identity_in e.core ≡ Some link → CameBack heard link.my.tag (came_by input)) → ((begun : Begun e o) → IsOpening (came_by input) → identity_in o.after.core ≡ Some (identity_of begun.my begun.held) → NewPeer past their_past (identity_of begun.my begun.held) ⊎ TakesOver past their_past e input (identity_of begun.my begun.held)) → length (queued_after e input queued) < 2 ^ 64 → AsksLittle (packets ++ packets_in o.events)
+    → RefusesNone e o → ResetsAs ends.never_resets input → CompletesPerformed their_past o → o.after.options.follow_rfc ≡ e.options.follow_rfc → IsCall input → Turn e input o → AreEnds ends.never_resets heard options o.after (queued_after e input queued) (after_effects o.effects past) (packets ++ packets_in o.events) other their_past reading
 
 -- So does one of the receiver, if what is handled in its association was sent in it, the peer of each association that is recorded
 -- has a new tag, and few requests went to each tag.
 abbrev pub ReceiversTurn : Type 0
 ReceiversTurn =
-    (options : Options) (ends : Ends) (e : Endpoint) (queued : List Message) (past : List Effect) (packets : List Emission) (other : Endpoint) (their_past : List Effect) (reading : Reading) (input : Input) (o : Outcome)
-    → Between options ends e queued past packets other their_past reading → AreAnswered ends e past other their_past → length queued < 2 ^ 64 → AsksLittle packets → SameOptions options other.options → KnowsPeerIn their_past other.core
+    (heard : List Emission) (options : Options) (ends : Ends) (e : Endpoint) (queued : List Message) (past : List Effect) (packets : List Emission) (other : Endpoint) (their_past : List Effect) (reading : Reading) (input : Input) (o : Outcome)
+    → Between options ends e queued past packets other their_past reading → AreAnswered ends e past other their_past → AreHeard ends.gets their_past heard → length queued < 2 ^ 64 → AsksLittle packets → SameOptions options other.options → KnowsPeerIn their_past other.core
     → NewPeerTags their_past o → ((begun : Begun other o) → IsOpening (came_by input) → identity_in o.after.core ≡ Some (identity_of begun.my begun.held) → NewTag their_past past (identity_of begun.my begun.held))
     → ((transfer : Transfer) (link : AssociationIdentity) → other.queues.transfer ≡ Some transfer → identity_in other.core ≡ Some link → WasSent (ends.sends link.peer.tag).sent (came_by input) × (HadBoth past link.peer.tag link.my.tag ⊎ WasSent [] (came_by input))) → IsCall input → Turn other input o
-    → AreEnds ends.never_resets options e queued past packets o.after (after_effects o.effects their_past) (reading_after other input o.after reading)
+    → AreEnds ends.never_resets (heard ++ packets_in o.events) options e queued past packets o.after (after_effects o.effects their_past) (reading_after other input o.after reading)
 
 -- Each message that was read, in any association or after it, was queued, and none twice, if fewer than 2^30 chunks of data
 -- went to the peers of each tag: none assigned 2^31 TSNs.

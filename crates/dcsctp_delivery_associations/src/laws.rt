@@ -1,6 +1,6 @@
 //! The laws of this crate.
 
-ghost use Rattle.dcsctp_delivery_associations.specs.InOrder.{EndsDeliverByStream, EndsDeliverDataByStream, EndsDeliverFewByStream, EndsDeliverDataInOrder, EndsDeliverWithoutGaps, EndsDeliverInOrder};
+ghost use Rattle.dcsctp_delivery_associations.specs.InOrder.{EndsDeliverByStream, EndsDeliverOnStreams, EndsDeliverDataInOrder, EndsDeliverWithoutGaps, EndsDeliverInOrder};
 ghost use Rattle.dcsctp_delivery_associations.specs.Laws.{EndsBegin, EndsDeliver, ReceiversTurn, SendersTurn};
 
 /// Two sockets that were just made have nothing between them.
@@ -38,11 +38,10 @@ pub fn ends_deliver_in_order()
 {}
 
 /// Where the sender had one own tag, what was read of a stream's ordered messages is a prefix of what was queued: none
-/// is missing before one that was read. That takes no reset of the stream, and no limits on its messages. Without
-/// interleaving it takes no limits on those of any, or fewer than 2^15 ordered messages of the stream.
+/// is missing before one that was read. That takes no reset of the stream, and no limits on its messages, whatever
+/// happens on other streams.
 pub fn ends_deliver_without_gaps()
     ensures streams { EndsDeliverByStream }
-    ensures data { EndsDeliverDataByStream }
-    ensures few { EndsDeliverFewByStream }
+    ensures reliable { EndsDeliverOnStreams }
     ensures all { EndsDeliverWithoutGaps }
 {}

@@ -58,7 +58,7 @@ nothing_before old _ (speaks emission no_data) h = absurd (one_behind old.sent e
 nothing_before old _ (asks_again emission begun was contents) h = absurd (one_behind old.sent emission h.sent)
 nothing_before old _ (renews emission newest earlier number asks out contents) h = absurd (one_behind old.sent emission h.sent)
 nothing_before old _ (turns_aside transfer new known same) h = record { sent = h.sent; asked = h.asked }
-nothing_before old _ (acknowledges now sack transfer new known valid does) h = record { sent = h.sent; asked = h.asked }
+nothing_before old _ (acknowledges now sack transfer new known valid reached does) h = record { sent = h.sent; asked = h.asked }
 nothing_before old _ (loses now transfer known) h = record { sent = h.sent; asked = h.asked }
 nothing_before old _ (receives emission chunk theirs new was holds some same same' does) h = record { sent = h.sent; asked = h.asked }
 nothing_before old _ (forwards emission tsn streams theirs new was holds same same' does) h = record { sent = h.sent; asked = h.asked }
@@ -98,7 +98,7 @@ module _ (options : Options) (first size : ℕ) where
   nothing_after old _ (asks_again emission begun was contents) s h = record { cumulative = h.cumulative; ranges = h.ranges; reassembly = h.reassembly; read = h.read }
   nothing_after old _ (renews emission newest earlier number asks out contents) s h = record { cumulative = h.cumulative; ranges = h.ranges; reassembly = h.reassembly; read = h.read }
   nothing_after old _ (turns_aside transfer new known same) s h = record { cumulative = h.cumulative; ranges = h.ranges; reassembly = h.reassembly; read = h.read }
-  nothing_after old _ (acknowledges now sack transfer new known valid does) s h = record { cumulative = h.cumulative; ranges = h.ranges; reassembly = h.reassembly; read = h.read }
+  nothing_after old _ (acknowledges now sack transfer new known valid reached does) s h = record { cumulative = h.cumulative; ranges = h.ranges; reassembly = h.reassembly; read = h.read }
   nothing_after old _ (loses now transfer known) s h = record { cumulative = h.cumulative; ranges = h.ranges; reassembly = h.reassembly; read = h.read }
   nothing_after old _ (receives emission chunk theirs new was holds some same same' does) s h = absurd (no_entry old emission s.sent was)
   nothing_after old _ (forwards emission tsn streams theirs new was holds same same' does) s h = absurd (no_entry old emission s.sent was)

@@ -77,7 +77,7 @@ module _ (options : Options) (first size : ℕ) (small : first < 2 ^ 32) (old : 
       let size : length new.retransmission.outstanding.items ≡ length transfer.retransmission.outstanding.items = ap (λ (o : OutstandingState). length o.items) same.outstanding in
       let before = at_known transfer known in
       omega (arith, size, before, h)
-  stepped_few _ (acknowledges now sack transfer new known valid does) =
+  stepped_few _ (acknowledges now sack transfer new known valid reached does) =
       let flight : Bears standing.history first old.acknowledged transfer.retransmission.outstanding = same_flight standing.history first old.acknowledged old.queues.transfer standing.queues.flight transfer known in
       let bears = acknowledged_bear standing.history first old.acknowledged now sack.cumulative_tsn_ack sack.a_rwnd does.blocks transfer.retransmission does.left valid flight does.acknowledges in
       let same : new.retransmission.outstanding ≡ does.left.outstanding = ap (λ (t : Transfer). t.retransmission.outstanding) does.is ∙ timed_outstanding does.round_trip (record transfer { retransmission = does.left }) in

@@ -183,7 +183,7 @@ step_continues first old small s _ few (renews emission newest earlier number as
 step_continues first old small s _ few (speaks emission no_data) ends = continues_same s.history old.queues.queue.streams old.asking.out
 step_continues first old small s _ few (asks_again emission begun was contents) ends = continues_same s.history old.queues.queue.streams old.asking.out
 step_continues first old small s _ few (turns_aside transfer new known same) ends = continues_same s.history old.queues.queue.streams old.asking.out
-step_continues first old small s _ few (acknowledges now sack transfer new known valid does) ends = continues_same s.history old.queues.queue.streams old.asking.out
+step_continues first old small s _ few (acknowledges now sack transfer new known valid reached does) ends = continues_same s.history old.queues.queue.streams old.asking.out
 step_continues first old small s _ few (loses now transfer known) ends = continues_same s.history old.queues.queue.streams old.asking.out
 step_continues first old small s _ few (receives emission chunk theirs new was holds some same same' does) ends = continues_same s.history old.queues.queue.streams old.asking.out
 step_continues first old small s _ few (forwards emission tsn streams theirs new was holds same same' does) ends = continues_same s.history old.queues.queue.streams old.asking.out

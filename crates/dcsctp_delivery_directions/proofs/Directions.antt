@@ -69,14 +69,14 @@ module _ (first : ℕ) (direction : Direction) (small : first < 2 ^ 32) (zero_go
         next = waits.holds.next;
         queues = record {
           queue_holds = waits.holds.queue_holds;
-          cut = record { pieces = λ n f at. absurd (cc); rows = λ n f some at started. absurd (cc); ascends = λ m n f g less at at'. absurd (cc); climbs = λ m n f g less at at'. absurd (cc) };
+          cut = record { pieces = λ n f at. absurd (cc); rows = λ n f some at started. absurd (cc); ascends = λ m n f g less at at'. absurd (cc); climbs = λ m n f g less at at'. absurd (cc); shuts = λ n f at. absurd (cc) };
           flight = flight;
           pends = begun_pends direction.queues.transfer;
           marks = λ mark has. absurd has;
           numbers = waits.holds.numbers;
           kind = begun_kind direction.queues.queue.is_interleaved direction.queues.transfer none;
         };
-        packets = subst (λ (l : List Emission). PacketsSay anew first l) (sym sent) tt;
+        packets = subst (λ (l : List Emission). PacketsSay anew first direction.acknowledged l) (sym sent) tt;
         count = counted_flight anew first direction.acknowledged direction.queues.transfer flight;
         asked = ap (λ (a : Asking). a.requests) asks;
         quiet = λ id handed. inl (λ n f at on. absurd (cc));

@@ -35,7 +35,7 @@ module _ (first : ℕ) (old : Direction) (s : Stands first old) where
           fit = s.fit;
           next = next ∙ s.next;
           queues = sends.stands;
-          packets = emissions_both (log_extended sends.more s.history) first old.sent (packets_in events) (packets_later s.history (log_extended sends.more s.history) (extends_grown sends.more s.history) first old.sent s.packets) sends.packets;
+          packets = emissions_both (log_extended sends.more s.history) first old.acknowledged old.sent (packets_in events) (packets_later s.history (log_extended sends.more s.history) (extends_grown sends.more s.history) first old.acknowledged old.acknowledged (omega arith) old.sent s.packets) sends.packets;
           count = counted_flight (log_extended sends.more s.history) first old.acknowledged below.transfer sends.stands.flight;
           asked = s.asked;
           quiet = quiet_more sends.more s.history old.asking.out below.queue.streams sends.kept (λ id handed. s.quiet id (fewer id handed));
@@ -58,8 +58,8 @@ module _ (first : ℕ) (old : Direction) (s : Stands first old) where
           fit = s.fit;
           next = next ∙ s.next;
           queues = sends.stands;
-          packets = emissions_both now first old.sent (packets_in events)
-              (packets_later s.history now (extends_noted (Some begun) sends.ids sends.bound sends.more s.history sends.low) first old.sent s.packets) sends.packets;
+          packets = emissions_both now first old.acknowledged old.sent (packets_in events)
+              (packets_later s.history now (extends_noted (Some begun) sends.ids sends.bound sends.more s.history sends.low) first old.acknowledged old.acknowledged (omega arith) old.sent s.packets) sends.packets;
           count = counted_flight now first old.acknowledged below.transfer sends.stands.flight;
           asked = ap (λ (l : List BegunReset). begun ∷ l) s.asked;
           quiet = quiet_asked sends.more s.history begun sends.ids sends.bound old.asking.out old.queues.queue.streams below.queue.streams sends.low sends.kept sends.handed s.quiet;
@@ -86,7 +86,7 @@ module _ (first : ℕ) (old : Direction) (s : Stands first old) where
       let after : EndpointQueues = (flush_of e draft answers).after.queues in
       let events = (flush_of e draft answers).events in
       let sends : SendsLogged old.queued s.history first old.acknowledged e.queues.queue (reset_begun_by answers) after events =
-      flush_sends old.queued s.history first old.acknowledged e draft answers (subst (λ (b : EndpointQueues). QueuesFollowLog old.queued s.history first old.acknowledged b) (sym same) s.queues) (none_said s.history first draft.packet.contents no_data) allowed in
+      flush_sends old.queued s.history first old.acknowledged e draft answers (subst (λ (b : EndpointQueues). QueuesFollowLog old.queued s.history first old.acknowledged b) (sym same) s.queues) (none_said s.history first old.acknowledged draft.packet.contents no_data) allowed in
       flushed after events (flush_next first_ask (packets_allowed e.options.max_burst e.core) e draft answers allowed ∙ ap (λ (b : EndpointQueues). b.queue.next_message_id) same) (flush_kind first_ask (packets_allowed e.options.max_burst e.core) e draft answers allowed ∙ ap (λ (b : EndpointQueues). b.queue.is_interleaved) same) (reset_begun_by answers)
       (subst (λ (b : EndpointQueues). SendsLogged old.queued s.history first old.acknowledged b.queue (reset_begun_by answers) after events) same sends)
 
@@ -96,5 +96,5 @@ module _ (first : ℕ) (old : Direction) (s : Stands first old) where
   flush_hands e draft answers same no_data allowed begun is id names =
       let after : EndpointQueues = (flush_of e draft answers).after.queues in
       let sends : SendsLogged old.queued s.history first old.acknowledged e.queues.queue (reset_begun_by answers) after (flush_of e draft answers).events =
-      flush_sends old.queued s.history first old.acknowledged e draft answers (subst (λ (b : EndpointQueues). QueuesFollowLog old.queued s.history first old.acknowledged b) (sym same) s.queues) (none_said s.history first draft.packet.contents no_data) allowed in
+      flush_sends old.queued s.history first old.acknowledged e draft answers (subst (λ (b : EndpointQueues). QueuesFollowLog old.queued s.history first old.acknowledged b) (sym same) s.queues) (none_said s.history first old.acknowledged draft.packet.contents no_data) allowed in
       (subst (λ (b : Option BegunReset). AreHandedFor b sends.ids after.queue.streams) is sends.named id names).1

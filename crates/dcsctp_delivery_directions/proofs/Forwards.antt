@@ -23,8 +23,8 @@ none_limited queued history cut are has =
 
 -- ---- what packets say
 
-module _ (history : History) (first : ℕ) (none : HasLimited history.log → ⊥) where
-  chunk_forwards : (chunk : ChunkContent) → SaysContent history first (plain (unworked chunk)) → IsNoForward (plain (unworked chunk))
+module _ (history : History) (first acknowledged : ℕ) (none : HasLimited history.log → ⊥) where
+  chunk_forwards : (chunk : ChunkContent) → SaysContent history first acknowledged (plain (unworked chunk)) → IsNoForward (plain (unworked chunk))
   chunk_forwards (forward_tsn_chunk t bs) says = none says.limited
   chunk_forwards (i_forward_tsn_chunk t bs) says = none says.limited
   chunk_forwards (data_chunk d) says = tt
@@ -44,7 +44,7 @@ module _ (history : History) (first : ℕ) (none : HasLimited history.log → �
   chunk_forwards (re_config_chunk ps) says = tt
   chunk_forwards (unknown_chunk t f bs) says = tt
 
-  content_forwards : (content : Content) → SaysContent history first content → IsNoForward content
+  content_forwards : (content : Content) → SaysContent history first acknowledged content → IsNoForward content
   content_forwards (plain (unknown type flags value)) says = tt
   content_forwards (plain (heartbeat parameters)) says = tt
   content_forwards (plain (heartbeat_ack parameters)) says = tt
@@ -59,11 +59,11 @@ module _ (history : History) (first : ℕ) (none : HasLimited history.log → �
   content_forwards shutdown_ack says = tt
   content_forwards (shutdown_complete b) says = tt
 
-  contents_forward : (contents : List Content) → SayAll history first contents → AreNoForwards contents
+  contents_forward : (contents : List Content) → SayAll history first acknowledged contents → AreNoForwards contents
   contents_forward [] say = tt
   contents_forward (content ∷ contents) say = (content_forwards content say.0, contents_forward contents say.1)
 
-  pub packets_forward : (emissions : List Emission) → PacketsSay history first emissions → NoneForwards emissions
+  pub packets_forward : (emissions : List Emission) → PacketsSay history first acknowledged emissions → NoneForwards emissions
   packets_forward [] say = tt
   packets_forward (emission ∷ emissions) say = (contents_forward emission.packet.contents say.0, packets_forward emissions say.1)
 
@@ -73,7 +73,7 @@ pub unlimited_forward_nothing : (options : Options) (first size : ℕ) (directio
     → AreUnlimited direction.queued → NoneForwards direction.sent
 unlimited_forward_nothing options first size direction run small few are =
     let s = run_stands options first size direction small few run in
-    packets_forward s.history first (none_limited direction.queued s.history s.queues.cut are) direction.sent s.packets
+    packets_forward s.history first direction.acknowledged (none_limited direction.queued s.history s.queues.cut are) direction.sent s.packets
 
 -- ---- So none is received.
 

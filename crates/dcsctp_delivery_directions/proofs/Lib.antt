@@ -10,6 +10,7 @@ pub mod Steps
 pub mod Continuing
 pub mod Calm
 pub mod Directions
+pub mod Reached
 pub mod Forwards
 pub mod Unpaused
 pub mod Losing

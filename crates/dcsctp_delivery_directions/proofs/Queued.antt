@@ -222,7 +222,7 @@ module _ (first : ℕ) (old : Direction) (s : Stands first old) where
           numbers = q.numbers;
           kind = s.queues.kind;
         };
-        packets = packets_later s.history (floors_raised old.queues.queue.streams s.history) (extends_floors floors s.history) first old.sent s.packets;
+        packets = packets_later s.history (floors_raised old.queues.queue.streams s.history) (extends_floors floors s.history) first old.acknowledged old.acknowledged (omega arith) old.sent s.packets;
         count = s.count;
         asked = s.asked;
         quiet = λ id handed. absurd (committed_handed old.queues.queue id handed);

@@ -27,7 +27,7 @@ use Rattle.dcsctp_delivery_receiving.proofs.Entries.{forward_skips, messages_ski
 use Rattle.dcsctp_delivery_receiving.proofs.Received.{receiving_keeps, forwarding_keeps}
 use Rattle.dcsctp_delivery_receiving.proofs.Reassembled.{left_keeps}
 use Rattle.dcsctp_delivery_receiving.proofs.Taking.{reads_on, passing_nothing, tracked_so, deferring_keeps}
-use Rattle.dcsctp_delivery_receiving.proofs.Upward.{passing_nothing_leaves, received_up, forwarded_up}
+use Rattle.dcsctp_delivery_receiving.proofs.Upward.{passing_nothing_leaves, received_grows, forward_grows}
 use Rattle.dcsctp_delivery_receiving.proofs.Waiting.{both_queued}
 use Rattle.dcsctp_delivery_receiving.proofs.Distinct.{distinct_with}
 use Rattle.dcsctp_delivery_receiving.proofs.Clear.{clear_through_data, clear_through_forward, clear_through_resets, clear_through_rest}
@@ -102,7 +102,7 @@ module _ (first : ℕ) (old : Direction) (small : first < 2 ^ 32) (s : Stands fi
         (λ little a is c. (
         let few = known_few little in
         let received = received_at a in
-        let up = received_up old.queued s.history first a.places arrival theirs new received does in
+        let up = received_grows arrival theirs new does in
         stays_cleared s.history first theirs.tracker.cumulative new.tracker.cumulative old.queues.queue.streams theirs.reassembly new.reassembly up
         (λ id over clear. clear_through_data old.queued s.history first id a.places offset arrival theirs new few received over carries clear does) (cleared_at c)
         ))
@@ -133,7 +133,7 @@ module _ (first : ℕ) (old : Direction) (small : first < 2 ^ 32) (s : Stands fi
       skips passed skip =
           stepped_arrived new.tracker new.reassembly (λ little a. passes passed.passed passed.below passed.is skip little a)
           (λ little a is c. (
-          let up = forwarded_up old.queued s.history first a.places tsn entries theirs new (received_at a) does in
+          let up = forward_grows tsn entries theirs new does in
           stays_cleared s.history first theirs.tracker.cumulative new.tracker.cumulative old.queues.queue.streams theirs.reassembly new.reassembly up
           (clears passed.passed passed.below passed.is skip little a (known_kinds is)) (cleared_at c)
           ))
@@ -143,28 +143,28 @@ module _ (first : ℕ) (old : Direction) (small : first < 2 ^ 32) (s : Stands fi
     unfoldable pub stepped_receives : (emission : Emission) (chunk : DataContent) → HasEntry emission old.sent → HasEntry (plain (unworked (data_chunk chunk))) emission.packet.contents → chunk.payload ≢ []
         → ReceivesData (data_arrival chunk) theirs new → Stands first (record old { tracker = new.tracker; reassembly = new.reassembly })
     stepped_receives emission chunk was holds some does =
-        let is : IsData s.history.log first chunk = content_said s.history first (plain (unworked (data_chunk chunk))) emission.packet.contents (packet_said s.history first emission old.sent s.packets was) holds in
+        let is : IsData s.history.log first chunk = content_said s.history first old.acknowledged (plain (unworked (data_chunk chunk))) emission.packet.contents (packet_said s.history first old.acknowledged emission old.sent s.packets was) holds in
         takes_data is.number (data_arrival chunk) (carries_piece old.queued s.history.log first chunk s.queues.cut s.fit is some) does
 
     unfoldable pub stepped_receives_interleaved : (emission : Emission) (chunk : IDataContent) → HasEntry emission old.sent → HasEntry (plain (unworked (i_data_chunk chunk))) emission.packet.contents → chunk.payload ≢ []
         → ReceivesData (i_data_arrival chunk) theirs new → Stands first (record old { tracker = new.tracker; reassembly = new.reassembly })
     stepped_receives_interleaved emission chunk was holds some does =
-        let is : IsInterleaved s.history.log first chunk = content_said s.history first (plain (unworked (i_data_chunk chunk))) emission.packet.contents (packet_said s.history first emission old.sent s.packets was) holds in
+        let is : IsInterleaved s.history.log first chunk = content_said s.history first old.acknowledged (plain (unworked (i_data_chunk chunk))) emission.packet.contents (packet_said s.history first old.acknowledged emission old.sent s.packets was) holds in
         takes_data is.number (i_data_arrival chunk) (carries_interleaved old.queued s.history.log first chunk s.queues.cut s.fit is some) does
 
     unfoldable pub stepped_forwards : (emission : Emission) (tsn : ℕ) (bytes : List ℕ) → HasEntry emission old.sent → HasEntry (plain (unworked (forward_tsn_chunk tsn bytes))) emission.packet.contents
         → MovesForward tsn (skipped_in bytes) theirs new → Stands first (record old { tracker = new.tracker; reassembly = new.reassembly })
     stepped_forwards emission tsn bytes was holds does =
-        let is : IsForward false s.history first tsn bytes =
-        content_said s.history first (plain (unworked (forward_tsn_chunk tsn bytes))) emission.packet.contents (packet_said s.history first emission old.sent s.packets was) holds in
-        skips tsn (skipped_in bytes) does is.passed (forward_skips s.history first tsn bytes is)
+        let is : IsForward false s.history first old.acknowledged tsn bytes =
+        content_said s.history first old.acknowledged (plain (unworked (forward_tsn_chunk tsn bytes))) emission.packet.contents (packet_said s.history first old.acknowledged emission old.sent s.packets was) holds in
+        skips tsn (skipped_in bytes) does is.passed (forward_skips s.history first old.acknowledged tsn bytes is)
 
     unfoldable pub stepped_forwards_interleaved : (emission : Emission) (tsn : ℕ) (bytes : List ℕ) → HasEntry emission old.sent → HasEntry (plain (unworked (i_forward_tsn_chunk tsn bytes))) emission.packet.contents
         → MovesForward tsn (messages_skipped_in bytes) theirs new → Stands first (record old { tracker = new.tracker; reassembly = new.reassembly })
     stepped_forwards_interleaved emission tsn bytes was holds does =
-        let is : IsForward true s.history first tsn bytes =
-        content_said s.history first (plain (unworked (i_forward_tsn_chunk tsn bytes))) emission.packet.contents (packet_said s.history first emission old.sent s.packets was) holds in
-        skips tsn (messages_skipped_in bytes) does is.passed (messages_skipped old.queued s.history first tsn bytes s.queues.cut s.fit is)
+        let is : IsForward true s.history first old.acknowledged tsn bytes =
+        content_said s.history first old.acknowledged (plain (unworked (i_forward_tsn_chunk tsn bytes))) emission.packet.contents (packet_said s.history first old.acknowledged emission old.sent s.packets was) holds in
+        skips tsn (messages_skipped_in bytes) does is.passed (messages_skipped old.queued s.history first old.acknowledged tsn bytes s.queues.cut s.fit is)
 
   -- ---- the rest
 

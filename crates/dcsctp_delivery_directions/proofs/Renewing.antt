@@ -1,5 +1,5 @@
 -- The newest request to reset streams continues under another number.
-use Rattle.std.proofs.Common.{◌≡◌, ℕ, ◌<◌, Some, List, [], ◌∷◌, ◌++◌, map, take, refl, sym, ◌∙◌, ap, subst, inl, inr}
+use Rattle.std.proofs.Common.{◌≡◌, ℕ, ◌<◌, arith, Some, List, [], ◌∷◌, ◌++◌, map, take, refl, sym, ◌∙◌, ap, subst, inl, inr}
 use Rattle.dcsctp_spec.specs.Packet.{Content, Emission}
 use Rattle.dcsctp_spec.specs.Reconfiguration.{renewed_reset}
 use Rattle.dcsctp_spec.specs.association.FlushChanges.{reset_request}
@@ -45,13 +45,13 @@ module _ (first : ℕ) (old : Direction) (s : Stands first old) where
       let now : History = with_renewed number m.mark s.history in
       let begun : (mark_renewed number m.mark).begun ≡ record { number = number; reset = renewed_reset newest.reset } = ap (λ (b : BegunReset). record { number = number; reset = renewed_reset b.reset }) m.begins in
       let asked : IsBegun now number (renewed_reset newest.reset) = record { mark = mark_renewed number m.mark; has = inl refl; is = begun } in
-      let says : SayAll now first emission.packet.contents = subst (λ (l : List Content). SayAll now first l) (sym contents) ((asked, tt), tt) in
+      let says : SayAll now first old.acknowledged emission.packet.contents = subst (λ (l : List Content). SayAll now first old.acknowledged l) (sym contents) ((asked, tt), tt) in
       record {
         history = now;
         fit = s.fit;
         next = s.next;
         queues = below_renewed s.history number m.mark known old.queued first old.acknowledged old.queues s.queues;
-        packets = emissions_both now first old.sent (emission ∷ []) (packets_later s.history now (extends_renewed number m.mark s.history known) first old.sent s.packets) (says, tt);
+        packets = emissions_both now first old.acknowledged old.sent (emission ∷ []) (packets_later s.history now (extends_renewed number m.mark s.history known) first old.acknowledged old.acknowledged (omega arith) old.sent s.packets) (says, tt);
         count = s.count;
         asked = ap (λ (l : List BegunReset). record { number = number; reset = renewed_reset newest.reset } ∷ l) s.asked ∙ ap (λ (b : BegunReset). b ∷ map (λ mark. mark.begun) s.history.marks) (sym begun);
         quiet = quiet_renewed s.history number m.mark m.earlier old.asking.out old.queues.queue.streams m.is one s.quiet;

@@ -122,7 +122,7 @@ stepped old _ h (renews emission newest earlier number asks out contents) =
     let one : requests_among emission.packet.contents ≡ 1 = ap requests_among contents in
     omega (arith, more, one, h)
 stepped old _ h (turns_aside transfer new known same) = h
-stepped old _ h (acknowledges now sack transfer new known valid does) = h
+stepped old _ h (acknowledges now sack transfer new known valid reached does) = h
 stepped old _ h (loses now transfer known) = h
 stepped old _ h (receives emission chunk theirs new was holds some same same' does) = h
 stepped old _ h (forwards emission tsn streams theirs new was holds same same' does) = h
@@ -188,7 +188,7 @@ step_unasked old _ before (speaks emission no_data) none = before none
 step_unasked old _ before (asks_again emission begun was contents) none = before none
 step_unasked old _ before (renews emission newest earlier number is out contents) none = absurd (cc)
 step_unasked old _ before (turns_aside transfer new there same) none = before none
-step_unasked old _ before (acknowledges now sack transfer new there valid does) none = before none
+step_unasked old _ before (acknowledges now sack transfer new there valid reached does) none = before none
 step_unasked old _ before (loses now transfer there) none = before none
 step_unasked old _ before (receives emission chunk theirs new was holds some tracker reassembly does) none = before none
 step_unasked old _ before (forwards emission tsn streams theirs new was holds tracker reassembly does) none = before none

@@ -184,7 +184,7 @@ stepped old _ h (renews emission newest earlier number asks out contents) =
     let requests : List BegunReset = begun ∷ old.asking.requests in
     one_more requests old.sent emission (packets_later begun old.asking.requests old.sent h) (subst (AreOfBegun requests) (sym contents) (inr (begun, inl refl, refl), tt))
 stepped old _ h (turns_aside transfer new known same) = h
-stepped old _ h (acknowledges now sack transfer new known valid does) = h
+stepped old _ h (acknowledges now sack transfer new known valid reached does) = h
 stepped old _ h (loses now transfer known) = h
 stepped old _ h (receives emission chunk theirs new was holds some same same' does) = h
 stepped old _ h (forwards emission tsn streams theirs new was holds same same' does) = h

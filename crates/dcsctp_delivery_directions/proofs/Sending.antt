@@ -1,6 +1,6 @@
 -- The steps of a sender that begin no reset: packets, retransmissions, and what it learns of what
 -- is in flight.
-use Rattle.std.proofs.Common.{◌≡◌, ℕ, Bool, true, ◌+◌, List, [], ◌∷◌, ◌++◌, map, refl, sym, ◌∙◌, ap, subst, inl, inr}
+use Rattle.std.proofs.Common.{◌≡◌, ℕ, Bool, true, ◌≤◌, ◌+◌, List, [], ◌∷◌, ◌++◌, map, refl, sym, ◌∙◌, ap, subst, arith, inl, inr}
 use Rattle.std.specs.Prelude.{Option, Some}
 use Rattle.dcsctp_spec.specs.wire.Content.{SackContent}
 use Rattle.dcsctp_spec.specs.Packet.{Plain, Content, Emission}
@@ -62,14 +62,14 @@ module _ (first : ℕ) (old : Direction) (s : Stands first old) where
 
   -- ---- packets
 
-  unfoldable pub stepped_sent : (emission : Emission) → SayAll s.history first emission.packet.contents → Stands first (record old { sent = old.sent ++ emission ∷ [] })
+  unfoldable pub stepped_sent : (emission : Emission) → SayAll s.history first old.acknowledged emission.packet.contents → Stands first (record old { sent = old.sent ++ emission ∷ [] })
   stepped_sent emission says =
       record {
         history = s.history;
         fit = s.fit;
         next = s.next;
         queues = s.queues;
-        packets = emissions_both s.history first old.sent (emission ∷ []) s.packets (says, tt);
+        packets = emissions_both s.history first old.acknowledged old.sent (emission ∷ []) s.packets (says, tt);
         count = s.count;
         asked = s.asked;
         quiet = s.quiet;
@@ -77,19 +77,19 @@ module _ (first : ℕ) (old : Direction) (s : Stands first old) where
       }
 
   unfoldable pub stepped_speaks : (emission : Emission) → NoData emission.packet.contents → Stands first (record old { sent = old.sent ++ emission ∷ [] })
-  stepped_speaks emission no_data = stepped_sent emission (none_said s.history first emission.packet.contents no_data)
+  stepped_speaks emission no_data = stepped_sent emission (none_said s.history first old.acknowledged emission.packet.contents no_data)
 
   unfoldable pub stepped_asks_again : (emission : Emission) (begun : BegunReset) → HasEntry begun old.asking.requests → emission.packet.contents ≡ reset_request begun.number begun.reset ∷ []
       → Stands first (record old { sent = old.sent ++ emission ∷ [] })
   stepped_asks_again emission begun was contents =
       let m = marked_of s.history.marks begun (subst (λ (l : List BegunReset). HasEntry begun l) s.asked was) in
       let asks : IsBegun s.history begun.number begun.reset = record { mark = m.mark; has = m.has; is = m.is } in
-      stepped_sent emission (subst (λ (l : List Content). SayAll s.history first l) (sym contents) ((asks, tt), tt))
+      stepped_sent emission (subst (λ (l : List Content). SayAll s.history first old.acknowledged l) (sym contents) ((asks, tt), tt))
 
   -- ---- a fast retransmission
 
   module _ (transfer : Transfer) (left : RetransmissionState) (room : ℕ) (tsns : List ℕ) (stays : Stays old.queued s.history first old.acknowledged (record (empty_stage left old.queues.queue room) { tsns = tsns })) where
-    unfoldable pub stepped_stays : (sent : List Emission) → PacketsSay (log_extended stays.more s.history) first sent
+    unfoldable pub stepped_stays : (sent : List Emission) → PacketsSay (log_extended stays.more s.history) first old.acknowledged sent
         → Stands first (record old { queues = record old.queues { transfer = Some (record transfer { retransmission = left }) }; sent = sent })
     stepped_stays sent packets =
         record {
@@ -121,8 +121,8 @@ module _ (first : ℕ) (old : Direction) (s : Stands first old) where
               );
         }
 
-    pub packets_stay : PacketsSay (log_extended stays.more s.history) first old.sent
-    packets_stay = packets_later s.history (log_extended stays.more s.history) (extends_grown stays.more s.history) first old.sent s.packets
+    pub packets_stay : PacketsSay (log_extended stays.more s.history) first old.acknowledged old.sent
+    packets_stay = packets_later s.history (log_extended stays.more s.history) (extends_grown stays.more s.history) first old.acknowledged old.acknowledged (omega arith) old.sent s.packets
 
   unfoldable pub at_once : (now room : ℕ) (transfer : Transfer) (left : RetransmissionState) (tsns : List ℕ) → old.queues.transfer ≡ Some transfer → SendsAtOnce now room old.queues.queue transfer.retransmission left tsns
       → Stays old.queued s.history first old.acknowledged (record (empty_stage left old.queues.queue room) { tsns = tsns })
@@ -136,10 +136,10 @@ module _ (first : ℕ) (old : Direction) (s : Stands first old) where
   stepped_resends now room transfer left tsns chunks emission known sends are contents =
       let stays = at_once now room transfer left tsns known sends in
       let after : History = log_extended stays.more s.history in
-      let says : SayAll after first emission.packet.contents =
-      subst (λ (l : List Content). SayAll after first l) (sym contents)
-      (said_chunks after first left.outstanding.is_interleaved chunks (chunks_of_log after first old.acknowledged left.outstanding tsns chunks (kinds_of stays.stands.numbers stays.stands.kind) stays.stands.bears are)) in
-      stepped_stays transfer left room tsns stays (old.sent ++ emission ∷ []) (emissions_both after first old.sent (emission ∷ []) (packets_stay transfer left room tsns stays) (says, tt))
+      let says : SayAll after first old.acknowledged emission.packet.contents =
+      subst (λ (l : List Content). SayAll after first old.acknowledged l) (sym contents)
+      (said_chunks after first old.acknowledged left.outstanding.is_interleaved chunks (chunks_of_log after first old.acknowledged left.outstanding tsns chunks (kinds_of stays.stands.numbers stays.stands.kind) stays.stands.bears are)) in
+      stepped_stays transfer left room tsns stays (old.sent ++ emission ∷ []) (emissions_both after first old.acknowledged old.sent (emission ∷ []) (packets_stay transfer left room tsns stays) (says, tt))
 
   unfoldable pub stepped_resends_nothing : (now room : ℕ) (transfer : Transfer) (left : RetransmissionState) (tsns : List ℕ) → old.queues.transfer ≡ Some transfer → SendsAtOnce now room old.queues.queue transfer.retransmission left tsns
       → Stands first (record old { queues = record old.queues { transfer = Some (record transfer { retransmission = left }) } })
@@ -149,15 +149,15 @@ module _ (first : ℕ) (old : Direction) (s : Stands first old) where
 
   -- ---- what is in flight is another
 
-  unfoldable pub stepped_transfer : (transfer : Transfer) (acknowledged : ℕ) → Bears s.history first acknowledged transfer.retransmission.outstanding → Pends s.history transfer.retransmission.reset_begun
+  unfoldable pub stepped_transfer : (transfer : Transfer) (acknowledged : ℕ) → old.acknowledged ≤ acknowledged → Bears s.history first acknowledged transfer.retransmission.outstanding → Pends s.history transfer.retransmission.reset_begun
       → transfer.retransmission.outstanding.is_interleaved ≡ old.queues.queue.is_interleaved → Stands first (record old { queues = record old.queues { transfer = Some transfer }; acknowledged = acknowledged })
-  stepped_transfer transfer acknowledged bears pends kind =
+  stepped_transfer transfer acknowledged more bears pends kind =
       record {
         history = s.history;
         fit = s.fit;
         next = s.next;
         queues = record { queue_holds = s.queues.queue_holds; cut = s.queues.cut; flight = bears; pends = pends; marks = s.queues.marks; numbers = s.queues.numbers; kind = kind };
-        packets = s.packets;
+        packets = packets_later s.history s.history (extends_grown [] s.history) first old.acknowledged acknowledged more old.sent s.packets;
         count = bears.count;
         asked = s.asked;
         quiet = s.quiet;
@@ -172,7 +172,7 @@ module _ (first : ℕ) (old : Direction) (s : Stands first old) where
   stepped_turns_aside transfer new known same =
       let bears : Bears s.history first old.acknowledged new.retransmission.outstanding =
       subst (λ (o : OutstandingState). Bears s.history first old.acknowledged o) (sym same.outstanding) (known_flight transfer known) in
-      stepped_transfer new old.acknowledged bears (pends_as transfer new.retransmission.reset_begun known same.reset_begun)
+      stepped_transfer new old.acknowledged (omega arith) bears (pends_as transfer new.retransmission.reset_begun known same.reset_begun)
       (ap (λ (o : OutstandingState). o.is_interleaved) same.outstanding ∙ known_kind transfer known)
 
   unfoldable pub stepped_acknowledges : (now : ℕ) (sack : SackContent) (transfer new : Transfer) → old.queues.transfer ≡ Some transfer → is_sack_valid transfer.retransmission sack.cumulative_tsn_ack ≡ true → TakesSack now sack transfer new
@@ -182,10 +182,10 @@ module _ (first : ℕ) (old : Direction) (s : Stands first old) where
       let bears = acknowledged_bear s.history first old.acknowledged now sack.cumulative_tsn_ack sack.a_rwnd does.blocks transfer.retransmission does.left valid (known_flight transfer known) does.acknowledges in
       let same : new.retransmission.outstanding ≡ does.left.outstanding = ap (λ (t : Transfer). t.retransmission.outstanding) does.is ∙ timed_outstanding does.round_trip (record transfer { retransmission = does.left }) in
       let begun : new.retransmission.reset_begun ≡ does.left.reset_begun = ap (λ (t : Transfer). t.retransmission.reset_begun) does.is ∙ timed_begun does.round_trip (record transfer { retransmission = does.left }) in
-      stepped_transfer new after (subst (λ (o : OutstandingState). Bears s.history first after o) (sym same) bears)
+      stepped_transfer new after (omega arith) (subst (λ (o : OutstandingState). Bears s.history first after o) (sym same) bears)
       (pends_as transfer new.retransmission.reset_begun known (begun ∙ acknowledged_pends now sack.cumulative_tsn_ack sack.a_rwnd does.blocks transfer.retransmission does.left does.acknowledges))
       (ap (λ (o : OutstandingState). o.is_interleaved) same ∙ acknowledged_kind now sack.cumulative_tsn_ack sack.a_rwnd does.blocks transfer.retransmission does.left does.acknowledges ∙ known_kind transfer known)
 
   unfoldable pub stepped_loses : (now : ℕ) (transfer : Transfer) → old.queues.transfer ≡ Some transfer → Stands first (record old { queues = record old.queues { transfer = Some (lost_all now transfer) } })
   stepped_loses now transfer known =
-      stepped_transfer (lost_all now transfer) old.acknowledged (lost_bear s.history first old.acknowledged now transfer.retransmission (known_flight transfer known)) (known_pends transfer known) (known_kind transfer known)
+      stepped_transfer (lost_all now transfer) old.acknowledged (omega arith) (lost_bear s.history first old.acknowledged now transfer.retransmission (known_flight transfer known)) (known_pends transfer known) (known_kind transfer known)

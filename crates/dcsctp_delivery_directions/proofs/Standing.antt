@@ -58,7 +58,7 @@ pub record Stands (first : ℕ) (direction : Direction) : Type 0 where
   pub fit : AllByRecursion Fits direction.queued
   pub next : direction.queues.queue.next_message_id ≡ length direction.queued
   pub queues : QueuesFollowLog direction.queued history first direction.acknowledged direction.queues
-  pub packets : PacketsSay history first direction.sent
+  pub packets : PacketsSay history first direction.acknowledged direction.sent
   pub count : length history.log ≡ assigned direction
   pub asked : direction.asking.requests ≡ map (λ mark. mark.begun) history.marks
   pub quiet : AreQuiet history direction.asking.out direction.queues.queue.streams
@@ -66,25 +66,25 @@ pub record Stands (first : ℕ) (direction : Direction) : Type 0 where
 
 -- ---- what was sent
 
-pub content_said : (history : History) (first : ℕ) (content : Content) (contents : List Content) → SayAll history first contents → HasEntry content contents → SaysContent history first content
-content_said history first content [] say h = absurd h
-content_said history first content (c ∷ contents) say h =
+pub content_said : (history : History) (first acknowledged : ℕ) (content : Content) (contents : List Content) → SayAll history first acknowledged contents → HasEntry content contents → SaysContent history first acknowledged content
+content_said history first acknowledged content [] say h = absurd h
+content_said history first acknowledged content (c ∷ contents) say h =
     elim h [
-      | inl e ↦ subst (λ (x : Content). SaysContent history first x) (sym e) say.0
-      | inr t ↦ content_said history first content contents say.1 t
+      | inl e ↦ subst (λ (x : Content). SaysContent history first acknowledged x) (sym e) say.0
+      | inr t ↦ content_said history first acknowledged content contents say.1 t
     ]
 
-pub packet_said : (history : History) (first : ℕ) (emission : Emission) (emissions : List Emission) → PacketsSay history first emissions → HasEntry emission emissions → SayAll history first emission.packet.contents
-packet_said history first emission [] say h = absurd h
-packet_said history first emission (e ∷ emissions) say h =
+pub packet_said : (history : History) (first acknowledged : ℕ) (emission : Emission) (emissions : List Emission) → PacketsSay history first acknowledged emissions → HasEntry emission emissions → SayAll history first acknowledged emission.packet.contents
+packet_said history first acknowledged emission [] say h = absurd h
+packet_said history first acknowledged emission (e ∷ emissions) say h =
     elim h [
-      | inl same ↦ subst (λ (x : Emission). SayAll history first x.packet.contents) (sym same) say.0
-      | inr t ↦ packet_said history first emission emissions say.1 t
+      | inl same ↦ subst (λ (x : Emission). SayAll history first acknowledged x.packet.contents) (sym same) say.0
+      | inr t ↦ packet_said history first acknowledged emission emissions say.1 t
     ]
 
-pub emissions_both : (history : History) (first : ℕ) (one other : List Emission) → PacketsSay history first one → PacketsSay history first other → PacketsSay history first (one ++ other)
-emissions_both history first [] other say say' = say'
-emissions_both history first (e ∷ one) other say say' = (say.0, emissions_both history first one other say.1 say')
+pub emissions_both : (history : History) (first acknowledged : ℕ) (one other : List Emission) → PacketsSay history first acknowledged one → PacketsSay history first acknowledged other → PacketsSay history first acknowledged (one ++ other)
+emissions_both history first acknowledged [] other say say' = say'
+emissions_both history first acknowledged (e ∷ one) other say say' = (say.0, emissions_both history first acknowledged one other say.1 say')
 
 -- ---- the steps
 
@@ -109,6 +109,7 @@ cut_queued queued m history cut =
       rows = cut.rows;
       ascends = cut.ascends;
       climbs = cut.climbs;
+      shuts = cut.shuts;
     }
 
 pub counted_flight : (history : History) (first acknowledged : ℕ) (transfer : Option Transfer) → InFlight history first acknowledged transfer → length history.log ≡ acknowledged + tsns_in_flight transfer

@@ -53,7 +53,7 @@ stays_unpaused old _ (speaks emission no_data) keeps u = record { unpaused = u.u
 stays_unpaused old _ (asks_again emission begun was contents) keeps u = record { unpaused = u.unpaused; unasked = u.unasked }
 stays_unpaused old _ (renews emission newest earlier number asks out contents) keeps u = absurd (let some : newest ∷ earlier ≡ [] = sym asks ∙ u.unasked in cc)
 stays_unpaused old _ (turns_aside transfer new known same) keeps u = record { unpaused = u.unpaused; unasked = u.unasked }
-stays_unpaused old _ (acknowledges now sack transfer new known valid does) keeps u = record { unpaused = u.unpaused; unasked = u.unasked }
+stays_unpaused old _ (acknowledges now sack transfer new known valid reached does) keeps u = record { unpaused = u.unpaused; unasked = u.unasked }
 stays_unpaused old _ (loses now transfer known) keeps u = record { unpaused = u.unpaused; unasked = u.unasked }
 stays_unpaused old _ (receives emission chunk theirs new was holds some same same' does) keeps u = record { unpaused = u.unpaused; unasked = u.unasked }
 stays_unpaused old _ (forwards emission tsn streams theirs new was holds same same' does) keeps u = record { unpaused = u.unpaused; unasked = u.unasked }

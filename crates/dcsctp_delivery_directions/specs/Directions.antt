@@ -1,7 +1,7 @@
 -- One direction of an association, by the relations of the machine: what one side queues and sends,
 -- and what the other side receives and its user reads (RFC 9260, section 6), with interleaving or
 -- without (RFC 8260).
-use Rattle.std.specs.Prelude.{◌≡◌, ◌≢◌, ◌<◌, ◌≤◌, ◌+◌, ◌%◌, ◌^◌, ℕ, suc, Bool, true, false, not, Option, None, Some, List, [], ◌∷◌, ◌++◌, length}
+use Rattle.std.specs.Prelude.{◌≡◌, ◌≢◌, ◌<◌, ◌≤◌, ◌+◌, ◌-◌, ◌%◌, ◌^◌, ℕ, suc, Bool, true, false, not, Option, None, Some, List, [], ◌∷◌, ◌++◌, length}
 use Rattle.dcsctp_spec.specs.wire.Content.{DataContent, IDataContent, SackContent, data_chunk, i_data_chunk, forward_tsn_chunk, i_forward_tsn_chunk}
 use Rattle.dcsctp_spec.specs.types.declared.options.Options.{Options}
 use Rattle.dcsctp_spec.specs.types.declared.sending.UnderWay.{UnderWay}
@@ -74,6 +74,8 @@ pub record Direction : Type 0 where
   pub acknowledged : ℕ
   -- all packets that it sent in this association, oldest first
   pub sent : List Emission
+  -- the TSN with which the sender begins, as the receiver knows it
+  pub first_tsn : ℕ
   -- what the receiver has received
   pub tracker : TrackerState
   pub reassembly : ReassemblyState
@@ -112,6 +114,14 @@ tsns_in_flight (Some transfer) = length transfer.retransmission.outstanding.item
 
 abbrev pub assigned : Direction → ℕ
 assigned direction = direction.acknowledged + tsns_in_flight direction.queues.transfer
+
+-- The tracker's cumulative TSN has been this, or was moved past it: that is one from the TSN before the first on, up to where it
+-- is now.
+pub record HasReached (first_tsn : ℕ) (tracker : TrackerState) (tsn : ℕ) : Type 0 where
+  pub number : ℕ
+  pub from : (first_tsn + (2 ^ 32 - 1)) % 2 ^ 32 ≤ number
+  pub to : number ≤ tracker.cumulative
+  pub is : tsn ≡ number % 2 ^ 32
 
 -- The same is in flight, and a reset was begun after it, or none was, as before. Timers and windows may differ.
 pub record SameFlight (old new : RetransmissionState) : Type 0 where
@@ -158,8 +168,9 @@ pub data DirectionStep (old : Direction) : Direction → Type 0 where
   -- The sender receives something itself, or measures a round trip.
   turns_aside : (transfer new : Transfer) → old.queues.transfer ≡ Some transfer → SameFlight transfer.retransmission new.retransmission
       → DirectionStep old (record old { queues = record old.queues { transfer = Some new } })
-  -- A SACK, whatever it says.
-  acknowledges : (now : ℕ) (sack : SackContent) (transfer new : Transfer) → old.queues.transfer ≡ Some transfer → is_sack_valid transfer.retransmission sack.cumulative_tsn_ack ≡ true → TakesSack now sack transfer new
+  -- A SACK whose cumulative TSN the receiver's tracker has reached, now or earlier. Its blocks may say anything.
+  acknowledges : (now : ℕ) (sack : SackContent) (transfer new : Transfer) → old.queues.transfer ≡ Some transfer → is_sack_valid transfer.retransmission sack.cumulative_tsn_ack ≡ true
+      → HasReached old.first_tsn old.tracker sack.cumulative_tsn_ack → TakesSack now sack transfer new
       → DirectionStep old (record old { queues = record old.queues { transfer = Some new }; acknowledged = old.acknowledged + acknowledged_count transfer.retransmission.outstanding sack.cumulative_tsn_ack })
   loses : (now : ℕ) (transfer : Transfer) → old.queues.transfer ≡ Some transfer → DirectionStep old (record old { queues = record old.queues { transfer = Some (lost_all now transfer) } })
   -- A DATA chunk of a packet that was sent is received, and so is a FORWARD-TSN. A chunk without a payload ends the association.
@@ -226,6 +237,7 @@ pub record BeginsDirection (options : Options) (first size : ℕ) (direction : D
   pub flight : NoneInFlight first direction.queues.queue.is_interleaved direction.queues.transfer
   pub acknowledged : direction.acknowledged ≡ 0
   pub sent : direction.sent ≡ []
+  pub first_is : direction.first_tsn ≡ first
   pub tracker : direction.tracker ≡ new_tracker options first
   pub reassembly : direction.reassembly ≡ new_reassembly size (part_overhead options)
   pub read : direction.read ≡ []

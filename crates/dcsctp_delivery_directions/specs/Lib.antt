@@ -4,3 +4,4 @@ pub mod Requests
 pub mod Calm
 pub mod Forwards
 pub mod Losing
+pub mod Reached

@@ -11,7 +11,7 @@ use Rattle.dcsctp_delivery_directions.specs.Directions.{Direction, KeepsAll, Dir
 pub record LeavesOutNone (first : ℕ) (direction : Direction) : Type 0 where
   pub history : History
   pub queues : QueuesFollowLog direction.queued history first direction.acknowledged direction.queues
-  pub packets : PacketsSay history first direction.sent
+  pub packets : PacketsSay history first direction.acknowledged direction.sent
   pub none : NoneLost direction.queued history.log direction.queues.queue.streams
 
 -- A sender that keeps all that was queued has begun no reset of its streams (RFC 6525, section 5.1.2).

@@ -4,6 +4,7 @@ ghost use Rattle.dcsctp_delivery_directions.specs.Directions.{DirectionsDeliver}
 ghost use Rattle.dcsctp_delivery_directions.specs.Forwards.{UnlimitedForwardNothing};
 ghost use Rattle.dcsctp_delivery_directions.specs.Losing.{KeptAskNothing, UnlimitedLeaveOutNone};
 ghost use Rattle.dcsctp_delivery_directions.specs.Marking.{DirectionsDeliverForGood};
+ghost use Rattle.dcsctp_delivery_directions.specs.Reached.{AcknowledgementsAreTrue};
 ghost use Rattle.dcsctp_delivery_directions.specs.Requests.{RequestsWereBegun, RequestsAreSent};
 
 /// One direction of an association, over every schedule that loses, repeats, delays and reorders what was sent: each
@@ -16,6 +17,12 @@ pub fn directions_deliver()
 /// association begins, and isn't read there.
 pub fn directions_deliver_for_good()
     ensures { DirectionsDeliverForGood }
+{}
+
+/// A SACK says what its receiver has reached, whether it comes soon or late. So a sender knows no TSN as acknowledged
+/// cumulatively that its receiver hasn't reached (RFC 9260, section 6.2.1).
+pub fn acknowledgements_are_true()
+    ensures { AcknowledgementsAreTrue }
 {}
 
 /// Each request to reset streams that a sender sends is one that it has begun (RFC 6525, section 5.1.2), and at least

@@ -5,6 +5,6 @@
 mod laws;
 
 pub use laws::{
-    directions_deliver, directions_deliver_for_good, kept_ask_nothing, requests_are_begun,
-    unlimited_forward_nothing, unlimited_leave_out_none,
+    acknowledgements_are_true, directions_deliver, directions_deliver_for_good, kept_ask_nothing,
+    requests_are_begun, unlimited_forward_nothing, unlimited_leave_out_none,
 };

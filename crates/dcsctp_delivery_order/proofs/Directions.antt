@@ -108,7 +108,7 @@ step_keeps old _ (speaks emission no_data) ends = record { start = refl; kind = 
 step_keeps old _ (asks_again emission begun was contents) ends = record { start = refl; kind = refl; unended = λ u. u }
 step_keeps old _ (renews emission newest earlier number asks out contents) ends = record { start = refl; kind = refl; unended = λ u unknown. inr (omega (arith, out)) }
 step_keeps old _ (turns_aside transfer new known same) ends = record { start = refl; kind = refl; unended = λ u. u }
-step_keeps old _ (acknowledges now sack transfer new known valid does) ends = record { start = refl; kind = refl; unended = λ u. u }
+step_keeps old _ (acknowledges now sack transfer new known valid reached does) ends = record { start = refl; kind = refl; unended = λ u. u }
 step_keeps old _ (loses now transfer known) ends = record { start = refl; kind = refl; unended = λ u. u }
 step_keeps old _ (receives emission chunk theirs new was holds some same same' does) ends = record { start = refl; kind = refl; unended = λ u. u }
 step_keeps old _ (forwards emission tsn streams theirs new was holds same same' does) ends = record { start = refl; kind = refl; unended = λ u. u }
@@ -181,7 +181,7 @@ steps_in_order first old small g _ few (speaks emission no_data) = goes_on_in_or
 steps_in_order first old small g _ few (asks_again emission begun was contents) = goes_on_in_order first old small g _ few (asks_again emission begun was contents) tt
 steps_in_order first old small g _ few (renews emission newest earlier number asks out contents) = goes_on_in_order first old small g _ few (renews emission newest earlier number asks out contents) tt
 steps_in_order first old small g _ few (turns_aside transfer new known same) = goes_on_in_order first old small g _ few (turns_aside transfer new known same) tt
-steps_in_order first old small g _ few (acknowledges now sack transfer new known valid does) = goes_on_in_order first old small g _ few (acknowledges now sack transfer new known valid does) tt
+steps_in_order first old small g _ few (acknowledges now sack transfer new known valid reached does) = goes_on_in_order first old small g _ few (acknowledges now sack transfer new known valid reached does) tt
 steps_in_order first old small g _ few (loses now transfer known) = goes_on_in_order first old small g _ few (loses now transfer known) tt
 steps_in_order first old small g _ few (receives emission chunk theirs new was holds some same same' does) = goes_on_in_order first old small g _ few (receives emission chunk theirs new was holds some same same' does) tt
 steps_in_order first old small g _ few (forwards emission tsn streams theirs new was holds same same' does) = goes_on_in_order first old small g _ few (forwards emission tsn streams theirs new was holds same same' does) tt

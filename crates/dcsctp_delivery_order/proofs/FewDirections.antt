@@ -115,7 +115,7 @@ module _ (first : ℕ) (old : Direction) (small : first < 2 ^ 32) (unasked : old
   idle_on _ (asks_again emission begun was contents) calm = idle
   idle_on _ (renews emission newest earlier number asks out contents) calm = idle
   idle_on _ (turns_aside transfer new known same) calm = idle
-  idle_on _ (acknowledges now sack transfer new known valid does) calm = idle
+  idle_on _ (acknowledges now sack transfer new known valid reached does) calm = idle
   idle_on _ (loses now transfer known) calm = idle
   idle_on _ (receives emission chunk theirs new was holds some same same' does) calm = (stays_idle (data_arrival chunk) theirs new does (idle_then theirs new same')).0
   idle_on _ (forwards emission tsn streams theirs new was holds same same' does) calm = forward_stays_idle tsn (skipped_in streams) theirs new does (idle_then theirs new same')
@@ -171,21 +171,21 @@ module _ (first : ℕ) (old : Direction) (small : first < 2 ^ 32) (unasked : old
     arrives_on _ (asks_again emission begun was contents) calm a = a
     arrives_on _ (renews emission newest earlier number asks out contents) calm a = a
     arrives_on _ (turns_aside transfer new known same) calm a = a
-    arrives_on _ (acknowledges now sack transfer new known valid does) calm a = a
+    arrives_on _ (acknowledges now sack transfer new known valid reached does) calm a = a
     arrives_on _ (loses now transfer known) calm a = a
     arrives_on _ (receives emission chunk theirs new was holds some same same' does) calm a =
-        let is : IsData s.history.log first chunk = content_said s.history first (plain (unworked (data_chunk chunk))) emission.packet.contents (packet_said s.history first emission old.sent s.packets was) holds in
+        let is : IsData s.history.log first chunk = content_said s.history first old.acknowledged (plain (unworked (data_chunk chunk))) emission.packet.contents (packet_said s.history first old.acknowledged emission old.sent s.packets was) holds in
         data_arrives a theirs new same same' is.number (data_arrival chunk) (carries_piece old.queued s.history.log first chunk s.queues.cut s.fit is some) does
     arrives_on _ (forwards emission tsn streams theirs new was holds same same' does) calm a =
-        let is : IsForward false s.history first tsn streams =
-        content_said s.history first (plain (unworked (forward_tsn_chunk tsn streams))) emission.packet.contents (packet_said s.history first emission old.sent s.packets was) holds in
-        skips_arrive a theirs new same same' tsn (skipped_in streams) is.passed (forward_turns old.queued s.history first tsn streams s.queues.cut s.fit none_begun is) does
+        let is : IsForward false s.history first old.acknowledged tsn streams =
+        content_said s.history first old.acknowledged (plain (unworked (forward_tsn_chunk tsn streams))) emission.packet.contents (packet_said s.history first old.acknowledged emission old.sent s.packets was) holds in
+        skips_arrive a theirs new same same' tsn (skipped_in streams) is.passed (forward_turns old.queued s.history first old.acknowledged tsn streams s.queues.cut s.fit none_begun is) does
     arrives_on _ (receives_interleaved emission chunk theirs new was holds some same same' does) calm a =
-        let is : IsInterleaved s.history.log first chunk = content_said s.history first (plain (unworked (i_data_chunk chunk))) emission.packet.contents (packet_said s.history first emission old.sent s.packets was) holds in
+        let is : IsInterleaved s.history.log first chunk = content_said s.history first old.acknowledged (plain (unworked (i_data_chunk chunk))) emission.packet.contents (packet_said s.history first old.acknowledged emission old.sent s.packets was) holds in
         data_arrives a theirs new same same' is.number (i_data_arrival chunk) (carries_interleaved old.queued s.history.log first chunk s.queues.cut s.fit is some) does
     arrives_on _ (forwards_interleaved emission tsn streams theirs new was holds same same' does) calm a =
-        let is : IsForward true s.history first tsn streams =
-        content_said s.history first (plain (unworked (i_forward_tsn_chunk tsn streams))) emission.packet.contents (packet_said s.history first emission old.sent s.packets was) holds in
+        let is : IsForward true s.history first old.acknowledged tsn streams =
+        content_said s.history first old.acknowledged (plain (unworked (i_forward_tsn_chunk tsn streams))) emission.packet.contents (packet_said s.history first old.acknowledged emission old.sent s.packets was) holds in
         skips_arrive a theirs new same same' tsn (messages_skipped_in streams) is.passed (none_interleaved is.passed.passed streams is.entries is.is is.names) does
     arrives_on _ (tracks new cumulative ranges) calm a =
         record { places = a.places; were = a.were; once = a.once; received = tracked_few old.queued s.history first a.places old.tracker new old.reassembly.incoming cumulative ranges a.received }

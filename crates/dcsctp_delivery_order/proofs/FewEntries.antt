@@ -58,8 +58,8 @@ pub entries_long : (entries : List ((ℕ × Bool) × ℕ)) → length (flat_map 
 entries_long [] = refl
 entries_long (entry ∷ entries) = omega (arith, length-append (entry_bytes false entry) (flat_map (entry_bytes false) entries), entries_long entries)
 
-pub forward_turns : (queued : List Message) (history : History) (first tsn : ℕ) (streams : List ℕ) → Cut queued history.log → AllByRecursion Fits queued → history.marks ≡ [] → (is : IsForward false history first tsn streams)
+pub forward_turns : (queued : List Message) (history : History) (first acknowledged tsn : ℕ) (streams : List ℕ) → Cut queued history.log → AllByRecursion Fits queued → history.marks ≡ [] → (is : IsForward false history first acknowledged tsn streams)
     → SkipTurns history is.passed.passed (skipped_in streams)
-forward_turns queued history first tsn streams cut fit none f =
+forward_turns queued history first acknowledged tsn streams cut fit none f =
     subst (λ (l : List ℕ). SkipTurns history f.passed.passed (skipped_in l)) (sym f.is)
     (firsts_read history f.passed.passed queued cut fit none f.entries f.names (length (flat_map (entry_bytes false) f.entries) / 4) (let long = entries_long f.entries in omega (arith, long)))

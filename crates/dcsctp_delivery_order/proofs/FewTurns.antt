@@ -7,7 +7,7 @@ use Rattle.dcsctp_delivery_sending.specs.Places.{at_place}
 use Rattle.dcsctp_delivery_sending.specs.Log.{Message, Piece, Slot, IsEndSlot, History, Cut, is_end}
 use Rattle.dcsctp_delivery_sending.specs.Turns.{turn_at}
 use Rattle.dcsctp_delivery_sending.proofs.Places.{at_below, at_cases}
-use Rattle.dcsctp_delivery_order.specs.Plain.{BeginsFew, CountsPlain, CarriesOrdered}
+use Rattle.dcsctp_delivery_order.specs.Plain.{CountsPlain, CarriesOrdered}
 use Rattle.dcsctp_delivery_order.specs.PlainDirections.{ordered_on, FewOnEachStream}
 use Rattle.dcsctp_delivery_order.proofs.PlainTurns.{turn_up, first_above, first_with}
 use Rattle.dcsctp_delivery_order.proofs.PlainRows.{row_of, later_turn}
@@ -118,7 +118,7 @@ module _ (queued : List Message) (history : History) (cut : Cut queued history.l
             omega (arith, rest, up, one))
       ]
 
-  pub begins_few : ordered_on id queued < 2 ^ 15 → BeginsFew id history
+  begins_few : ordered_on id queued < 2 ^ 15 → (n : ℕ) (f : Piece) → CarriesOrdered history.log id n f → turn_at id n history.log < 2 ^ 15
   begins_few few n f is =
       let up = turn_queued (turn_at id n history.log) n f is refl in
       let all = before_all id (f.place + 1) queued in

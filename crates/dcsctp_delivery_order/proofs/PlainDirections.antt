@@ -1,4 +1,5 @@
--- Without interleaving order holds throughout a run of a direction on each stream that isn't reset.
+-- Without interleaving order holds throughout a run of a direction on each stream that isn't reset, and of
+-- which nothing is skipped.
 use Rattle.std.proofs.Common.{◌+◌, ◌≡◌, ◌==◌, zero, suc, ◌%◌, ◌-◌, ℕ, Bool, true, false, ◌<◌, ◌≤◌, ◌^◌, List, [], ◌∷◌, ◌++◌, length, map, refl, sym, ◌∙◌, ap, arith, subst, inl, inr}
 use Rattle.std.specs.Prelude.{◌||◌, Option, Some}
 use Rattle.std.specs.List.{AllByRecursion, flat_map}
@@ -20,7 +21,7 @@ use Rattle.dcsctp_spec_lemmas.specs.spec.queues.Transfer.{Transfer, EndpointQueu
 use Rattle.dcsctp_spec_lemmas.specs.spec.endpoint.TransferMoves.{ReceivesData, MovesForward}
 use Rattle.dcsctp_delivery_sending.specs.Places.{HasEntry, at_place}
 use Rattle.dcsctp_delivery_sending.specs.Log.{Fits, Message, Mark, Piece, Slot, History, Resets, new_history}
-use Rattle.dcsctp_delivery_sending.specs.Flushes.{IsData, IsInterleaved, IsPassed, IsForward, AreForwardEntries}
+use Rattle.dcsctp_delivery_sending.specs.Flushes.{IsData, IsInterleaved, IsPassed, PassesAcknowledged, IsForward, AreForwardEntries}
 use Rattle.dcsctp_delivery_sending.specs.Losing.{IsOpenOn, AreUnlimitedOn}
 use Rattle.dcsctp_delivery_sending.specs.Numbers.{AreOfKind, CountsSsns, CountsWhere}
 use Rattle.dcsctp_delivery_sending.proofs.HeldOn.{unlimited_on_at}
@@ -30,6 +31,7 @@ use Rattle.dcsctp_delivery_sending.proofs.Extended.{at_more}
 use Rattle.dcsctp_delivery_sending.proofs.Places.{at_cases}
 use Rattle.dcsctp_delivery_receiving.specs.Ready.{AreDistinct, WereQueued, AreNamed}
 use Rattle.dcsctp_delivery_receiving.specs.Received.{Carries}
+use Rattle.dcsctp_delivery_receiving.specs.Tracked.{tracked}
 use Rattle.dcsctp_delivery_receiving.proofs.Arriving.{fits_at, carries_piece, carries_interleaved}
 use Rattle.dcsctp_delivery_receiving.proofs.Distinct.{distinct_with}
 use Rattle.dcsctp_delivery_receiving.proofs.Growing.{were_more}
@@ -39,11 +41,12 @@ use Rattle.dcsctp_delivery_directions.proofs.Calm.{Continues, continues_same, ca
 use Rattle.dcsctp_delivery_directions.proofs.Awaited.{unsent_nothing}
 use Rattle.dcsctp_delivery_directions.proofs.Continuing.{begun_history, started_history}
 use Rattle.dcsctp_delivery_directions.proofs.Directions.{begun_stands, started_stands, run_stands, direction_queues}
+use Rattle.dcsctp_delivery_directions.proofs.Reached.{Covers, run_covers}
 use Rattle.dcsctp_delivery_directions.proofs.Standing.{Stands, content_said, packet_said}
 use Rattle.dcsctp_delivery_directions.proofs.Steps.{stepped, more_queued}
 use Rattle.dcsctp_delivery_order.specs.Queue.{ComeInOrder}
 use Rattle.dcsctp_delivery_order.specs.Delivered.{DeliveredInOrder}
-use Rattle.dcsctp_delivery_order.specs.Plain.{CountsPlain, BeginsFew, CountsThese, IncomingPlain}
+use Rattle.dcsctp_delivery_order.specs.Plain.{CountsPlain, CountsThese, IncomingPlain}
 use Rattle.dcsctp_delivery_order.proofs.PlainEntries.{forward_others}
 use Rattle.dcsctp_delivery_order.proofs.PlainSkipping.{plain_named, forwarded_plain, nothing_plain, forward_steady}
 use Rattle.dcsctp_delivery_order.specs.Streams.{NoneLostOn}
@@ -69,7 +72,7 @@ pub record Arrives (whole : Bool) (these : ℕ → Bool) (first : ℕ) (history 
 abbrev pub AreUnasked : (ℕ → Bool) → Direction → Type 0
 AreUnasked these direction = (begun : BegunReset) → HasEntry begun direction.asking.requests → AreUnnamed these begun.reset.streams
 
--- Nothing may be skipped; or none of their messages may be abandoned.
+-- No FORWARD-TSN was sent; or none of the messages of these may be abandoned.
 abbrev pub AreFree : Bool → (ℕ → Bool) → Direction → Type 0
 AreFree whole these direction = (whole ≡ true → NoneForwards direction.sent) × (whole ≡ false → (id : ℕ) → these id ≡ true → AreUnlimitedOn id direction.queued)
 
@@ -81,8 +84,8 @@ pub record GoesPlain (whole : Bool) (these : ℕ → Bool) (first size : ℕ) (d
   pub unpaused : (id : ℕ) → direction.beginning.keeps id ≡ true → IsOpenOn id direction.queues.queue.streams
   pub unnamed : (id : ℕ) → direction.beginning.keeps id ≡ true → (begun : BegunReset) → HasEntry begun direction.asking.requests → names_stream begun.reset.streams id ≡ false
   pub kept : (id : ℕ) → direction.beginning.keeps id ≡ true → AreUnlimitedOn id direction.queued → NoneLostOn id direction.queued stands.history.log direction.queues.queue.streams
-  pub steady : AreUnasked these direction → AreFree whole these direction → DefersBeside whole these direction.reassembly.deferral × (direction.reassembly.max_size ≡ size)
-  pub arrives : AreUnasked these direction → CountsThese whole these stands.history → (whole ≡ true → CanBeCounted size direction.queued) → AreFree whole these direction
+  pub steady : AreUnasked these direction → AreFree whole these direction → DefersBeside these direction.reassembly.deferral × (direction.reassembly.max_size ≡ size)
+  pub arrives : AreUnasked these direction → CountsThese whole these stands.history → CanBeCounted size direction.queued → AreFree whole these direction
       → Arrives whole these first stands.history direction.queued direction.read direction.tracker direction.reassembly
 
 arrives_none : (whole : Bool) (these : ℕ → Bool) (first : ℕ) (direction : Direction) (s : Stands first direction) (floors : ℕ → Bool → ℕ) → s.history ≡ new_history floors → CountsThese whole these s.history
@@ -122,9 +125,9 @@ counted_at size (m ∷ queued) place message can at =
       | inr old ↦ counted_at size queued place message can.1 old
     ]
 
-module _ (whole : Bool) (these : ℕ → Bool) (first size : ℕ) (old : Direction) (small : first < 2 ^ 32) (unasked : AreUnasked these old) (free : AreFree whole these old) (beside : DefersBeside whole these old.reassembly.deferral) (s : Stands first old)
-    (kind : old.queues.queue.is_interleaved ≡ false) where
-  steady_then : (theirs new : Transfer) → theirs.reassembly ≡ old.reassembly → IsSteadyAs whole these theirs.reassembly new.reassembly → IsSteadyAs whole these old.reassembly new.reassembly
+module _ (whole : Bool) (these : ℕ → Bool) (first size : ℕ) (old : Direction) (small : first < 2 ^ 32) (unasked : AreUnasked these old) (free : AreFree whole these old) (beside : DefersBeside these old.reassembly.deferral) (s : Stands first old)
+    (covers : Covers first old) (kind : old.queues.queue.is_interleaved ≡ false) where
+  steady_then : (theirs new : Transfer) → theirs.reassembly ≡ old.reassembly → IsSteadyAs these theirs.reassembly new.reassembly → IsSteadyAs these old.reassembly new.reassembly
   steady_then theirs new same is = (is.0, is.1 ∙ ap (λ (r : ReassemblyState). r.max_size) same)
 
   -- what is asked for names none of these
@@ -134,8 +137,8 @@ module _ (whole : Bool) (these : ℕ → Bool) (first size : ℕ) (old : Directi
   newest_none : (newest : BegunReset) (earlier : List BegunReset) → old.asking.requests ≡ newest ∷ earlier → AreUnnamed these newest.reset.streams
   newest_none newest earlier asks = unasked newest (subst (λ (l : List BegunReset). HasEntry newest l) (sym asks) (inl refl))
 
-  ended_steady : (streams : List ℕ) (new : ReassemblyState) → EndsDeferral streams old.reassembly new → IsSteadyAs whole these old.reassembly new
-  ended_steady streams new leaves = (subst (λ (d : Option DeferralModel). DefersBeside whole these d) (sym leaves.deferral) tt, leaves.window)
+  ended_steady : (streams : List ℕ) (new : ReassemblyState) → EndsDeferral streams old.reassembly new → IsSteadyAs these old.reassembly new
+  ended_steady streams new leaves = (subst (λ (d : Option DeferralModel). DefersBeside these d) (sym leaves.deferral) tt, leaves.window)
 
   kinds : AreOfKind false s.history.log
   kinds n f at = s.queues.numbers.kinds n f at ∙ kind
@@ -145,43 +148,43 @@ module _ (whole : Bool) (these : ℕ → Bool) (first size : ℕ) (old : Directi
   unlimited_these some n f at mine = unlimited_on_at f.message.stream old.queued f.place f.message (free.1 some f.message.stream mine) (s.queues.cut.pieces n f at).at refl
 
   -- a FORWARD-TSN is for others
-  others_skipped : whole ≡ false → (tsn : ℕ) (streams : List ℕ) → IsForward false s.history first tsn streams → SkipOthers these (skipped_in streams)
-  others_skipped some tsn streams is = forward_others these s.history is.passed.passed old.queued s.queues.cut s.fit (unlimited_these some) first tsn streams is refl
+  others_skipped : whole ≡ false → (tsn : ℕ) (streams : List ℕ) → IsForward false s.history first old.acknowledged tsn streams → SkipOthers these (skipped_in streams)
+  others_skipped some tsn streams is = forward_others these s.history is.passed.passed old.queued s.queues.cut s.fit (unlimited_these some) first old.acknowledged tsn streams is refl
 
   -- and an I-FORWARD-TSN for none
   none_skipped : (passed : ℕ) (streams : List ℕ) (entries : List ((ℕ × Bool) × ℕ)) → streams ≡ flat_map (entry_bytes true) entries → AreForwardEntries true s.history passed entries → messages_skipped_in streams ≡ []
   none_skipped passed streams [] is names = ap (λ (l : List ℕ). messages_skipped_in l) is
   none_skipped passed streams (entry ∷ entries) is names = absurd (let clash : true ≡ false = sym names.0.kind ∙ kinds names.0.number names.0.piece names.0.at in cc)
 
-  said_plain : (emission : Emission) (tsn : ℕ) (streams : List ℕ) → HasEntry emission old.sent → HasEntry (plain (unworked (forward_tsn_chunk tsn streams))) emission.packet.contents → IsForward false s.history first tsn streams
-  said_plain emission tsn streams was holds = content_said s.history first (plain (unworked (forward_tsn_chunk tsn streams))) emission.packet.contents (packet_said s.history first emission old.sent s.packets was) holds
+  said_plain : (emission : Emission) (tsn : ℕ) (streams : List ℕ) → HasEntry emission old.sent → HasEntry (plain (unworked (forward_tsn_chunk tsn streams))) emission.packet.contents → IsForward false s.history first old.acknowledged tsn streams
+  said_plain emission tsn streams was holds = content_said s.history first old.acknowledged (plain (unworked (forward_tsn_chunk tsn streams))) emission.packet.contents (packet_said s.history first old.acknowledged emission old.sent s.packets was) holds
 
-  said_interleaved : (emission : Emission) (tsn : ℕ) (streams : List ℕ) → HasEntry emission old.sent → HasEntry (plain (unworked (i_forward_tsn_chunk tsn streams))) emission.packet.contents → IsForward true s.history first tsn streams
-  said_interleaved emission tsn streams was holds = content_said s.history first (plain (unworked (i_forward_tsn_chunk tsn streams))) emission.packet.contents (packet_said s.history first emission old.sent s.packets was) holds
+  said_interleaved : (emission : Emission) (tsn : ℕ) (streams : List ℕ) → HasEntry emission old.sent → HasEntry (plain (unworked (i_forward_tsn_chunk tsn streams))) emission.packet.contents → IsForward true s.history first old.acknowledged tsn streams
+  said_interleaved emission tsn streams was holds = content_said s.history first old.acknowledged (plain (unworked (i_forward_tsn_chunk tsn streams))) emission.packet.contents (packet_said s.history first old.acknowledged emission old.sent s.packets was) holds
 
   forwarded_steady : (emission : Emission) (tsn : ℕ) (streams : List ℕ) (theirs new : Transfer) → HasEntry emission old.sent → HasEntry (plain (unworked (forward_tsn_chunk tsn streams))) emission.packet.contents → theirs.reassembly ≡ old.reassembly
-      → MovesForward tsn (skipped_in streams) theirs new → IsSteadyAs whole these old.reassembly new.reassembly
+      → MovesForward tsn (skipped_in streams) theirs new → IsSteadyAs these old.reassembly new.reassembly
   forwarded_steady emission tsn streams theirs new was holds same' does = go whole refl
     where
-      go : (b : Bool) → whole ≡ b → IsSteadyAs whole these old.reassembly new.reassembly
+      go : (b : Bool) → whole ≡ b → IsSteadyAs these old.reassembly new.reassembly
       go true exact = absurd (forwards_never emission tsn streams old.sent (free.0 exact) was holds)
       go false some =
           steady_then theirs new same'
-          (forward_steady whole some these tsn (skipped_in streams) theirs new (others_skipped some tsn streams (said_plain emission tsn streams was holds)) (subst (λ (r : ReassemblyState). DefersBeside whole these r.deferral) (sym same') beside) does)
+          (forward_steady these tsn (skipped_in streams) theirs new (others_skipped some tsn streams (said_plain emission tsn streams was holds)) (subst (λ (r : ReassemblyState). DefersBeside these r.deferral) (sym same') beside) does)
 
   forwarded_i_steady : (emission : Emission) (tsn : ℕ) (streams : List ℕ) (theirs new : Transfer) → HasEntry emission old.sent → HasEntry (plain (unworked (i_forward_tsn_chunk tsn streams))) emission.packet.contents → theirs.reassembly ≡ old.reassembly
-      → MovesForward tsn (messages_skipped_in streams) theirs new → IsSteadyAs whole these old.reassembly new.reassembly
+      → MovesForward tsn (messages_skipped_in streams) theirs new → IsSteadyAs these old.reassembly new.reassembly
   forwarded_i_steady emission tsn streams theirs new was holds same' does = go whole refl
     where
-      go : (b : Bool) → whole ≡ b → IsSteadyAs whole these old.reassembly new.reassembly
+      go : (b : Bool) → whole ≡ b → IsSteadyAs these old.reassembly new.reassembly
       go true exact = absurd (i_forwards_never emission tsn streams old.sent (free.0 exact) was holds)
       go false some =
           let is = said_interleaved emission tsn streams was holds in
           let none : messages_skipped_in streams ≡ [] = none_skipped is.passed.passed streams is.entries is.is is.names in
           steady_then theirs new same'
-          (forward_steady whole some these tsn (messages_skipped_in streams) theirs new (subst (λ (l : List SkippedTo). SkipOthers these l) (sym none) tt) (subst (λ (r : ReassemblyState). DefersBeside whole these r.deferral) (sym same') beside) does)
+          (forward_steady these tsn (messages_skipped_in streams) theirs new (subst (λ (l : List SkippedTo). SkipOthers these l) (sym none) tt) (subst (λ (r : ReassemblyState). DefersBeside these r.deferral) (sym same') beside) does)
 
-  pub steady_on : (direction : Direction) → DirectionStep old direction → IsSteadyAs whole these old.reassembly direction.reassembly
+  pub steady_on : (direction : Direction) → DirectionStep old direction → IsSteadyAs these old.reassembly direction.reassembly
   steady_on _ (queues now sending fits some) = (beside, refl)
   steady_on _ (sets setting fits) = (beside, refl)
   steady_on _ (prepares ids fit kept) = (beside, refl)
@@ -194,20 +197,20 @@ module _ (whole : Bool) (these : ℕ → Bool) (first size : ℕ) (old : Directi
   steady_on _ (asks_again emission begun was contents) = (beside, refl)
   steady_on _ (renews emission newest earlier number asks out contents) = (beside, refl)
   steady_on _ (turns_aside transfer new known same) = (beside, refl)
-  steady_on _ (acknowledges now sack transfer new known valid does) = (beside, refl)
+  steady_on _ (acknowledges now sack transfer new known valid reached does) = (beside, refl)
   steady_on _ (loses now transfer known) = (beside, refl)
-  steady_on _ (receives emission chunk theirs new was holds some same same' does) = steady_then theirs new same' (stays_steady whole these (data_arrival chunk) theirs new does (subst (λ (r : ReassemblyState). DefersBeside whole these r.deferral) (sym same') beside))
+  steady_on _ (receives emission chunk theirs new was holds some same same' does) = steady_then theirs new same' (stays_steady these (data_arrival chunk) theirs new does (subst (λ (r : ReassemblyState). DefersBeside these r.deferral) (sym same') beside))
   steady_on _ (forwards emission tsn streams theirs new was holds same same' does) = forwarded_steady emission tsn streams theirs new was holds same' does
-  steady_on _ (receives_interleaved emission chunk theirs new was holds some same same' does) = steady_then theirs new same' (stays_steady whole these (i_data_arrival chunk) theirs new does (subst (λ (r : ReassemblyState). DefersBeside whole these r.deferral) (sym same') beside))
+  steady_on _ (receives_interleaved emission chunk theirs new was holds some same same' does) = steady_then theirs new same' (stays_steady these (i_data_arrival chunk) theirs new does (subst (λ (r : ReassemblyState). DefersBeside these r.deferral) (sym same') beside))
   steady_on _ (forwards_interleaved emission tsn streams theirs new was holds same same' does) = forwarded_i_steady emission tsn streams theirs new was holds same' does
   steady_on _ (tracks new cumulative ranges) = (beside, refl)
-  steady_on _ (defers last_tsn streams some) = (deferring_beside whole these last_tsn streams old.reassembly.deferral (asked_none streams some) beside, refl)
+  steady_on _ (defers last_tsn streams some) = (deferring_beside these last_tsn streams old.reassembly.deferral (asked_none streams some) beside, refl)
   steady_on _ (performs newest earlier new asks unknown reached own leaves) = ended_steady newest.reset.streams new leaves
   steady_on _ (resets streams new unmixed some leaves) = ended_steady streams new leaves
   steady_on _ (performs_earlier newest earlier new asks unknown reached own leaves) = ended_steady newest.reset.streams new leaves
   steady_on _ (takes message messages ready) = (beside, refl)
 
-  module _ (counts : CountsThese whole these s.history) (window : old.reassembly.max_size ≡ size) (can : whole ≡ true → CanBeCounted size old.queued) where
+  module _ (counts : CountsThese whole these s.history) (window : old.reassembly.max_size ≡ size) (can : CanBeCounted size old.queued) where
     with_received : (a : Arrives whole these first s.history old.queued old.read old.tracker old.reassembly) (read : List MessageContent) (tracker : TrackerState) (reassembly : ReassemblyState) → WereQueued old.queued a.places read
         → HasReceivedPlain whole these old.queued s.history first a.places tracker reassembly → Arrives whole these first s.history old.queued read tracker reassembly
     with_received a read tracker reassembly were received = record { places = a.places; were = were; once = a.once; received = received }
@@ -219,8 +222,8 @@ module _ (whole : Bool) (these : ℕ → Bool) (first size : ℕ) (old : Directi
         subst (λ (t : TrackerState). HasReceivedPlain whole these old.queued s.history first a.places t theirs.reassembly) (sym same)
         (subst (λ (r : ReassemblyState). HasReceivedPlain whole these old.queued s.history first a.places old.tracker r) (sym same') a.received) in
         with_received a old.read new.tracker new.reassembly a.were
-        (received_plain old.queued s.history first size s.queues.cut whole these counts small a.places offset arrival theirs new carries before (subst (λ (r : ReassemblyState). DefersBeside whole these r.deferral) (sym same') beside)
-        (λ exact. ap (λ (r : ReassemblyState). r.max_size) same' ∙ window) (λ exact. counted_at size old.queued carries.piece.place carries.piece.message (can exact) (s.queues.cut.pieces offset carries.piece carries.at).at) does)
+        (received_plain old.queued s.history first size s.queues.cut whole these counts small a.places offset arrival theirs new carries before (subst (λ (r : ReassemblyState). DefersBeside these r.deferral) (sym same') beside)
+        (ap (λ (r : ReassemblyState). r.max_size) same' ∙ window) (counted_at size old.queued carries.piece.place carries.piece.message can (s.queues.cut.pieces offset carries.piece carries.at).at) does)
 
     ended_arrives : (a : Arrives whole these first s.history old.queued old.read old.tracker old.reassembly) (streams : List ℕ) (new : ReassemblyState) → AreUnnamed these streams → EndsDeferral streams old.reassembly new
         → Arrives whole these first s.history old.queued old.read old.tracker new
@@ -233,15 +236,26 @@ module _ (whole : Bool) (these : ℕ → Bool) (first size : ℕ) (old : Directi
         subst (λ (t : TrackerState). HasReceivedPlain whole these old.queued s.history first a.places t theirs.reassembly) (sym same)
         (subst (λ (r : ReassemblyState). HasReceivedPlain whole these old.queued s.history first a.places old.tracker r) (sym same') a.received)
 
+    -- what is acknowledged the tracker has passed
+    passed_before : whole ≡ false → (tracker : TrackerState) → tracker ≡ old.tracker → (passed : ℕ) → PassesAcknowledged s.history.log old.acknowledged passed
+        → (n : ℕ) (f : Piece) → at_place n s.history.log ≡ Some (Some f) → these f.message.stream ≡ true → n < passed → tracked first n ≤ tracker.cumulative
+    passed_before some tracker same passed reliable n f at mine low =
+        let below : n < old.acknowledged = reliable n f at low (unlimited_these some n f at mine) in
+        let count = s.count in
+        let few = counts.few in
+        let reached = covers.covered (omega (arith, count, few)) in
+        subst (λ (t : TrackerState). tracked first n ≤ t.cumulative) (sym same) (omega (arith, below, reached))
+
     skipped_arrives : whole ≡ false → (a : Arrives whole these first s.history old.queued old.read old.tracker old.reassembly) (tsn : ℕ) (entries : List SkippedTo) (theirs new : Transfer) → theirs.tracker ≡ old.tracker → theirs.reassembly ≡ old.reassembly
-        → (passed : IsPassed s.history.log first tsn) → SkipOthers these entries → AreNamed s.history entries → MovesForward tsn entries theirs new → Arrives whole these first s.history old.queued old.read new.tracker new.reassembly
-    skipped_arrives some a tsn entries theirs new same same' passed others named does =
-        with_received a old.read new.tracker new.reassembly a.were (go passed.passed passed.below passed.is)
+        → (passed : IsPassed s.history.log first tsn) → PassesAcknowledged s.history.log old.acknowledged passed.passed → SkipOthers these entries → AreNamed s.history entries → MovesForward tsn entries theirs new → Arrives whole these first s.history old.queued old.read new.tracker new.reassembly
+    skipped_arrives some a tsn entries theirs new same same' passed reliable others named does =
+        with_received a old.read new.tracker new.reassembly a.were (go passed.passed passed.below passed.is reliable)
       where
-        go : (k : ℕ) → k ≤ length s.history.log → tsn ≡ (first + k + (2 ^ 32 - 1)) % 2 ^ 32 → HasReceivedPlain whole these old.queued s.history first a.places new.tracker new.reassembly
-        go zero below is = nothing_plain old.queued s.history first s.queues.cut whole these counts small a.places some tsn entries theirs new is (theirs_have a theirs same same') does
-        go (suc k) below is =
-            forwarded_plain old.queued s.history first s.queues.cut whole these counts small a.places some tsn entries (record { offset = k; below = omega (arith, below); is = is ∙ omega arith }) others named theirs new (theirs_have a theirs same same') does
+        go : (k : ℕ) → k ≤ length s.history.log → tsn ≡ (first + k + (2 ^ 32 - 1)) % 2 ^ 32 → PassesAcknowledged s.history.log old.acknowledged k → HasReceivedPlain whole these old.queued s.history first a.places new.tracker new.reassembly
+        go zero below is known = nothing_plain old.queued s.history first s.queues.cut whole these counts small a.places tsn entries theirs new is (theirs_have a theirs same same') does
+        go (suc k) below is known =
+            forwarded_plain old.queued s.history first s.queues.cut whole these counts small a.places some tsn entries (record { offset = k; below = omega (arith, below); is = is ∙ omega arith }) others named theirs new
+            (λ n f at mine up. passed_before some theirs.tracker same (suc k) known n f at mine (omega (arith, up))) (theirs_have a theirs same same') does
 
     forwarded_arrives : (a : Arrives whole these first s.history old.queued old.read old.tracker old.reassembly) (emission : Emission) (tsn : ℕ) (streams : List ℕ) (theirs new : Transfer) → HasEntry emission old.sent
         → HasEntry (plain (unworked (forward_tsn_chunk tsn streams))) emission.packet.contents → theirs.tracker ≡ old.tracker → theirs.reassembly ≡ old.reassembly → MovesForward tsn (skipped_in streams) theirs new
@@ -252,7 +266,7 @@ module _ (whole : Bool) (these : ℕ → Bool) (first size : ℕ) (old : Directi
         go true exact = absurd (forwards_never emission tsn streams old.sent (free.0 exact) was holds)
         go false some =
             let is = said_plain emission tsn streams was holds in
-            skipped_arrives some a tsn (skipped_in streams) theirs new same same' is.passed (others_skipped some tsn streams is) (plain_named s.history is.passed.passed (skipped_in streams) kinds (forward_skips s.history first tsn streams is)) does
+            skipped_arrives some a tsn (skipped_in streams) theirs new same same' is.passed is.reliable (others_skipped some tsn streams is) (plain_named s.history is.passed.passed (skipped_in streams) kinds (forward_skips s.history first old.acknowledged tsn streams is)) does
 
     forwarded_i_arrives : (a : Arrives whole these first s.history old.queued old.read old.tracker old.reassembly) (emission : Emission) (tsn : ℕ) (streams : List ℕ) (theirs new : Transfer) → HasEntry emission old.sent
         → HasEntry (plain (unworked (i_forward_tsn_chunk tsn streams))) emission.packet.contents → theirs.tracker ≡ old.tracker → theirs.reassembly ≡ old.reassembly → MovesForward tsn (messages_skipped_in streams) theirs new
@@ -264,7 +278,7 @@ module _ (whole : Bool) (these : ℕ → Bool) (first size : ℕ) (old : Directi
         go false some =
             let is = said_interleaved emission tsn streams was holds in
             let none : messages_skipped_in streams ≡ [] = none_skipped is.passed.passed streams is.entries is.is is.names in
-            skipped_arrives some a tsn (messages_skipped_in streams) theirs new same same' is.passed (subst (λ (l : List SkippedTo). SkipOthers these l) (sym none) tt) (subst (λ (l : List SkippedTo). AreNamed s.history l) (sym none) tt) does
+            skipped_arrives some a tsn (messages_skipped_in streams) theirs new same same' is.passed is.reliable (subst (λ (l : List SkippedTo). SkipOthers these l) (sym none) tt) (subst (λ (l : List SkippedTo). AreNamed s.history l) (sym none) tt) does
 
     arrives_on : (direction : Direction) → DirectionStep old direction → Arrives whole these first s.history old.queued old.read old.tracker old.reassembly
         → Arrives whole these first s.history direction.queued direction.read direction.tracker direction.reassembly
@@ -281,14 +295,14 @@ module _ (whole : Bool) (these : ℕ → Bool) (first size : ℕ) (old : Directi
     arrives_on _ (asks_again emission begun was contents) a = a
     arrives_on _ (renews emission newest earlier number asks out contents) a = a
     arrives_on _ (turns_aside transfer new known same) a = a
-    arrives_on _ (acknowledges now sack transfer new known valid does) a = a
+    arrives_on _ (acknowledges now sack transfer new known valid reached does) a = a
     arrives_on _ (loses now transfer known) a = a
     arrives_on _ (receives emission chunk theirs new was holds some same same' does) a =
-        let is : IsData s.history.log first chunk = content_said s.history first (plain (unworked (data_chunk chunk))) emission.packet.contents (packet_said s.history first emission old.sent s.packets was) holds in
+        let is : IsData s.history.log first chunk = content_said s.history first old.acknowledged (plain (unworked (data_chunk chunk))) emission.packet.contents (packet_said s.history first old.acknowledged emission old.sent s.packets was) holds in
         data_arrives a theirs new same same' is.number (data_arrival chunk) (carries_piece old.queued s.history.log first chunk s.queues.cut s.fit is some) does
     arrives_on _ (forwards emission tsn streams theirs new was holds same same' does) a = forwarded_arrives a emission tsn streams theirs new was holds same same' does
     arrives_on _ (receives_interleaved emission chunk theirs new was holds some same same' does) a =
-        let is : IsInterleaved s.history.log first chunk = content_said s.history first (plain (unworked (i_data_chunk chunk))) emission.packet.contents (packet_said s.history first emission old.sent s.packets was) holds in
+        let is : IsInterleaved s.history.log first chunk = content_said s.history first old.acknowledged (plain (unworked (i_data_chunk chunk))) emission.packet.contents (packet_said s.history first old.acknowledged emission old.sent s.packets was) holds in
         data_arrives a theirs new same same' is.number (i_data_arrival chunk) (carries_interleaved old.queued s.history.log first chunk s.queues.cut s.fit is some) does
     arrives_on _ (forwards_interleaved emission tsn streams theirs new was holds same same' does) a = forwarded_i_arrives a emission tsn streams theirs new was holds same same' does
     arrives_on _ (tracks new cumulative ranges) a = with_received a old.read new old.reassembly a.were (tracked_plain whole these old.queued s.history first a.places old.tracker new old.reassembly cumulative ranges a.received)
@@ -305,9 +319,9 @@ module _ (whole : Bool) (these : ℕ → Bool) (first size : ℕ) (old : Directi
           received = t.received;
         }
 
-steps_plain : (whole : Bool) (these : ℕ → Bool) (first size : ℕ) (old : Direction) → first < 2 ^ 32 → GoesPlain whole these first size old → (direction : Direction) → length direction.queued < 2 ^ 64 → old.queues.queue.is_interleaved ≡ false → DirectionStep old direction
+steps_plain : (whole : Bool) (these : ℕ → Bool) (first size : ℕ) (old : Direction) → first < 2 ^ 32 → Covers first old → GoesPlain whole these first size old → (direction : Direction) → length direction.queued < 2 ^ 64 → old.queues.queue.is_interleaved ≡ false → DirectionStep old direction
     → GoesPlain whole these first size direction
-steps_plain whole these first size old small g direction few kind step =
+steps_plain whole these first size old small covers g direction few kind step =
     let s = stepped first old small g.stands direction few step in
     let c : Continues g.stands.history s.history = calm_continues first old small g.stands direction few step (λ mixed. absurd (let clash : true ≡ false = sym mixed ∙ kind in cc)) in
     let keeps : (id : ℕ) → direction.beginning.keeps id ≡ true → old.beginning.keeps id ≡ true = λ id kept. sym (ap (λ (b : Beginning). b.keeps id) (same_beginning old direction step)) ∙ kept in
@@ -321,15 +335,15 @@ steps_plain whole these first size old small g direction few kind step =
       kept = λ id kept are. step_keeps_on id first old g.stands direction step (keeps id kept) are s c.more c.log (g.kept id (keeps id kept) (unlimited_earlier id old direction step are));
       steady = λ unasked free. (
           let was = g.steady (before unasked) (free_before free) in
-          let is = steady_on whole these first size old small (before unasked) (free_before free) was.0 g.stands kind direction step in
+          let is = steady_on whole these first size old small (before unasked) (free_before free) was.0 g.stands covers kind direction step in
           (is.0, is.1 ∙ was.1)
           );
       arrives = λ unasked counts can free. (
           let counts' = these_before g.stands.history s.history c.more c.log whole these counts in
-          let can' : whole ≡ true → CanBeCounted size old.queued = λ exact. counted_before size old direction step (can exact) in
+          let can' : CanBeCounted size old.queued = counted_before size old direction step can in
           let was = g.steady (before unasked) (free_before free) in
           arrives_later whole these first g.stands.history s.history direction.queued [] direction.read direction.tracker direction.reassembly c
-          (arrives_on whole these first size old small (before unasked) (free_before free) was.0 g.stands kind counts' was.1 can' direction step (g.arrives (before unasked) counts' can' (free_before free)))
+          (arrives_on whole these first size old small (before unasked) (free_before free) was.0 g.stands covers kind counts' was.1 can' direction step (g.arrives (before unasked) counts' can' (free_before free)))
           );
     }
   where
@@ -339,8 +353,8 @@ steps_plain whole these first size old small g direction few kind step =
 -- ---- a run
 
 -- a receiver that has received nothing
-new_steady : (whole : Bool) (these : ℕ → Bool) (size overhead : ℕ) (reassembly : ReassemblyState) → reassembly ≡ new_reassembly size overhead → DefersBeside whole these reassembly.deferral × (reassembly.max_size ≡ size)
-new_steady whole these size overhead reassembly is = (subst (λ (r : ReassemblyState). DefersBeside whole these r.deferral) (sym is) tt, ap (λ (r : ReassemblyState). r.max_size) is)
+new_steady : (these : ℕ → Bool) (size overhead : ℕ) (reassembly : ReassemblyState) → reassembly ≡ new_reassembly size overhead → DefersBeside these reassembly.deferral × (reassembly.max_size ≡ size)
+new_steady these size overhead reassembly is = (subst (λ (r : ReassemblyState). DefersBeside these r.deferral) (sym is) tt, ap (λ (r : ReassemblyState). r.max_size) is)
 
 none_named : (id : ℕ) (asking : Asking) → asking ≡ nothing_asked → (begun : BegunReset) → HasEntry begun asking.requests → names_stream begun.reset.streams id ≡ false
 none_named id asking is begun has = absurd (subst (λ (a : Asking). HasEntry begun a.requests) is has)
@@ -356,7 +370,7 @@ begins_plain whole these options first size direction small kind b =
       unpaused = λ id kept. (b.begun.all id kept).unpaused;
       unnamed = λ id kept. none_named id direction.asking b.asking;
       kept = λ id kept are place message at on. inr ((b.begun.all id kept).waits place message at on);
-      steady = λ unasked free. new_steady whole these size (part_overhead options) direction.reassembly b.reassembly;
+      steady = λ unasked free. new_steady these size (part_overhead options) direction.reassembly b.reassembly;
       arrives = λ unasked counts can free. arrives_none whole these first direction (begun_stands options first size direction small b') w.waits.floors is counts;
     }
 
@@ -374,7 +388,7 @@ starts_plain whole these options first size old queued below beginning small run
       unpaused = λ id kept. (begun.all id kept).unpaused;
       unnamed = λ id kept. none_named id old.asking awaited.asking;
       kept = λ id kept are place message at on. inr ((begun.all id kept).waits place message at on);
-      steady = λ unasked free. new_steady whole these size (part_overhead options) old.reassembly nothing.reassembly;
+      steady = λ unasked free. new_steady these size (part_overhead options) old.reassembly nothing.reassembly;
       arrives = λ unasked counts can free. arrives_none whole these first (record old { queued = queued; queues = below; beginning = beginning }) s w.waits.floors is counts;
     }
 
@@ -383,7 +397,8 @@ pub run_plain : (whole : Bool) (these : ℕ → Bool) (options : Options) (first
 run_plain whole these options first size _ small few (begins direction b) kind = begins_plain whole these options first size direction small kind b
 run_plain whole these options first size _ small few (goes_on old direction run step) kind =
     let was : old.queues.queue.is_interleaved ≡ false = sym (same_kind old direction step) ∙ kind in
-    steps_plain whole these first size old small (run_plain whole these options first size old small (omega (arith, few, more_queued old direction step)) run was) direction few was step
+    let before : length old.queued < 2 ^ 64 = omega (arith, few, more_queued old direction step) in
+    steps_plain whole these first size old small (run_covers options first size old small before run) (run_plain whole these options first size old small before run was) direction few was step
 run_plain whole these options first size _ small few (starts old queued below beginning run awaited fit waits idle begun) kind =
     let none_queued : length old.queued ≡ 0 = ap (λ (l : List Message). length l) awaited.queued in
     starts_plain whole these options first size old queued below beginning small run (run_stands options first size old small (omega (arith, none_queued)) run) awaited fit waits idle begun kind
@@ -444,19 +459,19 @@ module _ (first : ℕ) (direction : Direction) (s : Stands first direction) (kin
         few = few;
       }
 
-  pub counts_these : (whole : Bool) (these : ℕ → Bool) → AreUnasked these direction → (whole ≡ false → (id : ℕ) → these id ≡ true → BeginsFew id s.history) → CountsThese whole these s.history
-  counts_these whole these unasked low =
-      record { kinds = λ n f at. s.queues.numbers.kinds n f at ∙ kind; few = few; each = λ id mine. counts_plain id (λ begun has. unasked begun has id mine); low = low }
+  pub counts_these : (whole : Bool) (these : ℕ → Bool) → AreUnasked these direction → (whole ≡ false → (id : ℕ) → these id ≡ true → AreUnlimitedOn id direction.queued) → CountsThese whole these s.history
+  counts_these whole these unasked unlimited =
+      record { kinds = λ n f at. s.queues.numbers.kinds n f at ∙ kind; few = few; each = λ id mine. counts_plain id (λ begun has. unasked begun has id mine); unlimited = λ some n f at mine. unlimited_on_at f.message.stream direction.queued f.place f.message (unlimited some f.message.stream mine) (s.queues.cut.pieces n f at).at refl }
 
 -- the ordered messages of such a stream that were read come in order
 pub arrived_in_order : (whole : Bool) (these : ℕ → Bool) (first : ℕ) (history : History) (queued : List Message) (read : List MessageContent) (tracker : TrackerState) (reassembly : ReassemblyState)
     (a : Arrives whole these first history queued read tracker reassembly) (id : ℕ) → these id ≡ true → ComeInOrder queued id a.places
 arrived_in_order whole these first history queued read tracker reassembly a id mine = go a.received.got a.received.holds
   where
-    front : (got : List ℕ) (base : ℕ) → IncomingPlain whole these queued history got base a.places reassembly.incoming → ComeInOrder queued id a.places
+    front : (got : List ℕ) (base : ℕ) → IncomingPlain these queued history got base a.places reassembly.incoming → ComeInOrder queued id a.places
     front got base o = in_order_front queued id a.places o.holds.places (o.order id mine).order.in_order
 
-    go : (got : List ℕ) → ReassemblesPlain whole these queued history first got a.places reassembly.incoming → ComeInOrder queued id a.places
+    go : (got : List ℕ) → ReassemblesPlain these queued history first got a.places reassembly.incoming → ComeInOrder queued id a.places
     go got (none_handled none last empty) = front [] 0 (empty 0)
     go got (some_handled base at o) = front got base o
 
@@ -470,7 +485,7 @@ plain_directions_deliver_in_order options first size direction run small little 
     let count = s.count in
     let nothing : AreUnasked (λ id. true) direction = λ begun has. absurd (subst (λ (l : List BegunReset). HasEntry begun l) unasked has) in
     let counts = counts_these first direction s kind (g.zero from) (omega (arith, count, little)) true (λ id. true) nothing (λ some. absurd (cc)) in
-    let a = g.arrives nothing counts (λ exact. can) ((λ exact. none), (λ some. absurd (cc))) in
+    let a = g.arrives nothing counts can ((λ exact. none), (λ some. absurd (cc))) in
     record {
       delivered = record { places = a.places; were_queued = a.were; once = a.once };
       in_order = λ id. arrived_in_order true (λ other. true) first s.history direction.queued direction.read direction.tracker direction.reassembly a id refl;

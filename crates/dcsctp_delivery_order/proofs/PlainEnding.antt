@@ -5,7 +5,7 @@ use Rattle.dcsctp_spec_lemmas.specs.types.queues.Messages.{MessageContent}
 use Rattle.dcsctp_spec_lemmas.specs.spec.queues.Runs.{RunModel}
 use Rattle.dcsctp_spec_lemmas.specs.spec.queues.IncomingStreams.{StreamModel, new_stream}
 use Rattle.dcsctp_spec_lemmas.specs.spec.queues.Incoming.{IncomingModel, is_named, stream_on, ResetsStreams}
-use Rattle.dcsctp_spec_lemmas.specs.spec.queues.Reassembly.{WaitingModel, WaitingSkips, DeferralModel, ReassemblyState, names_stream, HandlesAll, SkipsThen, waiting_of, skips_of, entered, deferring, EndsDeferral}
+use Rattle.dcsctp_spec_lemmas.specs.spec.queues.Reassembly.{WaitingModel, DeferralModel, ReassemblyState, names_stream, HandlesAll, waiting_of, entered, deferring, EndsDeferral}
 use Rattle.dcsctp_spec_lemmas.specs.spec.queues.Tracker.{TrackerState}
 use Rattle.dcsctp_delivery_sending.specs.Places.{HasEntry, at_place}
 use Rattle.dcsctp_delivery_sending.specs.Log.{Message, Piece, History, Cut}
@@ -23,30 +23,30 @@ use Rattle.dcsctp_delivery_order.proofs.PlainReceived.{ReassemblesPlain, none_ha
 abbrev pub AreUnnamed : (ℕ → Bool) → List ℕ → Type 0
 AreUnnamed these streams = (id : ℕ) → these id ≡ true → names_stream streams id ≡ false
 
-module _ (whole : Bool) (these : ℕ → Bool) (queued : List Message) (history : History) (got : List ℕ) (base : ℕ) (read : List ℕ) where
+module _ (these : ℕ → Bool) (queued : List Message) (history : History) (got : List ℕ) (base : ℕ) (read : List ℕ) where
   renewed_plain : (named : ℕ → Bool) (streams later : ℕ → StreamModel) (unordered others : List RunModel) (ready : List MessageContent) → ((id : ℕ) → later id ≡ (if named id then new_stream id else streams id))
       → AreRows history.log got (unordered_base base) IsOfStream others → ((id : ℕ) → these id ≡ true → named id ≡ false)
-      → HoldsPlain whole these queued history got base read streams unordered ready → HoldsPlain whole these queued history got base read later others ready
+      → HoldsPlain these queued history got base read streams unordered ready → HoldsPlain these queued history got base read later others ready
   unfolding holds_renewed
   renewed_plain named streams later unordered others ready are rows apart o =
       record {
         holds = holds_renewed queued history got base read named streams later unordered others ready are rows o.holds;
-        order = λ id kept. subst (λ (s : StreamModel). PlainStream whole queued history got base id (read ++ o.holds.places) (if named id then [] else o.holds.waits id) s) (sym (are id))
+        order = λ id kept. subst (λ (s : StreamModel). PlainStream queued history got base id (read ++ o.holds.places) (if named id then [] else o.holds.waits id) s) (sym (are id))
             (left id (named id) (apart id kept) (o.order id kept));
       }
     where
-      left : (id : ℕ) (b : Bool) → b ≡ false → PlainStream whole queued history got base id (read ++ o.holds.places) (o.holds.waits id) (streams id)
-          → PlainStream whole queued history got base id (read ++ o.holds.places) (if b then [] else o.holds.waits id) (if b then new_stream id else streams id)
+      left : (id : ℕ) (b : Bool) → b ≡ false → PlainStream queued history got base id (read ++ o.holds.places) (o.holds.waits id) (streams id)
+          → PlainStream queued history got base id (read ++ o.holds.places) (if b then [] else o.holds.waits id) (if b then new_stream id else streams id)
       left id true is s = absurd (cc)
       left id false is s = s
 
-  resetting_plain : (streams : List ℕ) (old new : IncomingModel) → AreUnnamed these streams → IncomingPlain whole these queued history got base read old → ResetsStreams streams old new → IncomingPlain whole these queued history got base read new
+  resetting_plain : (streams : List ℕ) (old new : IncomingModel) → AreUnnamed these streams → IncomingPlain these queued history got base read old → ResetsStreams streams old new → IncomingPlain these queued history got base read new
   resetting_plain [] old new apart o resets =
-      subst (λ (l : List MessageContent). HoldsPlain whole these queued history got base read (λ id. stream_on id new.streams) new.unordered l) (sym resets.kept.ready)
+      subst (λ (l : List MessageContent). HoldsPlain these queued history got base read (λ id. stream_on id new.streams) new.unordered l) (sym resets.kept.ready)
       (renewed_plain (λ id. true) (λ id. stream_on id old.streams) (λ id. stream_on id new.streams) old.unordered new.unordered old.ready resets.streams
       (subst (λ (l : List RunModel). AreRows history.log got (unordered_base base) IsOfStream l) (sym resets.unordered) tt) apart o)
   resetting_plain (reset ∷ others) old new apart o resets =
-      subst (λ (l : List MessageContent). HoldsPlain whole these queued history got base read (λ id. stream_on id new.streams) new.unordered l) (sym resets.kept.ready)
+      subst (λ (l : List MessageContent). HoldsPlain these queued history got base read (λ id. stream_on id new.streams) new.unordered l) (sym resets.kept.ready)
       (renewed_plain (is_named (reset ∷ others)) (λ id. stream_on id old.streams) (λ id. stream_on id new.streams) old.unordered new.unordered old.ready resets.streams
       (subst (λ (l : List RunModel). AreRows history.log got (unordered_base base) IsOfStream l) (sym resets.unordered) (rows_filter queued history got base read (unordered_base base) IsOfStream (λ run. not (is_named (reset ∷ others) run.number)) old.unordered o.holds.rows)) apart o)
 
@@ -57,29 +57,29 @@ kept_last (reset ∷ others) old new resets = resets.kept.last
 -- ---- what waited is handled
 
 module _ (queued : List Message) (history : History) (first size : ℕ) (cut : Cut queued history.log) (whole : Bool) (these : ℕ → Bool) (counts : CountsThese whole these history) (small : first < 2 ^ 32) (read : List ℕ) where
-  reset_plain : (got streams : List ℕ) (old new : IncomingModel) → AreUnnamed these streams → ReassemblesPlain whole these queued history first got read old → ResetsStreams streams old new → ReassemblesPlain whole these queued history first got read new
+  reset_plain : (got streams : List ℕ) (old new : IncomingModel) → AreUnnamed these streams → ReassemblesPlain these queued history first got read old → ResetsStreams streams old new → ReassemblesPlain these queued history first got read new
   reset_plain got streams old new apart (some_handled base is holds) resets =
-      some_handled base (subst (λ (l : ℕ). Placed first base l) (sym (kept_last streams old new resets)) is) (resetting_plain whole these queued history got base read streams old new apart holds resets)
+      some_handled base (subst (λ (l : ℕ). Placed first base l) (sym (kept_last streams old new resets)) is) (resetting_plain these queued history got base read streams old new apart holds resets)
   reset_plain got streams old new apart (none_handled none last empty) resets =
-      none_handled none (kept_last streams old new resets ∙ last) (λ base. resetting_plain whole these queued history [] base read streams old new apart (empty base) resets)
+      none_handled none (kept_last streams old new resets ∙ last) (λ base. resetting_plain these queued history [] base read streams old new apart (empty base) resets)
 
   -- all of these were handled besides
   record Handled (got later : List ℕ) (new : IncomingModel) : Type 0 where
     now : List ℕ
-    holds : ReassemblesPlain whole these queued history first now read new
+    holds : ReassemblesPlain these queued history first now read new
     among : (k : ℕ) → HasEntry k now → HasEntry k later ⊎ HasEntry k got
     all : (k : ℕ) → HasEntry k got ⊎ HasEntry k later → HasEntry k now
 
   AreOthers : List ℕ → Type 0
   AreOthers later = (k : ℕ) → HasEntry k later → (f : Piece) → at_place k history.log ≡ Some (Some f) → these f.message.stream ≡ false
 
-  all_plain : (got later : List ℕ) (waiting : List WaitingModel) (old new : IncomingModel) → AreOthers later → ReassemblesPlain whole these queued history first got read old → DefersData history first later waiting → AreDistinct later
+  all_plain : (got later : List ℕ) (waiting : List WaitingModel) (old new : IncomingModel) → AreOthers later → ReassemblesPlain these queued history first got read old → DefersData history first later waiting → AreDistinct later
       → ((k : ℕ) → HasEntry k later → HasEntry k got → ⊥) → HandlesAll waiting old new → Handled got later new
   unfolding AreOthers
   all_plain got [] [] old new others holds defers distinct apart works =
       record {
         now = got;
-        holds = subst (λ (m : IncomingModel). ReassemblesPlain whole these queued history first got read m) (sym works) holds;
+        holds = subst (λ (m : IncomingModel). ReassemblesPlain these queued history first got read m) (sym works) holds;
         among = λ k h. inr h;
         all = λ k h. elim h [ inl g ↦ g | inr l ↦ absurd l ];
       }
@@ -101,7 +101,7 @@ module _ (queued : List Message) (history : History) (first size : ℕ) (cut : C
         all = λ k h. more.all k (elim h [ inl g ↦ inl (inr g) | inr l ↦ elim l [ inl e ↦ inl (inl e) | inr t ↦ inr t ] ]);
       }
 
-  pub ends_plain : (streams : List ℕ) (tracker : TrackerState) (old new : ReassemblyState) → AreUnnamed these streams → DefersBeside whole these old.deferral → ForwardsWait history first old.deferral → HasReceivedPlain whole these queued history first read tracker old
+  pub ends_plain : (streams : List ℕ) (tracker : TrackerState) (old new : ReassemblyState) → AreUnnamed these streams → DefersBeside these old.deferral → ForwardsWait history first old.deferral → HasReceivedPlain whole these queued history first read tracker old
       → EndsDeferral streams old new → HasReceivedPlain whole these queued history first read tracker new
   unfolding AreOthers
   ends_plain streams tracker old new apart beside wait r leaves =
@@ -125,9 +125,9 @@ module _ (queued : List Message) (history : History) (first size : ℕ) (cut : C
 
 -- ---- a reset is deferred
 
-pub deferring_beside : (whole : Bool) (these : ℕ → Bool) (last_tsn : ℕ) (streams : List ℕ) (deferral : Option DeferralModel) → AreUnnamed these streams → DefersBeside whole these deferral → DefersBeside whole these (entered last_tsn streams deferral)
-deferring_beside whole these last_tsn streams None apart beside = (apart, (λ exact. refl), tt)
-deferring_beside whole these last_tsn streams (Some d) apart beside = beside
+pub deferring_beside : (these : ℕ → Bool) (last_tsn : ℕ) (streams : List ℕ) (deferral : Option DeferralModel) → AreUnnamed these streams → DefersBeside these deferral → DefersBeside these (entered last_tsn streams deferral)
+deferring_beside these last_tsn streams None apart beside = (apart, tt)
+deferring_beside these last_tsn streams (Some d) apart beside = beside
 
 pub deferring_plain : (whole : Bool) (these : ℕ → Bool) (queued : List Message) (history : History) (first : ℕ) (read : List ℕ) (last_tsn : ℕ) (streams : List ℕ) (tracker : TrackerState) (reassembly : ReassemblyState)
     → HasReceivedPlain whole these queued history first read tracker reassembly → HasReceivedPlain whole these queued history first read tracker (deferring last_tsn streams reassembly)

@@ -1,10 +1,9 @@
 -- The entries of a FORWARD-TSN are for streams on which messages may be abandoned.
-use Rattle.std.proofs.Common.{◌≡◌, ℕ, zero, suc, Bool, true, false, ◌<◌, ◌≤◌, ◌+◌, ◌*◌, ◌/◌, ◌%◌, ◌^◌, List, [], ◌∷◌, ◌++◌, length, take, drop, refl, sym, ◌∙◌, ap, arith, subst}
-use Rattle.std.specs.Int.{w16, to_be_bytes, from_be_bytes}
+use Rattle.std.proofs.Common.{◌≡◌, ℕ, zero, suc, Bool, true, false, ◌<◌, ◌≤◌, ◌*◌, ◌/◌, ◌^◌, List, [], ◌∷◌, ◌++◌, length, take, drop, refl, sym, ◌∙◌, ap, arith, subst}
+use Rattle.std.specs.Int.{w16, from_be_bytes}
 use Rattle.std.specs.List.{AllByRecursion, flat_map}
-use Rattle.std.proofs.lemmas.List.{length-append}
 use Rattle.std.proofs.lemmas.Nat.{from_be_bytes-to_be_bytes_2}
-use Rattle.dcsctp_spec_lemmas.specs.wire.Fields.{skipped_stream_at, u16_at}
+use Rattle.dcsctp_spec_lemmas.specs.wire.Fields.{skipped_stream_at}
 use Rattle.dcsctp_spec_lemmas.specs.types.declared.arrivals.SkippedTo.{SkippedTo}
 use Rattle.dcsctp_spec_lemmas.specs.spec.queues.Arrivals.{skipped_to, first_skipped, skipped_in}
 use Rattle.dcsctp_spec_lemmas.specs.spec.queues.Skipping.{entry_bytes}
@@ -48,7 +47,7 @@ module _ (these : ℕ → Bool) (history : History) (passed : ℕ) (queued : Lis
       others_append these (first_skipped count (flat_map (entry_bytes false) entries)) (skipped_to (skipped_stream_at count (flat_map (entry_bytes false) entries)) ∷ [])
       (others_read entries names count (omega arith)) (other_read entries names count (omega arith), tt)
 
-  pub forward_others : (first tsn : ℕ) (streams : List ℕ) (is : IsForward false history first tsn streams) → is.passed.passed ≡ passed → SkipOthers these (skipped_in streams)
-  forward_others first tsn streams f same =
+  pub forward_others : (first acknowledged tsn : ℕ) (streams : List ℕ) (is : IsForward false history first acknowledged tsn streams) → is.passed.passed ≡ passed → SkipOthers these (skipped_in streams)
+  forward_others first acknowledged tsn streams f same =
       subst (λ (l : List ℕ). SkipOthers these (skipped_in l)) (sym f.is)
       (others_read f.entries (subst (λ (k : ℕ). AreForwardEntries false history k f.entries) same f.names) (length (flat_map (entry_bytes false) f.entries) / 4) (let long = entries_long f.entries in omega (arith, long)))

@@ -1,6 +1,6 @@
--- Without interleaving nothing is left out of what is read of a stream that isn't reset, where no
--- message has limits.
-use Rattle.std.proofs.Common.{◌≤◌, ◌≡◌, ℕ, Bool, true, false, ◌<◌, ◌-◌, ◌^◌, List, [], ◌∷◌, ◌++◌, length, arith, subst}
+-- Without interleaving nothing is left out of what is read of a stream that isn't reset, and none of
+-- whose messages has limits.
+use Rattle.std.proofs.Common.{◌≤◌, ◌≡◌, ℕ, Bool, true, false, ◌<◌, ◌-◌, ◌^◌, List, [], ◌∷◌, ◌++◌, length, arith, refl, subst}
 use Rattle.dcsctp_spec_lemmas.specs.types.declared.options.Options.{Options}
 use Rattle.dcsctp_spec_lemmas.specs.types.queues.Messages.{MessageContent}
 use Rattle.dcsctp_spec_lemmas.specs.spec.queues.Incoming.{stream_on}
@@ -12,21 +12,17 @@ use Rattle.dcsctp_delivery_sending.specs.Losing.{AreUnlimited, AreUnlimitedOn}
 use Rattle.dcsctp_delivery_sending.specs.Pieces.{HoldsQueued}
 use Rattle.dcsctp_delivery_sending.specs.Turns.{turn_at}
 use Rattle.dcsctp_delivery_directions.specs.Directions.{Direction, KeepsAll, DirectionRun, assigned}
-use Rattle.dcsctp_delivery_directions.proofs.Forwards.{unlimited_forward_nothing}
 use Rattle.dcsctp_delivery_order.specs.Queue.{LeaveNoGap}
 use Rattle.dcsctp_delivery_order.specs.Delivered.{DeliveredWithoutGaps}
 use Rattle.dcsctp_delivery_order.specs.Gaps.{SendsInTurn}
 use Rattle.dcsctp_delivery_order.specs.Order.{IsSentAs}
 use Rattle.dcsctp_delivery_order.specs.Plain.{with_turns, CountsPlain, IncomingPlain}
-use Rattle.dcsctp_delivery_order.specs.Streams.{NoneLostOn, IsKeptFew, DeliveredOn}
+use Rattle.dcsctp_delivery_order.specs.Streams.{NoneLostOn, IsKeptReliable, DeliveredOn}
 use Rattle.dcsctp_delivery_directions.proofs.Directions.{direction_queues}
-use Rattle.dcsctp_delivery_order.proofs.PlainSteps.{CanBeCounted, can_count}
+use Rattle.dcsctp_delivery_order.proofs.PlainSteps.{can_count}
 use Rattle.dcsctp_delivery_order.proofs.Delivered.{no_gap_front}
 use Rattle.dcsctp_delivery_order.proofs.Gaps.{apart_no_gap}
 use Rattle.dcsctp_delivery_order.proofs.PlainDirections.{Arrives, AreUnasked, run_plain, counts_plain, counts_these, arrived_in_order}
-use Rattle.dcsctp_delivery_order.proofs.FewTurns.{begins_few}
-use Rattle.dcsctp_delivery_order.specs.PlainDirections.{ordered_on}
-use Rattle.dcsctp_delivery_directions.specs.Forwards.{NoneForwards}
 use Rattle.dcsctp_delivery_order.proofs.PlainReceived.{ReassemblesPlain, none_handled, some_handled}
 use Rattle.dcsctp_delivery_order.proofs.PlainRows.{sent_as, sent_from, one_message, turns_follow}
 use Rattle.dcsctp_delivery_order.proofs.Sending.{sent_before}
@@ -47,14 +43,14 @@ module _ (queued : List Message) (history : History) (cut : Cut queued history.l
   -- Then what was read has no gap.
   module _ (sends : SendsInTurn queued (with_turns history) id) (whole : Bool) (these : ℕ → Bool) (mine : these id ≡ true)
       (first : ℕ) (read : List MessageContent) (tracker : TrackerState) (reassembly : ReassemblyState) (a : Arrives whole these first history queued read tracker reassembly) where
-    no_gap_of : (got : List ℕ) (base : ℕ) → IncomingPlain whole these queued history got base a.places reassembly.incoming → LeaveNoGap queued id a.places
+    no_gap_of : (got : List ℕ) (base : ℕ) → IncomingPlain these queued history got base a.places reassembly.incoming → LeaveNoGap queued id a.places
     no_gap_of got base o =
         let s = o.order id mine in
         no_gap_front queued id a.places o.holds.places s.order.in_order
         (apart_no_gap queued (with_turns history) id (turns_follow queued history cut id counts) (one_message queued history cut id counts)
         (a.places ++ o.holds.places) (o.holds.waits id) (stream_on id reassembly.incoming.streams) sends s.order s.filled)
 
-    by_handled : (got : List ℕ) → ReassemblesPlain whole these queued history first got a.places reassembly.incoming → LeaveNoGap queued id a.places
+    by_handled : (got : List ℕ) → ReassemblesPlain these queued history first got a.places reassembly.incoming → LeaveNoGap queued id a.places
     by_handled got (none_handled none last empty) = no_gap_of [] 0 (empty 0)
     by_handled got (some_handled base at o) = no_gap_of got base o
 
@@ -62,50 +58,36 @@ module _ (queued : List Message) (history : History) (cut : Cut queued history.l
     arrived_no_gap = by_handled a.received.got a.received.holds
 
 -- Where none of the messages may be abandoned, none on a stream may be.
-unlimited_on : (id : ℕ) (queued : List Message) → AreUnlimited queued → AreUnlimitedOn id queued
+pub unlimited_on : (id : ℕ) (queued : List Message) → AreUnlimited queued → AreUnlimitedOn id queued
 unlimited_on id [] are = tt
 unlimited_on id (message ∷ queued) are = (λ on. are.0, unlimited_on id queued are.1)
 
-module _ (whole : Bool) (these : ℕ → Bool) (options : Options) (first size : ℕ) (direction : Direction) (run : DirectionRun options first size direction) (small : first < 2 ^ 32) (little : assigned direction < 2 ^ 31)
-    (few : length direction.queued < 2 ^ 64) (kind : direction.queues.queue.is_interleaved ≡ false) (from : direction.beginning.from_zero ≡ true) (keeps : (id : ℕ) → these id ≡ true → direction.beginning.keeps id ≡ true)
-    (unlimited : (id : ℕ) → these id ≡ true → AreUnlimitedOn id direction.queued) where
-  -- Of streams that are kept what is read has no gap, if nothing is skipped on any, or few messages were queued on them.
-  streams_have_no_gap : (whole ≡ true → CanBeCounted size direction.queued) → (whole ≡ true → NoneForwards direction.sent) → (whole ≡ false → (id : ℕ) → these id ≡ true → ordered_on id direction.queued < 2 ^ 15)
-      → DeliveredOn these direction.queued direction.read
-  streams_have_no_gap can none fewer =
-      let g = run_plain whole these options first size direction small few run kind in
-      let s = g.stands in
-      let count = s.count in
-      let low : length s.history.log < 2 ^ 31 = omega (arith, count, little) in
-      let unasked : AreUnasked these direction = λ begun has id mine. g.unnamed id (keeps id mine) begun has in
-      let each : (id : ℕ) → these id ≡ true → CountsPlain id s.history = λ id mine. counts_plain first direction s kind (g.zero from) low id (λ begun has. unasked begun has id mine) in
-      let counts = counts_these first direction s kind (g.zero from) low whole these unasked (λ some id mine. begins_few direction.queued s.history s.queues.cut id (each id mine) (fewer some id mine)) in
-      let a = g.arrives unasked counts can (none, (λ some. unlimited)) in
-      record {
-        delivered = record { places = a.places; were_queued = a.were; once = a.once };
-        in_order = arrived_in_order whole these first s.history direction.queued direction.read direction.tracker direction.reassembly a;
-        no_gap = λ id mine.
-            arrived_no_gap direction.queued s.history s.queues.cut id (each id mine)
-            (plain_in_turn direction.queued s.history s.queues.cut id (each id mine) direction.queues.queue s.queues.queue_holds (g.kept id (keeps id mine) (unlimited id mine)))
-            whole these mine first direction.read direction.tracker direction.reassembly a;
-      }
-
-pub plain_streams_deliver_without_gaps : (options : Options) (first size : ℕ) (direction : Direction) → DirectionRun options first size direction
-    → first < 2 ^ 32 → assigned direction < 2 ^ 31 → length direction.queued < 2 ^ 64 → size ≤ 2 ^ 63 → direction.queues.queue.is_interleaved ≡ false
-    → direction.beginning.from_zero ≡ true → AreUnlimited direction.queued → DeliveredOn direction.beginning.keeps direction.queued direction.read
-plain_streams_deliver_without_gaps options first size direction run small little few window kind from are =
-    streams_have_no_gap true direction.beginning.keeps options first size direction run small little few kind from (λ id keeps. keeps) (λ id keeps. unlimited_on id direction.queued are)
-    (λ exact. can_count size direction.queued window (direction_queues options first size direction run small few).1) (λ exact. unlimited_forward_nothing options first size direction run small few are) (λ some. absurd (cc))
-
-pub few_streams_deliver_without_gaps : (these : ℕ → Bool) (options : Options) (first size : ℕ) (direction : Direction) → DirectionRun options first size direction
-    → first < 2 ^ 32 → assigned direction < 2 ^ 31 → length direction.queued < 2 ^ 64 → direction.queues.queue.is_interleaved ≡ false → direction.beginning.from_zero ≡ true
-    → ((id : ℕ) → these id ≡ true → IsKeptFew direction id) → DeliveredOn these direction.queued direction.read
-few_streams_deliver_without_gaps these options first size direction run small little few kind from kept =
-    streams_have_no_gap false these options first size direction run small little few kind from (λ id mine. (kept id mine).keeps) (λ id mine. (kept id mine).unlimited) (λ exact. absurd (cc)) (λ exact. absurd (cc)) (λ some id mine. (kept id mine).few)
+pub plain_streams_deliver_without_gaps : (these : ℕ → Bool) (options : Options) (first size : ℕ) (direction : Direction) → DirectionRun options first size direction
+    → first < 2 ^ 32 → assigned direction < 2 ^ 31 → length direction.queued < 2 ^ 64 → size ≤ 2 ^ 63 → direction.queues.queue.is_interleaved ≡ false → direction.beginning.from_zero ≡ true
+    → ((id : ℕ) → these id ≡ true → IsKeptReliable direction id) → DeliveredOn these direction.queued direction.read
+plain_streams_deliver_without_gaps these options first size direction run small little few window kind from reliable =
+    let g = run_plain false these options first size direction small few run kind in
+    let s = g.stands in
+    let count = s.count in
+    let low : length s.history.log < 2 ^ 31 = omega (arith, count, little) in
+    let unlimited : (id : ℕ) → these id ≡ true → AreUnlimitedOn id direction.queued = λ id mine. (reliable id mine).unlimited in
+    let unasked : AreUnasked these direction = λ begun has id mine. g.unnamed id (reliable id mine).keeps begun has in
+    let each : (id : ℕ) → these id ≡ true → CountsPlain id s.history = λ id mine. counts_plain first direction s kind (g.zero from) low id (λ begun has. unasked begun has id mine) in
+    let counts = counts_these first direction s kind (g.zero from) low false these unasked (λ some. unlimited) in
+    let can = can_count size direction.queued window (direction_queues options first size direction run small few).1 in
+    let a = g.arrives unasked counts can ((λ exact. absurd (cc)), (λ some. unlimited)) in
+    record {
+      delivered = record { places = a.places; were_queued = a.were; once = a.once };
+      in_order = arrived_in_order false these first s.history direction.queued direction.read direction.tracker direction.reassembly a;
+      no_gap = λ id mine.
+          arrived_no_gap direction.queued s.history s.queues.cut id (each id mine)
+          (plain_in_turn direction.queued s.history s.queues.cut id (each id mine) direction.queues.queue s.queues.queue_holds (g.kept id (reliable id mine).keeps (unlimited id mine)))
+          false these mine first direction.read direction.tracker direction.reassembly a;
+    }
 
 pub plain_directions_deliver_without_gaps : (options : Options) (first size : ℕ) (direction : Direction) → DirectionRun options first size direction
     → first < 2 ^ 32 → assigned direction < 2 ^ 31 → length direction.queued < 2 ^ 64 → size ≤ 2 ^ 63 → direction.queues.queue.is_interleaved ≡ false
     → direction.beginning.from_zero ≡ true → KeepsAll direction.beginning → AreUnlimited direction.queued → DeliveredWithoutGaps direction.queued direction.read
 plain_directions_deliver_without_gaps options first size direction run small little few window kind from keeps are =
-    let d = plain_streams_deliver_without_gaps options first size direction run small little few window kind from are in
-    record { ordered = record { delivered = d.delivered; in_order = λ id. d.in_order id (keeps id) }; no_gap = λ id. d.no_gap id (keeps id) }
+    let d = plain_streams_deliver_without_gaps (λ id. true) options first size direction run small little few window kind from (λ id mine. record { keeps = keeps id; unlimited = unlimited_on id direction.queued are }) in
+    record { ordered = record { delivered = d.delivered; in_order = λ id. d.in_order id refl }; no_gap = λ id. d.no_gap id refl }

@@ -13,7 +13,7 @@ use Rattle.dcsctp_delivery_sending.specs.Places.{HasEntry, at_place}
 use Rattle.dcsctp_delivery_sending.specs.Log.{Message, Piece, Slot, History}
 use Rattle.dcsctp_delivery_sending.specs.Turns.{turn_at, IsSsnOfTurn}
 use Rattle.dcsctp_delivery_sending.proofs.Extended.{at_more}
-use Rattle.dcsctp_delivery_sending.proofs.Places.{at_below}
+use Rattle.dcsctp_delivery_sending.proofs.Places.{at_some, at_below}
 use Rattle.dcsctp_delivery_sending.proofs.Turns.{turn_more}
 use Rattle.dcsctp_delivery_receiving.specs.Rows.{AreRows}
 use Rattle.dcsctp_delivery_receiving.specs.Ready.{IsOn, ordered_base, AreDistinct, WasQueued, WereQueued, WaitQueued, IsNear, fresh, near, HoldsIncoming}
@@ -52,17 +52,17 @@ not_twice p (x ∷ xs) ys distinct h =
     ]
 
 -- the first that is ready is read
-record ReadsPlain (whole : Bool) (these : ℕ → Bool) (queued : List Message) (history : History) (got : List ℕ) (base : ℕ) (read : List ℕ) (incoming : IncomingModel) (message : MessageContent) (messages : List MessageContent) : Type 0 where
+record ReadsPlain (these : ℕ → Bool) (queued : List Message) (history : History) (got : List ℕ) (base : ℕ) (read : List ℕ) (incoming : IncomingModel) (message : MessageContent) (messages : List MessageContent) : Type 0 where
   place : ℕ
   was : WasQueued queued place message
   fresh : HasEntry place read → ⊥
-  plain : IncomingPlain whole these queued history got base (read ++ place ∷ []) (record incoming { ready = messages })
+  plain : IncomingPlain these queued history got base (read ++ place ∷ []) (record incoming { ready = messages })
 
-reads_plain : (whole : Bool) (these : ℕ → Bool) (queued : List Message) (history : History) (got : List ℕ) (base : ℕ) (read : List ℕ) (incoming : IncomingModel) (message : MessageContent) (messages : List MessageContent) → incoming.ready ≡ message ∷ messages
-    → IncomingPlain whole these queued history got base read incoming → ReadsPlain whole these queued history got base read incoming message messages
-reads_plain whole these queued history got base read incoming message messages is o = go o.holds.places refl (subst (λ (l : List MessageContent). WereQueued queued o.holds.places l) is o.holds.were_queued)
+reads_plain : (these : ℕ → Bool) (queued : List Message) (history : History) (got : List ℕ) (base : ℕ) (read : List ℕ) (incoming : IncomingModel) (message : MessageContent) (messages : List MessageContent) → incoming.ready ≡ message ∷ messages
+    → IncomingPlain these queued history got base read incoming → ReadsPlain these queued history got base read incoming message messages
+reads_plain these queued history got base read incoming message messages is o = go o.holds.places refl (subst (λ (l : List MessageContent). WereQueued queued o.holds.places l) is o.holds.were_queued)
   where
-    go : (places : List ℕ) → o.holds.places ≡ places → WereQueued queued places (message ∷ messages) → ReadsPlain whole these queued history got base read incoming message messages
+    go : (places : List ℕ) → o.holds.places ≡ places → WereQueued queued places (message ∷ messages) → ReadsPlain these queued history got base read incoming message messages
     go [] e were = absurd were
     go (p ∷ places) e were =
         let all : read ++ o.holds.places ≡ (read ++ p ∷ []) ++ places = ap (λ (l : List ℕ). read ++ l) e ∙ sym (appended read (p ∷ []) places) in
@@ -80,7 +80,7 @@ reads_plain whole these queued history got base read incoming message messages i
               spent = λ q h. o.holds.spent q (subst (λ (l : List ℕ). HasEntry q l) (sym all) h);
               once = λ id. subst (λ (l : List ℕ). AreDistinct (l ++ o.holds.waits id)) all (o.holds.once id);
             };
-            order = λ id kept. subst (λ (l : List ℕ). PlainStream whole queued history got base id l (o.holds.waits id) (stream_on id incoming.streams)) all (o.order id kept);
+            order = λ id kept. subst (λ (l : List ℕ). PlainStream queued history got base id l (o.holds.waits id) (stream_on id incoming.streams)) all (o.order id kept);
           };
         }
 
@@ -88,7 +88,7 @@ pub takes_plain : (whole : Bool) (these : ℕ → Bool) (queued : List Message) 
     → reassembly.incoming.ready ≡ message ∷ messages → HasReceivedPlain whole these queued history first read tracker reassembly → TakesPlain whole these queued history first read tracker reassembly message messages
 takes_plain whole these queued history first read tracker reassembly message messages is r = go r.holds
   where
-    later : (place : ℕ) → ReassemblesPlain whole these queued history first r.got (read ++ place ∷ []) (record reassembly.incoming { ready = messages }) → HasReceivedPlain whole these queued history first (read ++ place ∷ []) tracker (with_ready messages reassembly)
+    later : (place : ℕ) → ReassemblesPlain these queued history first r.got (read ++ place ∷ []) (record reassembly.incoming { ready = messages }) → HasReceivedPlain whole these queued history first (read ++ place ∷ []) tracker (with_ready messages reassembly)
     later place holds =
         record {
           taken = r.taken;
@@ -107,12 +107,12 @@ takes_plain whole these queued history first read tracker reassembly message mes
           others = r.others;
         }
 
-    go : ReassemblesPlain whole these queued history first r.got read reassembly.incoming → TakesPlain whole these queued history first read tracker reassembly message messages
+    go : ReassemblesPlain these queued history first r.got read reassembly.incoming → TakesPlain whole these queued history first read tracker reassembly message messages
     go (some_handled base at o) =
-        let t = reads_plain whole these queued history r.got base read reassembly.incoming message messages is o in
+        let t = reads_plain these queued history r.got base read reassembly.incoming message messages is o in
         record { place = t.place; was = t.was; fresh = t.fresh; received = later t.place (some_handled base at t.plain) }
     go (none_handled none last empty) =
-        let t = reads_plain whole these queued history [] 0 read reassembly.incoming message messages is (empty 0) in
+        let t = reads_plain these queued history [] 0 read reassembly.incoming message messages is (empty 0) in
         let spent = t.plain.holds.spent t.place (has_left t.place (read ++ t.place ∷ []) t.plain.holds.places (has_right t.place read (t.place ∷ []) (inl refl))) in
         absurd (spent.covered spent.offset (omega arith) spent.order)
 
@@ -144,7 +144,7 @@ module _ (history later : History) (slots : List Slot) (is : later.log ≡ slots
         kinds = λ n f at. counts.kinds n f (stays_before n (Some f) at);
         few = fewer_before counts.few;
         each = λ id mine. counts_before id (counts.each id mine);
-        low = λ some id mine n f of. subst (λ (k : ℕ). k < 2 ^ 15) (same_turn_before id n (at_below n (Some f) history.log of.at)) (counts.low some id mine n f (record { at = stays_before n (Some f) of.at; stream = of.stream; ordered = of.ordered }));
+        unlimited = λ some n f at. counts.unlimited some n f (stays_before n (Some f) at);
       }
 
 module _ (queued more : List Message) (history later : History) (slots : List Slot) (is : later.log ≡ slots ++ history.log) (goes : GoesOn history later) (read : List ℕ) (contents : List MessageContent) (were : WereQueued queued read contents) where
@@ -165,10 +165,10 @@ module _ (queued more : List Message) (history later : History) (slots : List Sl
       let same : f ≡ g = cc in
       record { at = at ∙ ap (λ (x : Piece). Some (Some x)) (sym same); stream = of.stream; ordered = of.ordered }
 
-  stream_more : (whole : Bool) (got : List ℕ) (base id : ℕ) (all waits : List ℕ) (texts : List MessageContent) (stream : StreamModel) → ((k : ℕ) → HasEntry k got → (f : Piece) × (at_place k history.log ≡ Some (Some f))) → WereQueued queued all texts
-      → PlainStream whole queued history got base id all waits stream → PlainStream whole (more ++ queued) later got base id all waits stream
+  stream_more : (got : List ℕ) (base id : ℕ) (all waits : List ℕ) (texts : List MessageContent) (stream : StreamModel) → ((k : ℕ) → HasEntry k got → (f : Piece) × (at_place k history.log ≡ Some (Some f))) → WereQueued queued all texts
+      → PlainStream queued history got base id all waits stream → PlainStream (more ++ queued) later got base id all waits stream
   unfolding within
-  stream_more whole got base id all waits texts stream pieces queued_all s =
+  stream_more got base id all waits texts stream pieces queued_all s =
       record {
         order = record {
           in_order = in_order_more queued more (with_turns history) (with_turns later) id within all texts queued_all s.order.in_order;
@@ -185,8 +185,8 @@ module _ (queued more : List Message) (history later : History) (slots : List Sl
             );
         from = s.from;
         apart = s.apart;
-        runs = λ exact run has. (
-            let r = s.runs exact run has in
+        runs = λ run has. (
+            let r = s.runs run has in
             record {
               offset = r.offset;
               piece = r.piece;
@@ -195,22 +195,22 @@ module _ (queued more : List Message) (history later : History) (slots : List Sl
               first = r.first;
             }
             );
-        held = λ exact n f of has up. (
+        held = λ n f of has up. (
             let (g, at) = pieces n has in
             let below = at_below n (Some g) history.log at in
             let number = number_more id n below in
             subst (λ (k : ℕ). HeldAs stream.ordered (fragment_place k base + n) k ⊎ (is_number_waiting k stream.waiting ≡ true)) (sym number)
-            (s.held exact n f (at_before id n f below of g at) has (omega (arith, number, up)))
+            (s.held n f (at_before id n f below of g at) has (omega (arith, number, up)))
             );
       }
 
-  incoming_more : (whole : Bool) (these : ℕ → Bool) (got : List ℕ) (base : ℕ) (incoming : IncomingModel) → ((k : ℕ) → HasEntry k got → (f : Piece) × (at_place k history.log ≡ Some (Some f))) → IncomingPlain whole these queued history got base read incoming
-      → IncomingPlain whole these (more ++ queued) later got base read incoming
+  incoming_more : (these : ℕ → Bool) (got : List ℕ) (base : ℕ) (incoming : IncomingModel) → ((k : ℕ) → HasEntry k got → (f : Piece) × (at_place k history.log ≡ Some (Some f))) → IncomingPlain these queued history got base read incoming
+      → IncomingPlain these (more ++ queued) later got base read incoming
   unfolding holds_more
-  incoming_more whole these got base incoming pieces o =
+  incoming_more these got base incoming pieces o =
       record {
         holds = holds_more queued more history later goes got base read incoming o.holds;
-        order = λ id kept. stream_more whole got base id (read ++ o.holds.places) (o.holds.waits id) (contents ++ incoming.ready) (stream_on id incoming.streams) pieces
+        order = λ id kept. stream_more got base id (read ++ o.holds.places) (o.holds.waits id) (contents ++ incoming.ready) (stream_on id incoming.streams) pieces
             (both_queued queued read o.holds.places contents incoming.ready were o.holds.were_queued) (o.order id kept);
       }
 
@@ -222,7 +222,10 @@ module _ (queued more : List Message) (history later : History) (slots : List Sl
         got = r.got;
         later = r.later;
         tracks = more_given_out first (length history.log) (length later.log) r.taken tracker goes.longer r.tracks;
-        exact = r.exact;
+        exact = λ k sure is. elim sure [
+          | inl exact ↦ r.exact k (inl exact) is
+          | inr s ↦ sure_before k s.0 s.1 s.2 is
+        ];
         pieces = λ k h. (let (f, at) = r.pieces k h in (f, goes.stays k (Some f) at));
         got_taken = r.got_taken;
         later_taken = r.later_taken;
@@ -239,9 +242,16 @@ module _ (queued more : List Message) (history later : History) (slots : List Sl
             );
       }
     where
-      go : ReassemblesPlain whole these queued history first r.got read reassembly.incoming → ReassemblesPlain whole these (more ++ queued) later first r.got read reassembly.incoming
-      go (none_handled none last empty) = none_handled none last (λ base. incoming_more whole these [] base reassembly.incoming (λ k h. absurd h) (empty base))
-      go (some_handled base at o) = some_handled base at (incoming_more whole these r.got base reassembly.incoming (λ k h. r.pieces k (r.got_taken k h)) o)
+      -- a TSN that was received was assigned before
+      sure_before : (k : ℕ) (f : Piece) → at_place k later.log ≡ Some (Some f) → these f.message.stream ≡ true → has_received tracker (tracked first k) ≡ true → HasEntry k r.taken
+      sure_before k f at mine is =
+          let (slot, was) = at_some k history.log (let sent = r.tracks.sent (tracked first k) is in omega (arith, sent)) in
+          let both : Some slot ≡ Some (Some f) = sym (goes.stays k slot was) ∙ at in
+          r.exact k (inr (f, was ∙ both, mine)) is
+
+      go : ReassemblesPlain these queued history first r.got read reassembly.incoming → ReassemblesPlain these (more ++ queued) later first r.got read reassembly.incoming
+      go (none_handled none last empty) = none_handled none last (λ base. incoming_more these [] base reassembly.incoming (λ k h. absurd h) (empty base))
+      go (some_handled base at o) = some_handled base at (incoming_more these r.got base reassembly.incoming (λ k h. r.pieces k (r.got_taken k h)) o)
 
 -- ---- nothing was sent yet
 
@@ -271,8 +281,8 @@ module _ (queued : List Message) (history : History) (empty : history.log ≡ []
   is_first next (fresh e) = e
   is_first next (near base same small low high) = absurd (omega (arith, same, low, high))
 
-  holds_none : (whole : Bool) (these : ℕ → Bool) (got : List ℕ) (base : ℕ) (read : List ℕ) (incoming : IncomingModel) → HoldsIncoming queued history got base read incoming → IncomingPlain whole these queued history got base read incoming
-  holds_none whole these got base read incoming holds =
+  holds_none : (these : ℕ → Bool) (got : List ℕ) (base : ℕ) (read : List ℕ) (incoming : IncomingModel) → HoldsIncoming queued history got base read incoming → IncomingPlain these queued history got base read incoming
+  holds_none these got base read incoming holds =
       record {
         holds = holds;
         order = λ id kept. (
@@ -287,9 +297,9 @@ module _ (queued : List Message) (history : History) (empty : history.log ≡ []
               order = record { in_order = in_order_none id (read ++ holds.places) none; below = λ place has on. absurd (none place has); waiting = waits.0; ahead = waits.1 };
               filled = λ number low less. absurd (omega (arith, low, less, next));
               from = omega (arith, next);
-              apart = λ exact. apart_none (stream_on id incoming.streams).ordered runs;
-              runs = λ exact run has. absurd (runs run has);
-              held = λ exact n f of. absurd (nowhere n (Some f) of.at);
+              apart = apart_none (stream_on id incoming.streams).ordered runs;
+              runs = λ run has. absurd (runs run has);
+              held = λ n f of. absurd (nowhere n (Some f) of.at);
             }
             );
       }
@@ -305,7 +315,7 @@ module _ (queued : List Message) (history : History) (empty : history.log ≡ []
         got = r.got;
         later = r.later;
         tracks = r.tracks;
-        exact = λ exact k is. absurd (unknown k is);
+        exact = λ k sure is. absurd (unknown k is);
         pieces = λ k h. absurd (unknown k (r.tracks.received k h));
         got_taken = r.got_taken;
         later_taken = r.later_taken;
@@ -323,6 +333,6 @@ module _ (queued : List Message) (history : History) (empty : history.log ≡ []
           let sent = r.tracks.sent (tracked first k) is in
           omega (arith, none, sent)
 
-      go : Reassembles queued history first r.got read reassembly.incoming → ReassemblesPlain whole these queued history first r.got read reassembly.incoming
-      go (untouched none last all) = none_handled none last (λ base. holds_none whole these [] base read reassembly.incoming (all base))
-      go (placed base at holds) = some_handled base at (holds_none whole these r.got base read reassembly.incoming holds)
+      go : Reassembles queued history first r.got read reassembly.incoming → ReassemblesPlain these queued history first r.got read reassembly.incoming
+      go (untouched none last all) = none_handled none last (λ base. holds_none these [] base read reassembly.incoming (all base))
+      go (placed base at holds) = some_handled base at (holds_none these r.got base read reassembly.incoming holds)

@@ -30,24 +30,24 @@ use Rattle.dcsctp_delivery_order.proofs.PlainHeld.{rise_end, runs_stay, held_sta
 -- ---- a stream on which nothing ordered comes
 
 -- messages of other streams, or unordered ones
-pub others_plain : (strict : Bool) (queued : List Message) (history : History) (got : List ℕ) (n base id : ℕ) (all waits more : List ℕ) (stream : StreamModel) → ((f : Piece) → CarriesOrdered history.log id n f → ⊥)
-    → ((place : ℕ) → HasEntry place more → IsOrderedOn queued id place → ⊥) → PlainStream strict queued history got base id all waits stream → PlainStream strict queued history (n ∷ got) base id (all ++ more) waits stream
-others_plain strict queued history got n base id all waits more stream other none s =
+pub others_plain : (queued : List Message) (history : History) (got : List ℕ) (n base id : ℕ) (all waits more : List ℕ) (stream : StreamModel) → ((f : Piece) → CarriesOrdered history.log id n f → ⊥)
+    → ((place : ℕ) → HasEntry place more → IsOrderedOn queued id place → ⊥) → PlainStream queued history got base id all waits stream → PlainStream queued history (n ∷ got) base id (all ++ more) waits stream
+others_plain queued history got n base id all waits more stream other none s =
     record {
       order = others_stay queued (with_turns history) id all waits more stream none s.order;
       filled = more_filled (with_turns history) id stream.next all more s.filled;
       from = s.from;
       apart = s.apart;
       runs = s.runs;
-      held = λ exact m g is has up. elim has [
+      held = λ m g is has up. elim has [
         | inl e ↦ absurd (other g (subst (λ (k : ℕ). CarriesOrdered history.log id k g) e is))
-        | inr t ↦ s.held exact m g is t up
+        | inr t ↦ s.held m g is t up
       ];
     }
 
 -- ---- what a part leaves
 
-module _ (strict : Bool) (queued : List Message) (history : History) (now : List ℕ) (base : ℕ) where
+module _ (queued : List Message) (history : History) (now : List ℕ) (base : ℕ) where
   -- These became ready besides, in order: `all` are the places of the messages that were read or are ready, `places` of those
   -- that are ready.
   pub record LeavesPlain (all places : List ℕ) (id : ℕ) (new : StreamModel) (after : List MessageContent) : Type 0 where
@@ -58,10 +58,10 @@ module _ (strict : Bool) (queued : List Message) (history : History) (now : List
     pub once : AreDistinct ((all ++ more) ++ waits)
     pub on : (q : ℕ) → HasEntry q more → IsOnIt queued id q
     pub spent : (q : ℕ) → HasEntry q more → Spent history.log now q
-    pub order : PlainStream strict queued history now base id (all ++ more) waits new
+    pub order : PlainStream queued history now base id (all ++ more) waits new
 
   pub none_left : (all places waits : List ℕ) (id : ℕ) (new : StreamModel) (before after : List MessageContent) → WereQueued queued places before → WaitQueued queued history now id waits new.waiting → AreDistinct (all ++ waits) → after ≡ before
-      → PlainStream strict queued history now base id (all ++ []) waits new → LeavesPlain all places id new after
+      → PlainStream queued history now base id (all ++ []) waits new → LeavesPlain all places id new after
   none_left all places waits id new before after were wait once same order =
       record {
         more = [];
@@ -76,7 +76,7 @@ module _ (strict : Bool) (queued : List Message) (history : History) (now : List
 
   one_left : (all places waits : List ℕ) (id p : ℕ) (whole : WholeModel) (new : StreamModel) (before after : List MessageContent) → WereQueued queued places before → WaitQueued queued history now id waits new.waiting
       → IsQueued queued history.log now (OfStream id) p whole → AreDistinct (all ++ waits) → (HasEntry p (all ++ waits) → ⊥) → after ≡ before ++ delivered_as id whole ∷ []
-      → PlainStream strict queued history now base id (all ++ p ∷ []) waits new → LeavesPlain all places id new after
+      → PlainStream queued history now base id (all ++ p ∷ []) waits new → LeavesPlain all places id new after
   one_left all places waits id p whole new before after were wait is once fresh e order =
       record {
         more = p ∷ [];
@@ -93,7 +93,7 @@ module _ (strict : Bool) (queued : List Message) (history : History) (now : List
 
   pub apart_left : (all places waits : List ℕ) (id p : ℕ) (part : PartModel) (new : StreamModel) (before after : List MessageContent) (outcome : Assembled) (taken : Taken)
       → WereQueued queued places before → WaitQueued queued history now id waits new.waiting → MakesQueued queued history.log now (OfStream id) p outcome → AreDistinct (all ++ waits) → (HasEntry p (all ++ waits) → ⊥)
-      → ((more : List ℕ) → ((q : ℕ) → HasEntry q more → q ≡ p) → PlainStream strict queued history now base id (all ++ more) waits new)
+      → ((more : List ℕ) → ((q : ℕ) → HasEntry q more → q ≡ p) → PlainStream queued history now base id (all ++ more) waits new)
       → UnorderedOutcome part (delivered_as id) before outcome taken after → LeavesPlain all places id new after
   apart_left all places waits id p part new before after outcome taken were wait makes once fresh ordered does = go outcome makes does
     where
@@ -105,10 +105,10 @@ module _ (strict : Bool) (queued : List Message) (history : History) (now : List
 
 -- ---- an ordered part
 
-module _ (strict : Bool) (queued : List Message) (history : History) (cut : Cut queued history.log) (id : ℕ) (counts : CountsPlain id history) (got : List ℕ) (base : ℕ) (small : base + 2 ^ 32 < 2 ^ 64) (n : ℕ) (f : Piece) (is : CarriesOrdered history.log id n f) (is_new : HasEntry n got → ⊥)
+module _ (queued : List Message) (history : History) (cut : Cut queued history.log) (id : ℕ) (counts : CountsPlain id history) (got : List ℕ) (base : ℕ) (small : base + 2 ^ 32 < 2 ^ 64) (n : ℕ) (f : Piece) (is : CarriesOrdered history.log id n f) (is_new : HasEntry n got → ⊥)
     (part : PartModel) (number_is : part.number ≡ number_at id n history.log) (place_is : part.place ≡ fragment_place part.number base + n)
     (old new : StreamModel) (rows : AreRows history.log got (ordered_base base) (IsOn history id) old.ordered) (before after : List MessageContent) (taken : Taken) (does : TakesOrdered part old before taken new after)
-    (all places waits : List ℕ) (s : PlainStream strict queued history got base id all waits old) (from : old.next ≤ part.number)
+    (all places waits : List ℕ) (s : PlainStream queued history got base id all waits old) (from : old.next ≤ part.number)
     (same : id ≡ old.id) (were : WereQueued queued places before) (wait : WaitQueued queued history (n ∷ got) id waits old.waiting) (once : AreDistinct (all ++ waits)) (fresh : HasEntry f.place (all ++ waits) → ⊥)
     (ahead : IsAhead part old) where
   abbrev now : List ℕ
@@ -122,20 +122,20 @@ module _ (strict : Bool) (queued : List Message) (history : History) (cut : Cut 
 
   -- the stream once these are delivered
   then_plain : (more later : List ℕ) (delivered : List WholeModel) → DeliversRow old before new after delivered → AreReadAs (with_turns history) id more delivered → AreReadAs (with_turns history) id later new.waiting
-      → PlainStream strict queued history now base id (all ++ more) later new
+      → PlainStream queued history now base id (all ++ more) later new
   unfolding row
   then_plain more later delivered delivers are left =
       record {
         order = order_then queued (with_turns history) id all waits more later old new before after delivered (turns_follow queued history cut id counts) s.order delivers.rising are left;
         filled = rows_fill (with_turns history) id old.next new.next all more delivered are delivers.row s.filled;
         from = (let low = s.from in let up = rise_end old.next new.next delivered delivers.rising.rise in omega (arith, low, up));
-        apart = λ exact. parts_lie_apart part old.ordered new.ordered does.outcome does.parts (s.apart exact);
-        runs = λ exact. runs_stay history id counts got base small old rows (s.runs exact) n f is part number_is place_is does.outcome new.ordered does.parts;
-        held = λ exact. held_stays history id counts got base small old rows (s.runs exact) n f is part number_is place_is new before after taken is_new from (s.held exact) does row;
+        apart = parts_lie_apart part old.ordered new.ordered does.outcome does.parts s.apart;
+        runs = runs_stay history id counts got base small old rows s.runs n f is part number_is place_is does.outcome new.ordered does.parts;
+        held = held_stays history id counts got base small old rows s.runs n f is part number_is place_is new before after taken is_new from s.held does row;
       }
 
   whole_left : (whole : WholeModel) → whole.number ≡ part.number → (b : Bool) → after ≡ (if b then before ++ ready_with old whole else before) → MatchBool b (new.waiting ≡ not_due (next_after old.next whole) old.waiting) (WaitsAmong whole old.waiting new.waiting)
-      → IsQueued queued history.log now (IsOn history id) f.place whole → DeliversRow old before new after (if b then whole ∷ due (next_after old.next whole) old.waiting else []) → LeavesPlain strict queued history now base all places id new after
+      → IsQueued queued history.log now (IsOn history id) f.place whole → DeliversRow old before new after (if b then whole ∷ due (next_after old.next whole) old.waiting else []) → LeavesPlain queued history now base all places id new after
   unfolding its
   whole_left whole number true e left is' delivers =
       let split = split_due queued history now id (next_after old.next whole) waits old.waiting wait in
@@ -166,7 +166,7 @@ module _ (strict : Bool) (queued : List Message) (history : History) (cut : Cut 
   whole_left whole number false e among is' delivers =
       let whole_waits : take among.at waits ++ drop among.at waits ≡ waits = take_drop true queued history now among.at waits in
       let split_all : (all ++ take among.at waits) ++ drop among.at waits ≡ all ++ waits = appended all (take among.at waits) (drop among.at waits) ∙ ap (λ (l : List ℕ). all ++ l) whole_waits in
-      none_left strict queued history now base all places (take among.at waits ++ f.place ∷ drop among.at waits) id new before after were
+      none_left queued history now base all places (take among.at waits ++ f.place ∷ drop among.at waits) id new before after were
       (subst (λ (l : List WholeModel). WaitQueued queued history now id (take among.at waits ++ f.place ∷ drop among.at waits) l) (sym among.waiting) (wait_with true queued history now id f.place among.at whole waits old.waiting is' wait))
       (subst (λ (l : List ℕ). AreDistinct l) (appended all (take among.at waits) (f.place ∷ drop among.at waits))
       (distinct_with f.place (all ++ take among.at waits) (drop among.at waits) (subst (λ (l : List ℕ). AreDistinct l) (sym split_all) once) (λ h. fresh (subst (λ (l : List ℕ). HasEntry f.place l) split_all h))))
@@ -175,16 +175,16 @@ module _ (strict : Bool) (queued : List Message) (history : History) (cut : Cut 
       (subst (λ (l : List WholeModel). AreReadAs (with_turns history) id (take among.at waits ++ f.place ∷ drop among.at waits) l) (sym among.waiting)
       (read_among (with_turns history) id f.place among.at whole waits old.waiting (subst (λ (k : ℕ). IsReadAs (with_turns history) id f.place k) (sym number) its) s.order.waiting)))
 
-  pub ordered_left : MakesQueued queued history.log now (IsOn history id) f.place does.outcome → LeavesPlain strict queued history now base all places id new after
+  pub ordered_left : MakesQueued queued history.log now (IsOn history id) f.place does.outcome → LeavesPlain queued history now base all places id new after
   unfolding row
   ordered_left makes = go does.outcome does.does (of_message part old.ordered new.ordered does.outcome does.parts) makes row
     where
       go : (outcome : Assembled) → OrderedOutcome part old before outcome taken new after → IsOfMessage part.number outcome → MakesQueued queued history.log now (IsOn history id) f.place outcome
-          → DeliversRow old before new after (ready_by old outcome) → LeavesPlain strict queued history now base all places id new after
+          → DeliversRow old before new after (ready_by old outcome) → LeavesPlain queued history now base all places id new after
       go part_dropped does' of makes' delivers =
-          none_left strict queued history now base all places waits id new before after were (subst (λ (x : StreamModel). WaitQueued queued history now id waits x.waiting) (sym does'.0) wait) once does'.1
+          none_left queued history now base all places waits id new before after were (subst (λ (x : StreamModel). WaitQueued queued history now id waits x.waiting) (sym does'.0) wait) once does'.1
           (then_plain [] waits [] delivers tt (subst (λ (x : StreamModel). AreReadAs (with_turns history) id waits x.waiting) (sym does'.0) s.order.waiting))
       go part_kept does' of makes' delivers =
-          none_left strict queued history now base all places waits id new before after were (subst (λ (l : List WholeModel). WaitQueued queued history now id waits l) (sym does'.1) wait) once does'.2
+          none_left queued history now base all places waits id new before after were (subst (λ (l : List WholeModel). WaitQueued queued history now id waits l) (sym does'.1) wait) once does'.2
           (then_plain [] waits [] delivers tt (subst (λ (l : List WholeModel). AreReadAs (with_turns history) id waits l) (sym does'.1) s.order.waiting))
       go (message_whole whole) does' of makes' delivers = whole_left whole of (whole.number == old.next) does'.ready does'.waiting makes' delivers

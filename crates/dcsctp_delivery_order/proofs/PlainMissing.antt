@@ -1,7 +1,7 @@
 -- Without interleaving a TSN of the next message is missing, if a later message of its stream was
 -- begun: with all of them it would be whole, or was abandoned.
 use Rattle.std.proofs.Common.{◌≡◌, ℕ, zero, suc, true, false, ◌<◌, ◌≤◌, ◌+◌, ◌-◌, ◌^◌, List, [], ◌∷◌, length, refl, sym, ◌∙◌, ap, arith, subst, inl, inr}
-use Rattle.std.specs.Prelude.{Some}
+use Rattle.std.specs.Prelude.{None, Some}
 use Rattle.std.proofs.lemmas.Bool.{eqb-true, eq-eqb}
 use Rattle.std.proofs.lemmas.Bool.Decides.{eqb_tells, leb_tells}
 use Rattle.dcsctp_spec_lemmas.specs.spec.queues.Numbers.{fragment_place}
@@ -10,6 +10,7 @@ use Rattle.dcsctp_spec_lemmas.specs.spec.queues.IncomingStreams.{StreamModel, is
 use Rattle.dcsctp_delivery_sending.specs.Places.{HasEntry, at_place}
 use Rattle.dcsctp_delivery_sending.specs.Log.{Message, Piece, Slot, History, Cut, is_beginning, is_end}
 use Rattle.dcsctp_delivery_sending.specs.Turns.{turn_at}
+use Rattle.dcsctp_delivery_sending.proofs.Places.{at_some, at_below}
 use Rattle.dcsctp_delivery_receiving.specs.Rows.{IsPieceRow, AreRows}
 use Rattle.dcsctp_delivery_receiving.specs.Ready.{IsOn, ordered_base}
 use Rattle.dcsctp_delivery_receiving.proofs.Chaining.{placed_plain}
@@ -37,11 +38,10 @@ row_in log got base Named run (r ∷ runs) are has =
       | inr t ↦ row_in log got base Named run runs are.1 t
     ]
 
--- The TSN carries a piece, which was handled if it is of the stream.
+-- The TSN was handled if it carries a piece of the stream. It isn't the end of an ordered message of the stream that is abandoned.
 pub record PassedOn (log : List Slot) (got : List ℕ) (id n : ℕ) : Type 0 where
-  pub piece : Piece
-  pub at : at_place n log ≡ Some (Some piece)
-  pub handled : piece.message.stream ≡ id → HasEntry n got
+  pub handled : (f : Piece) → at_place n log ≡ Some (Some f) → f.message.stream ≡ id → HasEntry n got
+  pub never_shuts : (m : ℕ) (f : Piece) → m + 1 ≡ n → CarriesOrdered log id m f → at_place n log ≡ Some None → ⊥
 
 module _ (queued : List Message) (history : History) (cut : Cut queued history.log) (id : ℕ) (counts : CountsPlain id history) where
   -- pieces of one message say so
@@ -71,7 +71,20 @@ module _ (queued : List Message) (history : History) (cut : Cut queued history.l
       at : at_place (last + 1) history.log ≡ Some (Some next)
       start : next.start ≡ 0
 
-    module _ (end : ℕ) (later : IsFirstAt history.log id end) (all : (m : ℕ) → b ≤ m → m < end → (f : Piece) × (at_place m history.log ≡ Some (Some f))) where
+    module _ (end : ℕ) (later : IsFirstAt history.log id end) (all : (i : ℕ) (f : Piece) → b ≤ i → i + 1 < end → CarriesOrdered history.log id i f → (g : Piece) × (at_place (i + 1) history.log ≡ Some (Some g))) where
+      -- its pieces are ordered ones of the stream
+      own : (i : ℕ) → b ≤ i → GoesUpTo (i + 1) → (f : Piece) × CarriesOrdered history.log id i f
+      unfolding GoesUpTo
+      own i low goes =
+          elim (eqb_tells i b) [
+            | inl e ↦ (first.piece, subst (λ (k : ℕ). CarriesOrdered history.log id k first.piece) (sym e.1) first.is)
+            | inr e ↦
+                (let ne : i ≡ b → ⊥ = e.1 in
+                let c = goes i (omega (arith, low, ne)) (omega arith) in
+                let text = one_text i b c.piece first.piece c.at first.is.at c.is in
+                (c.piece, record { at = c.at; stream = ap (λ (m : Message). m.stream) text ∙ first.is.stream; ordered = ap (λ (m : Message). m.is_unordered) text ∙ first.is.ordered }))
+          ]
+
       continues : (i : ℕ) (g : Piece) → b ≤ i → GoesUpTo (i + 1) → at_place (i + 1) history.log ≡ Some (Some g) → 0 < g.start → ContinuesAt history.log first.piece.place (i + 1)
       unfolding GoesUpTo
       continues i g low goes at inside =
@@ -91,7 +104,8 @@ module _ (queued : List Message) (history : History) (cut : Cut queued history.l
       find zero i low is goes =
           record { last = i; from = low; to = omega (arith, is); goes = goes; next = later.piece; at = ap (λ (k : ℕ). at_place k history.log) (let same : i + 1 ≡ end = omega (arith, is) in same) ∙ later.is.at; start = later.start }
       find (suc d) i low is goes =
-          let (g, at) = all (i + 1) (omega (arith, low)) (omega (arith, is)) in
+          let (f, of) = own i low goes in
+          let (g, at) = all i f low (omega (arith, is)) of in
           elim (eqb_tells g.start 0) [
             | inl e ↦ record { last = i; from = low; to = omega (arith, is); goes = goes; next = g; at = at; start = e.1 }
             | inr e ↦
@@ -323,8 +337,17 @@ module _ (queued : List Message) (history : History) (cut : Cut queued history.l
         → ((n : ℕ) (f : Piece) → CarriesOrdered history.log id n f → HasEntry n got → stream.next ≤ number_at id n history.log → IsHeldOrWaits history.log base id stream n)
         → ((k : ℕ) → b ≤ k → k < end → PassedOn history.log got id k) → ⊥
     incomplete end later got base stream less rows runs number apart waits held all =
-        let r = row end later (λ m low up. (let p = all m low up in (p.piece, p.at))) less in
+        let r = row end later next_piece less in
         not_all end r got base stream rows runs number apart waits held (λ k low up. (
         let p = all k low (let to = r.to in omega (arith, to, up)) in
         let mine = part end r k low up in
-        p.handled (ap (λ (x : Piece). x.message.stream) (one_piece k k p.piece mine.piece p.at mine.is.at refl) ∙ mine.is.stream)))
+        p.handled mine.piece mine.is.at mine.is.stream))
+      where
+        next_piece : (i : ℕ) (f : Piece) → b ≤ i → i + 1 < end → CarriesOrdered history.log id i f → (g : Piece) × (at_place (i + 1) history.log ≡ Some (Some g))
+        next_piece i f low up of =
+            let (slot, at) = at_some (i + 1) history.log (let last = at_below end (Some later.piece) history.log later.is.at in omega (arith, last, up)) in
+            go slot at
+          where
+            go : (slot : Slot) → at_place (i + 1) history.log ≡ Some slot → (g : Piece) × (at_place (i + 1) history.log ≡ Some (Some g))
+            go None at = absurd ((all (i + 1) (omega (arith, low)) up).never_shuts i f refl of at)
+            go (Some g) at = (g, at)

@@ -1,5 +1,5 @@
--- Stream sequence numbers are read right where no data is skipped.
-use Rattle.std.proofs.Common.{◌≡◌, ℕ, Bool, true, false, ◌<◌, ◌≤◌, ◌+◌, ◌-◌, ◌%◌, ◌^◌, List, [], ◌∷◌, refl, sym, ◌∙◌, ap, arith, subst, inl, inr}
+-- Stream sequence numbers are read right where no data of the stream is skipped.
+use Rattle.std.proofs.Common.{◌≡◌, ℕ, false, ◌<◌, ◌≤◌, ◌+◌, ◌-◌, ◌%◌, ◌^◌, List, [], ◌∷◌, refl, sym, ◌∙◌, ap, arith, subst, inl, inr}
 use Rattle.std.specs.Prelude.{Some}
 use Rattle.std.proofs.lemmas.Bool.Decides.{nat_tests, eqb_tells, leb_tells}
 use Rattle.dcsctp_spec_lemmas.specs.spec.queues.Numbers.{short_number_from}
@@ -14,7 +14,7 @@ use Rattle.dcsctp_delivery_receiving.specs.Ready.{IsOn, ordered_base}
 use Rattle.dcsctp_delivery_receiving.proofs.SpentRows.{was_handled}
 use Rattle.dcsctp_delivery_order.specs.Rising.{IsAhead}
 use Rattle.dcsctp_delivery_order.specs.Order.{IsReadAs, AreReadAs}
-use Rattle.dcsctp_delivery_order.specs.Plain.{number_at, with_turns, CountsPlain, BeginsFew, CarriesOrdered, PlainStream}
+use Rattle.dcsctp_delivery_order.specs.Plain.{number_at, with_turns, CountsPlain, CarriesOrdered, PlainStream}
 use Rattle.dcsctp_delivery_order.proofs.PlainTurns.{turn_up, turn_few, first_above, first_with}
 use Rattle.dcsctp_delivery_order.proofs.PlainRows.{some_turn, sent_as, one_message}
 use Rattle.dcsctp_delivery_order.proofs.PlainMissing.{PassedOn, incomplete}
@@ -58,7 +58,7 @@ module _ (queued : List Message) (history : History) (cut : Cut queued history.l
         | inr e ↦ rw e.0 (none_waits n f is waits waiting are.1 (λ has. fresh (inr has)))
       ]
 
-  module _ (whole : Bool) (got : List ℕ) (base : ℕ) (all waits : List ℕ) (stream : StreamModel) (s : PlainStream whole queued history got base id all waits stream) where
+  module _ (got : List ℕ) (base : ℕ) (all waits : List ℕ) (stream : StreamModel) (s : PlainStream queued history got base id all waits stream) where
     pub plain_ahead : (n : ℕ) (f : Piece) (part : PartModel) → CarriesOrdered history.log id n f → part.number ≡ number_at id n history.log → stream.next ≤ part.number → (HasEntry f.place waits → ⊥) → IsAhead part stream
     plain_ahead n f part is number from fresh =
         record {
@@ -68,8 +68,8 @@ module _ (queued : List Message) (history : History) (cut : Cut queued history.l
         }
 
     module _ (rows : AreRows history.log got (ordered_base base) (IsOn history id) stream.ordered)
-        (spent : (place : ℕ) → HasEntry place all → Spent history.log got place) (cumulative : ℕ) (passed : whole ≡ true → (k : ℕ) → k < cumulative → PassedOn history.log got id k) (low : whole ≡ false → BeginsFew id history)
-        (n : ℕ) (f : Piece) (is : CarriesOrdered history.log id n f) (fresh : HasEntry n got → ⊥) (window : whole ≡ true → n < cumulative + 2 ^ 16) where
+        (spent : (place : ℕ) → HasEntry place all → Spent history.log got place) (cumulative : ℕ) (passed : (k : ℕ) → k < cumulative → PassedOn history.log got id k)
+        (n : ℕ) (f : Piece) (is : CarriesOrdered history.log id n f) (fresh : HasEntry n got → ⊥) (window : n < cumulative + 2 ^ 16) where
       -- its message wasn't delivered
       not_past : stream.next ≤ number_at id n history.log
       not_past = elim (leb_tells stream.next (number_at id n history.log)) [
@@ -82,8 +82,8 @@ module _ (queued : List Message) (history : History) (cut : Cut queued history.l
       ]
 
       -- fewer than 2^16 messages were begun since the next one, of which a TSN is missing
-      near_missing : whole ≡ true → number_at id n history.log < stream.next + 2 ^ 16
-      near_missing exact = elim (leb_tells (stream.next + 2 ^ 16) (number_at id n history.log)) [
+      not_far : number_at id n history.log < stream.next + 2 ^ 16
+      not_far = elim (leb_tells (stream.next + 2 ^ 16) (number_at id n history.log)) [
         | inr e ↦ e.1
         | inl e ↦
             absurd
@@ -98,21 +98,12 @@ module _ (queued : List Message) (history : History) (cut : Cut queued history.l
               | inr t ↦ t.1
               | inl t ↦ absurd (let up = (turn_up id later.offset b.offset history.log t.1 (at_below b.offset (Some b.first.piece) history.log b.first.is.at)).0 in omega (arith, up, turn, turn'))
             ] in
-            incomplete queued history cut id counts b.offset b.first later.offset later.first got base stream less rows (s.runs exact) (omega (arith, turn, from)) (s.apart exact) s.order.ahead (s.held exact)
-            (λ k low' to. passed exact k
-            (let near = window exact in
-            let climb = (turn_up id k n history.log (let end = later.up_to in omega (arith, to, end)) below).1 in
+            incomplete queued history cut id counts b.offset b.first later.offset later.first got base stream less rows s.runs (omega (arith, turn, from)) s.apart s.order.ahead s.held
+            (λ k low' to. passed k
+            (let climb = (turn_up id k n history.log (let end = later.up_to in omega (arith, to, end)) below).1 in
             let up = first_above history.log id k later.offset later.first to in
-            omega (arith, climb, up, turn', far, from, near))))
+            omega (arith, climb, up, turn', far, from, window))))
       ]
-
-      -- or there are few
-      not_far : number_at id n history.log < stream.next + 2 ^ 16
-      not_far = go whole refl
-        where
-          go : (b : Bool) → whole ≡ b → number_at id n history.log < stream.next + 2 ^ 16
-          go true exact = near_missing exact
-          go false some = (let few = low some n f is in let from = s.from in omega (arith, few, from))
 
       pub ssn_is_read : (stream.next ≤ number_at id n history.log) × (short_number_from stream.next (f.ssn % 2 ^ 16) ≡ number_at id n history.log)
       ssn_is_read =

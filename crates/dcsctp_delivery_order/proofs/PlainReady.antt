@@ -38,7 +38,7 @@ module _ (queued : List Message) (history : History) (cut : Cut queued history.l
   told = plain counts.kinds
 
   module _ (tsn_number : ℕ) (chunk : ChunkModel) (bears : BearsPiece history base tsn_number chunk) (is_new : HasEntry bears.offset got → ⊥)
-      (streams : ℕ → StreamModel) (unordered : List RunModel) (ready : List MessageContent) (o : HoldsPlain whole these queued history got base read streams unordered ready) where
+      (streams : ℕ → StreamModel) (unordered : List RunModel) (ready : List MessageContent) (o : HoldsPlain these queued history got base read streams unordered ready) where
     all : List ℕ
     all = read ++ o.holds.places
 
@@ -69,17 +69,17 @@ module _ (queued : List Message) (history : History) (cut : Cut queued history.l
 
     -- other streams stay in order
     others_then : (other : ℕ) → these other ≡ true → (more : List ℕ) → ((q : ℕ) → HasEntry q more → IsOnIt queued chunk.stream q) → other ≢ chunk.stream
-        → PlainStream whole queued history now base other (read ++ (o.holds.places ++ more)) (o.holds.waits other) (streams other)
+        → PlainStream queued history now base other (read ++ (o.holds.places ++ more)) (o.holds.waits other) (streams other)
     unfolding all
     others_then other kept more on ne =
-        subst (λ (l : List ℕ). PlainStream whole queued history now base other l (o.holds.waits other) (streams other)) (all_then more)
-        (others_plain whole queued history got bears.offset base other all (o.holds.waits other) more (streams other) (not_of other ne)
+        subst (λ (l : List ℕ). PlainStream queued history now base other l (o.holds.waits other) (streams other)) (all_then more)
+        (others_plain queued history got bears.offset base other all (o.holds.waits other) more (streams other) (not_of other ne)
         (λ place h is. ne (sym (one_stream queued chunk.stream other place (on place h) (is.message, is.at, is.stream)))) (o.order other kept))
 
     -- the invariant once its stream is left so
     holds_then : (later : ℕ → StreamModel) (runs : List RunModel) (after : List MessageContent) → StreamRows history now base chunk.stream (later chunk.stream)
-        → AreRows history.log now (unordered_base base) IsOfStream runs → ((other : ℕ) → other ≢ chunk.stream → later other ≡ streams other) → LeavesPlain whole queued history now base all o.holds.places chunk.stream (later chunk.stream) after
-        → HoldsPlain whole these queued history now base read later runs after
+        → AreRows history.log now (unordered_base base) IsOfStream runs → ((other : ℕ) → other ≢ chunk.stream → later other ≡ streams other) → LeavesPlain queued history now base all o.holds.places chunk.stream (later chunk.stream) after
+        → HoldsPlain these queued history now base read later runs after
     unfolding all
     holds_then later runs after rows apart others leaves =
         record {
@@ -113,12 +113,12 @@ module _ (queued : List Message) (history : History) (cut : Cut queued history.l
           };
           order = λ other kept. elim (decide other chunk.stream) [
             | inl e ↦
-                subst (λ (k : ℕ). PlainStream whole queued history now base k (read ++ (o.holds.places ++ leaves.more)) (set_at chunk.stream leaves.waits o.holds.waits k) (later k)) (sym e)
-                (subst (λ (l : List ℕ). PlainStream whole queued history now base chunk.stream (read ++ (o.holds.places ++ leaves.more)) l (later chunk.stream)) (sym (set_same chunk.stream leaves.waits o.holds.waits))
-                (subst (λ (l : List ℕ). PlainStream whole queued history now base chunk.stream l leaves.waits (later chunk.stream)) (all_then leaves.more) leaves.order))
+                subst (λ (k : ℕ). PlainStream queued history now base k (read ++ (o.holds.places ++ leaves.more)) (set_at chunk.stream leaves.waits o.holds.waits k) (later k)) (sym e)
+                (subst (λ (l : List ℕ). PlainStream queued history now base chunk.stream (read ++ (o.holds.places ++ leaves.more)) l (later chunk.stream)) (sym (set_same chunk.stream leaves.waits o.holds.waits))
+                (subst (λ (l : List ℕ). PlainStream queued history now base chunk.stream l leaves.waits (later chunk.stream)) (all_then leaves.more) leaves.order))
             | inr ne ↦
-                subst (λ (l : List ℕ). PlainStream whole queued history now base other (read ++ (o.holds.places ++ leaves.more)) l (later other)) (sym (set_other chunk.stream other leaves.waits o.holds.waits ne))
-                (subst (λ (s : StreamModel). PlainStream whole queued history now base other (read ++ (o.holds.places ++ leaves.more)) (o.holds.waits other) s) (sym (others other ne)) (others_then other kept leaves.more leaves.on ne))
+                subst (λ (l : List ℕ). PlainStream queued history now base other (read ++ (o.holds.places ++ leaves.more)) l (later other)) (sym (set_other chunk.stream other leaves.waits o.holds.waits ne))
+                (subst (λ (s : StreamModel). PlainStream queued history now base other (read ++ (o.holds.places ++ leaves.more)) (o.holds.waits other) s) (sym (others other ne)) (others_then other kept leaves.more leaves.on ne))
           ];
         }
 
@@ -126,7 +126,7 @@ module _ (queued : List Message) (history : History) (cut : Cut queued history.l
     here : StreamHolds queued history got base chunk.stream (o.holds.waits chunk.stream) (streams chunk.stream)
     here = o.holds.streams_hold chunk.stream
 
-    here_order : these chunk.stream ≡ true → PlainStream whole queued history got base chunk.stream all (o.holds.waits chunk.stream) (streams chunk.stream)
+    here_order : these chunk.stream ≡ true → PlainStream queued history got base chunk.stream all (o.holds.waits chunk.stream) (streams chunk.stream)
     unfolding all
     here_order mine = o.order chunk.stream mine
 
@@ -152,14 +152,14 @@ module _ (queued : List Message) (history : History) (cut : Cut queued history.l
 
     ahead : these chunk.stream ≡ true → (later : ℕ → StreamModel) (runs : List RunModel) (after : List MessageContent) (taken : Taken) → bears.piece.is_interleaved ≡ false → bears.piece.message.is_unordered ≡ false → (streams chunk.stream).next ≤ own_number
         → runs ≡ unordered → ((other : ℕ) → other ≢ chunk.stream → later other ≡ streams other)
-        → TakesAhead (data_part chunk (fragment_place own_number tsn_number) own_number) (streams chunk.stream) ready taken (later chunk.stream) after → HoldsPlain whole these queued history now base read later runs after
+        → TakesAhead (data_part chunk (fragment_place own_number tsn_number) own_number) (streams chunk.stream) ready taken (later chunk.stream) after → HoldsPlain these queued history now base read later runs after
     unfolding here all
     ahead mine later runs after taken kind ordered from kept others takes =
         let part : IsPart history.log (ordered_base base) (IsOn history chunk.stream) (data_part chunk (fragment_place own_number tsn_number) own_number) =
         part_of history base (ordered_base base) (IsOn history chunk.stream) tsn_number (fragment_place own_number tsn_number) own_number chunk bears (ordered_placed history base tsn_number own_number chunk bears kind)
         (sym bears.stream, λ i. absurd (let clash : true ≡ false = sym i ∙ kind in cc)) in
         let ahead_of : IsAhead (data_part chunk (fragment_place own_number tsn_number) own_number) (streams chunk.stream) =
-        plain_ahead queued history cut chunk.stream (counts.each chunk.stream mine) whole got base all (o.holds.waits chunk.stream) (streams chunk.stream) (here_order mine) bears.offset bears.piece (data_part chunk (fragment_place own_number tsn_number) own_number) (is_ordered ordered) refl from
+        plain_ahead queued history cut chunk.stream (counts.each chunk.stream mine) got base all (o.holds.waits chunk.stream) (streams chunk.stream) (here_order mine) bears.offset bears.piece (data_part chunk (fragment_place own_number tsn_number) own_number) (is_ordered ordered) refl from
         (λ h. fresh chunk.stream (has_right bears.piece.place all (o.holds.waits chunk.stream) h)) in
         let does = takes.fresh ahead_of.fresh in
         let rows = stay_rows queued history.log cut (one_kind history told) got (ordered_base base) (IsOn history chunk.stream) (λ m n f g k. tells_as history told false chunk.stream m n f g k) (data_part chunk (fragment_place own_number tsn_number) own_number)
@@ -172,7 +172,7 @@ module _ (queued : List Message) (history : History) (cut : Cut queued history.l
           next = ordered_reads queued history now chunk.stream bears.piece.place (o.holds.waits chunk.stream) (data_part chunk (fragment_place own_number tsn_number) own_number) (streams chunk.stream) (later chunk.stream) ready after does.outcome taken here_wait rows.1 does.does here.rows.next;
           last = subst (λ (k : ℕ). ReadsMids history chunk.stream true k) (sym does.unordered.0) here.rows.last;
         }) (rows_kept runs kept) others
-        (ordered_left whole queued history cut chunk.stream (counts.each chunk.stream mine) got base small bears.offset bears.piece (is_ordered ordered) is_new (data_part chunk (fragment_place own_number tsn_number) own_number) refl
+        (ordered_left queued history cut chunk.stream (counts.each chunk.stream mine) got base small bears.offset bears.piece (is_ordered ordered) is_new (data_part chunk (fragment_place own_number tsn_number) own_number) refl
         (let of = bears.number in omega (arith, of)) (streams chunk.stream) (later chunk.stream) here.rows.ordered ready after taken does all o.holds.places (o.holds.waits chunk.stream) (here_order mine) from
         (sym here.rows.is) o.holds.were_queued here_wait (o.holds.once chunk.stream) (fresh chunk.stream) ahead_of rows.1)
 
@@ -201,28 +201,28 @@ module _ (queued : List Message) (history : History) (cut : Cut queued history.l
 
     unordered_chunk : these chunk.stream ≡ true → (later : ℕ → StreamModel) (runs : List RunModel) (after : List MessageContent) (outcome : Assembled) (taken : Taken) → bears.piece.message.is_unordered ≡ true → later ≡ streams
         → AreRows history.log now (unordered_base base) IsOfStream runs → MakesQueued queued history.log now (OfStream chunk.stream) bears.piece.place outcome
-        → UnorderedOutcome (data_part chunk tsn_number chunk.stream) (delivered_as chunk.stream) ready outcome taken after → HoldsPlain whole these queued history now base read later runs after
+        → UnorderedOutcome (data_part chunk tsn_number chunk.stream) (delivered_as chunk.stream) ready outcome taken after → HoldsPlain these queued history now base read later runs after
     unfolding all
     unordered_chunk mine later runs after outcome taken unordered_is same rows makes does =
-        subst (λ (s : ℕ → StreamModel). HoldsPlain whole these queued history now base read s runs after) (sym same)
+        subst (λ (s : ℕ → StreamModel). HoldsPlain these queued history now base read s runs after) (sym same)
         (holds_then streams runs after here_rows rows (λ other ne. refl)
-        (apart_left whole queued history now base all o.holds.places (o.holds.waits chunk.stream) chunk.stream bears.piece.place (data_part chunk tsn_number chunk.stream) (streams chunk.stream) ready after outcome taken
+        (apart_left queued history now base all o.holds.places (o.holds.waits chunk.stream) chunk.stream bears.piece.place (data_part chunk tsn_number chunk.stream) (streams chunk.stream) ready after outcome taken
         o.holds.were_queued here_wait makes (o.holds.once chunk.stream) (fresh chunk.stream)
-        (λ more each. others_plain whole queued history got bears.offset base chunk.stream all (o.holds.waits chunk.stream) more (streams chunk.stream) (not_at chunk.stream unordered_is)
+        (λ more each. others_plain queued history got bears.offset base chunk.stream all (o.holds.waits chunk.stream) more (streams chunk.stream) (not_at chunk.stream unordered_is)
         (λ place h on. not_ordered chunk.stream unordered_is (subst (λ (k : ℕ). IsOrderedOn queued chunk.stream k) (each place h) on)) (here_order mine)) does))
 
     -- ---- one of another stream
 
     besides : (later : ℕ → StreamModel) (runs : List RunModel) (after : List MessageContent) → these chunk.stream ≡ false → ((other : ℕ) → other ≢ chunk.stream → later other ≡ streams other)
-        → HoldsBeside queued history now base read (λ other. other ≡ chunk.stream) o.holds.waits o.holds.places later runs after → HoldsPlain whole these queued history now base read later runs after
+        → HoldsBeside queued history now base read (λ other. other ≡ chunk.stream) o.holds.waits o.holds.places later runs after → HoldsPlain these queued history now base read later runs after
     besides later runs after apart others b =
         record {
           holds = b.holds;
           order = λ other kept. (
               let ne : other ≢ chunk.stream = λ same. absurd (let clash : true ≡ false = sym kept ∙ ap these same ∙ apart in cc) in
-              subst (λ (l : List ℕ). PlainStream whole queued history now base other (read ++ l) (b.holds.waits other) (later other)) (sym b.places_are)
-              (subst (λ (l : List ℕ). PlainStream whole queued history now base other (read ++ (o.holds.places ++ b.more)) l (later other)) (sym (b.others other ne))
-              (subst (λ (x : StreamModel). PlainStream whole queued history now base other (read ++ (o.holds.places ++ b.more)) (o.holds.waits other) x) (sym (others other ne))
+              subst (λ (l : List ℕ). PlainStream queued history now base other (read ++ l) (b.holds.waits other) (later other)) (sym b.places_are)
+              (subst (λ (l : List ℕ). PlainStream queued history now base other (read ++ (o.holds.places ++ b.more)) l (later other)) (sym (b.others other ne))
+              (subst (λ (x : StreamModel). PlainStream queued history now base other (read ++ (o.holds.places ++ b.more)) (o.holds.waits other) x) (sym (others other ne))
               (others_then other kept b.more (λ q h. (let on = b.on q h in (on.2.0, on.2.1, on.2.2 ∙ on.1))) ne)))
               );
         }
@@ -236,20 +236,20 @@ module _ (queued : List Message) (history : History) (cut : Cut queued history.l
 
   -- One of another stream, whatever it is, leaves these in order.
   pub beside_plain : (tsn : ℕ) (chunk : ChunkModel) (old new : IncomingModel) → (bears : BearsPiece history base (number_near old.last_tsn_number tsn) chunk) → (HasEntry bears.offset got → ⊥) → these chunk.stream ≡ false
-      → IncomingPlain whole these queued history got base read old → TakesIncomingChunk tsn chunk old new → IncomingPlain whole these queued history (bears.offset ∷ got) base read new
+      → IncomingPlain these queued history got base read old → TakesIncomingChunk tsn chunk old new → IncomingPlain these queued history (bears.offset ∷ got) base read new
   beside_plain tsn chunk old new bears is_new apart o takes =
       besides (number_near old.last_tsn_number tsn) chunk bears is_new (λ id. stream_on id old.streams) old.unordered old.ready o (λ id. stream_on id new.streams) new.unordered new.ready apart
       (others_stay (number_near old.last_tsn_number tsn) chunk.numbering chunk old new takes.takes) (holds_beside queued history cut told got base tsn read chunk old new bears is_new o.holds takes)
 
   -- ---- whichever it is
 
-  module _ (cumulative : ℕ) (passed : whole ≡ true → (id : ℕ) → these id ≡ true → (k : ℕ) → k < cumulative → PassedOn history.log got id k) where
+  module _ (cumulative : ℕ) (passed : (id : ℕ) → these id ≡ true → (k : ℕ) → k < cumulative → PassedOn history.log got id k) where
     by_numbering : (tsn_number : ℕ) (numbering : Numbering) (chunk : ChunkModel) (old new : IncomingModel) → chunk.numbering ≡ numbering → (bears : BearsPiece history base tsn_number chunk) → IsNumbered bears.piece numbering
-        → (HasEntry bears.offset got → ⊥) → (whole ≡ true → bears.offset < cumulative + 2 ^ 16) → these chunk.stream ≡ true → IncomingPlain whole these queued history got base read old → TakesChunk tsn_number numbering chunk old new
-        → IncomingPlain whole these queued history (bears.offset ∷ got) base read new
+        → (HasEntry bears.offset got → ⊥) → bears.offset < cumulative + 2 ^ 16 → these chunk.stream ≡ true → IncomingPlain these queued history got base read old → TakesChunk tsn_number numbering chunk old new
+        → IncomingPlain these queued history (bears.offset ∷ got) base read new
     by_numbering tsn_number (Ordered ssn) chunk old new is bears numbered is_new window mine o takes =
-        let reads = ssn_is_read queued history cut chunk.stream (counts.each chunk.stream mine) whole got base (read ++ o.holds.places) (o.holds.waits chunk.stream) (stream_on chunk.stream old.streams) (o.order chunk.stream mine)
-        (o.holds.streams_hold chunk.stream).rows.ordered (λ p h. o.holds.spent p h) cumulative (λ exact. passed exact chunk.stream mine) (λ some. counts.low some chunk.stream mine) bears.offset bears.piece (record { at = bears.at; stream = sym bears.stream; ordered = numbered.1 }) is_new window in
+        let reads = ssn_is_read queued history cut chunk.stream (counts.each chunk.stream mine) got base (read ++ o.holds.places) (o.holds.waits chunk.stream) (stream_on chunk.stream old.streams) (o.order chunk.stream mine)
+        (o.holds.streams_hold chunk.stream).rows.ordered (λ p h. o.holds.spent p h) cumulative (passed chunk.stream mine) bears.offset bears.piece (record { at = bears.at; stream = sym bears.stream; ordered = numbered.1 }) is_new window in
         let number : short_number_from (stream_on chunk.stream old.streams).next ssn ≡ number_at chunk.stream bears.offset history.log = ap (short_number_from (stream_on chunk.stream old.streams).next) numbered.2 ∙ reads.1 in
         let does : TakesAhead (data_part chunk (fragment_place (short_number_from (stream_on chunk.stream old.streams).next ssn) tsn_number) (short_number_from (stream_on chunk.stream old.streams).next ssn))
         (stream_on chunk.stream old.streams) old.ready takes.taken (stream_on chunk.stream new.streams) new.ready =
@@ -267,10 +267,10 @@ module _ (queued : List Message) (history : History) (cut : Cut queued history.l
     by_numbering tsn_number (InterleavedUnordered mid fsn) chunk old new is bears numbered is_new window mine o takes =
         absurd (let clash : true ≡ false = sym numbered.0 ∙ counts.kinds bears.offset bears.piece bears.at in cc)
 
-    pub ready_plain : (tsn : ℕ) (chunk : ChunkModel) (old new : IncomingModel) → (bears : BearsPiece history base (number_near old.last_tsn_number tsn) chunk) → (HasEntry bears.offset got → ⊥) → (whole ≡ true → bears.offset < cumulative + 2 ^ 16)
-        → IncomingPlain whole these queued history got base read old → TakesIncomingChunk tsn chunk old new → IncomingPlain whole these queued history (bears.offset ∷ got) base read new
+    pub ready_plain : (tsn : ℕ) (chunk : ChunkModel) (old new : IncomingModel) → (bears : BearsPiece history base (number_near old.last_tsn_number tsn) chunk) → (HasEntry bears.offset got → ⊥) → bears.offset < cumulative + 2 ^ 16
+        → IncomingPlain these queued history got base read old → TakesIncomingChunk tsn chunk old new → IncomingPlain these queued history (bears.offset ∷ got) base read new
     ready_plain tsn chunk old new bears is_new window o takes = go (these chunk.stream) refl
       where
-        go : (b : Bool) → these chunk.stream ≡ b → IncomingPlain whole these queued history (bears.offset ∷ got) base read new
+        go : (b : Bool) → these chunk.stream ≡ b → IncomingPlain these queued history (bears.offset ∷ got) base read new
         go true mine = by_numbering (number_near old.last_tsn_number tsn) chunk.numbering chunk old new refl bears bears.numbered is_new window mine o takes.takes
         go false apart = beside_plain tsn chunk old new bears is_new apart o takes

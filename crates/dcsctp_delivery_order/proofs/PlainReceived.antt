@@ -1,4 +1,4 @@
--- What is received of DATA leaves streams in order that aren't reset, where nothing is skipped.
+-- What is received of DATA leaves streams in order that aren't reset, where nothing of them is skipped.
 use Rattle.std.proofs.Common.{◌≡◌, ◌==◌, ℕ, zero, suc, Bool, true, false, ◌<◌, ◌≤◌, ◌+◌, ◌-◌, ◌*◌, ◌%◌, ◌^◌, List, [], ◌∷◌, ◌++◌, length, take, drop, refl, sym, ◌∙◌, ap, arith, subst, inl, inr, min}
 use Rattle.std.specs.Prelude.{◌⊎◌, ◌&&◌, ◌||◌, not, nat_lt, nat_le, Option, None, Some}
 use Rattle.std.proofs.lemmas.Bool.{eqb-true}
@@ -18,7 +18,7 @@ use Rattle.dcsctp_spec_lemmas.specs.spec.queues.Transfer.{Transfer}
 use Rattle.dcsctp_spec_lemmas.specs.spec.endpoint.TransferMoves.{AddsWhere, has_room, dropping, ReceivesWhere, ReceivesData, TakesData as TakesArrival}
 use Rattle.dcsctp_spec_lemmas.proofs.RangesLemmas.{received_members}
 use Rattle.dcsctp_delivery_sending.specs.Places.{HasEntry, at_place}
-use Rattle.dcsctp_delivery_sending.specs.Log.{Message, Piece, History, Cut, piece_bytes}
+use Rattle.dcsctp_delivery_sending.specs.Log.{Message, Piece, Slot, History, Cut, piece_bytes}
 use Rattle.dcsctp_delivery_sending.proofs.Places.{at_below}
 use Rattle.dcsctp_delivery_receiving.specs.Ready.{AreDistinct}
 use Rattle.dcsctp_delivery_receiving.specs.Received.{Carries, CarriesCurrent, DefersData, Placed, kept_entries}
@@ -27,15 +27,19 @@ use Rattle.dcsctp_delivery_receiving.proofs.Joining.{both}
 use Rattle.dcsctp_delivery_receiving.proofs.Distinct.{distinct_with, has_either, has_left, has_right}
 use Rattle.dcsctp_delivery_receiving.proofs.Reassembled.{waiting_data, first_number, first_base, first_near, number_read, bears_of}
 use Rattle.dcsctp_delivery_receiving.proofs.Tracked.{number_is, new_is_new, up_to}
-use Rattle.dcsctp_delivery_order.specs.Plain.{CountsThese, IncomingPlain}
+use Rattle.dcsctp_delivery_order.specs.Plain.{CarriesOrdered, CountsThese, IncomingPlain}
 use Rattle.dcsctp_delivery_order.proofs.PlainMissing.{PassedOn}
 use Rattle.dcsctp_delivery_order.proofs.PlainReady.{beside_plain, ready_plain}
 use Rattle.dcsctp_delivery_order.proofs.PlainSteps.{IsCounted}
 
 -- No TSN was handled yet; or the number of the first is known, and all that is held is in order.
-pub data ReassemblesPlain (whole : Bool) (these : ℕ → Bool) (queued : List Message) (history : History) (first : ℕ) (got read : List ℕ) (incoming : IncomingModel) : Type 0 where
-  none_handled : got ≡ [] → incoming.last_tsn_number ≡ 2 ^ 32 → ((base : ℕ) → IncomingPlain whole these queued history [] base read incoming) → ReassemblesPlain whole these queued history first got read incoming
-  some_handled : (base : ℕ) → Placed first base incoming.last_tsn_number → IncomingPlain whole these queued history got base read incoming → ReassemblesPlain whole these queued history first got read incoming
+pub data ReassemblesPlain (these : ℕ → Bool) (queued : List Message) (history : History) (first : ℕ) (got read : List ℕ) (incoming : IncomingModel) : Type 0 where
+  none_handled : got ≡ [] → incoming.last_tsn_number ≡ 2 ^ 32 → ((base : ℕ) → IncomingPlain these queued history [] base read incoming) → ReassemblesPlain these queued history first got read incoming
+  some_handled : (base : ℕ) → Placed first base incoming.last_tsn_number → IncomingPlain these queued history got base read incoming → ReassemblesPlain these queued history first got read incoming
+
+-- A TSN that counts as received was, if nothing is skipped on any stream, or if it carries a piece of one of these.
+abbrev pub IsSure : Bool → (ℕ → Bool) → List Slot → ℕ → Type 0
+IsSure whole these log n = (whole ≡ true) ⊎ ((f : Piece) × (at_place n log ≡ Some (Some f)) × (these f.message.stream ≡ true))
 
 -- All that an association has received whose peer has this log, with that of these streams in order. `taken` has the offsets
 -- that the tracker knows, `got` those that the reassembly queue has handled, and `later` those that wait for the end of a
@@ -45,14 +49,14 @@ pub record HasReceivedPlain (whole : Bool) (these : ℕ → Bool) (queued : List
   pub got : List ℕ
   pub later : List ℕ
   pub tracks : Tracks first (length history.log) taken tracker
-  pub exact : whole ≡ true → (offset : ℕ) → has_received tracker (tracked first offset) ≡ true → HasEntry offset taken
+  pub exact : (offset : ℕ) → IsSure whole these history.log offset → has_received tracker (tracked first offset) ≡ true → HasEntry offset taken
   pub pieces : (k : ℕ) → HasEntry k taken → (f : Piece) × (at_place k history.log ≡ Some (Some f))
   pub got_taken : (k : ℕ) → HasEntry k got → HasEntry k taken
   pub later_taken : (k : ℕ) → HasEntry k later → HasEntry k taken
   pub either : (k : ℕ) → HasEntry k taken → HasEntry k got ⊎ HasEntry k later
   pub apart : (k : ℕ) → HasEntry k later → HasEntry k got → ⊥
   pub distinct : AreDistinct later
-  pub holds : ReassemblesPlain whole these queued history first got read reassembly.incoming
+  pub holds : ReassemblesPlain these queued history first got read reassembly.incoming
   pub defers : DefersData history first later (waiting_of reassembly.deferral)
   pub others : (k : ℕ) → HasEntry k later → (f : Piece) → at_place k history.log ≡ Some (Some f) → these f.message.stream ≡ false
 
@@ -61,9 +65,9 @@ abbrev pub SkipOthers : (ℕ → Bool) → List SkippedTo → Type 0
 SkipOthers these entries = AllByRecursion (λ entry. these (skipped_stream entry) ≡ false) entries
 
 -- A deferred reset names none of these streams, and nothing of them is to be skipped at its end.
-abbrev pub DefersBeside : Bool → (ℕ → Bool) → Option DeferralModel → Type 0
-DefersBeside whole these None = Unit {0}
-DefersBeside whole these (Some deferral) = ((id : ℕ) → these id ≡ true → names_stream deferral.streams id ≡ false) × (whole ≡ true → deferral.skips ≡ None) × SkipOthers these (kept_entries deferral.skips)
+abbrev pub DefersBeside : (ℕ → Bool) → Option DeferralModel → Type 0
+DefersBeside these None = Unit {0}
+DefersBeside these (Some deferral) = ((id : ℕ) → these id ≡ true → names_stream deferral.streams id ≡ false) × SkipOthers these (kept_entries deferral.skips)
 
 -- ---- the tracker
 
@@ -72,7 +76,7 @@ tracked_apart first m n same = omega (arith, same)
 
 -- what it knows once a TSN was observed
 module _ (first count offset : ℕ) (immediate : Bool) (tracker : TrackerState) (got : List ℕ) (small : first < 2 ^ 32) (few : count < 2 ^ 31) (below : offset < count) (tracks : Tracks first count got tracker)
-    (exact : (k : ℕ) → has_received tracker (tracked first k) ≡ true → HasEntry k got) where
+    (Sure : ℕ → Type 0) (exact : (k : ℕ) → Sure k → has_received tracker (tracked first k) ≡ true → HasEntry k got) where
   tsn : ℕ
   tsn = (first + offset) % 2 ^ 32
 
@@ -82,17 +86,17 @@ module _ (first count offset : ℕ) (immediate : Bool) (tracker : TrackerState) 
   here : nearest_number tracker.cumulative ((first + offset) % 2 ^ 32) ≡ tracked first offset
   here = number_is first count offset tracker.cumulative small few below tracks.reached tracks.started
 
-  pub observed_exact : (k : ℕ) → has_received (observed ((first + offset) % 2 ^ 32) immediate tracker) (tracked first k) ≡ true → HasEntry k (offset ∷ got)
-  observed_exact k e = go (has_received tracker (tracked first k)) refl (sym (received_members (nearest_number tracker.cumulative ((first + offset) % 2 ^ 32)) tracker.cumulative tracker.ranges tracks.beyond (tracked first k)) ∙ e)
+  pub observed_exact : (k : ℕ) → Sure k → has_received (observed ((first + offset) % 2 ^ 32) immediate tracker) (tracked first k) ≡ true → HasEntry k (offset ∷ got)
+  observed_exact k sure e = go (has_received tracker (tracked first k)) refl (sym (received_members (nearest_number tracker.cumulative ((first + offset) % 2 ^ 32)) tracker.cumulative tracker.ranges tracks.beyond (tracked first k)) ∙ e)
     where
       go : (b : Bool) → has_received tracker (tracked first k) ≡ b → (b || (tracked first k == nearest_number tracker.cumulative ((first + offset) % 2 ^ 32))) ≡ true → HasEntry k (offset ∷ got)
-      go true known either = inr (exact k known)
+      go true known either = inr (exact k sure known)
       go false known either = inl (tracked_apart first k offset (eqb-true (tracked first k) (nearest_number tracker.cumulative ((first + offset) % 2 ^ 32)) either ∙ here))
 
-  pub known_exact : is_new_tsn ((first + offset) % 2 ^ 32) tracker ≡ false → (k : ℕ) → has_received (observed ((first + offset) % 2 ^ 32) immediate tracker) (tracked first k) ≡ true → HasEntry k got
-  known_exact known k e =
-      elim (observed_exact k e) [
-        | inl same ↦ exact k (ap (λ (j : ℕ). has_received tracker (tracked first j)) same ∙ ap (has_received tracker) (sym here) ∙ not_false (has_received tracker (nearest_number tracker.cumulative ((first + offset) % 2 ^ 32))) known)
+  pub known_exact : is_new_tsn ((first + offset) % 2 ^ 32) tracker ≡ false → (k : ℕ) → Sure k → has_received (observed ((first + offset) % 2 ^ 32) immediate tracker) (tracked first k) ≡ true → HasEntry k got
+  known_exact known k sure e =
+      elim (observed_exact k sure e) [
+        | inl same ↦ exact k sure (ap (λ (j : ℕ). has_received tracker (tracked first j)) same ∙ ap (has_received tracker) (sym here) ∙ not_false (has_received tracker (nearest_number tracker.cumulative ((first + offset) % 2 ^ 32))) known)
         | inr old ↦ old
       ]
     where
@@ -107,10 +111,9 @@ module _ (first count offset : ℕ) (immediate : Bool) (tracker : TrackerState) 
       let started = tracks.started in
       omega (arith, near, here, started)
 
--- each TSN up to the cumulative one was handled
-passed_so : (first count : ℕ) (tracker : TrackerState) (got : List ℕ) → Tracks first count got tracker → ((k : ℕ) → has_received tracker (tracked first k) ≡ true → HasEntry k got)
-    → (k : ℕ) → k < tracker.cumulative + 1 - tracked first 0 → HasEntry k got
-passed_so first count tracker got tracks exact k less = exact k (up_to tracker.cumulative (tracked first k) tracker.ranges (let started = tracks.started in omega (arith, less, started)))
+-- each TSN up to the cumulative one counts as received
+passed_so : (first count : ℕ) (tracker : TrackerState) (got : List ℕ) → Tracks first count got tracker → (k : ℕ) → k < tracker.cumulative + 1 - tracked first 0 → has_received tracker (tracked first k) ≡ true
+passed_so first count tracker got tracks k less = (up_to tracker.cumulative (tracked first k) tracker.ranges (let started = tracks.started in omega (arith, less, started)))
 
 tracks_fewer : (first count : ℕ) (taken got : List ℕ) (tracker : TrackerState) → ((k : ℕ) → HasEntry k got → HasEntry k taken) → Tracks first count taken tracker → Tracks first count got tracker
 tracks_fewer first count taken got tracker among t = record { beyond = t.beyond; reached = t.reached; started = t.started; sent = t.sent; received = λ offset h. t.received offset (among offset h) }
@@ -118,7 +121,7 @@ tracks_fewer first count taken got tracker among t = record { beyond = t.beyond;
 module _ (whole : Bool) (these : ℕ → Bool) (queued : List Message) (history : History) (first : ℕ) (read : List ℕ) where
   -- the tracker moves alone
   pub tracked_on : (tracker now : TrackerState) (reassembly : ReassemblyState) (r : HasReceivedPlain whole these queued history first read tracker reassembly) → Tracks first (length history.log) r.taken now
-      → (whole ≡ true → (offset : ℕ) → has_received now (tracked first offset) ≡ true → HasEntry offset r.taken) → HasReceivedPlain whole these queued history first read now reassembly
+      → ((offset : ℕ) → IsSure whole these history.log offset → has_received now (tracked first offset) ≡ true → HasEntry offset r.taken) → HasReceivedPlain whole these queued history first read now reassembly
   tracked_on tracker now reassembly r tracks exact =
       record {
         taken = r.taken;
@@ -149,7 +152,7 @@ module _ (whole : Bool) (these : ℕ → Bool) (queued : List Message) (history 
         sent = λ number is. r.tracks.sent number (sym (alike number) ∙ is);
         received = λ offset h. alike (tracked first offset) ∙ r.tracks.received offset h;
       })
-      (λ exact offset is. r.exact exact offset (sym (alike (tracked first offset)) ∙ is))
+      (λ offset sure is. r.exact offset sure (sym (alike (tracked first offset)) ∙ is))
     where
       alike : (number : ℕ) → has_received now number ≡ has_received tracker number
       alike number = ap (λ (c : ℕ). is_received c number now.ranges) same ∙ ap (λ (l : List TsnRange). is_received tracker.cumulative number l) same'
@@ -193,9 +196,9 @@ counted_so tsn size transfer room counts =
 -- ---- data
 
 module _ (queued : List Message) (history : History) (first size : ℕ) (cut : Cut queued history.log) (whole : Bool) (these : ℕ → Bool) (counts : CountsThese whole these history) (small : first < 2 ^ 32) (read : List ℕ) where
-  data_plain : (got : List ℕ) (cumulative offset tsn : ℕ) (chunk : ChunkModel) (old new : IncomingModel) → (whole ≡ true → (id : ℕ) → these id ≡ true → (k : ℕ) → k < cumulative → PassedOn history.log got id k)
-      → CarriesCurrent history first offset tsn chunk → (HasEntry offset got → ⊥) → (whole ≡ true → offset < cumulative + 2 ^ 16) → ReassemblesPlain whole these queued history first got read old → TakesIncomingChunk tsn chunk old new
-      → ReassemblesPlain whole these queued history first (offset ∷ got) read new
+  data_plain : (got : List ℕ) (cumulative offset tsn : ℕ) (chunk : ChunkModel) (old new : IncomingModel) → ((id : ℕ) → these id ≡ true → (k : ℕ) → k < cumulative → PassedOn history.log got id k)
+      → CarriesCurrent history first offset tsn chunk → (HasEntry offset got → ⊥) → offset < cumulative + 2 ^ 16 → ReassemblesPlain these queued history first got read old → TakesIncomingChunk tsn chunk old new
+      → ReassemblesPlain these queued history first (offset ∷ got) read new
   unfolding bears_of
   data_plain got cumulative offset tsn chunk old new passed c is_new window (some_handled base is holds) takes =
       let below = at_below offset (Some c.carries.piece) history.log c.carries.at in
@@ -213,11 +216,11 @@ module _ (queued : List Message) (history : History) (first size : ℕ) (cut : C
       let number : number_near old.last_tsn_number tsn ≡ base + offset = ap (λ (l : ℕ). number_near l tsn) last ∙ ap (number_near (2 ^ 32)) c.carries.is ∙ omega (arith, up) in
       some_handled base (record { same = first_base first offset small few; near = first_near first offset small few; worked = offset; few = few; is = takes.last ∙ number })
       (ready_plain queued history cut whole these counts got base (first_near first offset small few) read cumulative passed tsn chunk old new (bears_of history first base offset tsn (number_near old.last_tsn_number tsn) chunk c number) is_new window
-      (subst (λ (l : List ℕ). IncomingPlain whole these queued history l base read old) (sym none) (empty base)) takes)
+      (subst (λ (l : List ℕ). IncomingPlain these queued history l base read old) (sym none) (empty base)) takes)
 
   -- one of another stream
   pub data_beside : (got : List ℕ) (offset tsn : ℕ) (chunk : ChunkModel) (old new : IncomingModel) → CarriesCurrent history first offset tsn chunk → (HasEntry offset got → ⊥) → these chunk.stream ≡ false
-      → ReassemblesPlain whole these queued history first got read old → TakesIncomingChunk tsn chunk old new → ReassemblesPlain whole these queued history first (offset ∷ got) read new
+      → ReassemblesPlain these queued history first got read old → TakesIncomingChunk tsn chunk old new → ReassemblesPlain these queued history first (offset ∷ got) read new
   unfolding bears_of
   data_beside got offset tsn chunk old new c is_new other (some_handled base is holds) takes =
       let below = at_below offset (Some c.carries.piece) history.log c.carries.at in
@@ -235,26 +238,37 @@ module _ (queued : List Message) (history : History) (first size : ℕ) (cut : C
       let number : number_near old.last_tsn_number tsn ≡ base + offset = ap (λ (l : ℕ). number_near l tsn) last ∙ ap (number_near (2 ^ 32)) c.carries.is ∙ omega (arith, up) in
       some_handled base (record { same = first_base first offset small few; near = first_near first offset small few; worked = offset; few = few; is = takes.last ∙ number })
       (beside_plain queued history cut whole these counts got base (first_near first offset small few) read tsn chunk old new (bears_of history first base offset tsn (number_near old.last_tsn_number tsn) chunk c number) is_new other
-      (subst (λ (l : List ℕ). IncomingPlain whole these queued history l base read old) (sym none) (empty base)) takes)
+      (subst (λ (l : List ℕ). IncomingPlain these queued history l base read old) (sym none) (empty base)) takes)
 
   -- what the tracker has passed is handled, where it is of these streams
-  passed_on : (tracker : TrackerState) (reassembly : ReassemblyState) (r : HasReceivedPlain whole these queued history first read tracker reassembly) → whole ≡ true → (id : ℕ) → these id ≡ true → (k : ℕ) → k < tracker.cumulative + 1 - tracked first 0
+  passed_on : (tracker : TrackerState) (reassembly : ReassemblyState) (r : HasReceivedPlain whole these queued history first read tracker reassembly) → (id : ℕ) → these id ≡ true → (k : ℕ) → k < tracker.cumulative + 1 - tracked first 0
       → PassedOn history.log r.got id k
-  passed_on tracker reassembly r exact id mine k less =
-      let has = passed_so first (length history.log) tracker r.taken r.tracks (r.exact exact) k less in
-      let (f, at) = r.pieces k has in
+  passed_on tracker reassembly r id mine k less =
       record {
-        piece = f;
-        at = at;
-        handled = λ on. elim (r.either k has) [
+        handled = λ f at on. elim (r.either k (r.exact k (inr (f, at, ap these on ∙ mine)) known)) [
           | inl g ↦ g
           | inr l ↦ absurd (let clash : true ≡ false = sym mine ∙ ap these (sym on) ∙ r.others k l f at in cc)
         ];
+        never_shuts = λ m f next of none. go whole refl m f next of none;
       }
+    where
+      known : has_received tracker (tracked first k) ≡ true
+      known = passed_so first (length history.log) tracker r.taken r.tracks k less
+
+      -- No such end was received; or the message may not be abandoned.
+      go : (b : Bool) → whole ≡ b → (m : ℕ) (f : Piece) → m + 1 ≡ k → CarriesOrdered history.log id m f → at_place k history.log ≡ Some None → ⊥
+      go true exact m f next of none =
+          let (g, at) = r.pieces k (r.exact k (inl exact) known) in
+          let clash : Some None ≡ Some (Some g) = sym none ∙ at in
+          absurd (cc)
+      go false some m f next of none =
+          let limited = cut.shuts m f of.at (ap (λ (n : ℕ). at_place n history.log) next ∙ none) in
+          let clash : true ≡ false = sym limited ∙ counts.unlimited some m f of.at (ap these of.stream ∙ mine) in
+          absurd (cc)
 
   -- what an arrival leaves, where a reset that is deferred names none of these
   module _ (offset : ℕ) (arrival : Arrival) (old new : Transfer) (c : Carries history.log first offset arrival.tsn arrival.chunk) (r : HasReceivedPlain whole these queued history first read old.tracker old.reassembly)
-      (beside : DefersBeside whole these old.reassembly.deferral) (bounded : whole ≡ true → old.reassembly.max_size ≡ size) (fits : whole ≡ true → IsCounted size (length c.piece.message.payload)) where
+      (beside : DefersBeside these old.reassembly.deferral) (bounded : old.reassembly.max_size ≡ size) (fits : IsCounted size (length c.piece.message.payload)) where
     below : offset < length history.log
     below = at_below offset (Some c.piece) history.log c.at
 
@@ -267,11 +281,11 @@ module _ (queued : List Message) (history : History) (first size : ℕ) (cut : C
         subst (λ (t : ℕ). Tracks first (length history.log) (offset ∷ r.taken) (observed t arrival.immediate_ack old.tracker)) (sym c.is)
         (new_is_new first (length history.log) offset arrival.immediate_ack r.taken old.tracker small counts.few below r.tracks).0
 
-    its_exact : whole ≡ true → (k : ℕ) → has_received now (tracked first k) ≡ true → HasEntry k (offset ∷ r.taken)
+    its_exact : (k : ℕ) → IsSure whole these history.log k → has_received now (tracked first k) ≡ true → HasEntry k (offset ∷ r.taken)
     unfolding now
-    its_exact exact =
-        subst (λ (t : ℕ). (k : ℕ) → has_received (observed t arrival.immediate_ack old.tracker) (tracked first k) ≡ true → HasEntry k (offset ∷ r.taken)) (sym c.is)
-        (observed_exact first (length history.log) offset arrival.immediate_ack old.tracker r.taken small counts.few below r.tracks (r.exact exact))
+    its_exact =
+        subst (λ (t : ℕ). (k : ℕ) → IsSure whole these history.log k → has_received (observed t arrival.immediate_ack old.tracker) (tracked first k) ≡ true → HasEntry k (offset ∷ r.taken)) (sym c.is)
+        (observed_exact first (length history.log) offset arrival.immediate_ack old.tracker r.taken small counts.few below r.tracks (IsSure whole these history.log) r.exact)
 
     its_pieces : (k : ℕ) → HasEntry k (offset ∷ r.taken) → (f : Piece) × (at_place k history.log ≡ Some (Some f))
     its_pieces k h = elim h [ inl e ↦ (c.piece, ap (λ (j : ℕ). at_place j history.log) e ∙ c.at) | inr t ↦ r.pieces k t ]
@@ -289,7 +303,7 @@ module _ (queued : List Message) (history : History) (first size : ℕ) (cut : C
     other_waits : is_data_deferred arrival.tsn arrival.chunk.stream old.reassembly.deferral ≡ true → these arrival.chunk.stream ≡ false
     other_waits e = of_deferral old.reassembly.deferral beside e
       where
-        of_deferral : (o : Option DeferralModel) → DefersBeside whole these o → is_data_deferred arrival.tsn arrival.chunk.stream o ≡ true → these arrival.chunk.stream ≡ false
+        of_deferral : (o : Option DeferralModel) → DefersBeside these o → is_data_deferred arrival.tsn arrival.chunk.stream o ≡ true → these arrival.chunk.stream ≡ false
         of_deferral None names is = absurd (cc)
         of_deferral (Some deferral) names is = go (these arrival.chunk.stream) refl
           where
@@ -358,7 +372,7 @@ module _ (queued : List Message) (history : History) (first size : ℕ) (cut : C
           distinct = r.distinct;
           holds = data_plain r.got (old.tracker.cumulative + 1 - tracked first 0) offset arrival.tsn arrival.chunk old.reassembly.incoming new.reassembly.incoming
               (passed_on old.tracker old.reassembly r) current (λ h. is_new (r.got_taken offset h))
-              (λ exact. in_window first (length history.log) offset arrival.immediate_ack old.tracker r.taken small counts.few below r.tracks (r.exact exact) (subst (λ (t : ℕ). is_valid_tsn old.tracker.cumulative t ≡ true) c.is valid)) r.holds taken.incoming;
+              (in_window first (length history.log) offset arrival.immediate_ack old.tracker r.taken small counts.few below r.tracks (IsSure whole these history.log) r.exact (subst (λ (t : ℕ). is_valid_tsn old.tracker.cumulative t ≡ true) c.is valid)) r.holds taken.incoming;
           defers = subst (λ (d : Option DeferralModel). DefersData history first r.later (waiting_of d)) (sym taken.deferral) r.defers;
           others = r.others;
         }
@@ -373,12 +387,10 @@ module _ (queued : List Message) (history : History) (first size : ℕ) (cut : C
         go true is adds =
             by_count (can_count (length arrival.chunk.payload) old.reassembly) refl
           where
-            counted : whole ≡ true → can_count (length arrival.chunk.payload) old.reassembly ≡ true
-            counted exact =
+            counted : can_count (length arrival.chunk.payload) old.reassembly ≡ true
+            counted =
                 let payload = payload_small in
-                let same = bounded exact in
-                let fit = fits exact in
-                counted_so arrival.tsn (length arrival.chunk.payload) old room (record { whole = omega (arith, same, fit.whole, payload); half = omega (arith, fit.half, payload) })
+                counted_so arrival.tsn (length arrival.chunk.payload) old room (record { whole = omega (arith, bounded, fits.whole, payload); half = omega (arith, fits.half, payload) })
 
             by_count : (counts : Bool) → can_count (length arrival.chunk.payload) old.reassembly ≡ counts → HasReceivedPlain whole these queued history first read (observed arrival.tsn arrival.immediate_ack old.tracker) new.reassembly
             by_count true e = added valid is e (is_data_deferred arrival.tsn arrival.chunk.stream old.reassembly.deferral) refl adds
@@ -386,13 +398,13 @@ module _ (queued : List Message) (history : History) (first size : ℕ) (cut : C
                 subst (λ (s : ReassemblyState). HasReceivedPlain whole these queued history first read (observed arrival.tsn arrival.immediate_ack old.tracker) s) (sym (adds.too_much e))
                 (tracked_on whole these queued history first read old.tracker (observed arrival.tsn arrival.immediate_ack old.tracker) old.reassembly r
                 (tracks_fewer first (length history.log) (offset ∷ r.taken) r.taken (observed arrival.tsn arrival.immediate_ack old.tracker) (λ k h. inr h) its_tracks)
-                (λ exact. absurd (let clash : true ≡ false = sym (counted exact) ∙ e in cc)))
+                (λ k sure is'. absurd (let clash : true ≡ false = sym counted ∙ e in cc)))
         go false is adds =
             subst (λ (s : ReassemblyState). HasReceivedPlain whole these queued history first read (observed arrival.tsn arrival.immediate_ack old.tracker) s) (sym adds)
             (tracked_on whole these queued history first read old.tracker (observed arrival.tsn arrival.immediate_ack old.tracker) old.reassembly r
             (tracks_fewer first (length history.log) (offset ∷ r.taken) r.taken (observed arrival.tsn arrival.immediate_ack old.tracker) (λ k h. inr h) its_tracks)
-            (λ exact. subst (λ (t : ℕ). (k : ℕ) → has_received (observed t arrival.immediate_ack old.tracker) (tracked first k) ≡ true → HasEntry k r.taken) (sym c.is)
-            (known_exact first (length history.log) offset arrival.immediate_ack old.tracker r.taken small counts.few below r.tracks (r.exact exact) (by_offset false is))))
+            (subst (λ (t : ℕ). (k : ℕ) → IsSure whole these history.log k → has_received (observed t arrival.immediate_ack old.tracker) (tracked first k) ≡ true → HasEntry k r.taken) (sym c.is)
+            (known_exact first (length history.log) offset arrival.immediate_ack old.tracker r.taken small counts.few below r.tracks (IsSure whole these history.log) r.exact (by_offset false is))))
 
     dropped_plain : (b : Bool) → new ≡ dropping b old → HasReceivedPlain whole these queued history first read new.tracker new.reassembly
     dropped_plain true same =
@@ -446,30 +458,30 @@ stays_idle arrival old new receives idle = by_room (has_room arrival.tsn old && 
 -- ---- what is deferred names none of these, and the window is as large as before
 
 -- So it is in the one if it is in the other.
-abbrev pub IsSteadyAs : Bool → (ℕ → Bool) → ReassemblyState → ReassemblyState → Type 0
-IsSteadyAs whole these old new = DefersBeside whole these new.deferral × (new.max_size ≡ old.max_size)
+abbrev pub IsSteadyAs : (ℕ → Bool) → ReassemblyState → ReassemblyState → Type 0
+IsSteadyAs these old new = DefersBeside these new.deferral × (new.max_size ≡ old.max_size)
 
-waits_beside : (whole : Bool) (these : ℕ → Bool) (last : WaitingModel) (o : Option DeferralModel) → DefersBeside whole these o → DefersBeside whole these (with_waiting last o)
-waits_beside whole these last None beside = tt
-waits_beside whole these last (Some deferral) beside = beside
+waits_beside : (these : ℕ → Bool) (last : WaitingModel) (o : Option DeferralModel) → DefersBeside these o → DefersBeside these (with_waiting last o)
+waits_beside these last None beside = tt
+waits_beside these last (Some deferral) beside = beside
 
-pub stays_steady : (whole : Bool) (these : ℕ → Bool) (arrival : Arrival) (old new : Transfer) → ReceivesData arrival old new → DefersBeside whole these old.reassembly.deferral → IsSteadyAs whole these old.reassembly new.reassembly
-stays_steady whole these arrival old new receives beside = by_room (has_room arrival.tsn old && is_valid_tsn old.tracker.cumulative arrival.tsn) receives
+pub stays_steady : (these : ℕ → Bool) (arrival : Arrival) (old new : Transfer) → ReceivesData arrival old new → DefersBeside these old.reassembly.deferral → IsSteadyAs these old.reassembly new.reassembly
+stays_steady these arrival old new receives beside = by_room (has_room arrival.tsn old && is_valid_tsn old.tracker.cumulative arrival.tsn) receives
   where
-    same_state : (s : ReassemblyState) → s ≡ old.reassembly → IsSteadyAs whole these old.reassembly s
-    same_state s same = (subst (λ (x : ReassemblyState). DefersBeside whole these x.deferral) (sym same) beside, ap (λ (x : ReassemblyState). x.max_size) same)
+    same_state : (s : ReassemblyState) → s ≡ old.reassembly → IsSteadyAs these old.reassembly s
+    same_state s same = (subst (λ (x : ReassemblyState). DefersBeside these x.deferral) (sym same) beside, ap (λ (x : ReassemblyState). x.max_size) same)
 
     by_deferral : AddsData arrival.tsn arrival.chunk old.reassembly new.reassembly → can_count (length arrival.chunk.payload) old.reassembly ≡ true → (b : Bool) → is_data_deferred arrival.tsn arrival.chunk.stream old.reassembly.deferral ≡ b
-        → IsSteadyAs whole these old.reassembly new.reassembly
+        → IsSteadyAs these old.reassembly new.reassembly
     by_deferral adds counts true e =
-        subst (λ (s : ReassemblyState). IsSteadyAs whole these old.reassembly s) (sym (adds.deferred counts e)) (waits_beside whole these (record { tsn = arrival.tsn; chunk = arrival.chunk }) old.reassembly.deferral beside, refl)
-    by_deferral adds counts false e = (let taken = adds.taken counts e in (subst (λ (d : Option DeferralModel). DefersBeside whole these d) (sym taken.deferral) beside, taken.window))
+        subst (λ (s : ReassemblyState). IsSteadyAs these old.reassembly s) (sym (adds.deferred counts e)) (waits_beside these (record { tsn = arrival.tsn; chunk = arrival.chunk }) old.reassembly.deferral beside, refl)
+    by_deferral adds counts false e = (let taken = adds.taken counts e in (subst (λ (d : Option DeferralModel). DefersBeside these d) (sym taken.deferral) beside, taken.window))
 
-    by_count : AddsData arrival.tsn arrival.chunk old.reassembly new.reassembly → (b : Bool) → can_count (length arrival.chunk.payload) old.reassembly ≡ b → IsSteadyAs whole these old.reassembly new.reassembly
+    by_count : AddsData arrival.tsn arrival.chunk old.reassembly new.reassembly → (b : Bool) → can_count (length arrival.chunk.payload) old.reassembly ≡ b → IsSteadyAs these old.reassembly new.reassembly
     by_count adds true e = by_deferral adds e (is_data_deferred arrival.tsn arrival.chunk.stream old.reassembly.deferral) refl
     by_count adds false e = same_state new.reassembly (adds.too_much e)
 
-    by_new : (b : Bool) → AddsWhere b arrival.tsn arrival.chunk old.reassembly new.reassembly → IsSteadyAs whole these old.reassembly new.reassembly
+    by_new : (b : Bool) → AddsWhere b arrival.tsn arrival.chunk old.reassembly new.reassembly → IsSteadyAs these old.reassembly new.reassembly
     by_new true adds = by_count adds (can_count (length arrival.chunk.payload) old.reassembly) refl
     by_new false same = same_state new.reassembly same
 
@@ -477,6 +489,6 @@ stays_steady whole these arrival old new receives beside = by_room (has_room arr
     dropped true same = ap (λ (t : Transfer). t.reassembly) same
     dropped false same = ap (λ (t : Transfer). t.reassembly) same
 
-    by_room : (b : Bool) → ReceivesWhere b arrival old new → IsSteadyAs whole these old.reassembly new.reassembly
+    by_room : (b : Bool) → ReceivesWhere b arrival old new → IsSteadyAs these old.reassembly new.reassembly
     by_room true takes = by_new (is_new_tsn arrival.tsn old.tracker) takes.reassembly
     by_room false same = same_state new.reassembly (dropped (old.tracker.follows_rfc && is_valid_tsn old.tracker.cumulative arrival.tsn) same)

@@ -23,7 +23,7 @@ use Rattle.dcsctp_delivery_receiving.proofs.Arriving.{carries_piece, carries_int
 use Rattle.dcsctp_delivery_receiving.proofs.Clear.{clear_through_data, clear_through_rest}
 use Rattle.dcsctp_delivery_receiving.proofs.Distinct.{distinct_with}
 use Rattle.dcsctp_delivery_receiving.proofs.Entries.{forward_skips, messages_skipped}
-use Rattle.dcsctp_delivery_receiving.proofs.Upward.{received_up, forwarded_up}
+use Rattle.dcsctp_delivery_receiving.proofs.Upward.{received_grows, forward_grows}
 use Rattle.dcsctp_delivery_receiving.proofs.Waiting.{both_queued}
 use Rattle.dcsctp_delivery_directions.specs.Directions.{Direction, DirectionStep, queues, sets, prepares, commits, rolls_back, flushes, resends, resends_nothing, speaks, asks_again, renews, turns_aside, acknowledges, loses, receives, forwards, receives_interleaved, forwards_interleaved, tracks, defers, performs, performs_earlier, resets, takes}
 use Rattle.dcsctp_delivery_directions.proofs.Continuing.{NamedAreOut, EndsNone, continues_same}
@@ -80,12 +80,12 @@ module _ (gapless : ℕ → Bool) (first : ℕ) (old : Direction) (small : first
         let few = known_few first old small s little in
         arrived_so
         (received_in_order gapless old.queued s.history first s.queues.cut (known_log first old small s little) few free before.quiet before.places offset arrival theirs new carries whole.old (λ id is. (before.silent id is).over) before.received does)
-        (received_up old.queued s.history first arrived.places arrival theirs new whole does)
+        (received_grows arrival theirs new does)
         (λ id over clear. clear_through_data old.queued s.history first id arrived.places offset arrival theirs new few whole over carries clear does)
 
     skips_arrive : (tsn : ℕ) (entries : List SkippedTo) → (passed : IsPassed s.history.log first tsn) → SkipAll s.history passed.passed entries → MovesForward tsn entries theirs new → ArrivesWith new.tracker new.reassembly
     skips_arrive tsn entries passed skip does =
-        arrived_so (go passed.passed passed.below passed.is skip) (forwarded_up old.queued s.history first arrived.places tsn entries theirs new whole does)
+        arrived_so (go passed.passed passed.below passed.is skip) (forward_grows tsn entries theirs new does)
         (clears first old small s theirs new same same' tsn entries does passed.passed passed.below passed.is skip little arrived (known_kinds first old small s interleaved))
       where
         go : (k : ℕ) → k ≤ length s.history.log → tsn ≡ (first + k + (2 ^ 32 - 1)) % 2 ^ 32 → SkipAll s.history k entries → HasReceivedInOrder gapless old.queued s.history before.quiet first before.places new.tracker new.reassembly
@@ -118,22 +118,22 @@ module _ (gapless : ℕ → Bool) (first : ℕ) (old : Direction) (small : first
   arrives_on _ (asks_again emission begun was contents) ends named unended a = a
   arrives_on _ (renews emission newest earlier number asks out contents) ends named unended a = a
   arrives_on _ (turns_aside transfer new known same) ends named unended a = a
-  arrives_on _ (acknowledges now sack transfer new known valid does) ends named unended a = a
+  arrives_on _ (acknowledges now sack transfer new known valid reached does) ends named unended a = a
   arrives_on _ (loses now transfer known) ends named unended a = a
   arrives_on _ (receives emission chunk theirs new was holds some same same' does) ends named unended a =
-      let is : IsData s.history.log first chunk = content_said s.history first (plain (unworked (data_chunk chunk))) emission.packet.contents (packet_said s.history first emission old.sent s.packets was) holds in
+      let is : IsData s.history.log first chunk = content_said s.history first old.acknowledged (plain (unworked (data_chunk chunk))) emission.packet.contents (packet_said s.history first old.acknowledged emission old.sent s.packets was) holds in
       data_arrives a theirs new same same' is.number (data_arrival chunk) (carries_piece old.queued s.history.log first chunk s.queues.cut s.fit is some) does
   arrives_on _ (forwards emission tsn streams theirs new was holds same same' does) ends named unended a =
-      let is : IsForward false s.history first tsn streams =
-      content_said s.history first (plain (unworked (forward_tsn_chunk tsn streams))) emission.packet.contents (packet_said s.history first emission old.sent s.packets was) holds in
-      skips_arrive a theirs new same same' tsn (skipped_in streams) is.passed (forward_skips s.history first tsn streams is) does
+      let is : IsForward false s.history first old.acknowledged tsn streams =
+      content_said s.history first old.acknowledged (plain (unworked (forward_tsn_chunk tsn streams))) emission.packet.contents (packet_said s.history first old.acknowledged emission old.sent s.packets was) holds in
+      skips_arrive a theirs new same same' tsn (skipped_in streams) is.passed (forward_skips s.history first old.acknowledged tsn streams is) does
   arrives_on _ (receives_interleaved emission chunk theirs new was holds some same same' does) ends named unended a =
-      let is : IsInterleaved s.history.log first chunk = content_said s.history first (plain (unworked (i_data_chunk chunk))) emission.packet.contents (packet_said s.history first emission old.sent s.packets was) holds in
+      let is : IsInterleaved s.history.log first chunk = content_said s.history first old.acknowledged (plain (unworked (i_data_chunk chunk))) emission.packet.contents (packet_said s.history first old.acknowledged emission old.sent s.packets was) holds in
       data_arrives a theirs new same same' is.number (i_data_arrival chunk) (carries_interleaved old.queued s.history.log first chunk s.queues.cut s.fit is some) does
   arrives_on _ (forwards_interleaved emission tsn streams theirs new was holds same same' does) ends named unended a =
-      let is : IsForward true s.history first tsn streams =
-      content_said s.history first (plain (unworked (i_forward_tsn_chunk tsn streams))) emission.packet.contents (packet_said s.history first emission old.sent s.packets was) holds in
-      skips_arrive a theirs new same same' tsn (messages_skipped_in streams) is.passed (messages_skipped old.queued s.history first tsn streams s.queues.cut s.fit is) does
+      let is : IsForward true s.history first old.acknowledged tsn streams =
+      content_said s.history first old.acknowledged (plain (unworked (i_forward_tsn_chunk tsn streams))) emission.packet.contents (packet_said s.history first old.acknowledged emission old.sent s.packets was) holds in
+      skips_arrive a theirs new same same' tsn (messages_skipped_in streams) is.passed (messages_skipped old.queued s.history first old.acknowledged tsn streams s.queues.cut s.fit is) does
   arrives_on _ (tracks new cumulative ranges) ends named unended a =
       record {
         places = a.places;

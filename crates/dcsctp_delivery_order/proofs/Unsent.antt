@@ -65,6 +65,7 @@ module _ (queued : List Message) (history : History) (empty : history.log ≡ []
         rows = λ n f some at started. absurd (nowhere n (Some f) at);
         ascends = λ m n f g less at at'. absurd (nowhere m (Some f) at);
         climbs = λ m n f g less at at'. absurd (nowhere m (Some f) at);
+        shuts = λ n f at. absurd (nowhere n (Some f) at);
       }
 
   holds_none : (gapless : ℕ → Bool) (got : List ℕ) (base : ℕ) (read : List ℕ) (incoming : IncomingModel) → HoldsIncoming queued history got base read incoming → IncomingOrdered gapless queued history none_quiet got base read incoming

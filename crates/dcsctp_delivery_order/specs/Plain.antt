@@ -50,16 +50,12 @@ pub record CountsPlain (id : ℕ) (history : History) : Type 0 where
   pub closes : (n : ℕ) (f g : Piece) → at_place n history.log ≡ Some (Some f) → at_place (n + 1) history.log ≡ Some (Some g) → g.start ≡ 0 → is_end f ≡ true
   pub few : length history.log < 2 ^ 31
 
--- Fewer than 2^15 of them were begun.
-abbrev pub BeginsFew : ℕ → History → Type 0
-BeginsFew id history = (n : ℕ) (f : Piece) → CarriesOrdered history.log id n f → turn_at id n history.log < 2 ^ 15
-
--- So it is on these streams; where something may be skipped on others, few were begun.
+-- So it is on these streams. Nothing is skipped on any stream (`whole`), or no message of these may be abandoned.
 pub record CountsThese (whole : Bool) (these : ℕ → Bool) (history : History) : Type 0 where
   pub kinds : AreOfKind false history.log
   pub few : length history.log < 2 ^ 31
   pub each : (id : ℕ) → these id ≡ true → CountsPlain id history
-  pub low : whole ≡ false → (id : ℕ) → these id ≡ true → BeginsFew id history
+  pub unlimited : whole ≡ false → (n : ℕ) (f : Piece) → at_place n history.log ≡ Some (Some f) → these f.message.stream ≡ true → f.message.is_limited ≡ false
 
 -- ---- what a receiver has of a stream
 
@@ -76,22 +72,22 @@ abbrev pub IsHeldOrWaits : List Slot → ℕ → ℕ → StreamModel → ℕ →
 IsHeldOrWaits log base id stream n =
     HeldAs stream.ordered (fragment_place (number_at id n log) base + n) (number_at id n log) ⊎ (is_number_waiting (number_at id n log) stream.waiting ≡ true)
 
--- The stream is in order, without a gap. If nothing may be skipped on any stream (`whole`), its runs lie apart, and each part that was
--- handled is held, or its message is whole. `base` is the number that the reassembly queue has for the first TSN.
-pub record PlainStream (whole : Bool) (queued : List Message) (history : History) (got : List ℕ) (base id : ℕ) (all waits : List ℕ) (stream : StreamModel) : Type 0 where
+-- The stream is in order, without a gap. Its runs lie apart, and each part that was handled is held, or its message is whole. `base`
+-- is the number that the reassembly queue has for the first TSN.
+pub record PlainStream (queued : List Message) (history : History) (got : List ℕ) (base id : ℕ) (all waits : List ℕ) (stream : StreamModel) : Type 0 where
   pub order : StreamInOrder queued (with_turns history) id all waits stream
   pub filled : AreFilled (with_turns history) id all stream.next
   pub from : 2 ^ 32 ≤ stream.next
-  pub apart : whole ≡ true → LieApart 0 stream.ordered
-  pub runs : whole ≡ true → (run : RunModel) → HasEntry run stream.ordered → IsNumberedRun history.log base id run
-  pub held : whole ≡ true → (n : ℕ) (f : Piece) → CarriesOrdered history.log id n f → HasEntry n got → stream.next ≤ number_at id n history.log → IsHeldOrWaits history.log base id stream n
+  pub apart : LieApart 0 stream.ordered
+  pub runs : (run : RunModel) → HasEntry run stream.ordered → IsNumberedRun history.log base id run
+  pub held : (n : ℕ) (f : Piece) → CarriesOrdered history.log id n f → HasEntry n got → stream.next ≤ number_at id n history.log → IsHeldOrWaits history.log base id stream n
 
 -- ---- what a receiver has of all streams
 
 -- All that is held was queued, and each of these streams is in order.
-pub record HoldsPlain (whole : Bool) (these : ℕ → Bool) (queued : List Message) (history : History) (got : List ℕ) (base : ℕ) (read : List ℕ) (streams : ℕ → StreamModel) (unordered : List RunModel) (ready : List MessageContent) : Type 0 where
+pub record HoldsPlain (these : ℕ → Bool) (queued : List Message) (history : History) (got : List ℕ) (base : ℕ) (read : List ℕ) (streams : ℕ → StreamModel) (unordered : List RunModel) (ready : List MessageContent) : Type 0 where
   pub holds : HoldsAll queued history got base read streams unordered ready
-  pub order : (id : ℕ) → these id ≡ true → PlainStream whole queued history got base id (read ++ holds.places) (holds.waits id) (streams id)
+  pub order : (id : ℕ) → these id ≡ true → PlainStream queued history got base id (read ++ holds.places) (holds.waits id) (streams id)
 
-abbrev pub IncomingPlain : Bool → (ℕ → Bool) → List Message → History → List ℕ → ℕ → List ℕ → IncomingModel → Type 0
-IncomingPlain whole these queued history got base read incoming = HoldsPlain whole these queued history got base read (λ id. stream_on id incoming.streams) incoming.unordered incoming.ready
+abbrev pub IncomingPlain : (ℕ → Bool) → List Message → History → List ℕ → ℕ → List ℕ → IncomingModel → Type 0
+IncomingPlain these queued history got base read incoming = HoldsPlain these queued history got base read (λ id. stream_on id incoming.streams) incoming.unordered incoming.ready

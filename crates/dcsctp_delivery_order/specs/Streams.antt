@@ -7,11 +7,10 @@ use Rattle.dcsctp_spec_lemmas.specs.types.queues.Messages.{MessageContent}
 use Rattle.dcsctp_spec_lemmas.specs.types.queues.SendStreams.{Stream}
 use Rattle.dcsctp_delivery_sending.specs.Places.{at_place}
 use Rattle.dcsctp_delivery_sending.specs.Log.{Message, Piece, Slot, History}
-use Rattle.dcsctp_delivery_sending.specs.Losing.{AreUnlimited, AreUnlimitedOn, IsKept}
+use Rattle.dcsctp_delivery_sending.specs.Losing.{AreUnlimitedOn, IsKept}
 use Rattle.dcsctp_delivery_sending.specs.Numbers.{IsCurrent}
 use Rattle.dcsctp_delivery_directions.specs.Directions.{Direction, DirectionRun, Delivered, assigned}
 use Rattle.dcsctp_delivery_order.specs.Delivered.{DeliveredInOrder}
-use Rattle.dcsctp_delivery_order.specs.PlainDirections.{ordered_on}
 use Rattle.dcsctp_delivery_order.specs.Queue.{ComeInOrder, LeaveNoGap}
 
 -- Each message that was queued on it was sent, or waits.
@@ -41,23 +40,15 @@ pub record DeliveredOn (these : ℕ → Bool) (queued : List Message) (read : Li
   pub in_order : (id : ℕ) → these id ≡ true → ComeInOrder queued id delivered.places
   pub no_gap : (id : ℕ) → these id ≡ true → LeaveNoGap queued id delivered.places
 
--- Without interleaving it is so of the streams that the sender keeps, whatever others are reset, where no message may be
--- abandoned.
-abbrev pub PlainStreamsDeliverWithoutGaps : Type 0
-PlainStreamsDeliverWithoutGaps =
-    (options : Options) (first size : ℕ) (direction : Direction) → DirectionRun options first size direction
-    → first < 2 ^ 32 → assigned direction < 2 ^ 31 → length direction.queued < 2 ^ 64 → size ≤ 2 ^ 63 → direction.queues.queue.is_interleaved ≡ false
-    → direction.beginning.from_zero ≡ true → AreUnlimited direction.queued → DeliveredOn direction.beginning.keeps direction.queued direction.read
-
--- The sender keeps the stream, no message on it may be abandoned, and fewer than 2^15 ordered ones were queued on it.
-pub record IsKeptFew (direction : Direction) (id : ℕ) : Type 0 where
+-- The sender keeps the stream, and no message on it may be abandoned.
+pub record IsKeptReliable (direction : Direction) (id : ℕ) : Type 0 where
   pub keeps : direction.beginning.keeps id ≡ true
   pub unlimited : AreUnlimitedOn id direction.queued
-  pub few : ordered_on id direction.queued < 2 ^ 15
 
--- It is so of each of these streams if they are so, whatever others are reset, and whatever messages of others are abandoned.
-abbrev pub FewStreamsDeliverWithoutGaps : Type 0
-FewStreamsDeliverWithoutGaps =
+-- Without interleaving it is so of each of these streams if they are so, whatever others are reset, and whatever messages of others
+-- are abandoned. A FORWARD-TSN passes TSNs of these only once they were received: SACKs say what their receiver has reached.
+abbrev pub PlainStreamsDeliverWithoutGaps : Type 0
+PlainStreamsDeliverWithoutGaps =
     (these : ℕ → Bool) (options : Options) (first size : ℕ) (direction : Direction) → DirectionRun options first size direction
-    → first < 2 ^ 32 → assigned direction < 2 ^ 31 → length direction.queued < 2 ^ 64 → direction.queues.queue.is_interleaved ≡ false → direction.beginning.from_zero ≡ true
-    → ((id : ℕ) → these id ≡ true → IsKeptFew direction id) → DeliveredOn these direction.queued direction.read
+    → first < 2 ^ 32 → assigned direction < 2 ^ 31 → length direction.queued < 2 ^ 64 → size ≤ 2 ^ 63 → direction.queues.queue.is_interleaved ≡ false → direction.beginning.from_zero ≡ true
+    → ((id : ℕ) → these id ≡ true → IsKeptReliable direction id) → DeliveredOn these direction.queued direction.read

@@ -11,7 +11,7 @@ ghost use Rattle.dcsctp_delivery_order.specs.Reach.{SkippedSsnsAreReadRight, Ssn
 ghost use Rattle.dcsctp_delivery_order.specs.Reading.{MidsAreReadRight, NumbersAreFresh, PartsStayInReach, SkipsStayInReach};
 ghost use Rattle.dcsctp_delivery_order.specs.Runs.{OneIsMissing, PartsLeaveHeld, PartsLieApart};
 ghost use Rattle.dcsctp_delivery_order.specs.Sending.{HandingLosesNone, LosingNoneSendsInTurn};
-ghost use Rattle.dcsctp_delivery_order.specs.Streams.{FewStreamsDeliverWithoutGaps, PlainStreamsDeliverWithoutGaps, StreamsDeliverWithoutGaps};
+ghost use Rattle.dcsctp_delivery_order.specs.Streams.{PlainStreamsDeliverWithoutGaps, StreamsDeliverWithoutGaps};
 ghost use Rattle.dcsctp_delivery_order.specs.Rising.{PartsDeliverRows, SkipsDeliverRising, StreamsDeliverRising, StreamsDeliverRows};
 
 /// What the receiver makes ready on a stream are messages with rising numbers. A skip goes forward only, and without
@@ -134,9 +134,9 @@ pub fn streams_deliver_without_gaps()
     ensures { StreamsDeliverWithoutGaps }
 {}
 
-/// Without interleaving it is so where no message of any stream may be abandoned, or fewer than 2^15 are queued on the
-/// stream and none of these may.
+/// Without interleaving it is so too of each stream that is never reset and on which no message may be abandoned,
+/// whatever happens on other streams. For that SACKs must say what their receiver has reached: else a sender might pass
+/// TSNs that weren't received (RFC 3758, section 3.5).
 pub fn plain_streams_deliver_without_gaps()
-    ensures whole { PlainStreamsDeliverWithoutGaps }
-    ensures few { FewStreamsDeliverWithoutGaps }
+    ensures { PlainStreamsDeliverWithoutGaps }
 {}

@@ -27,8 +27,8 @@ plain_skipped history passed number piece at kind zero streams = tt
 plain_skipped history passed number piece at kind (suc count) streams =
     skips_append history passed (first_skipped count streams) (skipped_to (skipped_stream_at count streams) ∷ []) (plain_skipped history passed number piece at kind count streams) (record { number = number; piece = piece; at = at; kind = kind }, tt)
 
-pub forward_skips : (history : History) (first tsn : ℕ) (streams : List ℕ) → (is : IsForward false history first tsn streams) → SkipAll history is.passed.passed (skipped_in streams)
-forward_skips history first tsn streams f = go f.entries f.is f.names
+pub forward_skips : (history : History) (first acknowledged tsn : ℕ) (streams : List ℕ) → (is : IsForward false history first acknowledged tsn streams) → SkipAll history is.passed.passed (skipped_in streams)
+forward_skips history first acknowledged tsn streams f = go f.entries f.is f.names
   where
     go : (entries : List ((ℕ × Bool) × ℕ)) → streams ≡ flat_map (entry_bytes false) entries → AreForwardEntries false history f.passed.passed entries → SkipAll history f.passed.passed (skipped_in streams)
     go [] is names = subst (λ (l : List ℕ). SkipAll history f.passed.passed (skipped_in l)) (sym is) tt
@@ -85,8 +85,8 @@ firsts_read history passed queued cut fit entries names (suc count) within =
     skips_append history passed (first_messages_skipped count (flat_map (entry_bytes true) entries)) (messages_skipped_to (skipped_messages_at count (flat_map (entry_bytes true) entries)) ∷ [])
     (firsts_read history passed queued cut fit entries names count (omega arith)) (entry_read history passed queued cut fit entries names count (omega arith), tt)
 
-pub messages_skipped : (queued : List Message) (history : History) (first tsn : ℕ) (streams : List ℕ) → Cut queued history.log → AllByRecursion Fits queued → (is : IsForward true history first tsn streams)
+pub messages_skipped : (queued : List Message) (history : History) (first acknowledged tsn : ℕ) (streams : List ℕ) → Cut queued history.log → AllByRecursion Fits queued → (is : IsForward true history first acknowledged tsn streams)
     → SkipAll history is.passed.passed (messages_skipped_in streams)
-messages_skipped queued history first tsn streams cut fit f =
+messages_skipped queued history first acknowledged tsn streams cut fit f =
     subst (λ (l : List ℕ). SkipAll history f.passed.passed (messages_skipped_in l)) (sym f.is)
     (firsts_read history f.passed.passed queued cut fit f.entries f.names (length (flat_map (entry_bytes true) f.entries) / 8) (let long = entries_long f.entries in omega (arith, long)))

@@ -1,6 +1,6 @@
 -- Which TSNs are new.
 use Rattle.std.proofs.Common.{◌≡◌, ◌==◌, ℕ, Bool, true, false, ◌<◌, ◌≤◌, ◌+◌, ◌%◌, ◌^◌, List, [], ◌∷◌, refl, sym, ◌∙◌, ap, arith, subst, inl, inr}
-use Rattle.std.specs.Prelude.{◌||◌, not, nat_le, if◌then◌else◌}
+use Rattle.std.specs.Prelude.{◌⊎◌, ◌||◌, not, nat_le, if◌then◌else◌}
 use Rattle.std.proofs.lemmas.Bool.Decides.{nat_tests, leb_tells}
 use Rattle.dcsctp_spec_lemmas.specs.types.declared.tracking.TsnRange.{TsnRange}
 use Rattle.dcsctp_spec_lemmas.specs.spec.queues.Numbers.{number_near}
@@ -140,6 +140,31 @@ passing_keeps first count offset taken tracker small few below tracks forward =
         go : (b : Bool) → b ≡ true → (if b then moved_forward ((first + offset) % 2 ^ 32) tracker else delay_over tracker) ≡ moved_forward ((first + offset) % 2 ^ 32) tracker
         go true e = refl
         go false e = absurd (cc)
+
+-- What counts as received after a FORWARD-TSN did before, or was passed by it.
+pub passed_either : (first count offset : ℕ) (taken : List ℕ) (tracker : TrackerState) → first < 2 ^ 32 → count < 2 ^ 31 → offset < count → Tracks first count taken tracker
+    → is_forward tracker.cumulative ((first + offset) % 2 ^ 32) ≡ true → (k : ℕ) → has_received (after_forward ((first + offset) % 2 ^ 32) tracker) (tracked first k) ≡ true
+    → (has_received tracker (tracked first k) ≡ true) ⊎ (k < offset + 1)
+passed_either first count offset taken tracker small few below tracks forward k is =
+    go (has_received tracker (tracked first k)) refl
+    (sym (forwarded_members number tracker.cumulative tracker.ranges ahead tracks.beyond (tracked first k)) ∙ moved (is_forward tracker.cumulative ((first + offset) % 2 ^ 32)) forward is)
+  where
+    number : ℕ
+    number = nearest_number tracker.cumulative ((first + offset) % 2 ^ 32)
+
+    here : number ≡ tracked first offset
+    here = number_is first count offset tracker.cumulative small few below tracks.reached tracks.started
+
+    ahead : tracker.cumulative < number
+    ahead = is_ahead tracker.cumulative ((first + offset) % 2 ^ 32) forward
+
+    moved : (b : Bool) → b ≡ true → has_received (if b then moved_forward ((first + offset) % 2 ^ 32) tracker else delay_over tracker) (tracked first k) ≡ true → has_received (moved_forward ((first + offset) % 2 ^ 32) tracker) (tracked first k) ≡ true
+    moved true e received_is = received_is
+    moved false e received_is = absurd (cc)
+
+    go : (b : Bool) → has_received tracker (tracked first k) ≡ b → (b || nat_le (tracked first k) number) ≡ true → (has_received tracker (tracked first k) ≡ true) ⊎ (k < offset + 1)
+    go true known either = inl known
+    go false known either = inr (let up : tracked first k ≤ number = grind (arith, nat_tests, either) in omega (arith, up, here))
 
 -- ---- the cumulative number
 

@@ -23,10 +23,10 @@ InterleavedCarryPieces =
 
 -- A FORWARD-TSN skips what its log has,
 abbrev pub ForwardsSkip : Type 0
-ForwardsSkip = (history : History) (first tsn : ℕ) (streams : List ℕ) → (is : IsForward false history first tsn streams) → SkipAll history is.passed.passed (skipped_in streams)
+ForwardsSkip = (history : History) (first acknowledged tsn : ℕ) (streams : List ℕ) → (is : IsForward false history first acknowledged tsn streams) → SkipAll history is.passed.passed (skipped_in streams)
 
 -- and so does an I-FORWARD-TSN.
 abbrev pub InterleavedForwardsSkip : Type 0
 InterleavedForwardsSkip =
-    (queued : List Message) (history : History) (first tsn : ℕ) (streams : List ℕ) → Cut queued history.log → AllByRecursion Fits queued → (is : IsForward true history first tsn streams)
+    (queued : List Message) (history : History) (first acknowledged tsn : ℕ) (streams : List ℕ) → Cut queued history.log → AllByRecursion Fits queued → (is : IsForward true history first acknowledged tsn streams)
     → SkipAll history is.passed.passed (messages_skipped_in streams)

@@ -1,5 +1,5 @@
 -- What the send queue drops.
-use Rattle.std.proofs.Common.{◌≡◌, ℕ, ◌-◌, List, ◌∷◌, length, drop, refl, sym, ◌∙◌, ap, arith, subst, inl, inr}
+use Rattle.std.proofs.Common.{◌≡◌, ℕ, ◌+◌, ◌-◌, List, ◌∷◌, length, drop, refl, sym, ◌∙◌, ap, arith, subst, inl, inr}
 use Rattle.std.specs.Prelude.{Option, None, Some}
 use Rattle.std.proofs.lemmas.List.{get_or-set_same}
 use Rattle.dcsctp_spec.specs.endpoint.Event.{Event}
@@ -14,7 +14,7 @@ use Rattle.dcsctp_delivery_sending.specs.Numbers.{Numbered}
 use Rattle.dcsctp_delivery_sending.specs.Weights.{HasRoomForLog}
 use Rattle.dcsctp_delivery_sending.proofs.Places.{decide, at_cases}
 use Rattle.dcsctp_delivery_sending.proofs.Weights.{weight_same, weight_front}
-use Rattle.dcsctp_delivery_sending.proofs.Streams.{rest_shorter, distinct_on, small_on, wait_on, shorter_beyond, ascend_on, Shorter, reduced_alike, front_queued}
+use Rattle.dcsctp_delivery_sending.proofs.Streams.{newest_at, rest_shorter, distinct_on, small_on, wait_on, shorter_beyond, ascend_on, Shorter, reduced_alike, front_queued}
 use Rattle.dcsctp_delivery_sending.proofs.Produced.{none_beyond, there_or_empty}
 use Rattle.dcsctp_delivery_sending.proofs.Numbers.{kind_dropped, numbers_then, numbers_reduced, numbers_without, numbered_ended}
 use Rattle.dcsctp_delivery_sending.proofs.ProducedNumbers.{produced_kind}
@@ -38,6 +38,19 @@ module _ (queued : List Message) (log : List Slot) (old : SendQueueState) (strea
 
   named_id : (stream_at old.streams named.place).id ≡ named.under_way.stream_id.0
   named_id = named.is ∙ sym named.same
+
+  -- the newest piece is of the message that is dropped
+  pub newest_named : (n : ℕ) (f : Piece) → at_place n log ≡ Some (Some f) → n + 1 ≡ length log → f.place ≡ message_id
+  newest_named n f at last =
+      elim going_on.going.came [
+        | inl unsent ↦ absurd (let empty : length log ≡ 0 = ap (λ (l : List Slot). length l) unsent in omega (arith, empty, last))
+        | inr c ↦
+            (let (k, next, at_k) = newest_at log (Some c.piece) c.at in
+            let here : k ≡ n = omega (arith, next, last) in
+            let both : Some (Some f) ≡ Some (Some c.piece) = sym at ∙ ap (λ (m : ℕ). at_place m log) (sym here) ∙ at_k in
+            let same : f ≡ c.piece = cc in
+            ap (λ (x : Piece). x.place) same ∙ c.is ∙ sym (going_on.going.front named.place named.message named_id named.front) ∙ named.named)
+      ]
 
   left_here : (stream_at left named.place).messages ≡ drop 1 (stream_at old.streams named.place).messages
   unfolding left

@@ -13,7 +13,8 @@ use Rattle.dcsctp_delivery_sending.specs.Log.{Message, Slot, Mark, History, Cut,
 use Rattle.dcsctp_delivery_sending.specs.Numbers.{AreOfKind}
 use Rattle.dcsctp_delivery_sending.specs.Stages.{SaysSlot, SaysAt, IsNamedFragment, Bears}
 use Rattle.dcsctp_spec.specs.queues.Sending.{Fragment}
-use Rattle.dcsctp_delivery_sending.specs.Flushes.{IsEntry, AreForwardEntries}
+use Rattle.dcsctp_delivery_sending.specs.Pieces.{CarriesPiece}
+use Rattle.dcsctp_delivery_sending.specs.Flushes.{IsEntry, AreForwardEntries, PassesAcknowledged}
 use Rattle.dcsctp_delivery_sending.proofs.Stages.{item_at, item_below}
 
 same_kind : (a b : Bool) → (if a then b else not b) ≡ true → a ≡ b
@@ -109,6 +110,29 @@ module _ (history : History) (first : ℕ) where
       let both_at : Some n.piece.message ≡ Some n'.piece.message = sym (cut.pieces n.number n.piece n.at).at ∙ ap (λ (k : ℕ). at_place k queued) (sym n.of ∙ same ∙ n'.of) ∙ (cut.pieces n'.number n'.piece n'.at).at in
       let one : n.piece.message ≡ n'.piece.message = cc in
       (n.stream ∙ ap (λ (m : Message). m.stream) one ∙ sym n'.stream, n.unordered ∙ ap (λ (m : Message). m.is_unordered) one ∙ sym n'.unordered)
+
+  -- What the row passes is acknowledged, or of a message with limits.
+  pub row_passed : (queued : List Message) → Cut queued history.log → (acknowledged count : ℕ) (outstanding : OutstandingState) → Bears history first acknowledged outstanding → count ≤ length outstanding.items
+      → ((place : ℕ) (item : Item) → place < count → slice_get outstanding.items place ≡ Some item → is_row_continued place item ≡ true) → PassesAcknowledged history.log acknowledged (acknowledged + count)
+  row_passed queued cut acknowledged count outstanding b within each n f at low unlimited =
+      elim (leb_tells (n + 1) acknowledged) [
+        | inl e ↦ (let less = e.1 in omega (arith, less))
+        | inr e ↦ absurd (let less = e.1 in inner (n - acknowledged) (omega (arith, less, low)) (omega (arith, less, low)))
+      ]
+    where
+      inner : (k : ℕ) → k < count → acknowledged + k ≡ n → ⊥
+      inner k below here =
+          let (item, found) = item_at k outstanding.items (omega (arith, within, below)) in
+          let gone : is_abandoned item.progress.state ≡ true = (both (is_abandoned item.progress.state) ((k == 0) || not item.begins_after_reset) (each k item below found)).0 in
+          let of = b.abandoned k item found gone in
+          let says = b.items k item found in
+          let same : Some says.slot ≡ Some (Some f) = sym says.at ∙ ap (λ (m : ℕ). at_place m history.log) here ∙ at in
+          let is : says.slot ≡ Some f = cc in
+          let carries : CarriesPiece item.fragment f = subst (λ (s : Slot). SaysSlot item.fragment s) is says.says in
+          let both_at : Some of.piece.message ≡ Some f.message = sym (cut.pieces of.number of.piece of.at).at ∙ ap (λ (m : ℕ). at_place m queued) (sym of.of ∙ carries.named) ∙ (cut.pieces n f at).at in
+          let one : of.piece.message ≡ f.message = cc in
+          let clash : true ≡ false = sym of.limited ∙ ap (λ (m : Message). m.is_limited) one ∙ unlimited in
+          cc
 
   pub row_closes : (queued : List Message) → Cut queued history.log → (acknowledged limit entries count : ℕ) (outstanding : OutstandingState) → Bears history first acknowledged outstanding → IsSkippedRow outstanding.is_interleaved limit entries count outstanding.items
       → ClosesRow acknowledged count outstanding

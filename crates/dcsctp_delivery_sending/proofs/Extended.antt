@@ -12,8 +12,8 @@ use Rattle.dcsctp_delivery_sending.specs.Places.{HasEntry, at_place}
 use Rattle.dcsctp_delivery_sending.specs.Log.{Slot, Mark, History, log_extended, with_mark, with_renewed}
 use Rattle.dcsctp_delivery_sending.specs.Numbers.{KindAt}
 use Rattle.dcsctp_delivery_sending.specs.Stages.{SaysAt}
-use Rattle.dcsctp_delivery_sending.specs.Flushes.{IsPassed, AreForwardEntries, HasLimited, IsForward, SaysPlain, AreBegun, SaysContent, SayAll, PacketsSay}
-use Rattle.dcsctp_delivery_sending.proofs.Places.{at_stays}
+use Rattle.dcsctp_delivery_sending.specs.Flushes.{IsPassed, AreForwardEntries, HasLimited, PassesAcknowledged, IsForward, SaysPlain, AreBegun, SaysContent, SayAll, PacketsSay}
+use Rattle.dcsctp_delivery_sending.proofs.Places.{at_some, at_stays}
 
 pub at_more : {A : Type 0} (more log : List A) (n : ℕ) (x : A) → at_place n log ≡ Some x → at_place n (more ++ log) ≡ Some x
 at_more [] log n x at = at
@@ -93,7 +93,7 @@ extends_then old between new one two =
       ];
     }
 
-module _ (old new : History) (extends : Extends old new) (first : ℕ) where
+module _ (old new : History) (extends : Extends old new) (first before after : ℕ) (less : before ≤ after) where
   says_later : (n : ℕ) (part : Fragment) → SaysAt old.log n part → SaysAt new.log n part
   says_later n part says =
       record {
@@ -146,11 +146,18 @@ module _ (old new : History) (extends : Extends old new) (first : ℕ) where
   limited_later : HasLimited old.log → HasLimited new.log
   limited_later is = record { number = is.number; piece = is.piece; at = extends.at is.number (Some is.piece) is.at; limited = is.limited }
 
-  forward_later : (is_interleaved : Bool) (tsn : ℕ) (streams : List ℕ) → IsForward is_interleaved old first tsn streams → IsForward is_interleaved new first tsn streams
-  unfolding passed_later
-  forward_later is_interleaved tsn streams f = record { passed = passed_later tsn f.passed; entries = f.entries; is = f.is; names = entries_later is_interleaved f.passed.passed f.entries f.passed.below f.names; limited = limited_later f.limited }
+  -- what it passes was assigned before
+  reliable_later : (passed : ℕ) → passed ≤ length old.log → PassesAcknowledged old.log before passed → PassesAcknowledged new.log after passed
+  reliable_later passed below reliable n f at low unlimited =
+      let (slot, was) = at_some n old.log (omega (arith, below, low)) in
+      let both : Some slot ≡ Some (Some f) = sym (extends.at n slot was) ∙ at in
+      omega (arith, less, reliable n f (was ∙ both) low unlimited)
 
-  open_later : (chunk : ChunkContent) → SaysPlain old first (unworked chunk) → SaysPlain new first (unworked chunk)
+  forward_later : (is_interleaved : Bool) (tsn : ℕ) (streams : List ℕ) → IsForward is_interleaved old first before tsn streams → IsForward is_interleaved new first after tsn streams
+  unfolding passed_later
+  forward_later is_interleaved tsn streams f = record { passed = passed_later tsn f.passed; entries = f.entries; is = f.is; names = entries_later is_interleaved f.passed.passed f.entries f.passed.below f.names; limited = limited_later f.limited; reliable = reliable_later f.passed.passed f.passed.below f.reliable }
+
+  open_later : (chunk : ChunkContent) → SaysPlain old first before (unworked chunk) → SaysPlain new first after (unworked chunk)
   open_later (data_chunk d) says =
       record { number = says.number; part = says.part; says = says_later says.number says.part says.says; is = says.is; kind = kind_later false says.number says.says.slot says.says.at says.kind }
   open_later (i_data_chunk d) says =
@@ -172,7 +179,7 @@ module _ (old new : History) (extends : Extends old new) (first : ℕ) where
   open_later (i_forward_tsn_chunk t bs) says = forward_later true t bs says
   open_later (unknown_chunk t f bs) says = tt
 
-  plain_later : (chunk : Plain) → SaysPlain old first chunk → SaysPlain new first chunk
+  plain_later : (chunk : Plain) → SaysPlain old first before chunk → SaysPlain new first after chunk
   plain_later (unknown type flags value) says = tt
   plain_later (heartbeat parameters) says = tt
   plain_later (heartbeat_ack parameters) says = tt
@@ -188,7 +195,7 @@ module _ (old new : History) (extends : Extends old new) (first : ℕ) where
   begun_later (reconfiguration_response number result ∷ parameters) are = begun_later parameters are
   begun_later (other_reset_parameter content ∷ parameters) are = begun_later parameters are
 
-  content_later : (content : Content) → SaysContent old first content → SaysContent new first content
+  content_later : (content : Content) → SaysContent old first before content → SaysContent new first after content
   content_later (init i) says = tt
   content_later (init_ack i b) says = tt
   content_later (cookie_echo b) says = tt
@@ -200,10 +207,10 @@ module _ (old new : History) (extends : Extends old new) (first : ℕ) where
   content_later (shutdown_complete b) says = tt
   content_later (plain chunk) says = plain_later chunk says
 
-  pub all_later : (contents : List Content) → SayAll old first contents → SayAll new first contents
+  pub all_later : (contents : List Content) → SayAll old first before contents → SayAll new first after contents
   all_later [] say = tt
   all_later (c ∷ contents) say = (content_later c say.0, all_later contents say.1)
 
-  pub packets_later : (emissions : List Emission) → PacketsSay old first emissions → PacketsSay new first emissions
+  pub packets_later : (emissions : List Emission) → PacketsSay old first before emissions → PacketsSay new first after emissions
   packets_later [] say = tt
   packets_later (e ∷ emissions) say = (all_later e.packet.contents say.0, packets_later emissions say.1)

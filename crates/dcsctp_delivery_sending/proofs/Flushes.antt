@@ -19,11 +19,11 @@ use Rattle.dcsctp_delivery_sending.proofs.Packets.{packets_both, packets_more}
 use Rattle.dcsctp_delivery_sending.proofs.OnePacket.{asked_sends}
 use Rattle.dcsctp_delivery_sending.proofs.StayHanded.{handed_for_later}
 
-next_empty : (history : History) (first : ℕ) (core : Core) (draft : Emission) → SayAll history first (next_draft core draft).packet.contents
-next_empty history first closed_core draft = tt
-next_empty history first (cookie_wait my) draft = tt
-next_empty history first (cookie_echoed my held cookie) draft = tt
-next_empty history first (open_in phase my held) draft = tt
+next_empty : (history : History) (first acknowledged : ℕ) (core : Core) (draft : Emission) → SayAll history first acknowledged (next_draft core draft).packet.contents
+next_empty history first acknowledged closed_core draft = tt
+next_empty history first acknowledged (cookie_wait my) draft = tt
+next_empty history first acknowledged (cookie_echoed my held cookie) draft = tt
+next_empty history first acknowledged (open_in phase my held) draft = tt
 
 still_sends : (queued : List Message) (history : History) (first acknowledged : ℕ) (e : Endpoint) → QueuesFollowLog queued history first acknowledged e.queues
     → SendsLogged queued history first acknowledged e.queues.queue None (still e).after.queues (still e).events
@@ -57,8 +57,8 @@ sends_then queued history first acknowledged old begun between after events othe
       low = one.low;
       high = omega (arith, one.high, length-append two.more one.more);
       stands = subst (λ (h : History). QueuesFollowLog queued h first acknowledged after) (sym same) two.stands;
-      packets = subst (λ (h : History). PacketsSay h first (packets_in (events ++ others))) (sym same)
-          (packets_both (log_extended two.more noted) first events others (packets_more two.more noted first (packets_in events) one.packets) two.packets);
+      packets = subst (λ (h : History). PacketsSay h first acknowledged (packets_in (events ++ others))) (sym same)
+          (packets_both (log_extended two.more noted) first acknowledged events others (packets_more two.more noted first acknowledged (packets_in events) one.packets) two.packets);
       current = current_both history two.more one.more (current_before begun one.ids one.bound one.more history two.more two.current) one.current;
       kept = kept_both after.queue.streams two.more one.more two.kept (kept_later between.queue.streams after.queue.streams one.more paused one.kept);
       handed = λ id handed. elim (two.handed id handed) [ inl before ↦ one.handed id before | inr none ↦ absurd none ];
@@ -67,7 +67,7 @@ sends_then queued history first acknowledged old begun between after events othe
     }
 
 answers_send : (queued : List Message) (history : History) (first acknowledged : ℕ) (ask : Ask) (n : ℕ) (e : Endpoint) (draft : Emission) (answers : List Answer) → QueuesFollowLog queued history first acknowledged e.queues
-    → SayAll history first draft.packet.contents → AreFlushAnswers ask n e draft answers
+    → SayAll history first acknowledged draft.packet.contents → AreFlushAnswers ask n e draft answers
     → SendsLogged queued history first acknowledged e.queues.queue (reset_begun_by answers) (flush_of e draft answers).after.queues (flush_of e draft answers).events
 answers_send queued history first acknowledged _ _ _ _ _ stands say (at_limit ask e draft) = still_sends queued history first acknowledged e stands
 answers_send queued history first acknowledged _ _ _ _ _ stands say (at_empty ask more e draft answer is empty) =
@@ -81,12 +81,12 @@ answers_send queued history first acknowledged _ _ _ _ _ stands say (after_packe
     let noted : History = with_mark answer.begun one.ids one.bound (log_extended one.more history) in
     let after : EndpointQueues = (flush_of between (next_draft e.core draft) answers).after.queues in
     let events : List (Event Emission) = (flush_of between (next_draft e.core draft) answers).events in
-    let two = answers_send queued noted first acknowledged later_ask more between (next_draft e.core draft) answers one.stands (next_empty noted first e.core draft) rest in
+    let two = answers_send queued noted first acknowledged later_ask more between (next_draft e.core draft) answers one.stands (next_empty noted first acknowledged e.core draft) rest in
     sends_then queued history first acknowledged e.queues.queue answer.begun between.queues after (asked e draft answer).events events one (later_paused more between (next_draft e.core draft) answers rest)
     (subst (λ (begun : Option BegunReset). SendsLogged queued noted first acknowledged between.queues.queue begun after events) (later_begun more between (next_draft e.core draft) answers rest) two)
 
 pub flush_sends : (queued : List Message) (history : History) (first acknowledged : ℕ) (e : Endpoint) (draft : Emission) (answers : List Answer) → QueuesFollowLog queued history first acknowledged e.queues
-    → SayAll history first draft.packet.contents → FlushAnswers e draft answers
+    → SayAll history first acknowledged draft.packet.contents → FlushAnswers e draft answers
     → SendsLogged queued history first acknowledged e.queues.queue (reset_begun_by answers) (flush_of e draft answers).after.queues (flush_of e draft answers).events
 flush_sends queued history first acknowledged e draft answers stands say allowed =
     answers_send queued history first acknowledged first_ask (packets_allowed e.options.max_burst e.core) e draft answers stands say allowed

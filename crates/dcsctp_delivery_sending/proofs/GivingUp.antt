@@ -11,14 +11,14 @@ use Rattle.dcsctp_spec.specs.queues.Items.{Item}
 use Rattle.dcsctp_spec.specs.queues.NextItem.{is_abandonment_due}
 use Rattle.dcsctp_spec.specs.queues.Outstanding.{OutstandingState}
 use Rattle.dcsctp_spec.specs.queues.SendQueue.{SendQueueState}
-use Rattle.dcsctp_spec.specs.queues.Sending.{Fragment, DiscardsNamed}
+use Rattle.dcsctp_spec.specs.queues.Sending.{Fragment, Discards, DiscardsNamed}
 use Rattle.dcsctp_delivery_sending.specs.Log.{Message, Piece, Slot, History, log_extended, with_slot}
 use Rattle.dcsctp_delivery_sending.specs.Places.{at_place}
 use Rattle.dcsctp_delivery_sending.specs.Pieces.{HoldsQueued}
 use Rattle.dcsctp_delivery_sending.specs.Numbers.{Numbered}
 use Rattle.dcsctp_delivery_sending.specs.Stages.{IsNamedFragment, IsOfLimited, Bears, Pends, AreMarks, Stands, Stays}
 use Rattle.dcsctp_delivery_sending.proofs.Marks.{pends_later, marks_none, named_end, end_whole}
-use Rattle.dcsctp_delivery_sending.proofs.Discarding.{discards_numbered, discards_hold}
+use Rattle.dcsctp_delivery_sending.proofs.Discarding.{newest_named, discards_numbered, discards_hold}
 use Rattle.dcsctp_delivery_sending.proofs.Places.{at_either}
 use Rattle.dcsctp_delivery_sending.proofs.Limits.{limited_due, limited_same, limited_stays, limited_more}
 use Rattle.dcsctp_delivery_sending.proofs.Stages.{with_none, at_last, whole_grown, bears_grown, bears_abandoned, cut_none}
@@ -48,6 +48,15 @@ drops_rest_ends : (queued : List Message) (history : History) (first acknowledge
 drops_rest_ends queued history first acknowledged own now last old new stands named limited tail drops =
     subst (λ (s : Stage). Ends queued history first acknowledged s) (sym drops.is) (go drops.drops.is_dropped drops.drops.drops drops.drops.ends)
   where
+    -- the newest piece is of the message that is dropped
+    dropped_limited : Discards old.waiting last.fragment.stream last.fragment.message_id old.told new.waiting new.told
+        → (n : ℕ) (f : Piece) → at_place n history.log ≡ Some (Some f) → n + 1 ≡ length history.log → f.message.is_limited ≡ true
+    dropped_limited discards n f at is_newest =
+        let place = newest_named queued history.log old.waiting last.fragment.stream last.fragment.message_id discards.named stands.queue_holds n f at is_newest in
+        let both : Some f.message ≡ Some limited.piece.message = sym (stands.cut.pieces n f at).at ∙ ap (λ (k : ℕ). at_place k queued) (place ∙ limited.of) ∙ (stands.cut.pieces limited.number limited.piece limited.at).at in
+        let same : f.message ≡ limited.piece.message = cc in
+        ap (λ (m : Message). m.is_limited) same ∙ limited.limited
+
     go : (dropped : Bool) → DiscardsNamed old.waiting last.fragment.stream last.fragment.message_id old.told dropped new.waiting new.told → EndsDropped now old.queue.reset_begun last old.queue.outstanding drops.outstanding dropped
         → Ends queued history first acknowledged (record old { queue = record old.queue { outstanding = drops.outstanding }; waiting = new.waiting; told = new.told })
     go true discards ends =
@@ -56,7 +65,7 @@ drops_rest_ends queued history first acknowledged own now last old new stands na
           none = λ n f at. absurd (let nothing : at_place n [] ≡ Some (Some f) = with_none [] n f at in cc);
           stands = record {
             queue_holds = discards_hold queued history.log old.waiting new.waiting last.fragment.stream last.fragment.message_id old.told new.told stands.queue_holds discards;
-            cut = cut_none queued history.log stands.cut;
+            cut = cut_none queued history.log (dropped_limited discards) stands.cut;
             bears = subst (λ (o : OutstandingState). Bears (with_slot None history) first acknowledged o) (sym ends.grows)
                 (bears_grown history first acknowledged None ends.item old.queue.outstanding stands.bears (ap (λ (f : Fragment). f.payload) ends.is_end.is)
                 (subst (λ (f : Fragment). IsNamedFragment (with_slot None history) (length history.log) f) (sym ends.is_end.is)

@@ -33,9 +33,9 @@ gives_up_where queued history first acknowledged now room false transfer old new
 gives_up_where queued history first acknowledged now room true transfer old new next chunks stands gives = give_up_all_ends queued history first acknowledged now old new stands gives.0
 
 forwards_where : (queued : List Message) (history : History) → Cut queued history.log → (first acknowledged now room : ℕ) (b : Bool) (transfer : Transfer) (old new : Stage) (next : Option ℕ) (chunks : List Plain) → AreOfKind new.queue.outstanding.is_interleaved history.log → Bears history first acknowledged new.queue.outstanding → GivesUpWhere b now transfer room old new next chunks
-    → SayAll history first (plain_contents chunks)
-forwards_where queued history cut first acknowledged now room false transfer old new next chunks kinds bears gives = subst (λ (l : List Plain). SayAll history first (plain_contents l)) (sym gives.2) tt
-forwards_where queued history cut first acknowledged now room true transfer old new next chunks kinds bears gives = said_forwards history first queued cut acknowledged _ now transfer room new.queue next chunks kinds bears (λ made. made) gives.1
+    → SayAll history first acknowledged (plain_contents chunks)
+forwards_where queued history cut first acknowledged now room false transfer old new next chunks kinds bears gives = subst (λ (l : List Plain). SayAll history first acknowledged (plain_contents l)) (sym gives.2) tt
+forwards_where queued history cut first acknowledged now room true transfer old new next chunks kinds bears gives = said_forwards history first acknowledged queued cut _ now transfer room new.queue next chunks kinds bears (λ made. made) gives.1
 
 fills_where : (queued : List Message) (history : History) (first acknowledged now : ℕ) (b : Bool) (old new : Stage) → Stands queued history first acknowledged old → FillsWhere b now old new → Stays queued history first acknowledged new
 fills_where queued history first acknowledged now true old new stands fills = fills_stay queued history first acknowledged now old new stands fills
@@ -53,7 +53,7 @@ record Answers' (queued : List Message) (history : History) (first acknowledged 
   pub low : length history.log ≤ bound
   pub high : bound ≤ length more + length history.log
   pub stands : QueuesFollowLog queued (with_mark answer.begun ids bound (log_extended more history)) first acknowledged answer.after.queues
-  pub says : SayAll (with_mark answer.begun ids bound (log_extended more history)) first (answer_contents answer)
+  pub says : SayAll (with_mark answer.begun ids bound (log_extended more history)) first acknowledged (answer_contents answer)
   pub current : AreCurrent history more
   pub kept : AreKept answer.after.queues.queue.streams more
   pub handed : (id : ℕ) → is_handed_out (stream_named id answer.after.queues.queue.streams).pause ≡ true → (is_handed_out (stream_named id old.streams).pause ≡ true) ⊎ NamedBy answer.begun ids id
@@ -119,24 +119,24 @@ module _ (queued : List Message) (history : History) (first acknowledged : ℕ) 
   all_stand : Stands queued all first acknowledged gives.sent
   all_stand = subst (λ (h : History). Stands queued h first acknowledged gives.sent) (sym same) full.stands
 
-  forwards_said : SayAll all first (plain_contents gives.forwards)
+  forwards_said : SayAll all first acknowledged (plain_contents gives.forwards)
   unfolding noted bound
   forwards_said =
-      subst (λ (h : History). SayAll h first (plain_contents gives.forwards)) (sym same)
+      subst (λ (h : History). SayAll h first acknowledged (plain_contents gives.forwards)) (sym same)
       (all_later (log_extended gave.more history) (log_extended full.more noted)
-      (extends_then (log_extended gave.more history) noted (log_extended full.more noted) (extends_marked answer.begun ids bound (log_extended gave.more history) (omega arith)) (extends_grown full.more noted)) first (plain_contents gives.forwards)
+      (extends_then (log_extended gave.more history) noted (log_extended full.more noted) (extends_marked answer.begun ids bound (log_extended gave.more history) (omega arith)) (extends_grown full.more noted)) first acknowledged acknowledged (omega arith) (plain_contents gives.forwards)
       (forwards_where queued (log_extended gave.more history) gave.stands.cut first acknowledged e.moment _ _ transfer _ gives.gave_up gives.next gives.forwards (kinds_of gave.stands.numbers gave.stands.kind) gave.stands.bears gives.gives_up))
 
-  all_said : SayAll all first (answer_contents answer)
+  all_said : SayAll all first acknowledged (answer_contents answer)
   unfolding all
   all_said =
-      say_both all first (plain_contents answer.acknowledgements) (request_contents answer.begun ++ plain_contents answer.data_chunks)
-      (subst (λ (l : List Plain). SayAll all first (plain_contents l)) (sym gives.parts)
-      (subst (λ (l : List Content). SayAll all first l) (sym (plain_both gives.sacks gives.forwards))
-      (say_both all first (plain_contents gives.sacks) (plain_contents gives.forwards)
-      (said_sacks all first _ _ transfer gives.tracker gives.sacks gives.acknowledges) forwards_said)))
-      (say_both all first (request_contents answer.begun) (plain_contents answer.data_chunks) (said_request (log_extended added history) first answer.begun ids bound)
-      (said_chunks all first gives.sent.queue.outstanding.is_interleaved answer.data_chunks
+      say_both all first acknowledged (plain_contents answer.acknowledgements) (request_contents answer.begun ++ plain_contents answer.data_chunks)
+      (subst (λ (l : List Plain). SayAll all first acknowledged (plain_contents l)) (sym gives.parts)
+      (subst (λ (l : List Content). SayAll all first acknowledged l) (sym (plain_both gives.sacks gives.forwards))
+      (say_both all first acknowledged (plain_contents gives.sacks) (plain_contents gives.forwards)
+      (said_sacks all first acknowledged _ _ transfer gives.tracker gives.sacks gives.acknowledges) forwards_said)))
+      (say_both all first acknowledged (request_contents answer.begun) (plain_contents answer.data_chunks) (said_request (log_extended added history) first acknowledged answer.begun ids bound)
+      (said_chunks all first acknowledged gives.sent.queue.outstanding.is_interleaved answer.data_chunks
       (chunks_of_log all first acknowledged gives.sent.queue.outstanding gives.sent.tsns answer.data_chunks (kinds_of all_stand.numbers all_stand.kind) all_stand.bears gives.chunks)))
 
   all_handed : (id : ℕ) → is_handed_out (stream_named id gives.sent.waiting.streams).pause ≡ true → (is_handed_out (stream_named id e.queues.queue.streams).pause ≡ true) ⊎ NamedBy answer.begun ids id
@@ -219,7 +219,7 @@ answered_below queued history first acknowledged ask e draft None answer known s
 answered_below queued history first acknowledged ask e draft (Some transfer) answer known stands answered =
     gives_where queued history first acknowledged ask (is_idle e.queues.queue transfer) e draft transfer answer known stands answered
 
-pub asked_sends : (queued : List Message) (history : History) (first acknowledged : ℕ) (ask : Ask) (e : Endpoint) (draft : Emission) (answer : Answer) → QueuesFollowLog queued history first acknowledged e.queues → SayAll history first draft.packet.contents
+pub asked_sends : (queued : List Message) (history : History) (first acknowledged : ℕ) (ask : Ask) (e : Endpoint) (draft : Emission) (answer : Answer) → QueuesFollowLog queued history first acknowledged e.queues → SayAll history first acknowledged draft.packet.contents
     → IsFlushAnswer ask e draft answer → SendsLogged queued history first acknowledged e.queues.queue answer.begun (asked e draft answer).after.queues (asked e draft answer).events
 asked_sends queued history first acknowledged ask e draft answer stands say answered =
     let left = answered_below queued history first acknowledged ask e draft e.queues.transfer answer refl stands answered.by_transfer in
@@ -234,8 +234,8 @@ asked_sends queued history first acknowledged ask e draft answer stands say answ
       low = left.low;
       high = left.high;
       stands = subst (λ (b : EndpointQueues). QueuesFollowLog queued all first acknowledged b) (sym below) left.stands;
-      packets = out_says all first answer.after answer.told draft.with_checksum draft.packet.tag contents
-          (say_both all first draft.packet.contents (answer_contents answer) (all_later history all extends first draft.packet.contents say) left.says);
+      packets = out_says all first acknowledged answer.after answer.told draft.with_checksum draft.packet.tag contents
+          (say_both all first acknowledged draft.packet.contents (answer_contents answer) (all_later history all extends first acknowledged acknowledged (omega arith) draft.packet.contents say) left.says);
       current = left.current;
       kept = subst (λ (b : EndpointQueues). AreKept b.queue.streams left.more) (sym below) left.kept;
       handed = λ id handed. left.handed id (ap (λ (b : EndpointQueues). is_handed_out (stream_named id b.queue.streams).pause) (sym below) ∙ handed);

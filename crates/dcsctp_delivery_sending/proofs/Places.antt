@@ -35,6 +35,14 @@ pub at_below : {A : Type 0} (n : ℕ) (y : A) (l : List A) → at_place n l ≡ 
 at_below n y [] at = absurd (cc)
 at_below n y (x ∷ l) at = elim (at_cases n x y l at) [ inl e ↦ omega (arith, e.0) | inr e ↦ omega (arith, at_below n y l e) ]
 
+pub at_some : {A : Type 0} (n : ℕ) (l : List A) → n < length l → (x : A) × (at_place n l ≡ Some x)
+at_some n [] low = absurd (omega (arith, low))
+at_some n (x ∷ l) low =
+    elim (eqb_tells n (length l)) [
+      | inl e ↦ (x, rw e.0 refl)
+      | inr e ↦ (let differs = e.1 in let (y, at) = at_some n l (omega (arith, low, differs)) in (y, rw e.0 at))
+    ]
+
 pub at_stays : {A : Type 0} (n : ℕ) (x y : A) (l : List A) → at_place n l ≡ Some y → at_place n (x ∷ l) ≡ Some y
 at_stays n x y l at = at_old n x l (at_below n y l at) ∙ at
 

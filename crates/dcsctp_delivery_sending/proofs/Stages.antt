@@ -29,13 +29,17 @@ before_stays : (slot : Slot) (log : List Slot) (n : ℕ) (f : Piece) → HasBefo
 before_stays slot log n f b =
     record { earlier = b.earlier; is = b.is; before = b.before; at = at_stays b.earlier slot (Some b.before) log b.at; start = b.start; place = b.place; message = b.message; mid = b.mid; fsn = b.fsn }
 
-pub cut_none : (queued : List Message) (log : List Slot) → Cut queued log → Cut queued (None ∷ log)
-cut_none queued log cut =
+pub cut_none : (queued : List Message) (log : List Slot) → ((n : ℕ) (f : Piece) → at_place n log ≡ Some (Some f) → n + 1 ≡ length log → f.message.is_limited ≡ true) → Cut queued log → Cut queued (None ∷ log)
+cut_none queued log newest_limited cut =
     record {
       pieces = λ n f at. cut.pieces n f (with_none log n f at);
       rows = λ n f some at started. before_stays None log n f (cut.rows n f some (with_none log n f at) started);
       ascends = λ m n f g less at at'. cut.ascends m n f g less (with_none log m f at) (with_none log n g at');
       climbs = λ m n f g less at at'. cut.climbs m n f g less (with_none log m f at) (with_none log n g at');
+      shuts = λ n f at at'. elim (at_cases (n + 1) None None log at') [
+        | inl e ↦ newest_limited n f (with_none log n f at) e.0
+        | inr old ↦ cut.shuts n f (with_none log n f at) old
+      ];
     }
 
 pub cut_more : (queued : List Message) (history : History) (part : Fragment) (new : SendQueueState) (handed : HandsOutPiece queued history part new) → Cut queued history.log → Cut queued (Some handed.piece ∷ history.log)
@@ -86,6 +90,10 @@ cut_more queued history part new handed cut =
               | inl e' ↦ (let there : m ≡ length history.log = e'.0 in let below : n < length history.log = at_below n (Some g) history.log old' in absurd (omega arith))
               | inr old ↦ cut.climbs m n f g less old old' starts kind on on'
             ]
+      ];
+      shuts = λ n f at at'. elim (at_cases (n + 1) (Some handed.piece) None history.log at') [
+        | inl e ↦ absurd (let clash : Some handed.piece ≡ None = e.1 in cc)
+        | inr old ↦ cut.shuts n f (sym (at_old n (Some handed.piece) history.log (let low = at_below (n + 1) None history.log old in omega (arith, low))) ∙ at) old
       ];
     }
 

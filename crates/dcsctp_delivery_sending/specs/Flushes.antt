@@ -86,22 +86,28 @@ pub record HasLimited (log : List Slot) : Type 0 where
   pub at : at_place number log ≡ Some (Some piece)
   pub limited : piece.message.is_limited ≡ true
 
+-- Of these TSNs each that carries a piece of a message without limits is acknowledged.
+abbrev pub PassesAcknowledged : List Slot → ℕ → ℕ → Type 0
+PassesAcknowledged log acknowledged passed =
+    (n : ℕ) (f : Piece) → at_place n log ≡ Some (Some f) → n < passed → f.message.is_limited ≡ false → n < acknowledged
+
 -- A FORWARD-TSN or I-FORWARD-TSN passes assigned TSNs, and names messages of the log. It is sent only where a message was
--- abandoned.
-pub record IsForward (is_interleaved : Bool) (history : History) (first tsn : ℕ) (streams : List ℕ) : Type 0 where
+-- abandoned. So many TSNs are acknowledged cumulatively by now: each that it passes is one of these, or is of such a message.
+pub record IsForward (is_interleaved : Bool) (history : History) (first acknowledged tsn : ℕ) (streams : List ℕ) : Type 0 where
   pub passed : IsPassed history.log first tsn
   pub entries : List ((ℕ × Bool) × ℕ)
   pub is : streams ≡ flat_map (entry_bytes is_interleaved) entries
   pub names : AreForwardEntries is_interleaved history passed.passed entries
   pub limited : HasLimited history.log
+  pub reliable : PassesAcknowledged history.log acknowledged passed.passed
 
 -- A chunk of data carries what its TSN carries, and one that passes TSNs passes assigned ones.
-abbrev pub SaysPlain : History → ℕ → Plain → Type 0
-SaysPlain history first (unworked (data_chunk chunk)) = IsData history.log first chunk
-SaysPlain history first (unworked (i_data_chunk chunk)) = IsInterleaved history.log first chunk
-SaysPlain history first (unworked (forward_tsn_chunk tsn streams)) = IsForward false history first tsn streams
-SaysPlain history first (unworked (i_forward_tsn_chunk tsn streams)) = IsForward true history first tsn streams
-SaysPlain history first chunk = Unit {0}
+abbrev pub SaysPlain : History → ℕ → ℕ → Plain → Type 0
+SaysPlain history first acknowledged (unworked (data_chunk chunk)) = IsData history.log first chunk
+SaysPlain history first acknowledged (unworked (i_data_chunk chunk)) = IsInterleaved history.log first chunk
+SaysPlain history first acknowledged (unworked (forward_tsn_chunk tsn streams)) = IsForward false history first acknowledged tsn streams
+SaysPlain history first acknowledged (unworked (i_forward_tsn_chunk tsn streams)) = IsForward true history first acknowledged tsn streams
+SaysPlain history first acknowledged chunk = Unit {0}
 
 -- A reset of our streams was begun with this request.
 pub record IsBegun (history : History) (number : ℕ) (reset : RequestedReset) : Type 0 where
@@ -118,20 +124,20 @@ AreBegun history (incoming_reset_request number streams ∷ parameters) = ⊥
 AreBegun history (parameter ∷ parameters) = AreBegun history parameters
 
 -- So does any chunk of a packet,
-abbrev pub SaysContent : History → ℕ → Content → Type 0
-SaysContent history first (plain chunk) = SaysPlain history first chunk
-SaysContent history first (re_config parameters) = AreBegun history parameters
-SaysContent history first content = Unit {0}
+abbrev pub SaysContent : History → ℕ → ℕ → Content → Type 0
+SaysContent history first acknowledged (plain chunk) = SaysPlain history first acknowledged chunk
+SaysContent history first acknowledged (re_config parameters) = AreBegun history parameters
+SaysContent history first acknowledged content = Unit {0}
 
 -- each of these,
-abbrev pub SayAll : History → ℕ → List Content → Type 0
-SayAll history first [] = Unit {0}
-SayAll history first (content ∷ contents) = SaysContent history first content × SayAll history first contents
+abbrev pub SayAll : History → ℕ → ℕ → List Content → Type 0
+SayAll history first acknowledged [] = Unit {0}
+SayAll history first acknowledged (content ∷ contents) = SaysContent history first acknowledged content × SayAll history first acknowledged contents
 
 -- and each of these packets.
-abbrev pub PacketsSay : History → ℕ → List Emission → Type 0
-PacketsSay history first [] = Unit {0}
-PacketsSay history first (emission ∷ emissions) = SayAll history first emission.packet.contents × PacketsSay history first emissions
+abbrev pub PacketsSay : History → ℕ → ℕ → List Emission → Type 0
+PacketsSay history first acknowledged [] = Unit {0}
+PacketsSay history first acknowledged (emission ∷ emissions) = SayAll history first acknowledged emission.packet.contents × PacketsSay history first acknowledged emissions
 
 -- The chunk has no data, and passes nothing.
 abbrev pub NoPlain : Plain → Type 0
@@ -209,7 +215,7 @@ pub record SendsLogged (queued : List Message) (history : History) (first acknow
   pub low : length history.log ≤ bound
   pub high : bound ≤ length more + length history.log
   pub stands : QueuesFollowLog queued (with_mark begun ids bound (log_extended more history)) first acknowledged after
-  pub packets : PacketsSay (with_mark begun ids bound (log_extended more history)) first (packets_in events)
+  pub packets : PacketsSay (with_mark begun ids bound (log_extended more history)) first acknowledged (packets_in events)
   pub current : AreCurrent history more
   pub kept : AreKept after.queue.streams more
   pub handed : (id : ℕ) → is_handed_out (stream_named id after.queue.streams).pause ≡ true → (is_handed_out (stream_named id old.streams).pause ≡ true) ⊎ NamedBy begun ids id
@@ -220,5 +226,5 @@ pub record SendsLogged (queued : List Message) (history : History) (first acknow
 abbrev pub FlushesSendPieces : Type 0
 FlushesSendPieces =
     (queued : List Message) (history : History) (first acknowledged : ℕ) (e : Endpoint) (draft : Emission) (answers : List Answer) → QueuesFollowLog queued history first acknowledged e.queues
-    → SayAll history first draft.packet.contents → FlushAnswers e draft answers
+    → SayAll history first acknowledged draft.packet.contents → FlushAnswers e draft answers
     → SendsLogged queued history first acknowledged e.queues.queue (reset_begun_by answers) (flush_of e draft answers).after.queues (flush_of e draft answers).events

@@ -81,7 +81,8 @@ pub record HasBefore (log : List Slot) (number : ℕ) (piece : Piece) : Type 0 w
 
 -- The log is one of messages that were queued. The pieces of a message follow one another; only the first TSN of an association
 -- may carry the rest of a message whose beginning was sent in an earlier one. Of two messages of a stream the one that is begun
--- later was queued later, and with interleaving has the higher number, if both are ordered or both unordered.
+-- later was queued later, and with interleaving has the higher number, if both are ordered or both unordered. Right after a piece
+-- an end without one is that of its message, which may be abandoned.
 pub record Cut (queued : List Message) (log : List Slot) : Type 0 where
   pub pieces : (n : ℕ) (f : Piece) → at_place n log ≡ Some (Some f) → IsPiece queued f
   pub rows : (n : ℕ) (f : Piece) → 0 < n → at_place n log ≡ Some (Some f) → 0 < f.start → HasBefore log n f
@@ -89,6 +90,7 @@ pub record Cut (queued : List Message) (log : List Slot) : Type 0 where
       → f.message.stream ≡ g.message.stream → f.place < g.place
   pub climbs : (m n : ℕ) (f g : Piece) → m < n → at_place m log ≡ Some (Some f) → at_place n log ≡ Some (Some g) → g.start ≡ 0 → g.is_interleaved ≡ true
       → f.message.stream ≡ g.message.stream → f.message.is_unordered ≡ g.message.is_unordered → f.mid < g.mid
+  pub shuts : (n : ℕ) (f : Piece) → at_place n log ≡ Some (Some f) → at_place (n + 1) log ≡ Some None → f.message.is_limited ≡ true
 
 -- ---- what the sender of an association has done
 

@@ -135,7 +135,7 @@ module _ (kinds : Capabilities) where
   action_is : (came : Option Content) (to : ℕ) (old new : Ledger) → LedgerIs old → Action came to old new → LedgerIs new
   action_is came to old _ h (actions.queues now sending fits some) = record { left = h.left; says = h.says }
   action_is came to old _ h (actions.sets setting small) = record { left = h.left; says = h.says }
-  action_is came to old _ h (actions.flushes e draft answers below at same no_data no_end stale allowed) =
+  action_is came to old _ h (actions.flushes e draft answers below at same no_data no_end stale reports allowed) =
       let keeps = flush_keeps e draft answers (subst (λ (b : EndpointQueues). TransferIs kinds b.transfer) (sym below) h.left) (no_data_goes kinds draft.packet.contents no_data stale) allowed in
       record { left = keeps.left; says = all_append _ old.sent (packets_in (flush_of e draft answers).events) h.says keeps.says }
   action_is came to old _ h (actions.resends now room transfer left tsns chunks emission tag known sends are contents) =
@@ -146,7 +146,7 @@ module _ (kinds : Capabilities) where
       }
   action_is came to old _ h (actions.resends_nothing now room transfer left tsns known sends) =
       record { left = at_once_is kinds now room old.queues.queue transfer.retransmission left tsns (of_known transfer old.queues.transfer known h.left) sends; says = h.says }
-  action_is came to old _ h (actions.speaks emission no_data stale) = record { left = h.left; says = all_append _ old.sent (emission ∷ []) h.says (spoken_goes kinds emission.packet.contents no_data stale, tt) }
+  action_is came to old _ h (actions.speaks emission no_data stale reports) = record { left = h.left; says = all_append _ old.sent (emission ∷ []) h.says (spoken_goes kinds emission.packet.contents no_data stale, tt) }
   action_is came to old _ h (actions.asks_again emission begun tag has contents) =
       record { left = h.left; says = all_append _ old.sent (emission ∷ []) h.says (subst (ContentsAllowed kinds) (sym contents) tt, tt) }
   action_is came to old _ h (actions.acknowledges now sack transfer new may known valid takes) =

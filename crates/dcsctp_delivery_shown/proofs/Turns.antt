@@ -182,7 +182,7 @@ module _ (kinds : Capabilities) where
         };
         says = subst (AreAllowed kinds) (sym packets) (subst (ContentsAllowed kinds) (sym contents) tt, tt);
       })
-  becomes_is came to adds taken e o h so (ends none unread last own makes is) =
+  becomes_is came to adds taken e o h so (ends none unread reported last own makes is) =
       let made : MadeIs last (packets_in o.events) = makes_is came to adds taken (inside e) last (packets_in o.events) (record { left = h.left; asks = h.asks }) makes in
       record {
         moves = link_ends none;

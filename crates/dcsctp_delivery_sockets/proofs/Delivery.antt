@@ -39,20 +39,19 @@ use Rattle.std.specs.List.{AllByRecursion}
 use Rattle.std.specs.Prelude.{not, ◌&&◌}
 use Rattle.dcsctp_delivery_order.specs.Delivered.{DeliveredInOrder, DeliveredWithoutGaps}
 use Rattle.dcsctp_delivery_associations.specs.InOrder.{Interleaves, InterleavesUnder}
-use Rattle.dcsctp_delivery_associations.specs.InOrder.{IsFewKept}
+use Rattle.dcsctp_delivery_associations.specs.InOrder.{IsReliableKept}
 use Rattle.dcsctp_delivery_order.proofs.StreamDirections.{are_unlimited_on as unlimited_test, unlimited_so, so_unlimited}
 use Rattle.dcsctp_delivery_receiving.proofs.Joining.{both}
-use Rattle.std.proofs.lemmas.Bool.Decides.{nat_tests}
-use Rattle.std.specs.Prelude.{nat_lt}
-use Rattle.dcsctp_delivery_order.specs.PlainDirections.{ordered_on}
 use Rattle.dcsctp_delivery_associations.specs.Ends.{BeginsAnew, HadBoth, chunks_before, IsOnlyOwn}
 use Rattle.dcsctp_spec_lemmas.specs.spec.endpoint.MessageOutcomes.{Sending}
 use Rattle.dcsctp_spec_lemmas.specs.spec.endpoint.Turn.{Input, arrival, refusal, packet_begins, chunk_input, packet_ends, act_input, user_sets, user_sends, user_resets, user_takes, timer_expires, time_passes, restores}
 use Rattle.dcsctp_delivery_order.specs.PlainDirections.{FewOnEachStream}
 use Rattle.dcsctp_delivery_sending.specs.Losing.{AreUnlimited}
-use Rattle.dcsctp_delivery_sockets.specs.Ordered.{SetsNoLimits, SendsFew, NeverResets, IsFewReliable, IsDeliveredOn}
-use Rattle.dcsctp_delivery_sockets.proofs.FewSent.{few_queued_on, fewer_queued}
-use Rattle.dcsctp_delivery_associations.proofs.InOrder.{ends_deliver_in_order, ends_deliver_data_in_order, ends_deliver_by_stream, ends_deliver_data_by_stream, ends_deliver_few_by_stream, ends_deliver_without_gaps, nothing_in_order, nothing_before, nothing_by_stream, nothing_on}
+use Rattle.dcsctp_delivery_sockets.specs.Ordered.{SetsNoLimits, SendsFew, IsDeliveredOn}
+use Rattle.dcsctp_delivery_sockets.proofs.FewSent.{few_queued_on}
+use Rattle.dcsctp_delivery_associations.proofs.InOrder.{ends_deliver_in_order, ends_deliver_data_in_order, ends_deliver_by_stream, ends_deliver_on_streams, ends_deliver_without_gaps, nothing_in_order, nothing_before, nothing_by_stream, nothing_on}
+use Rattle.dcsctp_delivery_associations.proofs.Heard.{one_heard, silent_or_free}
+use Rattle.dcsctp_delivery_sockets.proofs.PacketBack.{turns_back, packet_back}
 use Rattle.dcsctp_delivery_sockets.proofs.Calls.{AreCalls, call_without, call_is, input_is}
 use Rattle.dcsctp_delivery_sockets.proofs.Echoes.{echoes_go_to_makers}
 use Rattle.dcsctp_delivery_sockets.proofs.KnownPeers.{IsMove}
@@ -124,7 +123,8 @@ module _ (law : Below) (never_resets their_never : ℕ → Bool) (mine theirs : 
       let opens : AllOpenFitting more = packet_opens law.offers e bytes out.emission more fits out.good.good.sendable is taken in
       let calls : AreCalls more = input_is e bytes more taken in
       record {
-        sends = sender_more never_resets mine theirs turns others more sends known matched stands side.performed side.found side.restored calls opens (packet_echoes e bytes out.emission more out.good.good.goes is taken);
+        sends = sender_more never_resets mine theirs turns others more sends known matched stands side.performed side.found side.restored calls opens (packet_echoes e bytes out.emission more out.good.good.goes is taken)
+            (packet_back (packets_of others) out.emission out.good.has e bytes more out.good.good.goes (silent_or_free sends.ends.gets (noted_past others) out.emission (one_heard sends.ends.gets (noted_past others) (packets_of others) out.emission sends.reported out.good.has)) is taken);
         receives = receiver_handles their_never never_resets theirs mine others turns more receives known their_known.tags matched stands side.found side.restored their_known.little bytes out.emission out.good.has
             out.good.good is taken calls opens;
         side_stands = stand_so calls opens;
@@ -141,7 +141,7 @@ module _ (law : Below) (never_resets their_never : ℕ → Bool) (mine theirs : 
       let calls : AreCalls more = call_is (endpoint_after mine turns) call more in_memory taken in
       let none = call_without (endpoint_after mine turns) call more taken in
       record {
-        sends = sender_more never_resets mine theirs turns others more sends known matched stands side.performed side.found side.restored calls (none_open more none) (none_echo more none);
+        sends = sender_more never_resets mine theirs turns others more sends known matched stands side.performed side.found side.restored calls (none_open more none) (none_echo more none) (turns_back (packets_of others) (endpoint_after mine turns) more none);
         receives = receiver_calls their_never never_resets theirs mine others turns more receives known their_known.tags matched stands side.found side.restored their_known.little call taken calls;
         side_stands = stand_so calls (none_open more none);
       }
@@ -354,15 +354,10 @@ module _ (never_resets : ℕ → Bool) (mine theirs : Options) (turns others : L
         ends_deliver_by_stream theirs h.ends (endpoint_after mine turns) (queued_of mine turns) (noted_past turns) (packets_of turns) (endpoint_after theirs others) (noted_past others) (reading_of theirs others) h.between
         (few_queued mine turns little) few_went key (only_own only) (interleaves_so interleaves)
 
-    data_of : HasOneTag (noted_past turns) → SetsNoLimits mine turns → DeliveredOn h.ends.never_resets (queued_of mine turns) (with_key key (reading_of theirs others).reads)
-    data_of only unlimited =
-        ends_deliver_data_by_stream theirs h.ends (endpoint_after mine turns) (queued_of mine turns) (noted_past turns) (packets_of turns) (endpoint_after theirs others) (noted_past others) (reading_of theirs others) h.between
-        (few_queued mine turns little) few_went window (are_unlimited (queued_of mine turns) sent_all sent_same unlimited) key (only_own only)
-
-    few_of : (these : ℕ → Bool) → ((id : ℕ) → these id ≡ true → IsFewKept h.ends.never_resets (queued_of mine turns) id) → HasOneTag (noted_past turns) → DeliveredOn these (queued_of mine turns) (with_key key (reading_of theirs others).reads)
-    few_of these are only =
-        ends_deliver_few_by_stream theirs h.ends (endpoint_after mine turns) (queued_of mine turns) (noted_past turns) (packets_of turns) (endpoint_after theirs others) (noted_past others) (reading_of theirs others) h.between
-        (few_queued mine turns little) few_went these are key (only_own only)
+    these_of : (these : ℕ → Bool) → ((id : ℕ) → these id ≡ true → IsReliableKept h.ends.never_resets (queued_of mine turns) id) → HasOneTag (noted_past turns) → DeliveredOn these (queued_of mine turns) (with_key key (reading_of theirs others).reads)
+    these_of these are only =
+        ends_deliver_on_streams theirs h.ends (endpoint_after mine turns) (queued_of mine turns) (noted_past turns) (packets_of turns) (endpoint_after theirs others) (noted_past others) (reading_of theirs others) h.between
+        (few_queued mine turns little) few_went window these are key (only_own only)
 
   -- What was read under a tag was read of one key of the sender, or nothing was.
   by_key : (P : List MessageContent → Type 0) (tag : ℕ) → P [] → ((key : ℕ) → HadBoth (noted_past turns) key tag → (their_link : AssociationIdentity) → HasEffect (holds their_link) (noted_past others) → their_link.my.tag ≡ tag → P (with_key key (reading_of theirs others).reads)) → P (read_under tag theirs others)
@@ -394,36 +389,24 @@ module _ (never_resets : ℕ → Bool) (mine theirs : Options) (turns others : L
       ))
       (by_key (DeliveredByStream h.ends.never_resets (queued_of mine turns)) tag (nothing_by_stream h.ends.never_resets (queued_of mine turns) [] refl) (λ key both their_link held own. streams_of tag key both their_link held own only interleaves))
 
-  one_on_streams : ((stream : ℕ) → resets_none turns stream ≡ true → never_resets stream ≡ true) → (tag : ℕ) → HasOneTag (noted_past turns) → SetsNoLimits mine turns
-      → IsDeliveredOn (NeverResets turns) sent_all (read_under tag theirs others)
-  one_on_streams never tag only unlimited =
-      is_on h.ends.never_resets (NeverResets turns) (queued_of mine turns) sent_all (read_under tag theirs others) sent_same
-      (λ stream none. ap (λ (n : ℕ → Bool). n stream) h.is ∙ never stream (none_reset stream turns none))
-      (by_key (DeliveredOn h.ends.never_resets (queued_of mine turns)) tag (nothing_on h.ends.never_resets (queued_of mine turns) [] refl) (λ key both their_link held own. data_of tag key both their_link held own only unlimited))
+  -- the streams that are never reset, with no limits
+  abbrev reliable_kept : ℕ → Bool
+  reliable_kept id = h.ends.never_resets id && unlimited_test id (queued_of mine turns)
 
-  -- the streams that are never reset, with few messages and no limits
-  abbrev few_kept : ℕ → Bool
-  few_kept id = h.ends.never_resets id && (unlimited_test id (queued_of mine turns) && nat_lt (ordered_on id (queued_of mine turns)) (2 ^ 15))
+  kept_so : (id : ℕ) → reliable_kept id ≡ true → IsReliableKept h.ends.never_resets (queued_of mine turns) id
+  kept_so id is =
+      let (never, unlimited) = both (h.ends.never_resets id) (unlimited_test id (queued_of mine turns)) is in
+      record { never = never; unlimited = unlimited_so id (queued_of mine turns) unlimited }
 
-  kept_few : (id : ℕ) → few_kept id ≡ true → IsFewKept h.ends.never_resets (queued_of mine turns) id
-  kept_few id is =
-      let first = both (h.ends.never_resets id) (unlimited_test id (queued_of mine turns) && nat_lt (ordered_on id (queued_of mine turns)) (2 ^ 15)) is in
-      let rest = both (unlimited_test id (queued_of mine turns)) (nat_lt (ordered_on id (queued_of mine turns)) (2 ^ 15)) first.1 in
-      let less = rest.1 in
-      record { never = first.0; unlimited = unlimited_so id (queued_of mine turns) rest.0; few = grind (arith, nat_tests, less) }
+  reliable_so : ((stream : ℕ) → resets_none turns stream ≡ true → never_resets stream ≡ true) → (stream : ℕ) → IsReliable mine turns stream → reliable_kept stream ≡ true
+  reliable_so never stream is =
+      let never_is : h.ends.never_resets stream ≡ true = ap (λ (n : ℕ → Bool). n stream) h.is ∙ never stream (none_reset stream turns is.never_resets) in
+      rw never_is (so_unlimited stream (queued_of mine turns) (are_unlimited_on stream (queued_of mine turns) sent_all sent_same is.unlimited))
 
-  few_so : ((stream : ℕ) → resets_none turns stream ≡ true → never_resets stream ≡ true) → (stream : ℕ) → IsFewReliable mine turns stream → few_kept stream ≡ true
-  few_so never stream is =
-      let never_is : h.ends.never_resets stream ≡ true = ap (λ (n : ℕ → Bool). n stream) h.is ∙ never stream (none_reset stream turns is.reliable.never_resets) in
-      let fewer = fewer_queued stream (queued_of mine turns) sent_all sent_same in
-      let all = is.few in
-      let less : nat_lt (ordered_on stream (queued_of mine turns)) (2 ^ 15) ≡ true = grind (arith, nat_tests, fewer, all) in
-      rw never_is (rw (so_unlimited stream (queued_of mine turns) (are_unlimited_on stream (queued_of mine turns) sent_all sent_same is.reliable.unlimited)) less)
-
-  one_on_few : ((stream : ℕ) → resets_none turns stream ≡ true → never_resets stream ≡ true) → (tag : ℕ) → HasOneTag (noted_past turns) → IsDeliveredOn (IsFewReliable mine turns) sent_all (read_under tag theirs others)
-  one_on_few never tag only =
-      is_on few_kept (IsFewReliable mine turns) (queued_of mine turns) sent_all (read_under tag theirs others) sent_same (few_so never)
-      (by_key (DeliveredOn few_kept (queued_of mine turns)) tag (nothing_on few_kept (queued_of mine turns) [] refl) (λ key both' their_link held own. few_of tag key both' their_link held own few_kept kept_few only))
+  one_on_streams : ((stream : ℕ) → resets_none turns stream ≡ true → never_resets stream ≡ true) → (tag : ℕ) → HasOneTag (noted_past turns) → IsDeliveredOn (IsReliable mine turns) sent_all (read_under tag theirs others)
+  one_on_streams never tag only =
+      is_on reliable_kept (IsReliable mine turns) (queued_of mine turns) sent_all (read_under tag theirs others) sent_same (reliable_so never)
+      (by_key (DeliveredOn reliable_kept (queued_of mine turns)) tag (nothing_on reliable_kept (queued_of mine turns) [] refl) (λ key both' their_link held own. these_of tag key both' their_link held own reliable_kept kept_so only))
 
 pub sockets_deliver : DeliveryLaws → SocketsDeliver
 sockets_deliver law options run are in_memory runs honest fresh allows side =
@@ -446,7 +429,6 @@ sockets_deliver law options run are in_memory runs honest fresh allows side =
           no_gaps = one_without_gaps (resets_none turns.b) options.b options.a turns.b turns.a (allows.little sides.B) (allows.together sides.B) h.to_a (window sides.A) known.b.tags known.a.tags (λ stream is. is);
           by_stream = one_by_stream (resets_none turns.b) options.b options.a turns.b turns.a (allows.little sides.B) (allows.together sides.B) h.to_a (window sides.A) known.b.tags known.a.tags (λ stream is. is);
           on_streams = one_on_streams (resets_none turns.b) options.b options.a turns.b turns.a (allows.little sides.B) (allows.together sides.B) h.to_a (window sides.A) known.b.tags known.a.tags (λ stream is. is);
-          on_few = one_on_few (resets_none turns.b) options.b options.a turns.b turns.a (allows.little sides.B) (allows.together sides.B) h.to_a (window sides.A) known.b.tags known.a.tags (λ stream is. is);
         }
     both_deliver h sides.B =
         record {
@@ -455,5 +437,4 @@ sockets_deliver law options run are in_memory runs honest fresh allows side =
           no_gaps = one_without_gaps (resets_none turns.a) options.a options.b turns.a turns.b (allows.little sides.A) (allows.together sides.A) h.to_b (window sides.B) known.a.tags known.b.tags (λ stream is. is);
           by_stream = one_by_stream (resets_none turns.a) options.a options.b turns.a turns.b (allows.little sides.A) (allows.together sides.A) h.to_b (window sides.B) known.a.tags known.b.tags (λ stream is. is);
           on_streams = one_on_streams (resets_none turns.a) options.a options.b turns.a turns.b (allows.little sides.A) (allows.together sides.A) h.to_b (window sides.B) known.a.tags known.b.tags (λ stream is. is);
-          on_few = one_on_few (resets_none turns.a) options.a options.b turns.a turns.b (allows.little sides.A) (allows.together sides.A) h.to_b (window sides.B) known.a.tags known.b.tags (λ stream is. is);
         }

@@ -60,7 +60,7 @@ count_both false n k below = below
 same_sending : {one two : Sending} → Some one ≡ Some two → one ≡ two
 same_sending is = cc
 
-pub fewer_queued : (stream : ℕ) (queued : List Message) (sent : List Sending) → SaysSame (λ sending. sending) queued sent → ordered_on stream queued ≤ ordered_sent stream sent
+fewer_queued : (stream : ℕ) (queued : List Message) (sent : List Sending) → SaysSame (λ sending. sending) queued sent → ordered_on stream queued ≤ ordered_sent stream sent
 fewer_queued stream [] sent h = omega arith
 fewer_queued stream (message ∷ queued) sent h =
     let end = has_last sent (length queued) (let size = h.size in omega (arith, size)) in

@@ -1,6 +1,7 @@
 pub mod Echoes
 pub mod Packets
 pub mod PacketTurns
+pub mod PacketBack
 pub mod Calls
 pub mod Acts
 pub mod UserMessages

@@ -345,7 +345,7 @@ module _ (e : Endpoint) (past : List Effect) (t : Transition) (follows : e.optio
   by_becomes (becomes.pauses ids resets calm linked small makes) = stays linked
   by_becomes (becomes.works_resets linked between inside ended peer makes) = stays linked
   by_becomes (becomes.renews calm linked alike unread own number emission kept out after packets goes contents) = stays linked
-  by_becomes (becomes.ends gone unread last own makes below) = λ opens link linked. (let clash : ◌≡◌ {A = Option AssociationIdentity} None (Some link) = sym gone ∙ linked in absurd (cc))
+  by_becomes (becomes.ends gone unread silent last own makes below) = λ opens link linked. (let clash : ◌≡◌ {A = Option AssociationIdentity} None (Some link) = sym gone ∙ linked in absurd (cc))
   by_becomes (becomes.begins begun opening linked alike unread again makes) = anew (identity_of begun.my begun.held) begun.later opening linked begun.noted
   by_becomes (becomes.collides collision alike unread again makes) = anew collision.opened.link collision.opened.later collision.opened.opening collision.opened.linked collision.opened.noted
 

@@ -1,12 +1,14 @@
 -- The turns of a packet that the sender sent leave what is known of all associations.
-use Rattle.std.proofs.Common.{◌≡◌, ℕ, Bool, true, false, ◌<◌, ◌^◌, Some, List, [], ◌∷◌, length, refl, sym, ◌∙◌, ap, subst, inl, inr, ◌≢◌}
+use Rattle.std.proofs.Common.{◌≡◌, ℕ, Bool, true, false, ◌<◌, ◌^◌, Some, List, [], ◌∷◌, ◌++◌, length, refl, sym, ◌∙◌, ap, subst, append_assoc, inl, inr, ◌≢◌}
+use Rattle.std.proofs.lemmas.List.{append-nil}
 use Rattle.std.specs.Prelude.{◌⊎◌, Option, None, ◌&&◌}
 use Rattle.dcsctp_spec_lemmas.specs.types.declared.options.Options.{Options}
 use Rattle.dcsctp_spec_lemmas.specs.spec.Admission.{Admission, all_chunks, shutdown_acks_alone, refused, admits, is_echo_in_front, shutdown_acks_in}
 use Rattle.dcsctp_spec_lemmas.specs.spec.endpoint.MessageOutcomes.{awaits_opening}
 use Rattle.dcsctp_spec_lemmas.specs.spec.association.Acts.{shut_down}
-use Rattle.dcsctp_spec_lemmas.specs.spec.endpoint.CallTurns.{packet_tail, asked_again, Transition, IsTurn, Turns, AfterChunk, ChunkTurns, WholeTurns, AdmittedTurns, after_all, effects_of}
+use Rattle.dcsctp_spec_lemmas.specs.spec.endpoint.CallTurns.{packet_tail, asked_again, Transition, IsTurn, Turns, AfterChunk, ChunkTurns, WholeTurns, AdmittedTurns, after_all, effects_of, events_of}
 use Rattle.dcsctp_spec_lemmas.specs.spec.endpoint.Endpoint.{Endpoint, Core, closed, cookie_wait, cookie_echoed, open_in, established, shutdown_pending, shutdown_sent, shutdown_received, shutdown_ack_sent, own_tag, is_cookie_echoed}
+use Rattle.dcsctp_spec_lemmas.specs.spec.endpoint.Event.{packets_in}
 use Rattle.dcsctp_spec_lemmas.specs.spec.endpoint.Following.{Following, next_chunk, packet_end, dropped_rest}
 use Rattle.dcsctp_spec_lemmas.specs.spec.endpoint.Outcome.{Outcome, still}
 use Rattle.dcsctp_spec_lemmas.specs.spec.Packet.{Content, init, init_ack, cookie_echo, cookie_ack, re_config, abort, shutdown, shutdown_ack, shutdown_complete, plain, Emission}
@@ -15,6 +17,7 @@ use Rattle.dcsctp_spec_runs.specs.World.{after_effects}
 use Rattle.dcsctp_spec_lemmas.specs.spec.association.Effect.{AssociationIdentity, Effect, identity_in, holds}
 use Rattle.dcsctp_spec_lemmas.specs.spec.queues.Transfer.{Transfer}
 use Rattle.dcsctp_theorem_association.proofs.Growth.{after_effects-append}
+use Rattle.dcsctp_theorem_sockets.proofs.Bursts.{packets_in-append}
 use Rattle.dcsctp_delivery_sending.specs.Log.{Message}
 use Rattle.dcsctp_delivery_sending.specs.Places as places
 use Rattle.dcsctp_delivery_sending.specs.Flushes.{NoData}
@@ -57,42 +60,66 @@ acks_none (shutdown t ∷ contents) = acks_none contents
 acks_none (shutdown_complete r ∷ contents) = acks_none contents
 acks_none (plain c ∷ contents) = acks_none contents
 
+-- the tag of the association after the first chunk, if more is handled
+pub front_tag : (tag : ℕ) (d : Endpoint) (content : Content) (contents : List Content) (t : Transition) → IsTurn d (chunk_input tag content) t → ContentsGo tag (content ∷ contents)
+    → (is_echo_in_front (content ∷ contents) ≡ false → own_tag d.core ≡ tag) → t.outcome.following ≡ next_chunk → TagIs tag t.outcome.after
+front_tag tag d (cookie_echo bytes) contents t turn go own next =
+    own_is t.outcome.after.core tag (echoes_own d tag bytes go.0.cookie t.outcome go.0.reads go.0.under turn.comes next)
+front_tag tag d (init_ack theirs cookie) contents t turn go own next = init_ack_tag tag d theirs cookie t.outcome (own refl) turn.comes
+front_tag tag d (init introduction) contents t turn go own next = tag_stays tag d (chunk_input tag (init introduction)) t.outcome (λ opening. opening) tt (own_is d.core tag (own refl)) turn.comes
+front_tag tag d cookie_ack contents t turn go own next = tag_stays tag d (chunk_input tag cookie_ack) t.outcome (λ opening. opening) tt (own_is d.core tag (own refl)) turn.comes
+front_tag tag d (re_config p) contents t turn go own next = tag_stays tag d (chunk_input tag (re_config p)) t.outcome (λ opening. opening) tt (own_is d.core tag (own refl)) turn.comes
+front_tag tag d (abort r c) contents t turn go own next = tag_stays tag d (chunk_input tag (abort r c)) t.outcome (λ opening. opening) tt (own_is d.core tag (own refl)) turn.comes
+front_tag tag d (shutdown tsn) contents t turn go own next = tag_stays tag d (chunk_input tag (shutdown tsn)) t.outcome (λ opening. opening) tt (own_is d.core tag (own refl)) turn.comes
+front_tag tag d shutdown_ack contents t turn go own next = tag_stays tag d (chunk_input tag shutdown_ack) t.outcome (λ opening. opening) tt (own_is d.core tag (own refl)) turn.comes
+front_tag tag d (shutdown_complete r) contents t turn go own next = tag_stays tag d (chunk_input tag (shutdown_complete r)) t.outcome (λ opening. opening) tt (own_is d.core tag (own refl)) turn.comes
+front_tag tag d (plain chunk) contents t turn go own next = tag_stays tag d (chunk_input tag (plain chunk)) t.outcome (λ opening. opening) tt (own_is d.core tag (own refl)) turn.comes
+
+-- the packets of a turn and of those after it
+pub packets_apart : (packets : List Emission) (t : Transition) (turns : List Transition) → (packets ++ packets_in t.outcome.events) ++ packets_in (events_of turns) ≡ packets ++ packets_in (events_of (t ∷ turns))
+packets_apart packets t turns = append_assoc packets (packets_in t.outcome.events) (packets_in (events_of turns)) ∙ ap (λ (l : List Emission). packets ++ l) (sym (packets_in-append t.outcome.events (events_of turns)))
+
 module _ (never_resets : ℕ → Bool) (options : Options) (e : Endpoint) (queued : List Message) (past : List Effect) (packets : List Emission) (few : length queued < 2 ^ 64) (little : AsksLittle packets) (emission : Emission) (has : places.HasEntry emission packets) where
-  abbrev Have : Endpoint → List Effect → Reading → Type 0
-  Have d their_past reading = AreEnds never_resets options e queued past packets d their_past reading
+  abbrev Have : List Emission → Endpoint → List Effect → Reading → Type 0
+  Have heard d their_past reading = AreEnds never_resets heard options e queued past packets d their_past reading
 
   -- what is to be shown of turns
-  abbrev Leave : Endpoint → List Effect → Reading → List Transition → Type 0
-  Leave d their_past reading turns = Have (after_all d turns) (after_effects (effects_of turns) their_past) (reading_through d turns reading)
+  abbrev Leave : List Emission → Endpoint → List Effect → Reading → List Transition → Type 0
+  Leave heard d their_past reading turns = Have (heard ++ packets_in (events_of turns)) (after_all d turns) (after_effects (effects_of turns) their_past) (reading_through d turns reading)
 
   -- one turn, and the others
-  then_others : (d : Endpoint) (their_past : List Effect) (reading : Reading) (t : Transition) (turns : List Transition)
-      → Leave t.outcome.after (after_effects t.outcome.effects their_past) (reading_after d t.input t.outcome.after reading) turns → Leave d their_past reading (t ∷ turns)
-  then_others d their_past reading t turns rest =
-      subst (λ (l : List Effect). Have (after_all t.outcome.after turns) l (reading_through t.outcome.after turns (reading_after d t.input t.outcome.after reading))) (sym (after_effects-append t.outcome.effects (effects_of turns) their_past)) rest
+  then_others : (heard : List Emission) (d : Endpoint) (their_past : List Effect) (reading : Reading) (t : Transition) (turns : List Transition)
+      → Leave (heard ++ packets_in t.outcome.events) t.outcome.after (after_effects t.outcome.effects their_past) (reading_after d t.input t.outcome.after reading) turns → Leave heard d their_past reading (t ∷ turns)
+  then_others heard d their_past reading t turns rest =
+      subst (λ (l : List Effect). Have (heard ++ packets_in (events_of (t ∷ turns))) (after_all t.outcome.after turns) l (reading_through t.outcome.after turns (reading_after d t.input t.outcome.after reading))) (sym (after_effects-append t.outcome.effects (effects_of turns) their_past))
+      (subst (λ (l : List Emission). Have l (after_all t.outcome.after turns) (after_effects (effects_of turns) (after_effects t.outcome.effects their_past)) (reading_through t.outcome.after turns (reading_after d t.input t.outcome.after reading))) (packets_apart heard t turns) rest)
 
-  one_turn : (d : Endpoint) (their_past : List Effect) (reading : Reading) (input : Input) (t : Transition) → (h : Have d their_past reading) → IsTurn d input t
+  -- no turn
+  no_others : (heard : List Emission) (d : Endpoint) (their_past : List Effect) (reading : Reading) → Have heard d their_past reading → Leave heard d their_past reading []
+  no_others heard d their_past reading h = subst (λ (l : List Emission). Have l d their_past reading) (sym (append-nil heard)) h
+
+  one_turn : (heard : List Emission) (d : Endpoint) (their_past : List Effect) (reading : Reading) (input : Input) (t : Transition) → (h : Have heard d their_past reading) → IsTurn d input t
       → AreNewTags options their_past past d (t ∷ [])
       → ((transfer : Transfer) (link : AssociationIdentity) → d.queues.transfer ≡ Some transfer → identity_in d.core ≡ Some link → WasSent (h.ends.sends link.peer.tag).sent (came_by input) × (HadBoth past link.peer.tag link.my.tag ⊎ WasSent [] (came_by input))) → IsCall input
-      → Have t.outcome.after (after_effects t.outcome.effects their_past) (reading_after d t.input t.outcome.after reading)
-  one_turn d their_past reading input t h turn new sent may =
-      subst (λ (i : Input). Have t.outcome.after (after_effects t.outcome.effects their_past) (reading_after d i t.outcome.after reading)) (sym turn.is)
-      (subst (λ (n : ℕ → Bool). AreEnds n options e queued past packets t.outcome.after (after_effects t.outcome.effects their_past) (reading_after d input t.outcome.after reading)) h.is
+      → Have (heard ++ packets_in t.outcome.events) t.outcome.after (after_effects t.outcome.effects their_past) (reading_after d t.input t.outcome.after reading)
+  one_turn heard d their_past reading input t h turn new sent may =
+      subst (λ (i : Input). Have (heard ++ packets_in t.outcome.events) t.outcome.after (after_effects t.outcome.effects their_past) (reading_after d i t.outcome.after reading)) (sym turn.is)
+      (subst (λ (n : ℕ → Bool). AreEnds n (heard ++ packets_in t.outcome.events) options e queued past packets t.outcome.after (after_effects t.outcome.effects their_past) (reading_after d input t.outcome.after reading)) h.is
       (receiver_turns options h.ends e queued past packets d their_past reading h.between few new.0 input t.outcome (λ begun opening linked. new.1 begun (subst (λ (i : Input). IsOpening (came_by i)) (sym turn.is) opening) linked)
-      h.answered little new.3.0 may turn.comes new.2 sent))
+      h.answered little new.3.0 may turn.comes heard h.reported new.2 sent))
 
   -- A chunk that is dropped changes nothing.
-  drops : (d : Endpoint) (their_past : List Effect) (reading : Reading) (tag : ℕ) (content : Content) (t : Transition) (link : AssociationIdentity) → Have d their_past reading → IsTurn d (chunk_input tag content) t → identity_in d.core ≡ Some link
-      → reading.last ≡ tags_of link → t.outcome ≡ still d → Have t.outcome.after (after_effects t.outcome.effects their_past) (reading_after d t.input t.outcome.after reading)
-  drops d their_past reading tag content t link h turn linked last dropped =
-      subst (λ (i : Input). Have t.outcome.after (after_effects t.outcome.effects their_past) (reading_after d i t.outcome.after reading)) (sym turn.is)
-      (subst (λ (x : Outcome). Have x.after (after_effects x.effects their_past) (reading_after d (chunk_input tag content) x.after reading)) (sym dropped)
-      (subst (λ (l : Tags). Have d their_past (record { reads = reading.reads; last = l })) (last ∙ sym (ap (tags_or reading.last) linked)) h))
+  drops : (heard : List Emission) (d : Endpoint) (their_past : List Effect) (reading : Reading) (tag : ℕ) (content : Content) (t : Transition) (link : AssociationIdentity) → Have heard d their_past reading → IsTurn d (chunk_input tag content) t → identity_in d.core ≡ Some link
+      → reading.last ≡ tags_of link → t.outcome ≡ still d → Have (heard ++ packets_in t.outcome.events) t.outcome.after (after_effects t.outcome.effects their_past) (reading_after d t.input t.outcome.after reading)
+  drops heard d their_past reading tag content t link h turn linked last dropped =
+      subst (λ (i : Input). Have (heard ++ packets_in t.outcome.events) t.outcome.after (after_effects t.outcome.effects their_past) (reading_after d i t.outcome.after reading)) (sym turn.is)
+      (subst (λ (x : Outcome). Have (heard ++ packets_in x.events) x.after (after_effects x.effects their_past) (reading_after d (chunk_input tag content) x.after reading)) (sym dropped)
+      (subst (λ (l : Tags). Have (heard ++ []) d their_past (record { reads = reading.reads; last = l })) (last ∙ sym (ap (tags_or reading.last) linked)) (no_others heard d their_past reading h)))
 
-  chunk_turn : (d : Endpoint) (their_past : List Effect) (reading : Reading) (tag : ℕ) (content : Content) (t : Transition) → Have d their_past reading → IsTurn d (chunk_input tag content) t
+  chunk_turn : (heard : List Emission) (d : Endpoint) (their_past : List Effect) (reading : Reading) (tag : ℕ) (content : Content) (t : Transition) → Have heard d their_past reading → IsTurn d (chunk_input tag content) t
       → AreNewTags options their_past past d (t ∷ []) → MayHandle emission d content
-      → Have t.outcome.after (after_effects t.outcome.effects their_past) (reading_after d t.input t.outcome.after reading)
-  chunk_turn d their_past reading tag content t h turn new may = by_transfer d.queues.transfer refl
+      → Have (heard ++ packets_in t.outcome.events) t.outcome.after (after_effects t.outcome.effects their_past) (reading_after d t.input t.outcome.after reading)
+  chunk_turn heard d their_past reading tag content t h turn new may = by_transfer d.queues.transfer refl
     where
       own_link : (one two : AssociationIdentity) → identity_in d.core ≡ Some one → identity_in d.core ≡ Some two → one ≡ two
       own_link one two first second = cc
@@ -102,16 +129,16 @@ module _ (never_resets : ℕ → Bool) (options : Options) (e : Endpoint) (queue
 
       goes : ((transfer : Transfer) (link : AssociationIdentity) → d.queues.transfer ≡ Some transfer → identity_in d.core ≡ Some link
           → WasSent (h.ends.sends link.peer.tag).sent (Some content) × (HadBoth past link.peer.tag link.my.tag ⊎ WasSent [] (Some content)))
-          → Have t.outcome.after (after_effects t.outcome.effects their_past) (reading_after d t.input t.outcome.after reading)
-      goes sent = one_turn d their_past reading (chunk_input tag content) t h turn new sent tt
+          → Have (heard ++ packets_in t.outcome.events) t.outcome.after (after_effects t.outcome.effects their_past) (reading_after d t.input t.outcome.after reading)
+      goes sent = one_turn heard d their_past reading (chunk_input tag content) t h turn new sent tt
 
       by_link : (transfer : Transfer) → d.queues.transfer ≡ Some transfer → (link : AssociationIdentity) → HasEffect (holds link) their_past → identity_in d.core ≡ Some link → link.my.tag ≢ 0
-          → (IsCrossedByEach past link × IsNoneBefore past link) ⊎ ((d.options.follow_rfc ≡ true) × (is_cookie_echoed d.core ≡ true)) → Have t.outcome.after (after_effects t.outcome.effects their_past) (reading_after d t.input t.outcome.after reading)
+          → (IsCrossedByEach past link × IsNoneBefore past link) ⊎ ((d.options.follow_rfc ≡ true) × (is_cookie_echoed d.core ≡ true)) → Have (heard ++ packets_in t.outcome.events) t.outcome.after (after_effects t.outcome.effects their_past) (reading_after d t.input t.outcome.after reading)
       by_link transfer there link held linked some (inl crosses) =
           goes (λ other link' there' linked'. subst (λ (l : AssociationIdentity). WasSent (h.ends.sends l.peer.tag).sent (Some content) × (HadBoth past l.peer.tag l.my.tag ⊎ WasSent [] (Some content))) (own_link link link' linked linked')
           (was_sent h.ends past emission (of_ends h.ends past emission packets h.between.sender.all_sent has) d link linked some crosses.0 crosses.1 h.between.sender.replaced content may))
       by_link transfer there link held linked some (inr (follows, echoed)) =
-          content_where d tag content t.outcome (λ early dropped. drops d their_past reading tag content t link h turn linked (h.between.receiver.last link linked) dropped)
+          content_where d tag content t.outcome (λ early dropped. drops heard d their_past reading tag content t link h turn linked (h.between.receiver.last link linked) dropped)
           (λ late handled. goes (λ other link' there' linked'. (unsent (h.ends.sends link'.peer.tag).sent content (needs_none late), inr (unsent [] content (needs_none late))))) turn.comes
         where
           and_true : (a b : Bool) → (a && b) ≡ false → b ≡ true → a ≡ false
@@ -121,7 +148,7 @@ module _ (never_resets : ℕ → Bool) (options : Options) (e : Endpoint) (queue
           needs_none : comes_early d content ≡ false → needs_connection content ≡ false
           needs_none late = and_true (needs_connection content) (d.options.follow_rfc && is_cookie_echoed d.core) late (ap (λ (b : Bool). b && is_cookie_echoed d.core) follows ∙ echoed)
 
-      by_transfer : (found : Option Transfer) → d.queues.transfer ≡ found → Have t.outcome.after (after_effects t.outcome.effects their_past) (reading_after d t.input t.outcome.after reading)
+      by_transfer : (found : Option Transfer) → d.queues.transfer ≡ found → Have (heard ++ packets_in t.outcome.events) t.outcome.after (after_effects t.outcome.effects their_past) (reading_after d t.input t.outcome.after reading)
       by_transfer None nowhere = goes (λ transfer link there linked. (let clash : ◌≡◌ {A = Option Transfer} None (Some transfer) = sym nowhere ∙ there in absurd (cc)))
       by_transfer (Some transfer) there =
           let c = h.between.receiver.current transfer there in
@@ -131,33 +158,34 @@ module _ (never_resets : ℕ → Bool) (options : Options) (e : Endpoint) (queue
   IsTail : List Input → Type 0
   IsTail tail = (tail ≡ []) ⊎ ((asks : Bool) × (tail ≡ packet_ends ∷ asked_again asks))
 
-  end_goes : (d : Endpoint) (their_past : List Effect) (reading : Reading) (t : Transition) (turns : List Transition) → Have d their_past reading → AreNewTags options their_past past d (t ∷ turns) → IsTurn d packet_ends t
-      → Have t.outcome.after (after_effects t.outcome.effects their_past) (reading_after d t.input t.outcome.after reading)
-  end_goes d their_past reading t turns h new turn =
-      one_turn d their_past reading packet_ends t h turn (new.0, new.1, new.2, new.3, tt) (λ transfer link there linked. (tt, inr tt)) tt
+  end_goes : (heard : List Emission) (d : Endpoint) (their_past : List Effect) (reading : Reading) (t : Transition) (turns : List Transition) → Have heard d their_past reading → AreNewTags options their_past past d (t ∷ turns) → IsTurn d packet_ends t
+      → Have (heard ++ packets_in t.outcome.events) t.outcome.after (after_effects t.outcome.effects their_past) (reading_after d t.input t.outcome.after reading)
+  end_goes heard d their_past reading t turns h new turn =
+      one_turn heard d their_past reading packet_ends t h turn (new.0, new.1, new.2, new.3, tt) (λ transfer link there linked. (tt, inr tt)) tt
 
-  ends_go : (asks : Bool) (d : Endpoint) (their_past : List Effect) (reading : Reading) (turns : List Transition) → Have d their_past reading → AreNewTags options their_past past d turns
-      → Turns d (packet_ends ∷ asked_again asks) turns → Leave d their_past reading turns
-  ends_go asks d their_past reading [] h new taken = absurd taken
-  ends_go false d their_past reading (t ∷ []) h new taken = then_others d their_past reading t [] (end_goes d their_past reading t [] h new taken.0)
-  ends_go false d their_past reading (t ∷ other ∷ turns) h new taken = absurd taken.1
-  ends_go true d their_past reading (t ∷ []) h new taken = absurd taken.1
-  ends_go true d their_past reading (t ∷ u ∷ []) h new taken =
-      then_others d their_past reading t (u ∷ [])
-      (then_others t.outcome.after (after_effects t.outcome.effects their_past) (reading_after d t.input t.outcome.after reading) u []
-      (one_turn t.outcome.after (after_effects t.outcome.effects their_past) (reading_after d t.input t.outcome.after reading) (act_input shut_down) u
-      (end_goes d their_past reading t (u ∷ []) h new taken.0) taken.1.0 (new.4.0, new.4.1, new.4.2, new.4.3, tt) (λ transfer link there linked. (tt, inr tt)) tt))
-  ends_go true d their_past reading (t ∷ u ∷ other ∷ turns) h new taken = absurd taken.1.1
+  ends_go : (asks : Bool) (heard : List Emission) (d : Endpoint) (their_past : List Effect) (reading : Reading) (turns : List Transition) → Have heard d their_past reading → AreNewTags options their_past past d turns
+      → Turns d (packet_ends ∷ asked_again asks) turns → Leave heard d their_past reading turns
+  ends_go asks heard d their_past reading [] h new taken = absurd taken
+  ends_go false heard d their_past reading (t ∷ []) h new taken = then_others heard d their_past reading t [] (no_others (heard ++ packets_in t.outcome.events) t.outcome.after (after_effects t.outcome.effects their_past) (reading_after d t.input t.outcome.after reading) (end_goes heard d their_past reading t [] h new taken.0))
+  ends_go false heard d their_past reading (t ∷ other ∷ turns) h new taken = absurd taken.1
+  ends_go true heard d their_past reading (t ∷ []) h new taken = absurd taken.1
+  ends_go true heard d their_past reading (t ∷ u ∷ []) h new taken =
+      then_others heard d their_past reading t (u ∷ [])
+      (then_others (heard ++ packets_in t.outcome.events) t.outcome.after (after_effects t.outcome.effects their_past) (reading_after d t.input t.outcome.after reading) u []
+      (no_others ((heard ++ packets_in t.outcome.events) ++ packets_in u.outcome.events) u.outcome.after (after_effects u.outcome.effects (after_effects t.outcome.effects their_past)) (reading_after t.outcome.after u.input u.outcome.after (reading_after d t.input t.outcome.after reading))
+      (one_turn (heard ++ packets_in t.outcome.events) t.outcome.after (after_effects t.outcome.effects their_past) (reading_after d t.input t.outcome.after reading) (act_input shut_down) u
+      (end_goes heard d their_past reading t (u ∷ []) h new taken.0) taken.1.0 (new.4.0, new.4.1, new.4.2, new.4.3, tt) (λ transfer link there linked. (tt, inr tt)) tt)))
+  ends_go true heard d their_past reading (t ∷ u ∷ other ∷ turns) h new taken = absurd taken.1.1
 
-  tail_goes : (d : Endpoint) (their_past : List Effect) (reading : Reading) (tail : List Input) (turns : List Transition) → Have d their_past reading → AreNewTags options their_past past d turns → IsTail tail → Turns d tail turns
-      → Leave d their_past reading turns
+  tail_goes : (heard : List Emission) (d : Endpoint) (their_past : List Effect) (reading : Reading) (tail : List Input) (turns : List Transition) → Have heard d their_past reading → AreNewTags options their_past past d turns → IsTail tail → Turns d tail turns
+      → Leave heard d their_past reading turns
   unfolding IsTail
-  tail_goes d their_past reading tail turns h new (inl none) taken = nothing turns new (subst (λ (l : List Input). Turns d l turns) none taken)
+  tail_goes heard d their_past reading tail turns h new (inl none) taken = nothing turns new (subst (λ (l : List Input). Turns d l turns) none taken)
     where
-      nothing : (turns : List Transition) → AreNewTags options their_past past d turns → Turns d [] turns → Leave d their_past reading turns
-      nothing [] new taken = h
+      nothing : (turns : List Transition) → AreNewTags options their_past past d turns → Turns d [] turns → Leave heard d their_past reading turns
+      nothing [] new taken = no_others heard d their_past reading h
       nothing (t ∷ turns) new taken = absurd taken
-  tail_goes d their_past reading tail turns h new (inr (asks, is)) taken = ends_go asks d their_past reading turns h new (subst (λ (l : List Input). Turns d l turns) is taken)
+  tail_goes heard d their_past reading tail turns h new (inr (asks, is)) taken = ends_go asks heard d their_past reading turns h new (subst (λ (l : List Input). Turns d l turns) is taken)
 
   -- What is left of the packet has no data; or it begins no association, and the one that is there has the packet's tag.
   abbrev MayGo : Endpoint → List Content → Type 0
@@ -172,38 +200,23 @@ module _ (never_resets : ℕ → Bool) (options : Options) (e : Endpoint) (queue
   rest_may d content contents tag t turn (inr (follow, all, is)) =
       inr (follow.1, (λ c h. all c (inr h)), tag_stays emission.packet.tag d (chunk_input tag content) t.outcome (not_opening content follow.0) tt is turn.comes)
 
-  after_chunk : (following : Following) (d : Endpoint) (their_past : List Effect) (reading : Reading) (tail : List Input) (turns : List Transition) (More : Type 0) → Have d their_past reading → AreNewTags options their_past past d turns
-      → IsTail tail → (More → Leave d their_past reading turns) → AfterChunk following More (Turns d tail turns) (turns ≡ []) → Leave d their_past reading turns
-  after_chunk next_chunk d their_past reading tail turns More h new is more taken = more taken
-  after_chunk packet_end d their_past reading tail turns More h new is more taken = tail_goes d their_past reading tail turns h new is taken
-  after_chunk dropped_rest d their_past reading tail turns More h new is more none = subst (λ (ts : List Transition). Leave d their_past reading ts) (sym none) h
+  after_chunk : (following : Following) (heard : List Emission) (d : Endpoint) (their_past : List Effect) (reading : Reading) (tail : List Input) (turns : List Transition) (More : Type 0) → Have heard d their_past reading → AreNewTags options their_past past d turns
+      → IsTail tail → (More → Leave heard d their_past reading turns) → AfterChunk following More (Turns d tail turns) (turns ≡ []) → Leave heard d their_past reading turns
+  after_chunk next_chunk heard d their_past reading tail turns More h new is more taken = more taken
+  after_chunk packet_end heard d their_past reading tail turns More h new is more taken = tail_goes heard d their_past reading tail turns h new is taken
+  after_chunk dropped_rest heard d their_past reading tail turns More h new is more none = subst (λ (ts : List Transition). Leave heard d their_past reading ts) (sym none) (no_others heard d their_past reading h)
 
-  chunks_go : (contents : List Content) (d : Endpoint) (their_past : List Effect) (reading : Reading) (tag : ℕ) (tail : List Input) (turns : List Transition) → Have d their_past reading → AreNewTags options their_past past d turns
-      → IsTail tail → MayGo d contents → ChunkTurns d tag contents tail turns → Leave d their_past reading turns
-  chunks_go [] d their_past reading tag tail turns h new is may taken = tail_goes d their_past reading tail turns h new is taken
-  chunks_go (content ∷ contents) d their_past reading tag tail [] h new is may taken = absurd taken
-  chunks_go (content ∷ contents) d their_past reading tag tail (t ∷ turns) h new is may taken =
-      let first = chunk_turn d their_past reading tag content t h taken.0 (new.0, new.1, new.2, new.3, tt) (first_may d content contents may) in
-      then_others d their_past reading t turns
-      (after_chunk t.outcome.following t.outcome.after (after_effects t.outcome.effects their_past) (reading_after d t.input t.outcome.after reading) tail turns (ChunkTurns t.outcome.after tag contents tail turns) first new.4 is
-      (λ more. chunks_go contents t.outcome.after (after_effects t.outcome.effects their_past) (reading_after d t.input t.outcome.after reading) tag tail turns first new.4 is (rest_may d content contents tag t taken.0 may) more) taken.1)
+  chunks_go : (contents : List Content) (heard : List Emission) (d : Endpoint) (their_past : List Effect) (reading : Reading) (tag : ℕ) (tail : List Input) (turns : List Transition) → Have heard d their_past reading → AreNewTags options their_past past d turns
+      → IsTail tail → MayGo d contents → ChunkTurns d tag contents tail turns → Leave heard d their_past reading turns
+  chunks_go [] heard d their_past reading tag tail turns h new is may taken = tail_goes heard d their_past reading tail turns h new is taken
+  chunks_go (content ∷ contents) heard d their_past reading tag tail [] h new is may taken = absurd taken
+  chunks_go (content ∷ contents) heard d their_past reading tag tail (t ∷ turns) h new is may taken =
+      let first = chunk_turn heard d their_past reading tag content t h taken.0 (new.0, new.1, new.2, new.3, tt) (first_may d content contents may) in
+      then_others heard d their_past reading t turns
+      (after_chunk t.outcome.following (heard ++ packets_in t.outcome.events) t.outcome.after (after_effects t.outcome.effects their_past) (reading_after d t.input t.outcome.after reading) tail turns (ChunkTurns t.outcome.after tag contents tail turns) first new.4 is
+      (λ more. chunks_go contents (heard ++ packets_in t.outcome.events) t.outcome.after (after_effects t.outcome.effects their_past) (reading_after d t.input t.outcome.after reading) tag tail turns first new.4 is (rest_may d content contents tag t taken.0 may) more) taken.1)
 
   -- ---- the first chunk
-
-  -- the tag of the association after the first chunk, if more is handled
-  front_tag : (d : Endpoint) (content : Content) (contents : List Content) (t : Transition) → IsTurn d (chunk_input emission.packet.tag content) t → ContentsGo emission.packet.tag (content ∷ contents)
-      → (is_echo_in_front (content ∷ contents) ≡ false → own_tag d.core ≡ emission.packet.tag) → t.outcome.following ≡ next_chunk → TagIs emission.packet.tag t.outcome.after
-  front_tag d (cookie_echo bytes) contents t turn go own next =
-      own_is t.outcome.after.core emission.packet.tag (echoes_own d emission.packet.tag bytes go.0.cookie t.outcome go.0.reads go.0.under turn.comes next)
-  front_tag d (init_ack theirs cookie) contents t turn go own next = init_ack_tag emission.packet.tag d theirs cookie t.outcome (own refl) turn.comes
-  front_tag d (init introduction) contents t turn go own next = tag_stays emission.packet.tag d (chunk_input emission.packet.tag (init introduction)) t.outcome (λ opening. opening) tt (own_is d.core emission.packet.tag (own refl)) turn.comes
-  front_tag d cookie_ack contents t turn go own next = tag_stays emission.packet.tag d (chunk_input emission.packet.tag cookie_ack) t.outcome (λ opening. opening) tt (own_is d.core emission.packet.tag (own refl)) turn.comes
-  front_tag d (re_config p) contents t turn go own next = tag_stays emission.packet.tag d (chunk_input emission.packet.tag (re_config p)) t.outcome (λ opening. opening) tt (own_is d.core emission.packet.tag (own refl)) turn.comes
-  front_tag d (abort r c) contents t turn go own next = tag_stays emission.packet.tag d (chunk_input emission.packet.tag (abort r c)) t.outcome (λ opening. opening) tt (own_is d.core emission.packet.tag (own refl)) turn.comes
-  front_tag d (shutdown tsn) contents t turn go own next = tag_stays emission.packet.tag d (chunk_input emission.packet.tag (shutdown tsn)) t.outcome (λ opening. opening) tt (own_is d.core emission.packet.tag (own refl)) turn.comes
-  front_tag d shutdown_ack contents t turn go own next = tag_stays emission.packet.tag d (chunk_input emission.packet.tag shutdown_ack) t.outcome (λ opening. opening) tt (own_is d.core emission.packet.tag (own refl)) turn.comes
-  front_tag d (shutdown_complete r) contents t turn go own next = tag_stays emission.packet.tag d (chunk_input emission.packet.tag (shutdown_complete r)) t.outcome (λ opening. opening) tt (own_is d.core emission.packet.tag (own refl)) turn.comes
-  front_tag d (plain chunk) contents t turn go own next = tag_stays emission.packet.tag d (chunk_input emission.packet.tag (plain chunk)) t.outcome (λ opening. opening) tt (own_is d.core emission.packet.tag (own refl)) turn.comes
 
   front_may : (d : Endpoint) (content : Content) (contents : List Content) → emission.packet.contents ≡ content ∷ contents → (is_echo_in_front (content ∷ contents) ≡ false → own_tag d.core ≡ emission.packet.tag) → MayHandle emission d content
   front_may d (cookie_echo bytes) contents is own = inl tt
@@ -218,55 +231,58 @@ module _ (never_resets : ℕ → Bool) (options : Options) (e : Endpoint) (queue
   front_may d (plain chunk) contents is own = inr (subst (λ (l : List Content). places.HasEntry (plain chunk) l) (sym is) (inl refl), own_is d.core emission.packet.tag (own refl))
 
   -- with the tag that the packet has
-  tagged_go : (asks : Bool) (contents : List Content) → emission.packet.contents ≡ contents → (d : Endpoint) (their_past : List Effect) (reading : Reading) (turns : List Transition) → Have d their_past reading → AreNewTags options their_past past d turns
+  tagged_go : (asks : Bool) (contents : List Content) → emission.packet.contents ≡ contents → (heard : List Emission) (d : Endpoint) (their_past : List Effect) (reading : Reading) (turns : List Transition) → Have heard d their_past reading → AreNewTags options their_past past d turns
       → ContentsGo emission.packet.tag contents → (is_echo_in_front contents ≡ false → own_tag d.core ≡ emission.packet.tag)
-      → ChunkTurns d emission.packet.tag contents (packet_ends ∷ asked_again asks) turns → Leave d their_past reading turns
+      → ChunkTurns d emission.packet.tag contents (packet_ends ∷ asked_again asks) turns → Leave heard d their_past reading turns
   unfolding IsTail
-  tagged_go asks [] is d their_past reading turns h new go own taken = ends_go asks d their_past reading turns h new taken
-  tagged_go asks (content ∷ contents) is d their_past reading [] h new go own taken = absurd taken
-  tagged_go asks (content ∷ contents) is d their_past reading (t ∷ turns) h new go own taken =
-      let first = chunk_turn d their_past reading emission.packet.tag content t h taken.0 (new.0, new.1, new.2, new.3, tt) (front_may d content contents is own) in
-      then_others d their_past reading t turns (more t.outcome.following refl first taken.1)
+  tagged_go asks [] is heard d their_past reading turns h new go own taken = ends_go asks heard d their_past reading turns h new taken
+  tagged_go asks (content ∷ contents) is heard d their_past reading [] h new go own taken = absurd taken
+  tagged_go asks (content ∷ contents) is heard d their_past reading (t ∷ turns) h new go own taken =
+      let first = chunk_turn heard d their_past reading emission.packet.tag content t h taken.0 (new.0, new.1, new.2, new.3, tt) (front_may d content contents is own) in
+      then_others heard d their_past reading t turns (more t.outcome.following refl first taken.1)
     where
-      more : (following : Following) → t.outcome.following ≡ following → Have t.outcome.after (after_effects t.outcome.effects their_past) (reading_after d t.input t.outcome.after reading)
+      more : (following : Following) → t.outcome.following ≡ following → Have (heard ++ packets_in t.outcome.events) t.outcome.after (after_effects t.outcome.effects their_past) (reading_after d t.input t.outcome.after reading)
           → AfterChunk following (ChunkTurns t.outcome.after emission.packet.tag contents (packet_ends ∷ asked_again asks) turns) (Turns t.outcome.after (packet_ends ∷ asked_again asks) turns) (turns ≡ [])
-          → Leave t.outcome.after (after_effects t.outcome.effects their_past) (reading_after d t.input t.outcome.after reading) turns
+          → Leave (heard ++ packets_in t.outcome.events) t.outcome.after (after_effects t.outcome.effects their_past) (reading_after d t.input t.outcome.after reading) turns
       more next_chunk next first rest =
-          chunks_go contents t.outcome.after (after_effects t.outcome.effects their_past) (reading_after d t.input t.outcome.after reading) emission.packet.tag (packet_ends ∷ asked_again asks) turns first new.4 (inr (asks, refl))
-          (inr (go.1, (λ c has'. subst (λ (l : List Content). places.HasEntry c l) (sym is) (inr has')), front_tag d content contents t taken.0 go own next)) rest
-      more packet_end next first rest = ends_go asks t.outcome.after (after_effects t.outcome.effects their_past) (reading_after d t.input t.outcome.after reading) turns first new.4 rest
+          chunks_go contents (heard ++ packets_in t.outcome.events) t.outcome.after (after_effects t.outcome.effects their_past) (reading_after d t.input t.outcome.after reading) emission.packet.tag (packet_ends ∷ asked_again asks) turns first new.4 (inr (asks, refl))
+          (inr (go.1, (λ c has'. subst (λ (l : List Content). places.HasEntry c l) (sym is) (inr has')), front_tag emission.packet.tag d content contents t taken.0 go own next)) rest
+      more packet_end next first rest = ends_go asks (heard ++ packets_in t.outcome.events) t.outcome.after (after_effects t.outcome.effects their_past) (reading_after d t.input t.outcome.after reading) turns first new.4 rest
       more dropped_rest next first none =
-          subst (λ (ts : List Transition). Leave t.outcome.after (after_effects t.outcome.effects their_past) (reading_after d t.input t.outcome.after reading) ts) (sym none) first
+          subst (λ (ts : List Transition). Leave (heard ++ packets_in t.outcome.events) t.outcome.after (after_effects t.outcome.effects their_past) (reading_after d t.input t.outcome.after reading) ts) (sym none)
+          (no_others (heard ++ packets_in t.outcome.events) t.outcome.after (after_effects t.outcome.effects their_past) (reading_after d t.input t.outcome.after reading) first)
 
   -- ---- the whole packet
 
-  whole_goes : (d : Endpoint) (their_past : List Effect) (reading : Reading) (turns : List Transition) → Have d their_past reading → AreNewTags options their_past past d turns
-      → GoesToMaker emission → admits d.core emission.packet ≡ all_chunks → WholeTurns d emission.packet turns → Leave d their_past reading turns
+  whole_goes : (heard : List Emission) (d : Endpoint) (their_past : List Effect) (reading : Reading) (turns : List Transition) → Have heard d their_past reading → AreNewTags options their_past past d turns
+      → GoesToMaker emission → admits d.core emission.packet ≡ all_chunks → WholeTurns d emission.packet turns → Leave heard d their_past reading turns
   unfolding IsTail
-  whole_goes d their_past reading [] h new go admitted taken = absurd taken
-  whole_goes d their_past reading (begun ∷ turns) h new go admitted taken =
-      let first = one_turn d their_past reading (packet_begins emission.packet.contents) begun h taken.0 (new.0, new.1, new.2, new.3, tt) (λ transfer link there linked. (tt, inr tt)) tt in
-      then_others d their_past reading begun turns (by_data first first.ends (of_ends first.ends past emission packets first.between.sender.all_sent has))
+  whole_goes heard d their_past reading [] h new go admitted taken = absurd taken
+  whole_goes heard d their_past reading (begun ∷ turns) h new go admitted taken =
+      let first = one_turn heard d their_past reading (packet_begins emission.packet.contents) begun h taken.0 (new.0, new.1, new.2, new.3, tt) (λ transfer link there linked. (tt, inr tt)) tt in
+      then_others heard d their_past reading begun turns (by_data first first.ends (of_ends first.ends past emission packets first.between.sender.all_sent has))
     where
-      by_data : Have begun.outcome.after (after_effects begun.outcome.effects their_past) (reading_after d begun.input begun.outcome.after reading) → (table : Ends) → IsOfEnds table past emission
-          → Leave begun.outcome.after (after_effects begun.outcome.effects their_past) (reading_after d begun.input begun.outcome.after reading) turns
+      by_data : Have (heard ++ packets_in begun.outcome.events) begun.outcome.after (after_effects begun.outcome.effects their_past) (reading_after d begun.input begun.outcome.after reading) → (table : Ends) → IsOfEnds table past emission
+          → Leave (heard ++ packets_in begun.outcome.events) begun.outcome.after (after_effects begun.outcome.effects their_past) (reading_after d begun.input begun.outcome.after reading) turns
       by_data first table (inl none) =
-          chunks_go emission.packet.contents begun.outcome.after (after_effects begun.outcome.effects their_past) (reading_after d begun.input begun.outcome.after reading) emission.packet.tag (packet_tail begun.outcome.after) turns first new.4 (inr (awaits_opening begun.outcome.after begun.outcome.after.core, refl)) (inl none) taken.1
+          chunks_go emission.packet.contents (heard ++ packets_in begun.outcome.events) begun.outcome.after (after_effects begun.outcome.effects their_past) (reading_after d begun.input begun.outcome.after reading) emission.packet.tag (packet_tail begun.outcome.after) turns first new.4 (inr (awaits_opening begun.outcome.after begun.outcome.after.core, refl)) (inl none) taken.1
       by_data first table (inr (free, was)) =
-          tagged_go (awaits_opening begun.outcome.after begun.outcome.after.core) emission.packet.contents refl begun.outcome.after (after_effects begun.outcome.effects their_past) (reading_after d begun.input begun.outcome.after reading) turns first new.4 go
+          tagged_go (awaits_opening begun.outcome.after begun.outcome.after.core) emission.packet.contents refl (heard ++ packets_in begun.outcome.events) begun.outcome.after (after_effects begun.outcome.effects their_past) (reading_after d begun.input begun.outcome.after reading) turns first new.4 go
           (λ front. ap own_tag (begin_core d d.core (has_data_chunk d.options.follow_rfc emission.packet.contents) begun.outcome taken.0.comes) ∙ sym (addressed_tags_are_own d.core emission.packet free front admitted)) taken.1
 
-  refused_go : (d : Endpoint) (their_past : List Effect) (reading : Reading) (text : List ℕ) (turns : List Transition) → Have d their_past reading → AreNewTags options their_past past d turns → Turns d (refusal text ∷ []) turns
-      → Leave d their_past reading turns
-  refused_go d their_past reading text [] h new taken = absurd taken
-  refused_go d their_past reading text (t ∷ []) h new taken =
-      then_others d their_past reading t [] (one_turn d their_past reading (refusal text) t h taken.0 (new.0, new.1, new.2, new.3, tt) (λ transfer link there linked. (tt, inr tt)) tt)
-  refused_go d their_past reading text (t ∷ other ∷ turns) h new taken = absurd taken.1
+  refused_go : (heard : List Emission) (d : Endpoint) (their_past : List Effect) (reading : Reading) (text : List ℕ) (turns : List Transition) → Have heard d their_past reading → AreNewTags options their_past past d turns → Turns d (refusal text ∷ []) turns
+      → Leave heard d their_past reading turns
+  refused_go heard d their_past reading text [] h new taken = absurd taken
+  refused_go heard d their_past reading text (t ∷ []) h new taken =
+      then_others heard d their_past reading t []
+      (no_others (heard ++ packets_in t.outcome.events) t.outcome.after (after_effects t.outcome.effects their_past) (reading_after d t.input t.outcome.after reading)
+      (one_turn heard d their_past reading (refusal text) t h taken.0 (new.0, new.1, new.2, new.3, tt) (λ transfer link there linked. (tt, inr tt)) tt))
+  refused_go heard d their_past reading text (t ∷ other ∷ turns) h new taken = absurd taken.1
 
-  pub packet_goes : (d : Endpoint) (their_past : List Effect) (reading : Reading) (turns : List Transition) → Have d their_past reading → AreNewTags options their_past past d turns
-      → GoesToMaker emission → (admission : Admission) → admits d.core emission.packet ≡ admission → AdmittedTurns d emission.packet admission turns → Leave d their_past reading turns
+  pub packet_goes : (heard : List Emission) (d : Endpoint) (their_past : List Effect) (reading : Reading) (turns : List Transition) → Have heard d their_past reading → AreNewTags options their_past past d turns
+      → GoesToMaker emission → (admission : Admission) → admits d.core emission.packet ≡ admission → AdmittedTurns d emission.packet admission turns → Leave heard d their_past reading turns
   unfolding IsTail
-  packet_goes d their_past reading turns h new go all_chunks admitted taken = whole_goes d their_past reading turns h new go admitted taken
-  packet_goes d their_past reading turns h new go shutdown_acks_alone admitted taken =
-      chunks_go (shutdown_acks_in emission.packet.contents) d their_past reading emission.packet.tag [] turns h new (inl refl) (inl (acks_none emission.packet.contents)) taken
-  packet_goes d their_past reading turns h new go (refused text) admitted taken = refused_go d their_past reading text turns h new taken
+  packet_goes heard d their_past reading turns h new go all_chunks admitted taken = whole_goes heard d their_past reading turns h new go admitted taken
+  packet_goes heard d their_past reading turns h new go shutdown_acks_alone admitted taken =
+      chunks_go (shutdown_acks_in emission.packet.contents) heard d their_past reading emission.packet.tag [] turns h new (inl refl) (inl (acks_none emission.packet.contents)) taken
+  packet_goes heard d their_past reading turns h new go (refused text) admitted taken = refused_go heard d their_past reading text turns h new taken

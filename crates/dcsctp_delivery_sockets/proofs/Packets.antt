@@ -154,7 +154,7 @@ by_becomes tag e came o not is (goes_on calm linked makes) = λ link there. is l
 by_becomes tag e came o not is (pauses ids resets calm linked small makes) = λ link there. is link (sym linked ∙ there)
 by_becomes tag e came o not is (works_resets linked between worked ended peer makes) = λ link there. is link (sym linked ∙ there)
 by_becomes tag e came o not is (renews calm linked alike unread own number emission kept out after packets goes contents) = λ link there. is link (sym linked ∙ there)
-by_becomes tag e came o not is (ends none unread last own makes below) = λ link there. (let clash : ◌≡◌ {A = Option AssociationIdentity} None (Some link) = sym none ∙ there in absurd (cc))
+by_becomes tag e came o not is (ends none unread silent last own makes below) = λ link there. (let clash : ◌≡◌ {A = Option AssociationIdentity} None (Some link) = sym none ∙ there in absurd (cc))
 by_becomes tag e came o not is (begins begun opening linked alike unread again makes) = absurd (not opening)
 by_becomes tag e came o not is (collides collision alike unread again makes) = absurd (not collision.opened.opening)
 

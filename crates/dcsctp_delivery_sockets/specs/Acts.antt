@@ -13,12 +13,12 @@ use Rattle.dcsctp_spec_lemmas.specs.spec.Packet.{packet_in, Emission}
 use Rattle.dcsctp_spec_lemmas.specs.spec.endpoint.UserTurns.{UserTurns}
 use Rattle.dcsctp_spec_lemmas.specs.spec.endpoint.Turn.{Turn}
 use Rattle.dcsctp_spec_runs.specs.World.{after_effects}
-use Rattle.dcsctp_spec_lemmas.specs.spec.association.Effect.{Effect, identity_of, identity_in}
+use Rattle.dcsctp_spec_lemmas.specs.spec.association.Effect.{AssociationIdentity, Effect, identity_of, identity_in}
 use Rattle.dcsctp_delivery_sending.specs.Log.{Message}
 use Rattle.dcsctp_delivery_sending.specs.Places as places
 use Rattle.dcsctp_delivery_turns.specs.Actions.{came_by, queued_after, IsOpening, Begun, IsCall}
 use Rattle.dcsctp_delivery_associations.specs.Answered.{AreAnswered}
-use Rattle.dcsctp_delivery_associations.specs.Ends.{Ends, NewPeer, TakesOver, Between}
+use Rattle.dcsctp_delivery_associations.specs.Ends.{Ends, NewPeer, TakesOver, AreHeard, CameBack, Between}
 use Rattle.dcsctp_delivery_turns.specs.Runs.{RefusesNone}
 use Rattle.dcsctp_delivery_associations.specs.Laws.{CompletesPerformed, AsksLittle, ResetsAs, AreEnds}
 use Rattle.dcsctp_delivery_associations.specs.Reads.{Reading}
@@ -52,27 +52,32 @@ AreNewPeers past their_past e (turn ∷ turns) =
 abbrev pub ResetsIn : (ℕ → Bool) → Endpoint → Transition → Type 0
 ResetsIn never_resets e turn = ResetsAs never_resets turn.input
 
+-- In an association what is handled by this turn and acknowledges was in one of these packets, to our own tag.
+abbrev pub HearsBack : List Emission → Endpoint → Transition → Type 0
+HearsBack heard e turn = (link : AssociationIdentity) → identity_in e.core ≡ Some link → CameBack heard link.my.tag (came_by turn.input)
+
 -- Turns of the sender leave what is known of all associations.
 abbrev pub SendersAct : Type 0
 SendersAct =
-    (options : Options) (ends : Ends) (e : Endpoint) (queued : List Message) (past : List Effect) (packets : List Emission) (other : Endpoint) (their_past : List Effect) (reading : Reading) (turns : List Transition)
-    → Between options ends e queued past packets other their_past reading → AreAnswered ends e past other their_past → AreTurns e turns → AlongTurns (ResetsIn ends.never_resets) e turns → AreNewPeers past their_past e turns → length (queued_through e turns queued) < 2 ^ 64
+    (heard : List Emission) (options : Options) (ends : Ends) (e : Endpoint) (queued : List Message) (past : List Effect) (packets : List Emission) (other : Endpoint) (their_past : List Effect) (reading : Reading) (turns : List Transition)
+    → Between options ends e queued past packets other their_past reading → AreAnswered ends e past other their_past → AreHeard ends.gets their_past heard → AreTurns e turns
+    → AlongTurns (ResetsIn ends.never_resets) e turns → AlongTurns (HearsBack heard) e turns → AreNewPeers past their_past e turns → length (queued_through e turns queued) < 2 ^ 64
     → AsksLittle (packets ++ packets_in (events_of turns))
-    → AreEnds ends.never_resets options (after_all e turns) (queued_through e turns queued) (after_effects (effects_of turns) past) (packets ++ packets_in (events_of turns)) other their_past reading
+    → AreEnds ends.never_resets heard options (after_all e turns) (queued_through e turns queued) (after_effects (effects_of turns) past) (packets ++ packets_in (events_of turns)) other their_past reading
 
 -- So does a call at the receiver,
 abbrev pub ReceiversCall : Type 0
 ReceiversCall =
-    (options : Options) (ends : Ends) (e : Endpoint) (queued : List Message) (past : List Effect) (packets : List Emission) (other : Endpoint) (their_past : List Effect) (reading : Reading) (call : CallContent) (turns : List Transition)
-    → Between options ends e queued past packets other their_past reading → AreAnswered ends e past other their_past → length queued < 2 ^ 64 → AsksLittle packets → UserTurns other call turns → AreTurns other turns
+    (heard : List Emission) (options : Options) (ends : Ends) (e : Endpoint) (queued : List Message) (past : List Effect) (packets : List Emission) (other : Endpoint) (their_past : List Effect) (reading : Reading) (call : CallContent) (turns : List Transition)
+    → Between options ends e queued past packets other their_past reading → AreAnswered ends e past other their_past → AreHeard ends.gets their_past heard → length queued < 2 ^ 64 → AsksLittle packets → UserTurns other call turns → AreTurns other turns
     → AllByRecursion (λ turn. IsCall turn.input) turns → AreNewTags options their_past past other turns
-    → AreEnds ends.never_resets options e queued past packets (after_all other turns) (after_effects (effects_of turns) their_past) (reading_through other turns reading)
+    → AreEnds ends.never_resets (heard ++ packets_in (events_of turns)) options e queued past packets (after_all other turns) (after_effects (effects_of turns) their_past) (reading_through other turns reading)
 
 -- and so do bytes that are handed to it, if they are those of a packet that was sent.
 abbrev pub ReceiversHandle : Type 0
 ReceiversHandle =
-    (options : Options) (ends : Ends) (e : Endpoint) (queued : List Message) (past : List Effect) (packets : List Emission) (other : Endpoint) (their_past : List Effect) (reading : Reading) (emission : Emission)
-    (bytes : List ℕ) (turns : List Transition) → Between options ends e queued past packets other their_past reading → AreAnswered ends e past other their_past → length queued < 2 ^ 64 → AsksLittle packets
+    (heard : List Emission) (options : Options) (ends : Ends) (e : Endpoint) (queued : List Message) (past : List Effect) (packets : List Emission) (other : Endpoint) (their_past : List Effect) (reading : Reading) (emission : Emission)
+    (bytes : List ℕ) (turns : List Transition) → Between options ends e queued past packets other their_past reading → AreAnswered ends e past other their_past → AreHeard ends.gets their_past heard → length queued < 2 ^ 64 → AsksLittle packets
     → places.HasEntry emission packets → GoesToMaker emission → ((packet : PacketContent) → IsPacket (wire_options other.options) packet bytes → packet_in packet ≡ emission.packet)
     → AreNewTags options their_past past other turns → HandleInput other bytes turns
-    → AreEnds ends.never_resets options e queued past packets (after_all other turns) (after_effects (effects_of turns) their_past) (reading_through other turns reading)
+    → AreEnds ends.never_resets (heard ++ packets_in (events_of turns)) options e queued past packets (after_all other turns) (after_effects (effects_of turns) their_past) (reading_through other turns reading)

@@ -18,7 +18,7 @@ use Rattle.dcsctp_delivery_sending.specs.Queueing.{SettingFits}
 use Rattle.dcsctp_delivery_directions.specs.Requests.{requests_to}
 use Rattle.dcsctp_delivery_turns.specs.Runs.{RefusesNone}
 use Rattle.dcsctp_delivery_associations.specs.InOrder.{Interleaves}
-use Rattle.dcsctp_delivery_sockets.specs.Ordered.{HasOneTag, SetsNoLimits, NeverResets, IsDeliveredOn, IsFewReliable, AllowsOrder, AllowsNoGaps, IsDeliveredInOrder, IsDeliveredWithoutGaps, IsReliable, IsDeliveredByStream, read_under}
+use Rattle.dcsctp_delivery_sockets.specs.Ordered.{HasOneTag, IsDeliveredOn, AllowsOrder, AllowsNoGaps, IsDeliveredInOrder, IsDeliveredWithoutGaps, IsReliable, IsDeliveredByStream, read_under}
 use Rattle.dcsctp_delivery_sockets.specs.UserMessages.{messages_sent_in, sendings_in, read_of, IsDelivered}
 
 -- ---- messages and streams in memory
@@ -147,9 +147,8 @@ pub record TurnsAllowDelivery (options : Both Options) (turns : Both (List Trans
 
 -- What this side's user read is what the other's user sent, and no message was read twice, in any association or after it has
 -- ended. What it read in one association came in the order in which it was sent, stream by stream, where the other side allows
--- it, and is a prefix of that where the other side allows no gaps. Where messages interleave and the other side had no other own tag,
--- it is a prefix on each reliable stream, whatever happens on other streams; and also where they don't, if no message of any may be
--- abandoned, whatever other streams are reset, or if it has fewer than 2^15 ordered messages.
+-- it, and is a prefix of that where the other side allows no gaps. Where the other side had no other own tag, it is a prefix on each
+-- reliable stream, whatever happens on other streams. Where messages interleave, other streams come in order besides.
 pub record Delivers (options : Both Options) (turns : Both (List Transition)) (side : Side) : Type 0 where
   pub once : IsDelivered (messages_sent_in (fresh_endpoint (of_other side options)) (of_other side turns)) (read_of (fresh_endpoint (of_side side options)) (of_side side turns))
   pub in_order : (tag : ℕ) → AllowsOrder (of_other side options) (of_other side turns) tag
@@ -159,10 +158,8 @@ pub record Delivers (options : Both Options) (turns : Both (List Transition)) (s
   pub by_stream : (tag : ℕ) → HasOneTag (noted_past (of_other side turns)) → Interleaves (noted_past (of_other side turns)) tag
       → IsDeliveredByStream (IsReliable (of_other side options) (of_other side turns)) (sendings_in (fresh_endpoint (of_other side options)) (of_other side turns))
       (read_under tag (of_side side options) (of_side side turns))
-  pub on_streams : (tag : ℕ) → HasOneTag (noted_past (of_other side turns)) → SetsNoLimits (of_other side options) (of_other side turns)
-      → IsDeliveredOn (NeverResets (of_other side turns)) (sendings_in (fresh_endpoint (of_other side options)) (of_other side turns)) (read_under tag (of_side side options) (of_side side turns))
-  pub on_few : (tag : ℕ) → HasOneTag (noted_past (of_other side turns))
-      → IsDeliveredOn (IsFewReliable (of_other side options) (of_other side turns)) (sendings_in (fresh_endpoint (of_other side options)) (of_other side turns)) (read_under tag (of_side side options) (of_side side turns))
+  pub on_streams : (tag : ℕ) → HasOneTag (noted_past (of_other side turns))
+      → IsDeliveredOn (IsReliable (of_other side options) (of_other side turns)) (sendings_in (fresh_endpoint (of_other side options)) (of_other side turns)) (read_under tag (of_side side options) (of_side side turns))
 
 -- So it is at the end of a run that is honest, in which no tag was drawn twice, each served one association or two of which the one
 -- took the place of the other, little was sent, and with interleaving no request to reset streams failed.

@@ -123,8 +123,3 @@ NeverResets turns stream = AllByRecursion (λ turn. resets_stream stream turn.in
 pub record IsReliable (options : Options) (turns : List Transition) (stream : ℕ) : Type 0 where
   pub unlimited : SetsNoLimitsOn stream options turns
   pub never_resets : NeverResets turns stream
-
--- And fewer than 2^15 ordered messages were sent on it.
-pub record IsFewReliable (options : Options) (turns : List Transition) (stream : ℕ) : Type 0 where
-  pub reliable : IsReliable options turns stream
-  pub few : ordered_sent stream (sendings_in (fresh_endpoint options) turns) < 2 ^ 15

@@ -52,9 +52,8 @@ pub fn acts_keep_ends()
 /// 2^30 chunks go to both peers' tags together. The ordered messages of a stream that are read in one association come
 /// in the order in which they were sent, where the sender follows the RFC or has no other own tag, and messages
 /// interleave, across resets of the stream, or no request to reset streams was sent, and no message may be abandoned or
-/// few are ordered. Where the sender has no other own tag, those of a stream that its user never resets are a prefix of
-/// what was sent, whatever other streams are reset, if none of the stream may be abandoned, or, where messages don't
-/// interleave, none of any stream, or else if fewer than 2^15 are sent on it.
+/// few are ordered. Where the sender has no other own tag, those of a stream that its user never resets, and of which
+/// none may be abandoned, are a prefix of what was sent, whatever happens on other streams.
 pub fn sockets_deliver()
     ensures { SocketsDeliver }
 {

@@ -1,6 +1,6 @@
 -- Actions, one after another.
 use Rattle.dcsctp_spec_lemmas.specs.types.declared.ends.AbortReason.TheVariants as reasons
-use Rattle.std.proofs.Common.{◌≡◌, None, ℕ, Bool, true, false, cond, Option, List, [], ◌∷◌, ◌++◌, refl, sym, ◌∙◌, ap, subst, append_assoc}
+use Rattle.std.proofs.Common.{◌≡◌, None, ℕ, Bool, true, false, cond, Option, List, [], ◌∷◌, ◌++◌, refl, sym, ◌∙◌, ap, subst, append_assoc, inl}
 use Rattle.std.proofs.lemmas.List.{append-nil}
 use Rattle.dcsctp_spec_lemmas.specs.types.declared.ends.AbortReason.{AbortReason}
 use Rattle.dcsctp_spec_lemmas.specs.types.declared.word.Word.{Word}
@@ -17,8 +17,9 @@ use Rattle.dcsctp_delivery_sending.specs.Log.{Message}
 use Rattle.dcsctp_delivery_sending.specs.Flushes.{NoData, reset_begun_by}
 use Rattle.dcsctp_delivery_directions.specs.Directions.{Asking, asking_with}
 use Rattle.dcsctp_delivery_turns.specs.Asking.{own_of, AsksFit}
-use Rattle.dcsctp_delivery_turns.specs.Actions.{Ledger, ledger_of, Action, flushes, speaks, Actions, nothing, further, IsStaleFirst, NoneStale, NoEnd, Inside, inside, Made, MakesPackets, Becomes, ends}
+use Rattle.dcsctp_delivery_turns.specs.Actions.{Ledger, ledger_of, Action, flushes, speaks, Actions, nothing, further, IsStaleFirst, NoneStale, NoEnd, ReportsTo, AreReports, Inside, inside, Made, MakesPackets, Becomes, ends}
 use Rattle.dcsctp_spec_lemmas.specs.spec.association.Effect.{identity_in}
+use Rattle.dcsctp_delivery_turns.specs.Reports.{AllReportSo, NoReports, IsCumulative}
 use Rattle.dcsctp_delivery_turns.specs.Tags.{IsPeerTag}
 use Rattle.dcsctp_delivery_turns.proofs.Begun.{grows_then, grows_not, grows_by, flush_fits}
 
@@ -98,11 +99,12 @@ module _ (came : Option Content) (to : ℕ) where
   pub silent : (old : Inside) (packets : List Emission) → packets ≡ [] → MakesPackets came to old packets old
   silent old packets none = subst (λ (l : List Emission). MakesPackets came to old l old) (sym none) (rests old)
 
-  pub spoken : (old : Inside) (emission : Emission) → NoData emission.packet.contents → IsStaleFirst emission.packet.contents → MakesPackets came to old (emission ∷ []) old
-  spoken old emission no_data stale = emission_of old old.queues emission (λ queued sent read tsn asking fit. speaks emission no_data stale)
+  pub spoken : (old : Inside) (emission : Emission) → NoData emission.packet.contents → IsStaleFirst emission.packet.contents → ReportsTo to (IsCumulative old.queues.transfer) emission → MakesPackets came to old (emission ∷ []) old
+  spoken old emission no_data stale says = emission_of old old.queues emission (λ queued sent read tsn asking fit. speaks emission no_data stale says)
 
-  pub flushed : (e : Endpoint) (draft : Emission) (answers : List Answer) → IsPeerTag e.core to → draft.packet.tag ≡ to → NoData draft.packet.contents → NoEnd draft.packet.contents → NoneStale draft.packet.contents → FlushAnswers e draft answers → MakesTo came to (inside e) (flush_of e draft answers)
-  flushed e draft answers at same no_data no_end stale allowed = λ queued sent read tsn asking fit.
+  pub flushed : (e : Endpoint) (draft : Emission) (answers : List Answer) → IsPeerTag e.core to → draft.packet.tag ≡ to → NoData draft.packet.contents → NoEnd draft.packet.contents → NoneStale draft.packet.contents
+      → AllReportSo (IsCumulative e.queues.transfer) draft.packet.contents → FlushAnswers e draft answers → MakesTo came to (inside e) (flush_of e draft answers)
+  flushed e draft answers at same no_data no_end stale says allowed = λ queued sent read tsn asking fit.
       record {
         asking = asking_with (reset_begun_by answers) asking;
         grows = grows_by (reset_begun_by answers) asking;
@@ -110,7 +112,7 @@ module _ (came : Option Content) (to : ℕ) where
         actions =
             further (ledger_of queued e.queues sent read asking)
             (ledger_of queued (flush_of e draft answers).after.queues (sent ++ packets_in (flush_of e draft answers).events) read (asking_with (reset_begun_by answers) asking)) nothing
-            (flushes e draft answers refl at same no_data no_end stale allowed);
+            (flushes e draft answers refl at same no_data no_end stale says allowed);
       }
 
   -- a packet, if it fits
@@ -118,8 +120,14 @@ module _ (came : Option Content) (to : ℕ) where
   packet_if true e words emission makes = makes
   packet_if false e words emission makes = rests (inside e)
 
-  pub emitted : (e : Endpoint) (words : List Word) (emission : Emission) → NoData emission.packet.contents → IsStaleFirst emission.packet.contents → MakesTo came to (inside e) (emits e words emission)
-  emitted e words emission no_data stale = packet_if (fits e emission) e words emission (spoken (inside e) emission no_data stale)
+  pub emitted : (e : Endpoint) (words : List Word) (emission : Emission) → NoData emission.packet.contents → IsStaleFirst emission.packet.contents → NoReports emission.packet.contents → MakesTo came to (inside e) (emits e words emission)
+  emitted e words emission no_data stale silent = packet_if (fits e emission) e words emission (spoken (inside e) emission no_data stale (inl silent))
+
+  -- a packet that reports nothing, if it fits
+  pub silent_if : (b : Bool) (e : Endpoint) (words : List Word) (emission : Emission) → NoReports emission.packet.contents
+      → AreReports to (λ tsn. ⊥) (packets_in (cond b (sends e words [] emission) (quiet e words [])).events)
+  silent_if true e words emission silent = (inl silent, tt)
+  silent_if false e words emission silent = tt
 
   -- after events without a packet
   pub makes_behind : (old : Inside) (words : List Word) (events : List (Event Emission)) (o : Outcome) → packets_in events ≡ [] → MakesTo came to old o → MakesTo came to old (behind words events o)
@@ -127,12 +135,12 @@ module _ (came : Option Content) (to : ℕ) where
       subst (λ (l : List Emission). MakesPackets came to old l (inside o.after)) (sym (packets_in-append events o.events ∙ ap (λ (l : List Emission). l ++ packets_in o.events) none)) makes
 
   -- an end after this, which keeps our requests
-  pub ended : (e : Endpoint) (before : Outcome) (event : Event Emission) → packets_in (event ∷ []) ≡ [] → own_of before.after ≡ own_of e → MakesTo came to (inside e) before → Goes came to e (ended_outcome before event)
-  ended e before event none kept makes =
-      ends refl (λ read. refl) (inside before.after) kept
-      (subst (λ (l : List Emission). MakesPackets came to (inside e) l (inside before.after))
-      (sym (packets_in-append before.events (event ∷ []) ∙ ap (λ (l : List Emission). packets_in before.events ++ l) none ∙ append-nil (packets_in before.events))) makes)
-      refl
+  pub ended : (e : Endpoint) (before : Outcome) (event : Event Emission) → packets_in (event ∷ []) ≡ [] → own_of before.after ≡ own_of e → AreReports to (λ tsn. ⊥) (packets_in before.events) → MakesTo came to (inside e) before → Goes came to e (ended_outcome before event)
+  ended e before event none kept silent makes =
+      let same : packets_in before.events ≡ packets_in (before.events ++ event ∷ []) =
+      sym (packets_in-append before.events (event ∷ []) ∙ ap (λ (l : List Emission). packets_in before.events ++ l) none ∙ append-nil (packets_in before.events)) in
+      ends refl (λ read. refl) (subst (AreReports to (λ tsn. ⊥)) same silent) (inside before.after) kept
+      (subst (λ (l : List Emission). MakesPackets came to (inside e) l (inside before.after)) same makes) refl
 
   pub end_silent : (reason : AbortReason) → packets_in (end_of reason ∷ []) ≡ []
   end_silent reasons.CloseCalled = refl

@@ -29,7 +29,7 @@ no_end_append (shutdown_ack ∷ contents) others free free' = no_end_append cont
 no_end_append (shutdown_complete reflected ∷ contents) others free free' = absurd free
 no_end_append (plain chunk ∷ contents) others free free' = no_end_append contents others free free'
 
-plain_no_end : (chunks : List Plain) → NoEnd (plain_contents chunks)
+pub plain_no_end : (chunks : List Plain) → NoEnd (plain_contents chunks)
 plain_no_end [] = tt
 plain_no_end (chunk ∷ chunks) = plain_no_end chunks
 
@@ -44,7 +44,7 @@ answer_no_end answer =
 
 -- ---- packets
 
-abbrev NoneEnds : List Emission → Type 0
+abbrev pub NoneEnds : List Emission → Type 0
 NoneEnds [] = Unit {0}
 NoneEnds (emission ∷ emissions) = NoEnd emission.packet.contents × NoneEnds emissions
 
@@ -73,7 +73,7 @@ next_none (open_in phase my held) draft = tt
 events_none : (events others : List (Event Emission)) → NoneEnds (packets_in events) → NoneEnds (packets_in others) → NoneEnds (packets_in (events ++ others))
 events_none events others free free' = subst NoneEnds (sym (packets_in-append events others)) (both_none (packets_in events) (packets_in others) free free')
 
-flush_none : (ask : Ask) (n : ℕ) (e : Endpoint) (draft : Emission) (answers : List Answer) → NoEnd draft.packet.contents → AreFlushAnswers ask n e draft answers → NoneEnds (packets_in (flush_of e draft answers).events)
+pub flush_none : (ask : Ask) (n : ℕ) (e : Endpoint) (draft : Emission) (answers : List Answer) → NoEnd draft.packet.contents → AreFlushAnswers ask n e draft answers → NoneEnds (packets_in (flush_of e draft answers).events)
 flush_none _ _ _ _ _ free (at_limit ask e draft) = tt
 flush_none _ _ _ _ _ free (at_empty ask more e draft answer is empty) = events_none (asked e draft answer).events [] (asked_none e draft answer free) tt
 flush_none _ _ _ _ _ free (after_packet ask more e draft answer answers is some rest) =
@@ -93,7 +93,7 @@ flushed_addressed to (emission ∷ emissions) there free = (inr (there.0, free.0
 action_addressed : (came : Option Content) (to : ℕ) (old new : Ledger) → AreAddressed to old.sent → Action came to old new → AreAddressed to new.sent
 action_addressed came to old _ addressed (queues now sending fits some) = addressed
 action_addressed came to old _ addressed (sets setting small) = addressed
-action_addressed came to old _ addressed (flushes e draft answers same at tag no_data no_end stale allowed) =
+action_addressed came to old _ addressed (flushes e draft answers same at tag no_data no_end stale says allowed) =
     both_addressed to old.sent (packets_in (flush_of e draft answers).events) addressed
     (flushed_addressed to (packets_in (flush_of e draft answers).events)
     (subst (λ (t : ℕ). AllTo t (packets_in (flush_of e draft answers).events)) tag (flushes_to e draft answers (subst (λ (t : ℕ). IsPeerTag e.core t) (sym tag) at) allowed))
@@ -101,7 +101,7 @@ action_addressed came to old _ addressed (flushes e draft answers same at tag no
 action_addressed came to old _ addressed (resends now room transfer left tsns chunks emission tag known sends are contents) =
     both_addressed to old.sent (emission ∷ []) addressed (inr (tag, subst NoEnd (sym contents) (plain_no_end chunks)), tt)
 action_addressed came to old _ addressed (resends_nothing now room transfer left tsns known sends) = addressed
-action_addressed came to old _ addressed (speaks emission no_data stale) = both_addressed to old.sent (emission ∷ []) addressed (inl no_data, tt)
+action_addressed came to old _ addressed (speaks emission no_data stale says) = both_addressed to old.sent (emission ∷ []) addressed (inl no_data, tt)
 action_addressed came to old _ addressed (asks_again emission begun tag known contents) =
     both_addressed to old.sent (emission ∷ []) addressed (inr (tag, subst NoEnd (sym contents) tt), tt)
 action_addressed came to old _ addressed (acknowledges now sack transfer new may known valid does) = addressed

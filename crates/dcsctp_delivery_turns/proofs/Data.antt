@@ -23,10 +23,11 @@ use Rattle.dcsctp_theorem_sockets.proofs.Bursts.{packets_in-append}
 use Rattle.dcsctp_delivery_turns.specs.Actions.{IsCalm, MayAcknowledge, inside, ledger_of, queues_with_transfer, Actions, nothing, further, MakesPackets, MakesAlso, Becomes, goes_on, queued_where, queued_together, with_first, read_where}
 use Rattle.dcsctp_spec_lemmas.specs.spec.association.Effect.{identity_in}
 use Rattle.dcsctp_delivery_turns.proofs.Tags.{flush_link}
+use Rattle.dcsctp_delivery_turns.specs.Reports.{IsCumulative}
 use Rattle.dcsctp_delivery_turns.specs.Tags.{IsPeerTag}
 use Rattle.dcsctp_delivery_turns.proofs.Actions.{emits_link, Goes, MakesTo, both, action_of, emission_of, rests, emitted, flushed, makes_behind}
 use Rattle.dcsctp_delivery_turns.proofs.Shutdown.{step_link, step_makes, step_below, step_peer}
-use Rattle.dcsctp_delivery_turns.proofs.Fixed.{held_tag, sack_no_data, delivered_none, fast_core, Alike, sack_no_end, sack_not_stale, delayed_alike}
+use Rattle.dcsctp_delivery_turns.proofs.Fixed.{held_tag, sack_no_data, delivered_none, fast_core, Alike, sack_no_end, sack_not_stale, sack_reports, delayed_alike}
 
 pub to_link : (e : Endpoint) (peer : Option Held) (answers : List Answer) → AnswersTo e peer answers → identity_in (flush_by e peer answers).after.core ≡ identity_in e.core
 to_link e None answers allowed = refl
@@ -40,7 +41,7 @@ module _ (came : Option Content) (calm : IsCalm came) (to : ℕ) where
 
   pub to_makes : (e : Endpoint) (peer : Option Held) (answers : List Answer) → IsPeerTag e.core to → held_in e.core ≡ peer → AnswersTo e peer answers → MakesTo came to (inside e) (flush_by e peer answers)
   to_makes e None answers at holds allowed = rests came to (inside e)
-  to_makes e (Some held) answers at holds allowed = flushed came to e (draft_to held) answers at (held_tag e.core held to holds at) tt tt tt allowed
+  to_makes e (Some held) answers at holds allowed = flushed came to e (draft_to held) answers at (held_tag e.core held to holds at) tt tt tt tt allowed
 
   pub flush_makes : (e : Endpoint) (o : Outcome) → IsPeerTag e.core to → FlushTurn e o → MakesTo came to (inside e) o
   flush_makes e o at turn = subst (MakesTo came to (inside e)) (sym turn.2) (to_makes e (held_in e.core) turn.0 at refl turn.1)
@@ -52,7 +53,7 @@ module _ (came : Option Content) (calm : IsCalm came) (to : ℕ) where
   no_data_goes e (Some held) tsn =
       goes_on calm (emits_link e [] (to_peer held (plain (error_of (no_user_data tsn ∷ [])))))
       (makes_behind came to (inside e) [] (error ProtocolViolation no_user_data_text ∷ []) (emits e [] (to_peer held (plain (error_of (no_user_data tsn ∷ []))))) refl
-      (emitted came to e [] (to_peer held (plain (error_of (no_user_data tsn ∷ [])))) (tt, tt) tt))
+      (emitted came to e [] (to_peer held (plain (error_of (no_user_data tsn ∷ [])))) (tt, tt) tt (tt, tt)))
 
   receive_goes : (e : Endpoint) (transfer : Option Transfer) (arrived : Arrival) (o : Outcome)
       → ((old new : Transfer) → transfer ≡ Some old → ReceivesData arrived old new → MakesPackets came to (inside e) [] (inside (with_transfer e new)))
@@ -114,7 +115,7 @@ module _ (came : Option Content) (calm : IsCalm came) (to : ℕ) where
     pub makes : MakesTo came to (inside e) o
 
   pub acknowledged : (e : Endpoint) (held : Held) (transfer : Transfer) (sack : SackContent) (o : Outcome) → IsPeerTag e.core to → held_in e.core ≡ Some held → e.queues.transfer ≡ Some transfer
-      → is_sack_valid transfer.retransmission sack.cumulative_tsn_ack ≡ true → MayAcknowledge came → AcknowledgesBy e held transfer sack o → Continues e o
+      → is_sack_valid transfer.retransmission sack.cumulative_tsn_ack ≡ true → MayAcknowledge came sack.cumulative_tsn_ack → AcknowledgesBy e held transfer sack o → Continues e o
   acknowledged e held transfer sack o at holds known valid may turn =
       let tag : held.peer.tag ≡ to = held_tag e.core held to holds at in
       let later : IsPeerTag turn.stepped.after.core to =
@@ -123,11 +124,11 @@ module _ (came : Option Content) (calm : IsCalm came) (to : ℕ) where
       subst (λ (c : Core). IsPeerTag c to) (sym (fast_core (has_fast_retransmit turn.left.retransmission) turn.stepped.after held turn.left turn.fast turn.resends)) later in
       let taken : Endpoint = sack_taken e transfer turn.left in
       let first : MakesPackets came to (inside e) [] (inside taken) = action_of came to (inside e) taken.queues (λ queued sent read asking. actions.acknowledges e.moment sack transfer turn.left may known valid turn.takes) in
-      let step : MakesTo came to (inside taken) turn.stepped = subst (MakesTo came to (inside taken)) (sym turn.steps) (step_makes came calm to taken e.core refl) in
+      let step : MakesTo came to (inside taken) turn.stepped = subst (MakesTo came to (inside taken)) (sym turn.steps) (step_makes came calm to taken e.core refl at) in
       let same : turn.stepped.after.queues ≡ taken.queues = ap (λ (x : Outcome). x.after.queues) turn.steps ∙ step_below taken e.core in
       let fast : MakesTo came to (inside turn.stepped.after) turn.fast =
       fast_makes (has_fast_retransmit turn.left.retransmission) turn.stepped.after held turn.left turn.fast tag (ap (λ (b : EndpointQueues). b.transfer) same) turn.resends in
-      let last : MakesTo came to (inside turn.fast.after) (flush_of turn.fast.after (draft_to held) turn.answers) = flushed came to turn.fast.after (draft_to held) turn.answers last_at tag tt tt tt turn.allowed in
+      let last : MakesTo came to (inside turn.fast.after) (flush_of turn.fast.after (draft_to held) turn.answers) = flushed came to turn.fast.after (draft_to held) turn.answers last_at tag tt tt tt tt turn.allowed in
       let flush : Outcome = flush_of turn.fast.after (draft_to held) turn.answers in
       let told : List (Event Emission) = delivered_by sack.cumulative_tsn_ack transfer.retransmission in
       let none : packets_in told ≡ [] = delivered_none (take (acknowledged_count transfer.retransmission.outstanding sack.cumulative_tsn_ack) transfer.retransmission.outstanding.items) in
@@ -150,15 +151,15 @@ module _ (came : Option Content) (calm : IsCalm came) (to : ℕ) where
       })
 
   sack_where_goes : (b : Bool) (e : Endpoint) (held : Held) (transfer : Transfer) (sack : SackContent) (o : Outcome) → IsPeerTag e.core to → held_in e.core ≡ Some held → e.queues.transfer ≡ Some transfer
-      → is_sack_valid transfer.retransmission sack.cumulative_tsn_ack ≡ b → MayAcknowledge came → SackWhere b e held transfer sack o → Goes came to e o
+      → is_sack_valid transfer.retransmission sack.cumulative_tsn_ack ≡ b → MayAcknowledge came sack.cumulative_tsn_ack → SackWhere b e held transfer sack o → Goes came to e o
   sack_where_goes false e held transfer sack o at holds known valid may turn = subst (Goes came to e) (sym turn) (goes_on calm refl (rests came to (inside e)))
   sack_where_goes true e held transfer sack o at holds known valid may turn = (let on = acknowledged e held transfer sack o at holds known valid may turn in goes_on calm on.linked on.makes)
 
-  sack_by_goes : (e : Endpoint) (peer : Option Held) (transfer : Transfer) (sack : SackContent) (o : Outcome) → IsPeerTag e.core to → held_in e.core ≡ peer → e.queues.transfer ≡ Some transfer → MayAcknowledge came → SackBy e peer transfer sack o → Goes came to e o
+  sack_by_goes : (e : Endpoint) (peer : Option Held) (transfer : Transfer) (sack : SackContent) (o : Outcome) → IsPeerTag e.core to → held_in e.core ≡ peer → e.queues.transfer ≡ Some transfer → MayAcknowledge came sack.cumulative_tsn_ack → SackBy e peer transfer sack o → Goes came to e o
   sack_by_goes e None transfer sack o at holds known may turn = subst (Goes came to e) (sym turn) (goes_on calm refl (rests came to (inside e)))
   sack_by_goes e (Some held) transfer sack o at holds known may turn = sack_where_goes (is_sack_valid transfer.retransmission sack.cumulative_tsn_ack) e held transfer sack o at holds known refl may turn
 
-  pub sack_goes : (e : Endpoint) (transfer : Option Transfer) (sack : SackContent) (o : Outcome) → IsPeerTag e.core to → e.queues.transfer ≡ transfer → MayAcknowledge came → SackTurn e transfer sack o → Goes came to e o
+  pub sack_goes : (e : Endpoint) (transfer : Option Transfer) (sack : SackContent) (o : Outcome) → IsPeerTag e.core to → e.queues.transfer ≡ transfer → MayAcknowledge came sack.cumulative_tsn_ack → SackTurn e transfer sack o → Goes came to e o
   sack_goes e None sack o at known may turn = subst (Goes came to e) (sym turn) (goes_on calm refl (rests came to (inside e)))
   sack_goes e (Some transfer) sack o at known may turn = sack_by_goes e (held_in e.core) transfer sack o at refl known may turn
 
@@ -175,7 +176,8 @@ module _ (came : Option Content) (calm : IsCalm came) (to : ℕ) where
       subst (Goes came to e) (sym turn.is)
       (goes_on calm (flush_link base draft turn.answers turn.allowed) (both came to (inside e) (inside base) (inside (flush_of base draft turn.answers).after) [] (packets_in (flush_of base draft turn.answers).events)
       (tracked e transfer (sacked tracker) known (record { cumulative = alike.cumulative; ranges = alike.ranges }))
-      (flushed came to base draft turn.answers at (held_tag e.core held to holds at) (sack_no_data _ _) (sack_no_end _ _) (sack_not_stale _ _) turn.allowed)))
+      (flushed came to base draft turn.answers at (held_tag e.core held to holds at) (sack_no_data _ _) (sack_no_end _ _) (sack_not_stale _ _)
+      (sack_reports _ (IsCumulative base.queues.transfer) _ refl) turn.allowed)))
   end_where_goes true e None transfer tracker o at holds known alike turn = subst (Goes came to e) (sym turn) (goes_on calm refl (tracked e transfer tracker known alike))
   end_where_goes false e peer transfer tracker o at holds known alike turn = subst (Goes came to e) (sym turn) (goes_on calm refl (tracked e transfer tracker known alike))
 

@@ -23,6 +23,7 @@ use Rattle.dcsctp_spec_lemmas.proofs.SendEventLemmas.{told_prepared}
 use Rattle.dcsctp_theorem_sockets.proofs.Bursts.{packets_in-append, told_none}
 use Rattle.dcsctp_delivery_turns.specs.Actions.{NoEnd, NoneStale}
 use Rattle.dcsctp_delivery_turns.specs.Asking.{own_of}
+use Rattle.dcsctp_delivery_turns.specs.Reports.{AllReportSo}
 use Rattle.dcsctp_delivery_turns.specs.Tags.{IsPeerTag}
 use Rattle.dcsctp_delivery_sending.specs.Flushes.{NoData}
 
@@ -97,6 +98,11 @@ queue_one_own e sending (Some refusal) = refl
 pub queue_all_own : (e : Endpoint) (sendings : List Sending) → own_of (queue_all e sendings).after ≡ own_of e
 queue_all_own e [] = refl
 queue_all_own e (sending ∷ sendings) = queue_all_own (queue_one e sending).after sendings ∙ queue_one_own e sending (sending_refusal e sending)
+
+-- It reports what was received.
+pub sack_reports : (b : Bool) (so : ℕ → Type 0) (sack : SackContent) → so sack.cumulative_tsn_ack → AllReportSo so (plain_contents (if b then unworked (sack_chunk sack) ∷ [] else []))
+sack_reports true so sack is = (is, tt)
+sack_reports false so sack is = tt
 
 pub sack_no_end : (b : Bool) (sack : SackContent) → NoEnd (plain_contents (if b then unworked (sack_chunk sack) ∷ [] else []))
 sack_no_end true sack = tt

@@ -10,7 +10,6 @@ use Rattle.dcsctp_spec_lemmas.specs.spec.endpoint.BegunResets.{BegunReset}
 use Rattle.dcsctp_spec_lemmas.specs.spec.queues.Reassembly.{ReassemblyState, EndsDeferral}
 use Rattle.dcsctp_spec_lemmas.specs.spec.queues.Transfer.{Transfer}
 use Rattle.dcsctp_spec_lemmas.specs.spec.endpoint.ResetOutcomes.{requested_in, has_completed, has_reset}
-use Rattle.dcsctp_delivery_receiving.specs.Clear.{IsOwn}
 use Rattle.dcsctp_delivery_directions.specs.Directions.{Asking, HasAsked, asking_renewed, all_ended, is_reset_reached, Direction}
 use Rattle.dcsctp_delivery_turns.specs.Asking.{Own, renewed_own, AreNumbered, IsOut, OutIs, IsAsking, AsksFit, SomeFit}
 use Rattle.dcsctp_delivery_turns.specs.Actions.{has_refused, Inside, ended_own, OwnEnds, unended, committed, rolled_back, PeerResets, unreset, absent, deferred, reset_now}
@@ -153,7 +152,7 @@ front_sends came first direction happened old between new own peer fits performe
 
 -- ---- the direction on which it receives
 
-own_ends_received : (happened : List Effect) (old new : Inside) → OwnEnds happened old new → new.queues.transfer ≡ old.queues.transfer
+pub own_ends_received : (happened : List Effect) (old new : Inside) → OwnEnds happened old new → new.queues.transfer ≡ old.queues.transfer
 own_ends_received happened old _ unended = refl
 own_ends_received happened old _ (committed completed own is) = refl
 own_ends_received happened old _ (rolled_back refused own is) = refl

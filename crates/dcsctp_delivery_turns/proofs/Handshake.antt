@@ -33,7 +33,7 @@ use Rattle.dcsctp_spec_lemmas.specs.spec.queues.Transfer.{Transfer, EndpointQueu
 use Rattle.dcsctp_spec_lemmas.specs.spec.endpoint.ReconfigurationOutcomes.{reset_again}
 use Rattle.dcsctp_spec_lemmas.proofs.OneAnswerLemmas.{init_by}
 use Rattle.dcsctp_delivery_turns.proofs.Tags.{flush_link}
-use Rattle.dcsctp_delivery_turns.proofs.Actions.{Goes, MakesTo, emits_link, emits_own, rests, spoken, emitted, flushed, makes_behind, ended, end_silent}
+use Rattle.dcsctp_delivery_turns.proofs.Actions.{Goes, MakesTo, emits_link, emits_own, rests, spoken, emitted, flushed, silent_if, makes_behind, ended, end_silent}
 
 -- A cookie of the existing association has the peer's tag.
 is_the_peer : (own peer tie zero : Bool) → case_by own peer tie zero ≡ maintain_existing → peer ≡ true
@@ -102,14 +102,14 @@ module _ (came : Option Content) (calm : IsCalm came) (to : ℕ) where
   init_link e theirs (open_in shutdown_ack_sent my held) word next = emits_link e [] (to_peer held shutdown_ack)
 
   init_makes : (e : Endpoint) (theirs : Introduction) (core : Core) (word next : ℕ) → MakesTo came to (inside e) (init_outcome e theirs core word next)
-  init_makes e theirs closed word next = emitted came to (with_secret e (pair_from word next)) (U32 word ∷ U32 next ∷ []) (init_ack_emission (with_secret e (pair_from word next)) theirs (pair_from word next) (secret_with e (pair_from word next))) (tt, tt) tt
-  init_makes e theirs (cookie_wait my) word next = emitted came to e [] (init_ack_emission e theirs my e.secret) (tt, tt) tt
-  init_makes e theirs (cookie_echoed my held cookie) word next = emitted came to e [] (init_ack_emission e theirs my e.secret) (tt, tt) tt
-  init_makes e theirs (open_in established my held) word next = emitted came to e (U32 word ∷ []) (init_ack_emission e theirs (renewed_pair e word) e.tie) (tt, tt) tt
-  init_makes e theirs (open_in shutdown_pending my held) word next = emitted came to e (U32 word ∷ []) (init_ack_emission e theirs (renewed_pair e word) e.tie) (tt, tt) tt
-  init_makes e theirs (open_in shutdown_sent my held) word next = emitted came to e (U32 word ∷ []) (init_ack_emission e theirs (renewed_pair e word) e.tie) (tt, tt) tt
-  init_makes e theirs (open_in shutdown_received my held) word next = emitted came to e (U32 word ∷ []) (init_ack_emission e theirs (renewed_pair e word) e.tie) (tt, tt) tt
-  init_makes e theirs (open_in shutdown_ack_sent my held) word next = emitted came to e [] (to_peer held shutdown_ack) (tt, tt) tt
+  init_makes e theirs closed word next = emitted came to (with_secret e (pair_from word next)) (U32 word ∷ U32 next ∷ []) (init_ack_emission (with_secret e (pair_from word next)) theirs (pair_from word next) (secret_with e (pair_from word next))) (tt, tt) tt (tt, tt)
+  init_makes e theirs (cookie_wait my) word next = emitted came to e [] (init_ack_emission e theirs my e.secret) (tt, tt) tt (tt, tt)
+  init_makes e theirs (cookie_echoed my held cookie) word next = emitted came to e [] (init_ack_emission e theirs my e.secret) (tt, tt) tt (tt, tt)
+  init_makes e theirs (open_in established my held) word next = emitted came to e (U32 word ∷ []) (init_ack_emission e theirs (renewed_pair e word) e.tie) (tt, tt) tt (tt, tt)
+  init_makes e theirs (open_in shutdown_pending my held) word next = emitted came to e (U32 word ∷ []) (init_ack_emission e theirs (renewed_pair e word) e.tie) (tt, tt) tt (tt, tt)
+  init_makes e theirs (open_in shutdown_sent my held) word next = emitted came to e (U32 word ∷ []) (init_ack_emission e theirs (renewed_pair e word) e.tie) (tt, tt) tt (tt, tt)
+  init_makes e theirs (open_in shutdown_received my held) word next = emitted came to e (U32 word ∷ []) (init_ack_emission e theirs (renewed_pair e word) e.tie) (tt, tt) tt (tt, tt)
+  init_makes e theirs (open_in shutdown_ack_sent my held) word next = emitted came to e [] (to_peer held shutdown_ack) (tt, tt) tt (tt, tt)
 
   pub init_goes : (e : Endpoint) (theirs : Introduction) (word next : ℕ) → Goes came to e (init_answered (may_answer e) e theirs word next)
   init_goes e theirs word next =
@@ -121,14 +121,14 @@ module _ (came : Option Content) (calm : IsCalm came) (to : ℕ) where
       let awaiting : Endpoint = awaits_init_ack e (pair_from word next) in
       goes_on calm (emits_link awaiting (U32 word ∷ U32 next ∷ []) (init_emission e (pair_from word next)) ∙ sym (ap identity_in at))
       (from_own e awaiting (emits awaiting (U32 word ∷ U32 next ∷ []) (init_emission e (pair_from word next))) refl (ap (λ (c : Core). own_in c e.outstanding) at)
-      (emitted came to awaiting (U32 word ∷ U32 next ∷ []) (init_emission e (pair_from word next)) (tt, tt) tt))
+      (emitted came to awaiting (U32 word ∷ U32 next ∷ []) (init_emission e (pair_from word next)) (tt, tt) tt (tt, tt)))
   connect_goes e (cookie_wait my) word next at = goes_on calm refl (rests came to (inside e))
   connect_goes e (cookie_echoed my held cookie) word next at = goes_on calm refl (rests came to (inside e))
   connect_goes e (open_in phase my held) word next at = goes_on calm refl (rests came to (inside e))
 
   echoed_makes : (b : Bool) (e : Endpoint) (words : List Word) (tag : ℕ) (cookie : List ℕ) (answers : List Answer) → IsPeerTag e.core tag → EchoAnswers b e tag cookie answers
       → MakesTo came tag (inside e) (cond b (flush_answered answers e words [] true tag (cookie_echo cookie ∷ [])) (quiet e words []))
-  echoed_makes true e words tag cookie answers at allowed = flushed came tag e (echo_emission tag cookie) answers at refl (tt, tt) tt (tt, tt) allowed
+  echoed_makes true e words tag cookie answers at allowed = flushed came tag e (echo_emission tag cookie) answers at refl (tt, tt) tt (tt, tt) (tt, tt) allowed
   echoed_makes false e words tag cookie answers at allowed = rests came tag (inside e)
 
   echoed_link : (b : Bool) (e : Endpoint) (words : List Word) (tag : ℕ) (cookie : List ℕ) (answers : List Answer) → EchoAnswers b e tag cookie answers
@@ -138,7 +138,8 @@ module _ (came : Option Content) (calm : IsCalm came) (to : ℕ) where
 
   accepted_goes : IsOpening came → (e : Endpoint) (my : Pair) (theirs : Introduction) (cookie : Option (List ℕ)) (word : ℕ) (answers : List Answer) → InitAckAnswers e theirs cookie (cookie_wait my) word answers
       → Goes came to e (accepted_init_ack_by (flush_answered answers) e my theirs cookie word)
-  accepted_goes opening e my theirs None word answers allowed = ended came to e (emits e [] (abort_emission theirs.pair.tag)) (aborted _ no_cookie_text) refl (emits_own e [] (abort_emission theirs.pair.tag)) (emitted came to e [] (abort_emission theirs.pair.tag) (tt, tt) tt)
+  accepted_goes opening e my theirs None word answers allowed = ended came to e (emits e [] (abort_emission theirs.pair.tag)) (aborted _ no_cookie_text) refl (emits_own e [] (abort_emission theirs.pair.tag))
+      (silent_if came to (fits e (abort_emission theirs.pair.tag)) e [] (abort_emission theirs.pair.tag) (tt, tt)) (emitted came to e [] (abort_emission theirs.pair.tag) (tt, tt) tt (tt, tt))
   accepted_goes opening e my theirs (Some cookie) word answers allowed =
       let awaiting : Endpoint = awaits_cookie_ack e my theirs cookie word in
       begins (record {
@@ -163,7 +164,7 @@ module _ (came : Option Content) (calm : IsCalm came) (to : ℕ) where
   cookie_ack_goes e (cookie_wait my) answers same is allowed = goes_on calm refl (rests came to (inside e))
   cookie_ack_goes e (cookie_echoed my held cookie) answers same is allowed = goes_on calm (flush_link (connected_after e my held) (draft_to held) answers allowed ∙ sym (ap identity_in same))
       (from_own e (connected_after e my held) (flush_of (connected_after e my held) (draft_to held) answers) refl (ap (λ (c : Core). own_in c e.outstanding) same)
-      (flushed came to (connected_after e my held) (draft_to held) answers is is tt tt tt allowed))
+      (flushed came to (connected_after e my held) (draft_to held) answers is is tt tt tt tt allowed))
   cookie_ack_goes e (open_in phase my held) answers same is allowed = goes_on calm refl (rests came to (inside e))
 
   -- ---- COOKIE ECHO
@@ -179,7 +180,7 @@ module _ (came : Option Content) (calm : IsCalm came) (to : ℕ) where
         noted = refl;
         queue = queue_where e.options.follow_rfc e cookie;
         keeps = kept_or_anew e.options.follow_rfc e cookie;
-      }) opening (flush_link (established_by e cookie (queues_kept e cookie) tie) (cookie_ack_emission (held_by_cookie e.options cookie) cookie) answers allowed) (λ queued. refl) (λ read. refl) (reset_again None) (flushed came cookie.addressee.tag (established_by e cookie (queues_kept e cookie) tie) (cookie_ack_emission (held_by_cookie e.options cookie) cookie) answers refl refl (tt, tt) tt (tt, tt) allowed)
+      }) opening (flush_link (established_by e cookie (queues_kept e cookie) tie) (cookie_ack_emission (held_by_cookie e.options cookie) cookie) answers allowed) (λ queued. refl) (λ read. refl) (reset_again None) (flushed came cookie.addressee.tag (established_by e cookie (queues_kept e cookie) tie) (cookie_ack_emission (held_by_cookie e.options cookie) cookie) answers refl refl (tt, tt) tt (tt, tt) (tt, tt) allowed)
 
   anew_goes : IsOpening came → (e : Endpoint) (cookie : Cookie) (tie : ℕ) (told : List (Event Emission)) (answers : List Answer) → packets_in told ≡ [] → EstablishAnswers e cookie (queues_begun e cookie) tie answers
       → Goes came to e (establish_by (flush_answered answers) e cookie (queues_begun e cookie) tie told)
@@ -193,7 +194,7 @@ module _ (came : Option Content) (calm : IsCalm came) (to : ℕ) where
         queue = numbered_for (interleaves e cookie) (queue_restarted e.queues.queue);
         keeps = inr refl;
       }) opening (flush_link (established_by e cookie (queues_begun e cookie) tie) (cookie_ack_emission (held_by_cookie e.options cookie) cookie) answers allowed) (λ queued. refl) (λ read. refl) (reset_again None) (makes_behind came cookie.addressee.tag (inside (established_by e cookie (queues_begun e cookie) tie)) (U64 tie ∷ []) told (flush_of (established_by e cookie (queues_begun e cookie) tie) (cookie_ack_emission (held_by_cookie e.options cookie) cookie) answers) none
-      (flushed came cookie.addressee.tag (established_by e cookie (queues_begun e cookie) tie) (cookie_ack_emission (held_by_cookie e.options cookie) cookie) answers refl refl (tt, tt) tt (tt, tt) allowed))
+      (flushed came cookie.addressee.tag (established_by e cookie (queues_begun e cookie) tie) (cookie_ack_emission (held_by_cookie e.options cookie) cookie) answers refl refl (tt, tt) tt (tt, tt) (tt, tt) allowed))
 
   -- What was sent in the one association goes on in the other.
   pub other_there : IsOpening came → (e : Endpoint) (mine : Pair) (held : Held) (echoed : List ℕ) (cookie : Cookie) (tie : ℕ) (transfer : Transfer) (answers : List Answer) → e.core ≡ cookie_echoed mine held echoed → e.queues.transfer ≡ Some transfer
@@ -223,7 +224,7 @@ module _ (came : Option Content) (calm : IsCalm came) (to : ℕ) where
           kept_is = (e.moment, window, refl);
         };
         again = reset_again None;
-        makes = flushed came cookie.addressee.tag (established_by e cookie queues tie) (cookie_ack_emission after cookie) answers refl refl (tt, tt) tt (tt, tt) allowed;
+        makes = flushed came cookie.addressee.tag (established_by e cookie queues tie) (cookie_ack_emission after cookie) answers refl refl (tt, tt) tt (tt, tt) (tt, tt) allowed;
       }
 
   there_goes : (e : Endpoint) (o : Outcome) → GoesThere came e o → Goes came to e o
@@ -259,15 +260,15 @@ module _ (came : Option Content) (calm : IsCalm came) (to : ℕ) where
   restarted_goes opening e cookie tie (open_in shutdown_pending my held) answers allowed = anew_goes opening e cookie tie (connection_restarted ∷ connected ∷ []) answers refl allowed
   restarted_goes opening e cookie tie (open_in shutdown_sent my held) answers allowed = anew_goes opening e cookie tie (connection_restarted ∷ connected ∷ []) answers refl allowed
   restarted_goes opening e cookie tie (open_in shutdown_received my held) answers allowed = anew_goes opening e cookie tie (connection_restarted ∷ connected ∷ []) answers refl allowed
-  restarted_goes opening e cookie tie (open_in shutdown_ack_sent my held) answers allowed = goes_on calm refl (spoken came to (inside e) (shutting_down_emission held) (tt, (tt, tt)) (refl, tt))
+  restarted_goes opening e cookie tie (open_in shutdown_ack_sent my held) answers allowed = goes_on calm refl (spoken came to (inside e) (shutting_down_emission held) (tt, (tt, tt)) (refl, tt) (inl (tt, (tt, tt))))
 
   maintained_goes : (e : Endpoint) (cookie : Cookie) (header : ℕ) (core : Core) (answers : List Answer) → e.core ≡ core → IsPeerTag e.core to → IsPeerTag core to → resolve core e.tie e.secret header cookie ≡ maintain_existing → MaintainAnswers e cookie core answers → Goes came to e (maintain_by (flush_answered answers) e cookie core)
   maintained_goes e cookie header closed answers same at is resolved allowed = goes_on calm refl (rests came to (inside e))
   maintained_goes e cookie header (cookie_wait my) answers same at is resolved allowed = goes_on calm refl (rests came to (inside e))
   maintained_goes e cookie header (cookie_echoed my held echoed) answers same at is resolved allowed = goes_on calm (flush_link (connected_after e my held) (cookie_ack_emission held cookie) answers allowed ∙ sym (ap identity_in same))
       (from_own e (connected_after e my held) (flush_of (connected_after e my held) (cookie_ack_emission held cookie) answers) refl (ap (λ (c : Core). own_in c e.outstanding) same)
-      (flushed came to (connected_after e my held) (cookie_ack_emission held cookie) answers is (eqb-true cookie.addressee.tag held.peer.tag (is_the_peer (header == my.tag) (cookie.addressee.tag == held.peer.tag) (cookie.tie == e.tie) (cookie.tie == e.secret) resolved) ∙ is) (tt, tt) tt (tt, tt) allowed))
-  maintained_goes e cookie header (open_in phase my held) answers same at is resolved allowed = goes_on calm (flush_link e (cookie_ack_emission held cookie) answers allowed) (flushed came to e (cookie_ack_emission held cookie) answers at (eqb-true cookie.addressee.tag held.peer.tag (is_the_peer (header == my.tag) (cookie.addressee.tag == held.peer.tag) (cookie.tie == e.tie) (cookie.tie == e.secret) resolved) ∙ is) (tt, tt) tt (tt, tt) allowed)
+      (flushed came to (connected_after e my held) (cookie_ack_emission held cookie) answers is (eqb-true cookie.addressee.tag held.peer.tag (is_the_peer (header == my.tag) (cookie.addressee.tag == held.peer.tag) (cookie.tie == e.tie) (cookie.tie == e.secret) resolved) ∙ is) (tt, tt) tt (tt, tt) (tt, tt) allowed))
+  maintained_goes e cookie header (open_in phase my held) answers same at is resolved allowed = goes_on calm (flush_link e (cookie_ack_emission held cookie) answers allowed) (flushed came to e (cookie_ack_emission held cookie) answers at (eqb-true cookie.addressee.tag held.peer.tag (is_the_peer (header == my.tag) (cookie.addressee.tag == held.peer.tag) (cookie.tie == e.tie) (cookie.tie == e.secret) resolved) ∙ is) (tt, tt) tt (tt, tt) (tt, tt) allowed)
 
   resolved_goes : IsOpening came → (e : Endpoint) (cookie : Cookie) (header : ℕ) (core : Core) (word : ℕ) (old : Bool) (resolution : Resolution) (answers : List Answer) → e.core ≡ core → IsPeerTag e.core to → IsPeerTag core to → aged old (resolve core e.tie e.secret header cookie) ≡ resolution → ResolvedAnswers e cookie core word resolution answers
       → Goes came to e (resolved_by (flush_answered answers) e cookie core word resolution)
@@ -278,7 +279,7 @@ module _ (came : Option Content) (calm : IsCalm came) (to : ℕ) where
   resolved_goes opening e cookie header core word old maintain_existing answers same at is resolved allowed = maintained_goes e cookie header core answers same at is (kept_by_age old (resolve core e.tie e.secret header cookie) resolved) allowed
   resolved_goes opening e cookie header core word old invalid_tag answers same at is resolved allowed = goes_on calm refl (rests came to (inside e))
   resolved_goes opening e cookie header core word old stale answers same at is resolved allowed =
-      by_stale_outcome (Goes came to e) e cookie (goes_on calm refl (spoken came to (inside e) (stale_emission cookie) (tt, tt) tt)) (goes_on calm refl (rests came to (inside e)))
+      by_stale_outcome (Goes came to e) e cookie (goes_on calm refl (spoken came to (inside e) (stale_emission cookie) (tt, tt) tt (inl (tt, tt)))) (goes_on calm refl (rests came to (inside e)))
 
   pub echo_goes : IsOpening came → (e : Endpoint) (core : Core) (header : ℕ) (found : Result Cookie (List ℕ)) (word : ℕ) (answers : List Answer) → e.core ≡ core → IsPeerTag e.core to → IsPeerTag core to → EchoedAnswers e core header found word answers
       → Goes came to e (cookie_echo_by (flush_answered answers) e core header found word)
@@ -289,18 +290,20 @@ module _ (came : Option Content) (calm : IsCalm came) (to : ℕ) where
 
   pub abort_goes : (e : Endpoint) (causes : List Cause) (core : Core) → Goes came to e (abort_outcome e causes core)
   abort_goes e causes core =
-      by_abort_outcome (Goes came to e) e causes core (ends refl (λ read. refl) (inside e) refl (rests came to (inside e)) refl)
+      by_abort_outcome (Goes came to e) e causes core (ends refl (λ read. refl) tt (inside e) refl (rests came to (inside e)) refl)
       (goes_on calm refl (rests came to (inside e)))
 
   pub aborting_goes : (e : Endpoint) (core : Core) (reason : AbortReason) → Goes came to e (aborting_outcome e core reason)
   aborting_goes e closed reason = goes_on calm refl (rests came to (inside e))
-  aborting_goes e (cookie_wait my) reason = ended came to e (quiet e [] []) (end_of reason) (end_silent came to reason) refl (rests came to (inside e))
-  aborting_goes e (cookie_echoed my held cookie) reason = ended came to e (emits e [] (abort_to held reason)) (end_of reason) (end_silent came to reason) (emits_own e [] (abort_to held reason)) (emitted came to e [] (abort_to held reason) (tt, tt) tt)
-  aborting_goes e (open_in phase my held) reason = ended came to e (emits e [] (abort_to held reason)) (end_of reason) (end_silent came to reason) (emits_own e [] (abort_to held reason)) (emitted came to e [] (abort_to held reason) (tt, tt) tt)
+  aborting_goes e (cookie_wait my) reason = ended came to e (quiet e [] []) (end_of reason) (end_silent came to reason) refl tt (rests came to (inside e))
+  aborting_goes e (cookie_echoed my held cookie) reason = ended came to e (emits e [] (abort_to held reason)) (end_of reason) (end_silent came to reason) (emits_own e [] (abort_to held reason))
+      (silent_if came to (fits e (abort_to held reason)) e [] (abort_to held reason) (tt, tt)) (emitted came to e [] (abort_to held reason) (tt, tt) tt (tt, tt))
+  aborting_goes e (open_in phase my held) reason = ended came to e (emits e [] (abort_to held reason)) (end_of reason) (end_silent came to reason) (emits_own e [] (abort_to held reason))
+      (silent_if came to (fits e (abort_to held reason)) e [] (abort_to held reason) (tt, tt)) (emitted came to e [] (abort_to held reason) (tt, tt) tt (tt, tt))
 
   pub again_goes : (e : Endpoint) (core : Core) (answers : List Answer) → IsPeerTag e.core to → IsPeerTag core to → AgainAnswers e core answers → MakesTo came to (inside e) (again_by (flush_answered answers) e core)
   again_goes e closed answers at is allowed = rests came to (inside e)
-  again_goes e (cookie_wait my) answers at is allowed = emitted came to e [] (init_emission e my) (tt, tt) tt
+  again_goes e (cookie_wait my) answers at is allowed = emitted came to e [] (init_emission e my) (tt, tt) tt (tt, tt)
   again_goes e (cookie_echoed my held cookie) answers at is allowed =
       subst (λ (t : ℕ). MakesTo came t (inside e) (again_by (flush_answered answers) e (cookie_echoed my held cookie))) is
       (echoed_makes (fits e (echo_emission held.peer.tag cookie)) e [] held.peer.tag cookie answers (subst (λ (t : ℕ). IsPeerTag e.core t) (sym is) at) allowed)
@@ -314,15 +317,15 @@ module _ (came : Option Content) (calm : IsCalm came) (to : ℕ) where
 
   pub gives_up_goes : (e : Endpoint) (core : Core) → Goes came to e (t1_gives_up_outcome e core)
   gives_up_goes e closed = goes_on calm refl (rests came to (inside e))
-  gives_up_goes e (cookie_wait my) = ends refl (λ read. refl) (inside e) refl (rests came to (inside e)) refl
-  gives_up_goes e (cookie_echoed my held cookie) = ends refl (λ read. refl) (inside e) refl (rests came to (inside e)) refl
+  gives_up_goes e (cookie_wait my) = ends refl (λ read. refl) tt (inside e) refl (rests came to (inside e)) refl
+  gives_up_goes e (cookie_echoed my held cookie) = ends refl (λ read. refl) tt (inside e) refl (rests came to (inside e)) refl
   gives_up_goes e (open_in phase my held) = goes_on calm refl (rests came to (inside e))
 
   pub hand_over_goes : (e : Endpoint) (core : Core) → Goes came to e (hand_over_outcome e core)
   hand_over_goes e closed = goes_on calm refl (rests came to (inside e))
   hand_over_goes e (cookie_wait my) = goes_on calm refl (rests came to (inside e))
   hand_over_goes e (cookie_echoed my held cookie) = goes_on calm refl (rests came to (inside e))
-  hand_over_goes e (open_in established my held) = ends refl (λ read. refl) (inside e) refl (rests came to (inside e)) refl
+  hand_over_goes e (open_in established my held) = ends refl (λ read. refl) tt (inside e) refl (rests came to (inside e)) refl
   hand_over_goes e (open_in shutdown_pending my held) = goes_on calm refl (rests came to (inside e))
   hand_over_goes e (open_in shutdown_sent my held) = goes_on calm refl (rests came to (inside e))
   hand_over_goes e (open_in shutdown_received my held) = goes_on calm refl (rests came to (inside e))

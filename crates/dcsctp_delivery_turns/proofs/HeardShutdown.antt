@@ -29,24 +29,24 @@ heeded_is_valid options phase transfer tsn heeds = go options.follow_rfc (may_ha
 inside_with : Endpoint → Core → Inside
 inside_with e core = record { queues = e.queues; own = own_in core e.outstanding }
 
-module _ (came : Option Content) (calm : IsCalm came) (may : MayAcknowledge came) (to : ℕ) where
-  where_goes : (b : Bool) (e : Endpoint) (phase : OpenPhase) (my : Pair) (held : Held) (transfer : Transfer) (tsn : ℕ) (o : Outcome) → e.core ≡ open_in phase my held → held.peer.tag ≡ to → e.queues.transfer ≡ Some transfer
+module _ (came : Option Content) (calm : IsCalm came) (tsn : ℕ) (may : MayAcknowledge came tsn) (to : ℕ) where
+  where_goes : (b : Bool) (e : Endpoint) (phase : OpenPhase) (my : Pair) (held : Held) (transfer : Transfer) (o : Outcome) → e.core ≡ open_in phase my held → held.peer.tag ≡ to → e.queues.transfer ≡ Some transfer
       → heeds_shutdown e.options phase transfer tsn ≡ b → ShutdownWhere b e phase my held transfer tsn o → Goes came to e o
   unfolding inside_with
-  where_goes true e phase my held transfer tsn o at peer known heeds turn =
+  where_goes true e phase my held transfer o at peer known heeds turn =
       let base : Endpoint = phase_at e shutdown_received my held in
       let on : Continues came calm to base o =
       acknowledged came calm to base held transfer (said_by_shutdown tsn transfer.retransmission) o peer refl known (heeded_is_valid e.options phase transfer tsn heeds) may turn in
       goes_on calm (on.linked ∙ sym (ap identity_in at)) (subst (λ (i : Inside). MakesTo came to i o) (sym (ap (inside_with e) at)) on.makes)
-  where_goes false e phase my held transfer tsn o at peer known heeds turn = subst (Goes came to e) (sym turn) (shutdown_goes came calm to e (open_in phase my held) at)
+  where_goes false e phase my held transfer o at peer known heeds turn = subst (Goes came to e) (sym turn) (shutdown_goes came calm to e (open_in phase my held) at peer)
 
-  by_goes : (e : Endpoint) (phase : OpenPhase) (my : Pair) (held : Held) (found : Option Transfer) (tsn : ℕ) (o : Outcome) → e.core ≡ open_in phase my held → held.peer.tag ≡ to → e.queues.transfer ≡ found
+  by_goes : (e : Endpoint) (phase : OpenPhase) (my : Pair) (held : Held) (found : Option Transfer) (o : Outcome) → e.core ≡ open_in phase my held → held.peer.tag ≡ to → e.queues.transfer ≡ found
       → ShutdownBy e phase my held found tsn o → Goes came to e o
-  by_goes e phase my held None tsn o at peer known turn = subst (Goes came to e) (sym turn) (shutdown_goes came calm to e (open_in phase my held) at)
-  by_goes e phase my held (Some transfer) tsn o at peer known turn = where_goes (heeds_shutdown e.options phase transfer tsn) e phase my held transfer tsn o at peer known refl turn
+  by_goes e phase my held None o at peer known turn = subst (Goes came to e) (sym turn) (shutdown_goes came calm to e (open_in phase my held) at peer)
+  by_goes e phase my held (Some transfer) o at peer known turn = where_goes (heeds_shutdown e.options phase transfer tsn) e phase my held transfer o at peer known refl turn
 
-  pub heard_goes : (e : Endpoint) (core : Core) (tsn : ℕ) (o : Outcome) → e.core ≡ core → IsPeerTag core to → ShutdownTurn e core tsn o → Goes came to e o
-  heard_goes e closed tsn o at peer turn = subst (Goes came to e) (sym turn) (shutdown_goes came calm to e closed at)
-  heard_goes e (cookie_wait my) tsn o at peer turn = subst (Goes came to e) (sym turn) (shutdown_goes came calm to e (cookie_wait my) at)
-  heard_goes e (cookie_echoed my held cookie) tsn o at peer turn = subst (Goes came to e) (sym turn) (shutdown_goes came calm to e (cookie_echoed my held cookie) at)
-  heard_goes e (open_in phase my held) tsn o at peer turn = by_goes e phase my held e.queues.transfer tsn o at peer refl turn
+  pub heard_goes : (e : Endpoint) (core : Core) (o : Outcome) → e.core ≡ core → IsPeerTag core to → ShutdownTurn e core tsn o → Goes came to e o
+  heard_goes e closed o at peer turn = subst (Goes came to e) (sym turn) (shutdown_goes came calm to e closed at peer)
+  heard_goes e (cookie_wait my) o at peer turn = subst (Goes came to e) (sym turn) (shutdown_goes came calm to e (cookie_wait my) at peer)
+  heard_goes e (cookie_echoed my held cookie) o at peer turn = subst (Goes came to e) (sym turn) (shutdown_goes came calm to e (cookie_echoed my held cookie) at peer)
+  heard_goes e (open_in phase my held) o at peer turn = by_goes e phase my held e.queues.transfer o at peer refl turn

@@ -5,6 +5,7 @@ use Rattle.dcsctp_spec_lemmas.specs.spec.Packet.{Content, init, init_ack, cookie
 use Rattle.dcsctp_spec_lemmas.specs.spec.endpoint.Turn.{Input, arrival, refusal, packet_begins, chunk_input, packet_ends, act_input, user_sets, user_sends, user_resets, user_takes, timer_expires, time_passes, restores}
 use Rattle.dcsctp_spec_lemmas.specs.spec.queues.Transfer.{Transfer, EndpointQueues}
 use Rattle.dcsctp_delivery_turns.specs.Actions.{Ledger, IsOpening, read_where, Action, queues, sets, flushes, resends, resends_nothing, speaks, asks_again, acknowledges, loses, receives, receives_interleaved, forwards, forwards_interleaved, tracks, times, takes, Actions, nothing, further, read_after}
+use Rattle.dcsctp_delivery_turns.specs.Reports.{ComesReported}
 use Rattle.dcsctp_delivery_turns.specs.Sides.{WasSent}
 use Rattle.dcsctp_spec_lemmas.specs.types.queues.Messages.{MessageContent}
 use Rattle.dcsctp_spec_lemmas.specs.spec.endpoint.FlushOutcomes.{Answer, answer_contents, filled, asked, next_draft, Ask, first_ask, later_ask, IsFlushAnswer, IsAnswerOfQueues, AreFlushAnswers, at_limit, at_empty, after_packet, flush_of, packets_allowed}
@@ -30,10 +31,10 @@ flush_none _ _ _ _ _ none (after_packet ask more e draft answer answers does som
 action_none : (came : Option Content) (to : ℕ) (old new : Ledger) → Action came to old new → old.queues.transfer ≡ None → new.queues.transfer ≡ None
 action_none came to old _ (queues now sending fit some) none = none
 action_none came to old _ (sets setting small) none = none
-action_none came to old _ (flushes e draft answers same at tag no_data no_end stale allowed) none = flush_none first_ask (packets_allowed e.options.max_burst e.core) e draft answers (ap (λ (b : EndpointQueues). b.transfer) same ∙ none) allowed
+action_none came to old _ (flushes e draft answers same at tag no_data no_end stale says allowed) none = flush_none first_ask (packets_allowed e.options.max_burst e.core) e draft answers (ap (λ (b : EndpointQueues). b.transfer) same ∙ none) allowed
 action_none came to old _ (resends now room transfer left tsns chunks emission tag known does are contents) none = absurd (cc)
 action_none came to old _ (resends_nothing now room transfer left tsns known does) none = absurd (cc)
-action_none came to old _ (speaks emission no_data stale) none = none
+action_none came to old _ (speaks emission no_data stale says) none = none
 action_none came to old _ (asks_again emission begun tag was contents) none = none
 action_none came to old _ (acknowledges now sack transfer new may known valid does) none = absurd (cc)
 action_none came to old _ (loses now transfer known) none = absurd (cc)
@@ -77,3 +78,17 @@ opening_sent sent (Some (shutdown tsn)) opening = absurd opening
 opening_sent sent (Some shutdown_ack) opening = absurd opening
 opening_sent sent (Some (shutdown_complete reflected)) opening = absurd opening
 opening_sent sent (Some (plain chunk)) opening = absurd opening
+
+-- It reports nothing.
+pub opening_reports : (so : ℕ → Type 0) (came : Option Content) → IsOpening came → ComesReported so came
+opening_reports so (Some (init_ack theirs cookie)) opening = tt
+opening_reports so (Some (cookie_echo cookie)) opening = tt
+opening_reports so None opening = absurd opening
+opening_reports so (Some (init introduction)) opening = absurd opening
+opening_reports so (Some cookie_ack) opening = absurd opening
+opening_reports so (Some (re_config parameters)) opening = absurd opening
+opening_reports so (Some (abort reflected causes)) opening = absurd opening
+opening_reports so (Some (shutdown tsn)) opening = absurd opening
+opening_reports so (Some shutdown_ack) opening = absurd opening
+opening_reports so (Some (shutdown_complete reflected)) opening = absurd opening
+opening_reports so (Some (plain chunk)) opening = absurd opening

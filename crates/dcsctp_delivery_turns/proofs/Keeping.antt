@@ -28,7 +28,7 @@ use Rattle.dcsctp_spec_runs.specs.Past.{HasEffect}
 use Rattle.dcsctp_delivery_sending.specs.Log.{Message}
 use Rattle.dcsctp_delivery_directions.specs.Directions.{nothing_asked}
 use Rattle.dcsctp_delivery_turns.specs.Asking.{own_with, own_in, own_of, SomeFit}
-use Rattle.dcsctp_delivery_turns.specs.Actions.{ledger_of, came_by, IsOpening, opening_queues, kept_inside, Inside, inside, Made, MakesAlso, OwnEnds, unended, committed, rolled_back, PeerResets, unreset, absent, deferred, reset_now, Becomes, goes_on, pauses, prepared_inside, works_resets, renews, ends, begins, collides, IsCall, MayAcknowledge}
+use Rattle.dcsctp_delivery_turns.specs.Actions.{ledger_of, came_by, IsOpening, opening_queues, kept_inside, Inside, inside, Made, MakesAlso, OwnEnds, unended, committed, rolled_back, PeerResets, unreset, absent, deferred, reset_now, Becomes, goes_on, pauses, prepared_inside, works_resets, renews, ends, begins, collides, IsCall, AcknowledgesNothing}
 use Rattle.dcsctp_delivery_turns.specs.Runs.{OpensSmall}
 use Rattle.dcsctp_delivery_turns.specs.Untouched.{IsUntouched, Untouched, IsOfMaker, EchoesMaker}
 use Rattle.dcsctp_delivery_turns.proofs.Fronts.{renewed_fit, own_ends_fit}
@@ -44,7 +44,7 @@ use Rattle.dcsctp_delivery_turns.proofs.Untouched.{untouched_is, of_known, actio
 
 -- A socket that awaits the COOKIE ACK does nothing by a SACK or a SHUTDOWN.
 abbrev IsQuiet : Endpoint → Option Content → Outcome → Type 0
-IsQuiet e came o = (inside o.after ≡ inside e) ⊎ (MayAcknowledge came → ⊥)
+IsQuiet e came o = (inside o.after ≡ inside e) ⊎ AcknowledgesNothing came
 
 early_sack : (e : Endpoint) (tag : ℕ) (sack : _) (o : Outcome) → e.options.follow_rfc ≡ true → is_cookie_echoed e.core ≡ true → ContentTurn e tag (plain (unworked (sack_chunk sack))) o → IsQuiet e (Some (plain (unworked (sack_chunk sack)))) o
 early_sack e tag sack o follows echoed turn =
@@ -60,63 +60,63 @@ early_shutdown e (open_in phase my held) tsn o echoed turn = absurd (cc)
 early_content : (e : Endpoint) (tag : ℕ) (content : Content) (o : Outcome) → e.options.follow_rfc ≡ true → is_cookie_echoed e.core ≡ true → ContentTurn e tag content o → IsQuiet e (Some content) o
 early_content e tag (plain (unworked (sack_chunk c))) o follows echoed turn = early_sack e tag c o follows echoed turn
 early_content e tag (shutdown tsn) o follows echoed turn = early_shutdown e e.core tsn o echoed turn
-early_content e tag (plain (unworked (data_chunk c))) o follows echoed turn = inr (λ may. may)
-early_content e tag (plain (unworked (i_data_chunk c))) o follows echoed turn = inr (λ may. may)
-early_content e tag (plain (unworked (forward_tsn_chunk t s))) o follows echoed turn = inr (λ may. may)
-early_content e tag (plain (unworked (i_forward_tsn_chunk t s))) o follows echoed turn = inr (λ may. may)
-early_content e tag (plain (unworked (init_chunk c))) o follows echoed turn = inr (λ may. may)
-early_content e tag (plain (unworked (init_ack_chunk c))) o follows echoed turn = inr (λ may. may)
-early_content e tag (plain (unworked (heartbeat_chunk c))) o follows echoed turn = inr (λ may. may)
-early_content e tag (plain (unworked (heartbeat_ack_chunk c))) o follows echoed turn = inr (λ may. may)
-early_content e tag (plain (unworked (abort_chunk t c))) o follows echoed turn = inr (λ may. may)
-early_content e tag (plain (unworked (shutdown_chunk c))) o follows echoed turn = inr (λ may. may)
-early_content e tag (plain (unworked shutdown_ack_chunk)) o follows echoed turn = inr (λ may. may)
-early_content e tag (plain (unworked (error_chunk c))) o follows echoed turn = inr (λ may. may)
-early_content e tag (plain (unworked (cookie_echo_chunk c))) o follows echoed turn = inr (λ may. may)
-early_content e tag (plain (unworked cookie_ack_chunk)) o follows echoed turn = inr (λ may. may)
-early_content e tag (plain (unworked (shutdown_complete_chunk c))) o follows echoed turn = inr (λ may. may)
-early_content e tag (plain (unworked (re_config_chunk c))) o follows echoed turn = inr (λ may. may)
-early_content e tag (plain (unworked (unknown_chunk t f v))) o follows echoed turn = inr (λ may. may)
-early_content e tag (plain (unknown t f v)) o follows echoed turn = inr (λ may. may)
-early_content e tag (plain (heartbeat c)) o follows echoed turn = inr (λ may. may)
-early_content e tag (plain (heartbeat_ack c)) o follows echoed turn = inr (λ may. may)
-early_content e tag (init c) o follows echoed turn = inr (λ may. may)
-early_content e tag (init_ack c k) o follows echoed turn = inr (λ may. may)
-early_content e tag (cookie_echo c) o follows echoed turn = inr (λ may. may)
-early_content e tag cookie_ack o follows echoed turn = inr (λ may. may)
-early_content e tag (re_config c) o follows echoed turn = inr (λ may. may)
-early_content e tag (abort t c) o follows echoed turn = inr (λ may. may)
-early_content e tag shutdown_ack o follows echoed turn = inr (λ may. may)
-early_content e tag (shutdown_complete t) o follows echoed turn = inr (λ may. may)
+early_content e tag (plain (unworked (data_chunk c))) o follows echoed turn = inr (λ tsn may. may)
+early_content e tag (plain (unworked (i_data_chunk c))) o follows echoed turn = inr (λ tsn may. may)
+early_content e tag (plain (unworked (forward_tsn_chunk t s))) o follows echoed turn = inr (λ tsn may. may)
+early_content e tag (plain (unworked (i_forward_tsn_chunk t s))) o follows echoed turn = inr (λ tsn may. may)
+early_content e tag (plain (unworked (init_chunk c))) o follows echoed turn = inr (λ tsn may. may)
+early_content e tag (plain (unworked (init_ack_chunk c))) o follows echoed turn = inr (λ tsn may. may)
+early_content e tag (plain (unworked (heartbeat_chunk c))) o follows echoed turn = inr (λ tsn may. may)
+early_content e tag (plain (unworked (heartbeat_ack_chunk c))) o follows echoed turn = inr (λ tsn may. may)
+early_content e tag (plain (unworked (abort_chunk t c))) o follows echoed turn = inr (λ tsn may. may)
+early_content e tag (plain (unworked (shutdown_chunk c))) o follows echoed turn = inr (λ tsn may. may)
+early_content e tag (plain (unworked shutdown_ack_chunk)) o follows echoed turn = inr (λ tsn may. may)
+early_content e tag (plain (unworked (error_chunk c))) o follows echoed turn = inr (λ tsn may. may)
+early_content e tag (plain (unworked (cookie_echo_chunk c))) o follows echoed turn = inr (λ tsn may. may)
+early_content e tag (plain (unworked cookie_ack_chunk)) o follows echoed turn = inr (λ tsn may. may)
+early_content e tag (plain (unworked (shutdown_complete_chunk c))) o follows echoed turn = inr (λ tsn may. may)
+early_content e tag (plain (unworked (re_config_chunk c))) o follows echoed turn = inr (λ tsn may. may)
+early_content e tag (plain (unworked (unknown_chunk t f v))) o follows echoed turn = inr (λ tsn may. may)
+early_content e tag (plain (unknown t f v)) o follows echoed turn = inr (λ tsn may. may)
+early_content e tag (plain (heartbeat c)) o follows echoed turn = inr (λ tsn may. may)
+early_content e tag (plain (heartbeat_ack c)) o follows echoed turn = inr (λ tsn may. may)
+early_content e tag (init c) o follows echoed turn = inr (λ tsn may. may)
+early_content e tag (init_ack c k) o follows echoed turn = inr (λ tsn may. may)
+early_content e tag (cookie_echo c) o follows echoed turn = inr (λ tsn may. may)
+early_content e tag cookie_ack o follows echoed turn = inr (λ tsn may. may)
+early_content e tag (re_config c) o follows echoed turn = inr (λ tsn may. may)
+early_content e tag (abort t c) o follows echoed turn = inr (λ tsn may. may)
+early_content e tag shutdown_ack o follows echoed turn = inr (λ tsn may. may)
+early_content e tag (shutdown_complete t) o follows echoed turn = inr (λ tsn may. may)
 
 early_input : (e : Endpoint) (input : Input) (o : Outcome) → e.options.follow_rfc ≡ true → is_cookie_echoed e.core ≡ true → Turn e input o → IsQuiet e (came_by input) o
 early_input e (chunk_input tag content) o follows echoed turn = early_content e tag content o follows echoed turn
-early_input e arrival o follows echoed turn = inr (λ may. may)
-early_input e (refusal text) o follows echoed turn = inr (λ may. may)
-early_input e (packet_begins contents) o follows echoed turn = inr (λ may. may)
-early_input e packet_ends o follows echoed turn = inr (λ may. may)
-early_input e (act_input act) o follows echoed turn = inr (λ may. may)
-early_input e (user_sets setting) o follows echoed turn = inr (λ may. may)
-early_input e (user_sends messages) o follows echoed turn = inr (λ may. may)
-early_input e (user_resets ids) o follows echoed turn = inr (λ may. may)
-early_input e user_takes o follows echoed turn = inr (λ may. may)
-early_input e (timer_expires timer) o follows echoed turn = inr (λ may. may)
-early_input e (time_passes moment) o follows echoed turn = inr (λ may. may)
-early_input e (restores state) o follows echoed turn = inr (λ may. may)
+early_input e arrival o follows echoed turn = inr (λ tsn may. may)
+early_input e (refusal text) o follows echoed turn = inr (λ tsn may. may)
+early_input e (packet_begins contents) o follows echoed turn = inr (λ tsn may. may)
+early_input e packet_ends o follows echoed turn = inr (λ tsn may. may)
+early_input e (act_input act) o follows echoed turn = inr (λ tsn may. may)
+early_input e (user_sets setting) o follows echoed turn = inr (λ tsn may. may)
+early_input e (user_sends messages) o follows echoed turn = inr (λ tsn may. may)
+early_input e (user_resets ids) o follows echoed turn = inr (λ tsn may. may)
+early_input e user_takes o follows echoed turn = inr (λ tsn may. may)
+early_input e (timer_expires timer) o follows echoed turn = inr (λ tsn may. may)
+early_input e (time_passes moment) o follows echoed turn = inr (λ tsn may. may)
+early_input e (restores state) o follows echoed turn = inr (λ tsn may. may)
 
 -- What opens an association acknowledges nothing.
-opening_quiet : (came : Option Content) → IsOpening came → MayAcknowledge came → ⊥
-opening_quiet (Some (init_ack theirs cookie)) opening may = may
-opening_quiet (Some (cookie_echo cookie)) opening may = may
-opening_quiet None opening may = opening
-opening_quiet (Some (init c)) opening may = opening
-opening_quiet (Some cookie_ack) opening may = opening
-opening_quiet (Some (re_config c)) opening may = opening
-opening_quiet (Some (abort t c)) opening may = opening
-opening_quiet (Some (shutdown c)) opening may = opening
-opening_quiet (Some shutdown_ack) opening may = opening
-opening_quiet (Some (shutdown_complete t)) opening may = opening
-opening_quiet (Some (plain chunk)) opening may = opening
+opening_quiet : (came : Option Content) → IsOpening came → AcknowledgesNothing came
+opening_quiet (Some (init_ack theirs cookie)) opening tsn may = may
+opening_quiet (Some (cookie_echo cookie)) opening tsn may = may
+opening_quiet None opening tsn may = opening
+opening_quiet (Some (init c)) opening tsn may = opening
+opening_quiet (Some cookie_ack) opening tsn may = opening
+opening_quiet (Some (re_config c)) opening tsn may = opening
+opening_quiet (Some (abort t c)) opening tsn may = opening
+opening_quiet (Some (shutdown c)) opening tsn may = opening
+opening_quiet (Some shutdown_ack) opening tsn may = opening
+opening_quiet (Some (shutdown_complete t)) opening tsn may = opening
+opening_quiet (Some (plain chunk)) opening tsn may = opening
 
 -- ---- each turn
 
@@ -135,7 +135,7 @@ makes_fit : {came : Option Content} {to : ℕ} {adds : List Message → List Mes
 makes_fit {adds = adds} {taken = taken} old new h makes =
     let made = makes [] [] [] h.first h.asking h.fits in record { first = h.first; asking = made.asking; fits = made.fits }
 
-makes_left : (came : Option Content) (to : ℕ) (adds : List Message → List Message) (taken : List MessageContent → List MessageContent) (packets : List Emission) (first : ℕ) (kinds : Capabilities) (old new : Inside) → (MayAcknowledge came → ⊥) → SomeFit old.own
+makes_left : (came : Option Content) (to : ℕ) (adds : List Message → List Message) (taken : List MessageContent → List MessageContent) (packets : List Emission) (first : ℕ) (kinds : Capabilities) (old new : Inside) → AcknowledgesNothing came → SomeFit old.own
     → Untouched first kinds old.queues.transfer → MakesAlso came to adds taken old packets new → Untouched first kinds new.queues.transfer
 makes_left came to adds taken packets first kinds old new quiet h left makes =
     let made : Made came to (ledger_of [] old.queues [] [] h.asking) h.first new (adds []) packets (taken []) = makes [] [] [] h.first h.asking h.fits in
@@ -189,7 +189,7 @@ module _ (e : Endpoint) (input : Input) (o : Outcome) (small : OpensSmall e inpu
     (may : IsCall input) (turn : Turn e input o) where
   -- It is as before, or actions lead there.
   stays : identity_in o.after.core ≡ identity_in e.core → SomeFit (own_of o.after)
-      → ((first : ℕ) (kinds : Capabilities) → (MayAcknowledge (came_by input) → ⊥) → Untouched first kinds e.queues.transfer → Untouched first kinds o.after.queues.transfer) → Leaves e o
+      → ((first : ℕ) (kinds : Capabilities) → AcknowledgesNothing (came_by input) → Untouched first kinds e.queues.transfer → Untouched first kinds o.after.queues.transfer) → Leaves e o
   stays linked fit leads =
       link_stays linked fit (λ first kinds follows echoed h. elim (quiet follows echoed) [
         | inl same ↦ subst (λ (i : Inside). Untouched first kinds i.queues.transfer) (sym same) h
@@ -207,7 +207,7 @@ module _ (e : Endpoint) (input : Input) (o : Outcome) (small : OpensSmall e inpu
   leaves_so (renews calm linked alike unread own number emission kept out is packets tag contents) =
       stays linked (renewed_fit (own_of e) (own_of o.after) own number kept out (ap (λ (i : Inside). i.own) is) fits)
       (λ first kinds none h. subst (λ (i : Inside). Untouched first kinds i.queues.transfer) (sym is) h)
-  leaves_so (ends none unread last own makes is) = link_ends none (unlinked_fits o.after.core o.after.outstanding none)
+  leaves_so (ends none unread silent last own makes is) = link_ends none (unlinked_fits o.after.core o.after.outstanding none)
   leaves_so (begins begun opening linked unqueued unread again makes) =
       let start : Inside = record { queues = opening_queues e o begun; own = Some (record { number = None; next = begun.my.first_tsn; again = again }) } in
       let fit : SomeFit start.own = record { first = begun.my.first_tsn; asking = nothing_asked; fits = nothing_fits begun.my.first_tsn again (small begun opening linked) } in

@@ -3,6 +3,7 @@ pub mod Tags
 pub mod Begun
 pub mod Actions
 pub mod Addressed
+pub mod Reported
 pub mod Fixed
 pub mod Shutdown
 pub mod Handshake
@@ -23,6 +24,7 @@ pub mod Beginnings
 pub mod Outlasts
 pub mod SenderRuns
 pub mod ReceiverRuns
+pub mod Reporting
 pub mod EchoedStays
 pub mod Connecting
 pub mod Keeping

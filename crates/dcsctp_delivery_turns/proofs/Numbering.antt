@@ -10,11 +10,11 @@ use Rattle.dcsctp_delivery_turns.specs.Actions.{Ledger, Action, queues, sets, fl
 action_kind : (came : Option Content) (to : ℕ) (old new : Ledger) → Action came to old new → new.queues.queue.is_interleaved ≡ old.queues.queue.is_interleaved
 action_kind came to old _ (queues now sending fit some) = refl
 action_kind came to old _ (sets setting small) = setting_kind setting old.queues.queue
-action_kind came to old _ (flushes e draft answers same at tag no_data no_end stale allowed) =
+action_kind came to old _ (flushes e draft answers same at tag no_data no_end stale says allowed) =
     flush_kind first_ask (packets_allowed e.options.max_burst e.core) e draft answers allowed ∙ ap (λ (b : EndpointQueues). b.queue.is_interleaved) same
 action_kind came to old _ (resends now room transfer left tsns chunks emission tag known does are contents) = refl
 action_kind came to old _ (resends_nothing now room transfer left tsns known does) = refl
-action_kind came to old _ (speaks emission no_data stale) = refl
+action_kind came to old _ (speaks emission no_data stale says) = refl
 action_kind came to old _ (asks_again emission begun tag was contents) = refl
 action_kind came to old _ (acknowledges now sack transfer new may known valid does) = refl
 action_kind came to old _ (loses now transfer known) = refl

@@ -25,6 +25,7 @@ use Rattle.dcsctp_spec_lemmas.specs.spec.endpoint.BegunResets.{BegunReset, core_
 use Rattle.dcsctp_spec_lemmas.specs.spec.association.Effect.{identity_in}
 use Rattle.dcsctp_spec_lemmas.proofs.AbortLemmas.{by_error_outcome}
 use Rattle.dcsctp_spec_lemmas.proofs.OneAnswerLemmas.{answered_by}
+use Rattle.dcsctp_delivery_turns.specs.Reports.{NoReports}
 use Rattle.dcsctp_delivery_turns.specs.Tags.{IsPeerTag}
 use Rattle.dcsctp_delivery_turns.proofs.Actions.{action_of, with_inside, emits_link, Goes, MakesTo, rests, spoken, emitted, emission_of, packet_if}
 use Rattle.dcsctp_delivery_turns.proofs.Fixed.{held_tag}
@@ -41,24 +42,24 @@ module _ (came : Option Content) (calm : IsCalm came) (to : ℕ) where
   unknown_goes e core type chunk false = goes_on calm refl (rests came to (inside e))
   unknown_goes e closed type chunk true = goes_on calm refl (rests came to (inside e))
   unknown_goes e (cookie_wait my) type chunk true = goes_on calm refl (rests came to (inside e))
-  unknown_goes e (cookie_echoed my held cookie) type chunk true = goes_on calm refl (spoken came to (inside e) (unknown_report e held chunk) (tt, tt) tt)
-  unknown_goes e (open_in phase my held) type chunk true = goes_on calm refl (spoken came to (inside e) (unknown_report e held chunk) (tt, tt) tt)
+  unknown_goes e (cookie_echoed my held cookie) type chunk true = goes_on calm refl (spoken came to (inside e) (unknown_report e held chunk) (tt, tt) tt (inl (tt, tt)))
+  unknown_goes e (open_in phase my held) type chunk true = goes_on calm refl (spoken came to (inside e) (unknown_report e held chunk) (tt, tt) tt (inl (tt, tt)))
 
   error_goes : (e : Endpoint) (core : Core) (causes : List Cause) → Goes came to e (error_outcome e core causes)
   error_goes e core causes =
-      by_error_outcome (Goes came to e) e core causes (ends refl (λ read. refl) (inside e) refl (rests came to (inside e)) refl)
+      by_error_outcome (Goes came to e) e core causes (ends refl (λ read. refl) tt (inside e) refl (rests came to (inside e)) refl)
       (goes_on calm refl (rests came to (inside e))) (goes_on calm refl (rests came to (inside e)))
 
-  answer_goes : (e : Endpoint) (emission : Emission) → NoData emission.packet.contents → IsStaleFirst emission.packet.contents → Goes came to e (answers_with e emission)
-  answer_goes e emission no_data stale =
+  answer_goes : (e : Endpoint) (emission : Emission) → NoData emission.packet.contents → IsStaleFirst emission.packet.contents → NoReports emission.packet.contents → Goes came to e (answers_with e emission)
+  answer_goes e emission no_data stale silent =
       answered_by (Goes came to e) e emission (goes_on calm refl (rests came to (inside e)))
-      (goes_on calm (emits_link e [] emission) (emitted came to e [] emission no_data stale))
+      (goes_on calm (emits_link e [] emission) (emitted came to e [] emission no_data stale silent))
 
   heartbeat_goes : (e : Endpoint) (core : Core) (parameters : List ParameterContent) → Goes came to e (heartbeat_outcome e core parameters)
   heartbeat_goes e closed parameters = goes_on calm refl (rests came to (inside e))
   heartbeat_goes e (cookie_wait my) parameters = goes_on calm refl (rests came to (inside e))
-  heartbeat_goes e (cookie_echoed my held cookie) parameters = answer_goes e (to_peer held (plain (heartbeat_ack parameters))) (tt, tt) tt
-  heartbeat_goes e (open_in phase my held) parameters = answer_goes e (to_peer held (plain (heartbeat_ack parameters))) (tt, tt) tt
+  heartbeat_goes e (cookie_echoed my held cookie) parameters = answer_goes e (to_peer held (plain (heartbeat_ack parameters))) (tt, tt) tt (tt, tt)
+  heartbeat_goes e (open_in phase my held) parameters = answer_goes e (to_peer held (plain (heartbeat_ack parameters))) (tt, tt) tt (tt, tt)
 
   -- The answer to a HEARTBEAT may measure a round trip.
   measured_makes : (e : Endpoint) (round_trip : Option ℕ) (transfer : Option Transfer) → e.queues.transfer ≡ transfer
@@ -79,9 +80,9 @@ module _ (came : Option Content) (calm : IsCalm came) (to : ℕ) where
   interval_goes e closed = goes_on calm refl (rests came to (inside e))
   interval_goes e (cookie_wait my) = goes_on calm refl (rests came to (inside e))
   interval_goes e (cookie_echoed my held cookie) =
-      let base : Endpoint = beating (interval_expired e) in goes_on calm (emits_link base [] (heartbeat_emission held base.heartbeat_counter)) (emitted came to base [] (heartbeat_emission held base.heartbeat_counter) (tt, tt) tt)
+      let base : Endpoint = beating (interval_expired e) in goes_on calm (emits_link base [] (heartbeat_emission held base.heartbeat_counter)) (emitted came to base [] (heartbeat_emission held base.heartbeat_counter) (tt, tt) tt (tt, tt))
   interval_goes e (open_in phase my held) =
-      let base : Endpoint = beating (interval_expired e) in goes_on calm (emits_link base [] (heartbeat_emission held base.heartbeat_counter)) (emitted came to base [] (heartbeat_emission held base.heartbeat_counter) (tt, tt) tt)
+      let base : Endpoint = beating (interval_expired e) in goes_on calm (emits_link base [] (heartbeat_emission held base.heartbeat_counter)) (emitted came to base [] (heartbeat_emission held base.heartbeat_counter) (tt, tt) tt (tt, tt))
 
   -- The request that has no end is sent again.
   request_makes : (e : Endpoint) (held : Held) (number : Option ℕ) → held.peer.tag ≡ to → own_of e ≡ Some (own_with held e.outstanding) → held.own_outstanding ≡ number
@@ -180,7 +181,7 @@ plain_by_goes to e (heartbeat parameters) None o at turn = subst (Goes _ to e) (
 plain_by_goes to e (heartbeat_ack parameters) None o at turn = subst (Goes _ to e) (sym turn) (heartbeat_ack_goes _ (plain_calm _) to e (counter_of (info_in parameters)))
 plain_by_goes to e (unworked (data_chunk chunk)) None o at turn = data_goes _ (plain_calm _) to e chunk o refl turn
 plain_by_goes to e (unworked (i_data_chunk chunk)) None o at turn = i_data_goes _ (plain_calm _) to e chunk o refl turn
-plain_by_goes to e (unworked (sack_chunk chunk)) None o at turn = sack_goes _ (plain_calm _) to e e.queues.transfer chunk o at refl tt turn
+plain_by_goes to e (unworked (sack_chunk chunk)) None o at turn = sack_goes _ (plain_calm _) to e e.queues.transfer chunk o at refl refl turn
 plain_by_goes to e (unworked (forward_tsn_chunk tsn streams)) None o at turn = forward_goes _ (plain_calm _) to e tsn streams o refl turn
 plain_by_goes to e (unworked (i_forward_tsn_chunk tsn streams)) None o at turn = i_forward_goes _ (plain_calm _) to e tsn streams o refl turn
 plain_by_goes to e (unworked (error_chunk causes)) None o at turn = subst (Goes _ to e) (sym turn) (error_goes _ (plain_calm _) to e e.core causes)

@@ -16,7 +16,7 @@ use Rattle.dcsctp_spec_lemmas.specs.spec.queues.Reassembly.{DeferralModel, Reass
 use Rattle.dcsctp_spec_lemmas.specs.spec.queues.SendQueue.{empty_queue, queue_restarted, numbered_for}
 use Rattle.dcsctp_spec_lemmas.specs.spec.queues.Tracker.{TrackerState, new_tracker}
 use Rattle.dcsctp_spec_lemmas.specs.spec.queues.Transfer.{Transfer, EndpointQueues, part_overhead}
-use Rattle.dcsctp_delivery_directions.specs.Directions.{Asking, nothing_asked, Direction, DirectionRun}
+use Rattle.dcsctp_delivery_directions.specs.Directions.{Asking, nothing_asked, Direction, HasReached, DirectionRun}
 use Rattle.dcsctp_delivery_directions.proofs.Awaited.{kept_goes}
 use Rattle.dcsctp_delivery_turns.specs.Actions.{ledger_of, inside, Made, MakesPackets, came_by, read_after, Begun, Collides, kept_inside}
 use Rattle.dcsctp_delivery_turns.specs.Asking.{SomeFit, own_of, AsksFit}
@@ -27,7 +27,7 @@ use Rattle.dcsctp_delivery_turns.proofs.Addressed.{data_goes_to_peer}
 use Rattle.dcsctp_delivery_turns.proofs.Beginnings.{nothing_fits}
 use Rattle.dcsctp_delivery_turns.proofs.Fronts.{sending_by}
 use Rattle.dcsctp_delivery_turns.proofs.Numbering.{actions_kind}
-use Rattle.dcsctp_delivery_turns.proofs.Idle.{opening_sent}
+use Rattle.dcsctp_delivery_turns.proofs.Idle.{opening_sent, opening_reports}
 use Rattle.dcsctp_delivery_turns.proofs.Sides.{steps_go_on, actions_send, actions_receive}
 
 module _ (options : Options) (first size : ℕ) (direction : Direction) (e : Endpoint) (input : Input) (o : Outcome) (run : DirectionRun options first size direction) (small : first < 2 ^ 32) (same : direction.queues ≡ e.queues)
@@ -55,7 +55,8 @@ module _ (options : Options) (first size : ℕ) (direction : Direction) (e : End
       let made = makes direction.queued direction.sent [] first nothing_asked fits_kept in
       let alone = makes direction.queued [] [] first nothing_asked fits_kept in
       let sends = actions_send (came_by input) to (ledger_of direction.queued (kept_inside collision again).queues direction.sent [] nothing_asked)
-      (ledger_of direction.queued o.after.queues (direction.sent ++ packets_in o.events) [] made.asking) direction.acknowledged direction.tracker direction.reassembly direction.read direction.beginning made.actions in
+      (ledger_of direction.queued o.after.queues (direction.sent ++ packets_in o.events) [] made.asking) direction.acknowledged direction.first_tsn direction.tracker direction.reassembly direction.read direction.beginning
+      (λ transfer there. opening_reports (HasReached direction.first_tsn direction.tracker) (came_by input) collision.opened.opening) made.actions in
       record {
         acknowledged = sends.later;
         asking = made.asking;

@@ -83,7 +83,7 @@ module _ (e : Endpoint) (input : Input) (o : Outcome) (small : OpensSmall e inpu
       (λ read. read_none e input read none)
   idle_becomes none fits (renews calm linked alike unread own number emission kept out is packets tag contents) =
       idle_stays (inr linked) (ap (λ (i : Inside). i.queues.transfer) is ∙ none) (renewed_fit (own_of e) (own_of o.after) own number kept out (ap (λ (i : Inside). i.own) is) fits) (λ read. read_none e input read none)
-  idle_becomes none fits (ends gone unread last kept makes is) = idle_stays (inl gone) (ap (λ (b : EndpointQueues). b.transfer) is) (unlinked_fits o.after.core o.after.outstanding gone) (λ read. read_none e input read none)
+  idle_becomes none fits (ends gone unread silent last kept makes is) = idle_stays (inl gone) (ap (λ (b : EndpointQueues). b.transfer) is) (unlinked_fits o.after.core o.after.outstanding gone) (λ read. read_none e input read none)
   idle_becomes none fits (begins begun opening linked alike unread again makes) = idle_begins (opens begun opening linked unread again makes)
   idle_becomes none fits (collides collision alike unread again makes) = absurd (let both : Some collision.transfer ≡ None = sym collision.there ∙ none in cc)
 
@@ -142,6 +142,6 @@ module _ (is_known : Bool) (options : Options) (first size : ℕ) (direction : D
       receiver_goes_on linked transfer (ap (λ (i : Inside). i.queues.transfer) is ∙ known) (renewed_fit (own_of e) (own_of o.after) own number kept out (ap (λ (i : Inside). i.own) is) fits) asking
       (false, λ no. inr calm, λ some. absurd (cc), refl)
       (subst (λ (l : List MessageContent). DirectionRun options first size (record (receiving direction transfer l) { asking = asking })) (sym (unread direction.read)) stays)
-  receiver_becomes (ends none unread last kept makes is) = receiver_ends none (ap (λ (b : EndpointQueues). b.transfer) is) unread
+  receiver_becomes (ends none unread silent last kept makes is) = receiver_ends none (ap (λ (b : EndpointQueues). b.transfer) is) unread
   receiver_becomes (begins begun opening linked alike unread again makes) = receiver_begins (opens e input o small begun opening linked unread again makes)
   receiver_becomes (collides collision alike unread again makes) = receiver_begins (collided_opens e input o small collision unread again makes)

@@ -139,7 +139,7 @@ module _ (came : Option Content) (to : ℕ) where
   responses_make e held [] none = rests came to (inside e)
   responses_make e held (response ∷ responses) none =
       let emission : Emission = to_peer held (re_config (response ∷ responses)) in
-      answered_by (MakesTo came to (inside e)) e emission (rests came to (inside e)) (emitted came to e [] emission (none, tt) tt)
+      answered_by (MakesTo came to (inside e)) e emission (rests came to (inside e)) (emitted came to e [] emission (none, tt) tt (tt, tt))
 
   responses_peer : (e : Endpoint) (held : Held) (responses : List ResetParameter) → IsPeerTag e.core to → IsPeerTag (responses_outcome e held responses).after.core to
   responses_peer e held [] at = at
@@ -163,7 +163,7 @@ module _ (came : Option Content) (to : ℕ) where
       let fronts : packets_in (told ++ first.events) ≡ packets_in first.events = packets_in-append told first.events ∙ ap (λ (l : List Emission). l ++ packets_in first.events) none in
       subst (λ (l : List Emission). MakesPackets came to (inside e) l (inside last.after))
       (sym (packets_in-append (told ++ first.events) last.events ∙ ap (λ (l : List Emission). l ++ packets_in last.events) fronts))
-      (both came to (inside e) (inside first.after) (inside last.after) (packets_in first.events) (packets_in last.events) (responses_make e held responses no_request) (flushed came to first.after (draft_to held) answers (responses_peer e held responses at) tag tt tt tt allowed))
+      (both came to (inside e) (inside first.after) (inside last.after) (packets_in first.events) (packets_in last.events) (responses_make e held responses no_request) (flushed came to first.after (draft_to held) answers (responses_peer e held responses at) tag tt tt tt tt allowed))
 
   responses_link : (e : Endpoint) (held : Held) (responses : List ResetParameter) → identity_in (responses_outcome e held responses).after.core ≡ identity_in e.core
   responses_link e held [] = refl

@@ -18,8 +18,8 @@ begins_anew options first size queued below fit queues none =
     anew_runs options first size queued below (record { from_zero = false; keeps = λ id. false }) fit queues (subst (directions.NoneInFlight first below.queue.is_interleaved) (sym none) tt) (record { zero = λ is. absurd (cc); all = λ id is. absurd (cc) })
 
 pub senders_go_on : SendersGoOn
-senders_go_on options first size direction e input o run small same fits performed refuses drops opens few may turn =
-    sender_becomes options first size direction e input o run small same fits performed refuses drops opens few (turns_are_actions e input o may turn)
+senders_go_on options first size direction e input o run small same fits performed refuses drops opens told few may turn =
+    sender_becomes options first size direction e input o run small same fits performed refuses drops opens told few (turns_are_actions e input o may turn)
 
 pub receivers_go_on : ReceiversGoOn
 receivers_go_on is_known options first size direction transfer e input o run known was newest fits small may turn =

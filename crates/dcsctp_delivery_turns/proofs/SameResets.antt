@@ -1,5 +1,5 @@
 -- Two requests that want the same, but for whether they say that they are new.
-use Rattle.std.proofs.Common.{◌≡◌, ℕ, Option, None, Some, ◌∙◌, ap}
+use Rattle.std.proofs.Common.{◌≡◌, Option, None, Some, ◌∙◌, ap}
 use Rattle.dcsctp_spec_lemmas.specs.spec.Reconfiguration.{RequestedReset, renewed_reset}
 use Rattle.dcsctp_spec_lemmas.specs.spec.queues.Reassembly.{DeferralModel}
 use Rattle.dcsctp_delivery_receiving.specs.Clear.{IsOwn}

@@ -1,9 +1,9 @@
 -- The actions of a socket, as steps of its two directions.
 use Rattle.dcsctp_delivery_directions.specs.Directions as directions
-use Rattle.std.proofs.Common.{◌≡◌, ℕ, ◌+◌, Option, Some, List, refl, sym, ◌∙◌, ap, subst}
-use Rattle.dcsctp_spec_lemmas.specs.wire.Content.{data_chunk, i_data_chunk, forward_tsn_chunk, i_forward_tsn_chunk}
+use Rattle.std.proofs.Common.{◌≡◌, ℕ, ◌+◌, Option, None, Some, List, refl, sym, ◌∙◌, ap, subst}
+use Rattle.dcsctp_spec_lemmas.specs.wire.Content.{data_chunk, init_chunk, init_ack_chunk, sack_chunk, heartbeat_chunk, heartbeat_ack_chunk, abort_chunk, shutdown_chunk, shutdown_ack_chunk, error_chunk, cookie_echo_chunk, cookie_ack_chunk, shutdown_complete_chunk, i_data_chunk, re_config_chunk, forward_tsn_chunk, i_forward_tsn_chunk, unknown_chunk}
 use Rattle.dcsctp_spec_lemmas.specs.types.declared.options.Options.{Options}
-use Rattle.dcsctp_spec_lemmas.specs.spec.Packet.{Content}
+use Rattle.dcsctp_spec_lemmas.specs.spec.Packet.{Content, init, init_ack, cookie_echo, cookie_ack, re_config, abort, shutdown, shutdown_ack, shutdown_complete, unworked, plain, unknown, heartbeat, heartbeat_ack}
 use Rattle.dcsctp_spec_lemmas.specs.types.queues.Messages.{MessageContent}
 use Rattle.dcsctp_spec_lemmas.specs.spec.queues.Outstanding.{acknowledged_count}
 use Rattle.dcsctp_spec_lemmas.specs.spec.queues.Reassembly.{ReassemblyState}
@@ -13,12 +13,14 @@ use Rattle.dcsctp_spec_lemmas.specs.spec.endpoint.FlushOutcomes.{first_ask, pack
 use Rattle.dcsctp_spec_lemmas.specs.spec.endpoint.TransferMoves.{timed_by, lost_all}
 use Rattle.dcsctp_spec_lemmas.specs.spec.queues.Retransmission.{RetransmissionState}
 use Rattle.dcsctp_delivery_directions.proofs.Standing.{timed_outstanding, timed_begun}
-use Rattle.dcsctp_delivery_turns.specs.Actions.{Ledger, Action, queues, sets, flushes, resends, resends_nothing, speaks, asks_again, acknowledges, loses, receives, receives_interleaved, forwards, forwards_interleaved, tracks, times, takes, Actions, nothing, further}
+use Rattle.dcsctp_delivery_turns.specs.Actions.{Ledger, MayAcknowledge, Action, queues, sets, flushes, resends, resends_nothing, speaks, asks_again, acknowledges, loses, receives, receives_interleaved, forwards, forwards_interleaved, tracks, times, takes, Actions, nothing, further}
 use Rattle.dcsctp_delivery_turns.specs.Sides.{DirectionSteps, stays, moves, sending, SendingSteps, WasIn, WasSent, receiving, ReceivingSteps}
-use Rattle.dcsctp_delivery_directions.specs.Directions.{Direction, Beginning, DirectionStep, DirectionRun, SameFlight, goes_on}
+use Rattle.dcsctp_delivery_directions.specs.Directions.{Direction, Beginning, HasReached, DirectionStep, DirectionRun, SameFlight, goes_on}
 use Rattle.dcsctp_spec_lemmas.specs.spec.queues.Arrivals.{data_arrival, i_data_arrival, skipped_in, messages_skipped_in}
 use Rattle.dcsctp_delivery_turns.specs.PeerRequests.{SameWaits}
 use Rattle.dcsctp_delivery_turns.proofs.Waiting.{same_waits, waits_by, waits_then, receives_wait, moves_wait}
+use Rattle.dcsctp_delivery_turns.specs.Reports.{ComesReported}
+use Rattle.dcsctp_delivery_turns.proofs.Idle.{actions_none}
 use Rattle.dcsctp_delivery_turns.proofs.Received.{data_where, forward_where, Alike, alike, alike_then, timed_alike, flush_left}
 
 pub steps_go_on : (options : Options) (first size : ℕ) (old new : Direction) → DirectionRun options first size old → DirectionSteps old new → DirectionRun options first size new
@@ -39,45 +41,88 @@ flight_same old new same =
 
 -- ---- the direction on which it sends
 
-module _ (came : Option Content) (to : ℕ) (tracker : TrackerState) (reassembly : ReassemblyState) (read : List MessageContent) (beginning : Beginning) where
-  by : (old new : Ledger) (acknowledged later : ℕ) → DirectionStep (sending old acknowledged tracker reassembly read beginning) (sending new later tracker reassembly read beginning) → SendingSteps old new acknowledged tracker reassembly read beginning
-  by old new acknowledged later step = record { later = later; steps = one_step (sending old acknowledged tracker reassembly read beginning) (sending new later tracker reassembly read beginning) step }
+-- What acknowledges this TSN reports it.
+reported : (came : Option Content) (tsn : ℕ) (so : ℕ → Type 0) → MayAcknowledge came tsn → ComesReported so came → so tsn
+reported None tsn so may says = absurd may
+reported (Some (plain (unworked (data_chunk c)))) tsn so may says = absurd may
+reported (Some (plain (unworked (init_chunk c)))) tsn so may says = absurd may
+reported (Some (plain (unworked (init_ack_chunk c)))) tsn so may says = absurd may
+reported (Some (plain (unworked (sack_chunk c)))) tsn so may says = subst so may says
+reported (Some (plain (unworked (heartbeat_chunk c)))) tsn so may says = absurd may
+reported (Some (plain (unworked (heartbeat_ack_chunk c)))) tsn so may says = absurd may
+reported (Some (plain (unworked (abort_chunk t c)))) tsn so may says = absurd may
+reported (Some (plain (unworked (shutdown_chunk c)))) tsn so may says = absurd may
+reported (Some (plain (unworked shutdown_ack_chunk))) tsn so may says = absurd may
+reported (Some (plain (unworked (error_chunk c)))) tsn so may says = absurd may
+reported (Some (plain (unworked (cookie_echo_chunk c)))) tsn so may says = absurd may
+reported (Some (plain (unworked cookie_ack_chunk))) tsn so may says = absurd may
+reported (Some (plain (unworked (shutdown_complete_chunk t)))) tsn so may says = absurd may
+reported (Some (plain (unworked (i_data_chunk c)))) tsn so may says = absurd may
+reported (Some (plain (unworked (re_config_chunk c)))) tsn so may says = absurd may
+reported (Some (plain (unworked (forward_tsn_chunk t s)))) tsn so may says = absurd may
+reported (Some (plain (unworked (i_forward_tsn_chunk t s)))) tsn so may says = absurd may
+reported (Some (plain (unworked (unknown_chunk t f v)))) tsn so may says = absurd may
+reported (Some (plain (unknown t f v))) tsn so may says = absurd may
+reported (Some (plain (heartbeat c))) tsn so may says = absurd may
+reported (Some (plain (heartbeat_ack c))) tsn so may says = absurd may
+reported (Some (init c)) tsn so may says = absurd may
+reported (Some (init_ack c k)) tsn so may says = absurd may
+reported (Some (cookie_echo c)) tsn so may says = absurd may
+reported (Some cookie_ack) tsn so may says = absurd may
+reported (Some (re_config c)) tsn so may says = absurd may
+reported (Some (abort t c)) tsn so may says = absurd may
+reported (Some (shutdown c)) tsn so may says = subst so may says
+reported (Some shutdown_ack) tsn so may says = absurd may
+reported (Some (shutdown_complete t)) tsn so may says = absurd may
 
-  action_sends : (old new : Ledger) (acknowledged : ℕ) → Action came to old new → SendingSteps old new acknowledged tracker reassembly read beginning
-  action_sends old _ acknowledged (queues now message fits some) = by old _ acknowledged acknowledged (directions.queues now message fits some)
-  action_sends old _ acknowledged (sets setting small) = by old _ acknowledged acknowledged (directions.sets setting small)
-  action_sends old _ acknowledged (flushes e draft answers same at tag no_data no_end stale allowed) = by old _ acknowledged acknowledged (directions.flushes e draft answers same no_data allowed)
-  action_sends old _ acknowledged (resends now room transfer left tsns chunks emission tag known sends are contents) =
+module _ (came : Option Content) (to first_tsn : ℕ) (tracker : TrackerState) (reassembly : ReassemblyState) (read : List MessageContent) (beginning : Beginning) where
+  by : (old new : Ledger) (acknowledged later : ℕ) → DirectionStep (sending old acknowledged first_tsn tracker reassembly read beginning) (sending new later first_tsn tracker reassembly read beginning) → SendingSteps old new acknowledged first_tsn tracker reassembly read beginning
+  by old new acknowledged later step = record { later = later; steps = one_step (sending old acknowledged first_tsn tracker reassembly read beginning) (sending new later first_tsn tracker reassembly read beginning) step }
+
+  action_sends : (old new : Ledger) (acknowledged : ℕ) → ((transfer : Transfer) → old.queues.transfer ≡ Some transfer → ComesReported (HasReached first_tsn tracker) came) → Action came to old new → SendingSteps old new acknowledged first_tsn tracker reassembly read beginning
+  action_sends old _ acknowledged told (queues now message fits some) = by old _ acknowledged acknowledged (directions.queues now message fits some)
+  action_sends old _ acknowledged told (sets setting small) = by old _ acknowledged acknowledged (directions.sets setting small)
+  action_sends old _ acknowledged told (flushes e draft answers same at tag no_data no_end stale says allowed) = by old _ acknowledged acknowledged (directions.flushes e draft answers same no_data allowed)
+  action_sends old _ acknowledged told (resends now room transfer left tsns chunks emission tag known sends are contents) =
       by old _ acknowledged acknowledged (directions.resends now room transfer left tsns chunks emission known sends are contents)
-  action_sends old _ acknowledged (resends_nothing now room transfer left tsns known sends) = by old _ acknowledged acknowledged (directions.resends_nothing now room transfer left tsns known sends)
-  action_sends old _ acknowledged (speaks emission no_data stale) = by old _ acknowledged acknowledged (directions.speaks emission no_data)
-  action_sends old _ acknowledged (asks_again emission begun tag was contents) = by old _ acknowledged acknowledged (directions.asks_again emission begun was contents)
-  action_sends old _ acknowledged (acknowledges now sack transfer new may known valid does) =
-      by old _ acknowledged (acknowledged + acknowledged_count transfer.retransmission.outstanding sack.cumulative_tsn_ack) (directions.acknowledges now sack transfer new known valid does)
-  action_sends old _ acknowledged (loses now transfer known) = by old _ acknowledged acknowledged (directions.loses now transfer known)
-  action_sends old _ acknowledged (receives chunk transfer new is some known does) = by old _ acknowledged acknowledged (directions.turns_aside transfer new known (flight_same transfer new (data_where _ _ transfer new does)))
-  action_sends old _ acknowledged (receives_interleaved chunk transfer new is some known does) = by old _ acknowledged acknowledged (directions.turns_aside transfer new known (flight_same transfer new (data_where _ _ transfer new does)))
-  action_sends old _ acknowledged (forwards tsn streams transfer new is known does) = by old _ acknowledged acknowledged (directions.turns_aside transfer new known (flight_same transfer new (forward_where _ tsn _ transfer new does)))
-  action_sends old _ acknowledged (forwards_interleaved tsn streams transfer new is known does) = by old _ acknowledged acknowledged (directions.turns_aside transfer new known (flight_same transfer new (forward_where _ tsn _ transfer new does)))
-  action_sends old _ acknowledged (tracks transfer tracked known cumulative ranges) = by old _ acknowledged acknowledged (directions.turns_aside transfer _ known (record { outstanding = refl; reset_begun = refl }))
-  action_sends old _ acknowledged (times round_trip transfer known) =
+  action_sends old _ acknowledged told (resends_nothing now room transfer left tsns known sends) = by old _ acknowledged acknowledged (directions.resends_nothing now room transfer left tsns known sends)
+  action_sends old _ acknowledged told (speaks emission no_data stale says) = by old _ acknowledged acknowledged (directions.speaks emission no_data)
+  action_sends old _ acknowledged told (asks_again emission begun tag was contents) = by old _ acknowledged acknowledged (directions.asks_again emission begun was contents)
+  action_sends old _ acknowledged told (acknowledges now sack transfer new may known valid does) =
+      by old _ acknowledged (acknowledged + acknowledged_count transfer.retransmission.outstanding sack.cumulative_tsn_ack) (directions.acknowledges now sack transfer new known valid (reported came sack.cumulative_tsn_ack (HasReached first_tsn tracker) may (told transfer known)) does)
+  action_sends old _ acknowledged told (loses now transfer known) = by old _ acknowledged acknowledged (directions.loses now transfer known)
+  action_sends old _ acknowledged told (receives chunk transfer new is some known does) = by old _ acknowledged acknowledged (directions.turns_aside transfer new known (flight_same transfer new (data_where _ _ transfer new does)))
+  action_sends old _ acknowledged told (receives_interleaved chunk transfer new is some known does) = by old _ acknowledged acknowledged (directions.turns_aside transfer new known (flight_same transfer new (data_where _ _ transfer new does)))
+  action_sends old _ acknowledged told (forwards tsn streams transfer new is known does) = by old _ acknowledged acknowledged (directions.turns_aside transfer new known (flight_same transfer new (forward_where _ tsn _ transfer new does)))
+  action_sends old _ acknowledged told (forwards_interleaved tsn streams transfer new is known does) = by old _ acknowledged acknowledged (directions.turns_aside transfer new known (flight_same transfer new (forward_where _ tsn _ transfer new does)))
+  action_sends old _ acknowledged told (tracks transfer tracked known cumulative ranges) = by old _ acknowledged acknowledged (directions.turns_aside transfer _ known (record { outstanding = refl; reset_begun = refl }))
+  action_sends old _ acknowledged told (times round_trip transfer known) =
       by old _ acknowledged acknowledged
       (directions.turns_aside transfer _ known (record { outstanding = timed_outstanding round_trip transfer; reset_begun = timed_begun round_trip transfer }))
-  action_sends old _ acknowledged (takes transfer message messages known ready) = by old _ acknowledged acknowledged (directions.turns_aside transfer _ known (record { outstanding = refl; reset_begun = refl }))
+  action_sends old _ acknowledged told (takes transfer message messages known ready) = by old _ acknowledged acknowledged (directions.turns_aside transfer _ known (record { outstanding = refl; reset_begun = refl }))
 
-  all_send : (old new : Ledger) (acknowledged : ℕ) → Actions came to old new → SendingSteps old new acknowledged tracker reassembly read beginning
-  all_send old _ acknowledged nothing = record { later = acknowledged; steps = stays }
-  all_send old _ acknowledged (further between new first last) =
-      let before = all_send old between acknowledged first in
-      let after = action_sends between new before.later last in
+  -- Where there is no association none begins by actions.
+  told_on : (old between : Ledger) → ((transfer : Transfer) → old.queues.transfer ≡ Some transfer → ComesReported (HasReached first_tsn tracker) came) → Actions came to old between
+      → (transfer : Transfer) → between.queues.transfer ≡ Some transfer → ComesReported (HasReached first_tsn tracker) came
+  told_on old between told first transfer there = go old.queues.transfer refl
+    where
+      go : (found : Option Transfer) → old.queues.transfer ≡ found → ComesReported (HasReached first_tsn tracker) came
+      go None none = (let gone = actions_none came to old between first none in let clash : ◌≡◌ {A = Option Transfer} None (Some transfer) = sym gone ∙ there in absurd (cc))
+      go (Some other) known = told other known
+
+  all_send : (old new : Ledger) (acknowledged : ℕ) → ((transfer : Transfer) → old.queues.transfer ≡ Some transfer → ComesReported (HasReached first_tsn tracker) came) → Actions came to old new → SendingSteps old new acknowledged first_tsn tracker reassembly read beginning
+  all_send old _ acknowledged told nothing = record { later = acknowledged; steps = stays }
+  all_send old _ acknowledged told (further between new first last) =
+      let before = all_send old between acknowledged told first in
+      let after = action_sends between new before.later (told_on old between told first) last in
       record {
         later = after.later;
-        steps = all_steps (sending old acknowledged tracker reassembly read beginning) (sending between before.later tracker reassembly read beginning) (sending new after.later tracker reassembly read beginning) before.steps after.steps;
+        steps = all_steps (sending old acknowledged first_tsn tracker reassembly read beginning) (sending between before.later first_tsn tracker reassembly read beginning) (sending new after.later first_tsn tracker reassembly read beginning) before.steps after.steps;
       }
 
-pub actions_send : (came : Option Content) (to : ℕ) (old new : Ledger) (acknowledged : ℕ) (tracker : TrackerState) (reassembly : ReassemblyState) (read : List MessageContent) (beginning : Beginning) → Actions came to old new
-    → SendingSteps old new acknowledged tracker reassembly read beginning
-actions_send came to old new acknowledged tracker reassembly read beginning actions = all_send came to tracker reassembly read beginning old new acknowledged actions
+pub actions_send : (came : Option Content) (to : ℕ) (old new : Ledger) (acknowledged first_tsn : ℕ) (tracker : TrackerState) (reassembly : ReassemblyState) (read : List MessageContent) (beginning : Beginning)
+    → ((transfer : Transfer) → old.queues.transfer ≡ Some transfer → ComesReported (HasReached first_tsn tracker) came) → Actions came to old new → SendingSteps old new acknowledged first_tsn tracker reassembly read beginning
+actions_send came to old new acknowledged first_tsn tracker reassembly read beginning told actions = all_send came to first_tsn tracker reassembly read beginning old new acknowledged told actions
 
 -- ---- the direction on which it receives
 
@@ -104,9 +149,9 @@ module _ (came : Option Content) (to : ℕ) (direction : Direction) (was : WasSe
   action_receives : (old new : Ledger) (transfer : Transfer) → old.queues.transfer ≡ Some transfer → Action came to old new → ReceivingSteps direction transfer old new
   action_receives old _ transfer is (queues now message fits some) = alike_receives old _ transfer transfer is refl (alike transfer)
   action_receives old _ transfer is (sets setting small) = alike_receives old _ transfer transfer is refl (alike transfer)
-  action_receives old _ transfer is (speaks emission no_data stale) = alike_receives old _ transfer transfer is refl (alike transfer)
+  action_receives old _ transfer is (speaks emission no_data stale says) = alike_receives old _ transfer transfer is refl (alike transfer)
   action_receives old _ transfer is (asks_again emission begun tag has contents) = alike_receives old _ transfer transfer is refl (alike transfer)
-  action_receives old _ transfer is (flushes e draft answers same at tag no_data no_end stale allowed) =
+  action_receives old _ transfer is (flushes e draft answers same at tag no_data no_end stale says allowed) =
       let left = flush_left first_ask (packets_allowed e.options.max_burst e.core) e draft answers transfer (ap (λ (b : EndpointQueues). b.transfer) same ∙ is) allowed in
       alike_receives old _ transfer left.left left.is refl left.same
   action_receives old _ transfer is (resends now room found left tsns chunks emission tag known sends are contents) =

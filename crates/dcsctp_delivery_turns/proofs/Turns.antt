@@ -39,7 +39,7 @@ content_goes e tag (re_config parameters) o turn =
     content_by e tag (re_config parameters) o (λ dropped. subst (Goes _ (peer_tag e.core) e) (sym dropped) (idle_goes (peer_tag e.core) e parameters))
     (λ handled. reset_goes (peer_tag e.core) e e.core parameters o refl (own_peer e.core) (own_peer e.core) handled) turn
 content_goes e tag (abort reflected causes) o turn = subst (Goes _ (peer_tag e.core) e) (sym turn) (abort_goes _ (λ parameters is. absurd (cc)) (peer_tag e.core) e causes e.core)
-content_goes e tag (shutdown tsn) o turn = heard_goes (Some (shutdown tsn)) (λ parameters is. absurd (cc)) tt (peer_tag e.core) e e.core tsn o refl (own_peer e.core) turn
+content_goes e tag (shutdown tsn) o turn = heard_goes (Some (shutdown tsn)) (λ parameters is. absurd (cc)) tsn refl (peer_tag e.core) e e.core o refl (own_peer e.core) turn
 content_goes e tag shutdown_ack o turn = subst (Goes _ (peer_tag e.core) e) (sym turn) (shutdown_ack_goes _ (λ parameters is. absurd (cc)) (peer_tag e.core) e e.core tag)
 content_goes e tag (shutdown_complete reflected) o turn = subst (Goes _ (peer_tag e.core) e) (sym turn) (shutdown_complete_goes _ (λ parameters is. absurd (cc)) (peer_tag e.core) e e.core)
 content_goes e tag (plain chunk) o turn =
@@ -51,9 +51,9 @@ act_goes : (e : Endpoint) (act : Act) (o : Outcome) → IsCall (act_input act) �
 act_goes e connect o may turn = subst (Goes None (peer_tag e.core) e) (sym turn.2) (connect_goes None none_calm (peer_tag e.core) e e.core turn.0 turn.1 refl)
 act_goes e (t1_expires true) o may turn = subst (Goes None (peer_tag e.core) e) (sym turn.2) (goes_on none_calm (again_link None none_calm (peer_tag e.core) (t1_goes_on e) e.core turn.0 turn.1) (again_goes None none_calm (peer_tag e.core) (t1_goes_on e) e.core turn.0 (own_peer e.core) (own_peer e.core) turn.1))
 act_goes e (t1_expires false) o may turn = subst (Goes None (peer_tag e.core) e) (sym turn) (gives_up_goes None none_calm (peer_tag e.core) e e.core)
-act_goes e shut_down o may turn = subst (Goes None (peer_tag e.core) e) (sym turn) (shut_down_goes None none_calm (peer_tag e.core) e e.core refl)
-act_goes e step_of_shutdown o may turn = subst (Goes None (peer_tag e.core) e) (sym turn) (goes_on none_calm (step_link e e.core refl) (step_makes None none_calm (peer_tag e.core) e e.core refl))
-act_goes e shutdown_repeats o may turn = subst (Goes None (peer_tag e.core) e) (sym turn) (t2_again_goes None none_calm (peer_tag e.core) e)
+act_goes e shut_down o may turn = subst (Goes None (peer_tag e.core) e) (sym turn) (shut_down_goes None none_calm (peer_tag e.core) e e.core refl (own_peer e.core))
+act_goes e step_of_shutdown o may turn = subst (Goes None (peer_tag e.core) e) (sym turn) (goes_on none_calm (step_link e e.core refl) (step_makes None none_calm (peer_tag e.core) e e.core refl (own_peer e.core)))
+act_goes e shutdown_repeats o may turn = subst (Goes None (peer_tag e.core) e) (sym turn) (t2_again_goes None none_calm (peer_tag e.core) e (own_peer e.core))
 act_goes e (abort_with reason) o may turn = subst (Goes None (peer_tag e.core) e) (sym turn) (aborting_goes None none_calm (peer_tag e.core) e e.core reason)
 act_goes e hands_over o may turn = subst (Goes None (peer_tag e.core) e) (sym turn) (hand_over_goes None none_calm (peer_tag e.core) e e.core)
 act_goes e flushes o may turn = goes_on none_calm (turn_link e o turn) (flush_makes None none_calm (peer_tag e.core) e o (own_peer e.core) turn)
@@ -63,7 +63,7 @@ act_goes e (request_renewed reset) o may turn = absurd may
 pub turns_are_actions : (e : Endpoint) (input : Input) (o : Outcome) → IsCall input → Turn e input o → Becomes (streams_reset_by input) (came_by input) (peer_tag e.core) (queued_after e input) (read_after e input) e o
 turns_are_actions e arrival o may turn = subst (Goes None (peer_tag e.core) e) (sym turn) (goes_on none_calm refl (rests None (peer_tag e.core) (inside e)))
 turns_are_actions e (refusal text) o may turn = subst (Goes None (peer_tag e.core) e) (sym turn) (goes_on none_calm refl (rests None (peer_tag e.core) (inside e)))
-turns_are_actions e (packet_begins contents) o may turn = begin_goes None none_calm (peer_tag e.core) e e.core (has_data_chunk e.options.follow_rfc contents) o turn
+turns_are_actions e (packet_begins contents) o may turn = begin_goes None none_calm (peer_tag e.core) e e.core (has_data_chunk e.options.follow_rfc contents) o (own_peer e.core) turn
 turns_are_actions e (chunk_input tag content) o may turn = content_goes e tag content o turn
 turns_are_actions e packet_ends o may turn = end_goes None none_calm (peer_tag e.core) e e.queues.transfer o (own_peer e.core) refl turn
 turns_are_actions e (act_input act) o may turn = act_goes e act o may turn

@@ -121,11 +121,11 @@ clash below transfer known unbegun = absurd (let both : Some transfer ≡ None =
 action_unbegun : (came : Option Content) (to : ℕ) (old new : Ledger) → Action came to old new → IsUnbegun old.queues → IsUnbegun new.queues
 action_unbegun came to old _ (queues now sending fit some) u = record { none = u.none; zero = zero_queued now sending old.queues.queue u.zero }
 action_unbegun came to old _ (sets setting small) u = record { none = u.none; zero = zero_set setting old.queues.queue u.zero }
-action_unbegun came to old _ (flushes e draft answers same at tag no_data no_end stale allowed) u =
+action_unbegun came to old _ (flushes e draft answers same at tag no_data no_end stale says allowed) u =
     subst IsUnbegun (sym (flush_still first_ask (packets_allowed e.options.max_burst e.core) e draft answers (ap (λ (b : EndpointQueues). b.transfer) same ∙ u.none) allowed ∙ same)) u
 action_unbegun came to old _ (resends now room transfer left tsns chunks emission tag known does are contents) u = clash old.queues transfer known u
 action_unbegun came to old _ (resends_nothing now room transfer left tsns known does) u = clash old.queues transfer known u
-action_unbegun came to old _ (speaks emission no_data stale) u = u
+action_unbegun came to old _ (speaks emission no_data stale says) u = u
 action_unbegun came to old _ (asks_again emission begun tag was contents) u = u
 action_unbegun came to old _ (acknowledges now sack transfer new may known valid does) u = clash old.queues transfer known u
 action_unbegun came to old _ (loses now transfer known) u = clash old.queues transfer known u
@@ -212,7 +212,7 @@ module _ (e : Endpoint) (input : Input) (o : Outcome) (unlinked : identity_in e.
       let left = makes_unbegun worked (inside o.after) (second ∙ first) makes in
       stays_unbegun (same ∙ unlinked) left.none left.zero (stays_waiting worked (inside o.after) (second ∙ first) makes refl)
   unbegun_becomes (renews calm same alike unread own number emission is of left packets tag contents) = absurd (let both : Some own ≡ None = sym is ∙ own_is in cc)
-  unbegun_becomes (ends none' unread last kept makes is) =
+  unbegun_becomes (ends none' unread silent last kept makes is) =
       let left = makes_unbegun (inside e) last refl makes in
       stays_unbegun none' (ap (λ (b : EndpointQueues). b.transfer) is) (subst (λ (b : EndpointQueues). IsAtZero b.queue) (sym is) left.zero)
       (stays_waiting (inside e) last refl makes (ap (λ (b : EndpointQueues). b.queue) (sym is)))

@@ -98,11 +98,11 @@ action_waits_on id came to old _ (sets setting small) w =
           record { waits = λ place message at on. setting_waits setting old.queues.queue place (all.waits place message at on); unpaused = setting_open_on id setting old.queues.queue all.unpaused }
           );
     }
-action_waits_on id came to old _ (flushes e draft answers same at tag no_data no_end stale allowed) w =
+action_waits_on id came to old _ (flushes e draft answers same at tag no_data no_end stale says allowed) w =
     subst (WaitsOnStream id old.queued) (sym (flush_still first_ask (packets_allowed e.options.max_burst e.core) e draft answers (ap (λ (b : EndpointQueues). b.transfer) same ∙ w.none) allowed ∙ same)) w
 action_waits_on id came to old _ (resends now room transfer left tsns chunks emission tag known does are contents) w = clash id old.queued old.queues transfer known w
 action_waits_on id came to old _ (resends_nothing now room transfer left tsns known does) w = clash id old.queued old.queues transfer known w
-action_waits_on id came to old _ (speaks emission no_data stale) w = w
+action_waits_on id came to old _ (speaks emission no_data stale says) w = w
 action_waits_on id came to old _ (asks_again emission begun tag was contents) w = w
 action_waits_on id came to old _ (acknowledges now sack transfer new may known valid does) w = clash id old.queued old.queues transfer known w
 action_waits_on id came to old _ (loses now transfer known) w = clash id old.queued old.queues transfer known w

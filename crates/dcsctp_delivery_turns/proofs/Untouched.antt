@@ -27,7 +27,7 @@ use Rattle.dcsctp_spec_lemmas.specs.spec.queues.Retransmission.{RetransmissionSt
 use Rattle.dcsctp_spec_lemmas.specs.spec.queues.SendQueue.{SendQueueState}
 use Rattle.dcsctp_spec_lemmas.specs.spec.queues.Transfer.{Transfer, EndpointQueues, may_give, is_idle}
 use Rattle.dcsctp_delivery_sending.proofs.Packets.{out_below}
-use Rattle.dcsctp_delivery_turns.specs.Actions.{Ledger, MayAcknowledge, Action, Actions, nothing, further}
+use Rattle.dcsctp_delivery_turns.specs.Actions.{Ledger, AcknowledgesNothing, Action, Actions, nothing, further}
 use Rattle.dcsctp_delivery_turns.specs.Actions as actions
 use Rattle.dcsctp_delivery_turns.specs.Untouched.{NoneAcknowledged, AreFirst, IsUntouched, Untouched}
 use Rattle.dcsctp_delivery_turns.proofs.Received.{data_where, forward_where}
@@ -192,17 +192,17 @@ module _ (first : ℕ) (kinds : Capabilities) where
 
   -- ---- each action
 
-  action_is : (came : Option Content) (to : ℕ) (old new : Ledger) → (MayAcknowledge came → ⊥) → Untouched first kinds old.queues.transfer → Action came to old new → Untouched first kinds new.queues.transfer
+  action_is : (came : Option Content) (to : ℕ) (old new : Ledger) → AcknowledgesNothing came → Untouched first kinds old.queues.transfer → Action came to old new → Untouched first kinds new.queues.transfer
   action_is came to old _ calm h (actions.queues now sending fits some) = h
   action_is came to old _ calm h (actions.sets setting small) = h
-  action_is came to old _ calm h (actions.flushes e draft answers below at same no_data no_end stale allowed) =
+  action_is came to old _ calm h (actions.flushes e draft answers below at same no_data no_end stale says allowed) =
       answers_are first_ask (packets_allowed e.options.max_burst e.core) e draft answers (subst (λ (b : EndpointQueues). Untouched first kinds b.transfer) (sym below) h) allowed
   action_is came to old _ calm h (actions.resends now room transfer left tsns chunks emission tag known sends are contents) =
       at_once_is now room old.queues.queue transfer.retransmission left tsns (of_known transfer old.queues.transfer known h) sends
   action_is came to old _ calm h (actions.resends_nothing now room transfer left tsns known sends) = at_once_is now room old.queues.queue transfer.retransmission left tsns (of_known transfer old.queues.transfer known h) sends
-  action_is came to old _ calm h (actions.speaks emission no_data stale) = h
+  action_is came to old _ calm h (actions.speaks emission no_data stale says) = h
   action_is came to old _ calm h (actions.asks_again emission begun tag has contents) = h
-  action_is came to old _ calm h (actions.acknowledges now sack transfer new may known valid takes) = absurd (calm may)
+  action_is came to old _ calm h (actions.acknowledges now sack transfer new may known valid takes) = absurd (calm sack.cumulative_tsn_ack may)
   action_is came to old _ calm h (actions.loses now transfer known) = lost_is now transfer.retransmission (of_known transfer old.queues.transfer known h)
   action_is came to old _ calm h (actions.receives chunk transfer new is some known does) =
       subst (IsUntouched first kinds) (sym (data_where _ _ transfer new does)) (of_known transfer old.queues.transfer known h)
@@ -216,6 +216,6 @@ module _ (first : ℕ) (kinds : Capabilities) where
   action_is came to old _ calm h (actions.times round_trip transfer known) = timed_is round_trip transfer (of_known transfer old.queues.transfer known h)
   action_is came to old _ calm h (actions.takes transfer message messages known ready) = of_known transfer old.queues.transfer known h
 
-  pub actions_are : (came : Option Content) (to : ℕ) (old new : Ledger) → (MayAcknowledge came → ⊥) → Untouched first kinds old.queues.transfer → Actions came to old new → Untouched first kinds new.queues.transfer
+  pub actions_are : (came : Option Content) (to : ℕ) (old new : Ledger) → AcknowledgesNothing came → Untouched first kinds old.queues.transfer → Actions came to old new → Untouched first kinds new.queues.transfer
   actions_are came to old _ calm h nothing = h
   actions_are came to old new calm h (further between _ before last) = action_is came to between new calm (actions_are came to old between calm h before) last

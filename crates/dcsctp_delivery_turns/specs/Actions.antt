@@ -43,6 +43,7 @@ use Rattle.dcsctp_spec_lemmas.specs.spec.endpoint.ReconfigurationOutcomes.{reset
 use Rattle.dcsctp_delivery_sending.specs.Places.{HasEntry}
 use Rattle.dcsctp_delivery_directions.specs.Directions.{Asking, asking_with, is_reset_reached}
 use Rattle.dcsctp_delivery_turns.specs.Asking.{Own, own_of, renewed_own, AsksFit, AskingGrows}
+use Rattle.dcsctp_delivery_turns.specs.Reports.{AllReportSo, NoReports, IsCumulative}
 use Rattle.dcsctp_delivery_turns.specs.Tags.{IsPeerTag}
 
 -- What a socket has queued since it was made, newest first; its queues and trackers; what it has sent in its association, and
@@ -83,28 +84,43 @@ NoEnd (abort reflected causes ∷ contents) = ⊥
 NoEnd (shutdown_complete reflected ∷ contents) = ⊥
 NoEnd (content ∷ contents) = NoEnd contents
 
--- A SACK is handled, or a SHUTDOWN, which acknowledges too (RFC 9260, section 9.2).
-abbrev pub MayAcknowledge : Option Content → Type 0
-MayAcknowledge (Some (plain (unworked (sack_chunk sack)))) = Unit {0}
-MayAcknowledge (Some (shutdown tsn)) = Unit {0}
-MayAcknowledge came = ⊥
+-- A packet reports no TSN. Or it goes to this tag, has no ABORT, no SHUTDOWN COMPLETE and no INIT, and this holds for each TSN that
+-- it reports.
+abbrev pub ReportsTo : ℕ → (ℕ → Type 0) → Emission → Type 0
+ReportsTo to so emission = NoReports emission.packet.contents ⊎ ((emission.packet.tag ≡ to) × NoEnd emission.packet.contents × AllReportSo so emission.packet.contents)
+
+-- This holds for each of these packets.
+abbrev pub AreReports : ℕ → (ℕ → Type 0) → List Emission → Type 0
+AreReports to so [] = Unit {0}
+AreReports to so (emission ∷ emissions) = ReportsTo to so emission × AreReports to so emissions
+
+-- A SACK is handled that reports this TSN, or a SHUTDOWN, which acknowledges too (RFC 9260, section 9.2).
+abbrev pub MayAcknowledge : Option Content → ℕ → Type 0
+MayAcknowledge (Some (plain (unworked (sack_chunk sack)))) tsn = sack.cumulative_tsn_ack ≡ tsn
+MayAcknowledge (Some (shutdown reported)) tsn = reported ≡ tsn
+MayAcknowledge came tsn = ⊥
+
+abbrev pub AcknowledgesNothing : Option Content → Type 0
+AcknowledgesNothing came = (tsn : ℕ) → MayAcknowledge came tsn → ⊥
 
 -- One action of a turn in which the chunk `came` is handled, if one is, and in whose association the peer has the tag `to`.
 pub data Action (came : Option Content) (to : ℕ) (old : Ledger) : Ledger → Type 0 where
   queues : (now : ℕ) (sending : Sending) → Fits (message_of sending) → 0 < length sending.message.payload
       → Action came to old (record old { queued = message_of sending ∷ old.queued; queues = record old.queues { queue = sending_queued now sending old.queues.queue } })
   sets : (setting : Setting) → SettingFits setting → Action came to old (record old { queues = record old.queues { queue = set_in_queue setting old.queues.queue } })
-  flushes : (e : Endpoint) (draft : Emission) (answers : List Answer) → e.queues ≡ old.queues → IsPeerTag e.core to → draft.packet.tag ≡ to → NoData draft.packet.contents → NoEnd draft.packet.contents → NoneStale draft.packet.contents → FlushAnswers e draft answers
+  flushes : (e : Endpoint) (draft : Emission) (answers : List Answer) → e.queues ≡ old.queues → IsPeerTag e.core to → draft.packet.tag ≡ to → NoData draft.packet.contents → NoEnd draft.packet.contents → NoneStale draft.packet.contents
+      → AllReportSo (IsCumulative old.queues.transfer) draft.packet.contents → FlushAnswers e draft answers
       → Action came to old (record old { queues = (flush_of e draft answers).after.queues; sent = old.sent ++ packets_in (flush_of e draft answers).events; asking = asking_with (reset_begun_by answers) old.asking })
   resends : (now room : ℕ) (transfer : Transfer) (left : RetransmissionState) (tsns : List ℕ) (chunks : List Plain) (emission : Emission) → emission.packet.tag ≡ to → old.queues.transfer ≡ Some transfer
       → SendsAtOnce now room old.queues.queue transfer.retransmission left tsns → AreChunksOfTsns left.outstanding tsns chunks → emission.packet.contents ≡ plain_contents chunks
       → Action came to old (record old { queues = queues_with_transfer (record transfer { retransmission = left }) old.queues; sent = old.sent ++ emission ∷ [] })
   resends_nothing : (now room : ℕ) (transfer : Transfer) (left : RetransmissionState) (tsns : List ℕ) → old.queues.transfer ≡ Some transfer
       → SendsAtOnce now room old.queues.queue transfer.retransmission left tsns → Action came to old (record old { queues = queues_with_transfer (record transfer { retransmission = left }) old.queues })
-  speaks : (emission : Emission) → NoData emission.packet.contents → IsStaleFirst emission.packet.contents → Action came to old (record old { sent = old.sent ++ emission ∷ [] })
+  speaks : (emission : Emission) → NoData emission.packet.contents → IsStaleFirst emission.packet.contents → ReportsTo to (IsCumulative old.queues.transfer) emission
+      → Action came to old (record old { sent = old.sent ++ emission ∷ [] })
   asks_again : (emission : Emission) (begun : BegunReset) → emission.packet.tag ≡ to → HasEntry begun old.asking.requests → emission.packet.contents ≡ reset_request begun.number begun.reset ∷ []
       → Action came to old (record old { sent = old.sent ++ emission ∷ [] })
-  acknowledges : (now : ℕ) (sack : SackContent) (transfer new : Transfer) → MayAcknowledge came → old.queues.transfer ≡ Some transfer → is_sack_valid transfer.retransmission sack.cumulative_tsn_ack ≡ true
+  acknowledges : (now : ℕ) (sack : SackContent) (transfer new : Transfer) → MayAcknowledge came sack.cumulative_tsn_ack → old.queues.transfer ≡ Some transfer → is_sack_valid transfer.retransmission sack.cumulative_tsn_ack ≡ true
       → TakesSack now sack transfer new → Action came to old (record old { queues = queues_with_transfer new old.queues })
   loses : (now : ℕ) (transfer : Transfer) → old.queues.transfer ≡ Some transfer → Action came to old (record old { queues = queues_with_transfer (lost_all now transfer) old.queues })
   receives : (chunk : DataContent) (transfer new : Transfer) → came ≡ Some (plain (unworked (data_chunk chunk))) → chunk.payload ≢ [] → old.queues.transfer ≡ Some transfer
@@ -305,8 +321,8 @@ kept_inside {e = e} collision again =
 
 -- What becomes of a socket's association in a turn. It continues, or there is none and none begins. It also continues where the
 -- user resets streams: these are prepared first. Or our request continues under the next number, in a packet of its own, and
--- nothing else happens. Or the association ends after its last packets, and no request of ours begins or ends before. Or another
--- one begins, and takes its place; or both ends began at the same time.
+-- nothing else happens. Or the association ends after its last packets, which report no TSN, and no request of ours begins or ends
+-- before. Or another one begins, and takes its place; or both ends began at the same time.
 pub data Becomes (resets : Option (List ℕ)) (came : Option Content) (to : ℕ) (adds : List Message → List Message) (taken : List MessageContent → List MessageContent) (e : Endpoint) (o : Outcome) : Type 0 where
   goes_on : IsCalm came → identity_in o.after.core ≡ identity_in e.core → MakesAlso came to adds taken (inside e) (packets_in o.events) (inside o.after) → Becomes resets came to adds taken e o
   pauses : (ids : List ℕ) → resets ≡ Some ids → IsCalm came → identity_in o.after.core ≡ identity_in e.core → AllByRecursion (λ id. id < 2 ^ 16) ids
@@ -316,7 +332,7 @@ pub data Becomes (resets : Option (List ℕ)) (came : Option Content) (to : ℕ)
   renews : IsCalm came → identity_in o.after.core ≡ identity_in e.core → ((queued : List Message) → adds queued ≡ queued) → ((read : List MessageContent) → taken read ≡ read)
       → (own : Own) (number : ℕ) (emission : Emission) → own_of e ≡ Some own → own.number ≡ Some number → inside o.after ≡ record { queues = e.queues; own = Some (renewed_own own) } → packets_in o.events ≡ emission ∷ []
       → emission.packet.tag ≡ to → emission.packet.contents ≡ reset_request own.next (renewed_reset own.again) ∷ [] → Becomes resets came to adds taken e o
-  ends : identity_in o.after.core ≡ None → ((read : List MessageContent) → taken read ≡ read) → (last : Inside) → last.own ≡ own_of e → MakesAlso came to adds taken (inside e) (packets_in o.events) last
+  ends : identity_in o.after.core ≡ None → ((read : List MessageContent) → taken read ≡ read) → AreReports to (λ tsn. ⊥) (packets_in o.events) → (last : Inside) → last.own ≡ own_of e → MakesAlso came to adds taken (inside e) (packets_in o.events) last
       → o.after.queues ≡ record last.queues { transfer = None } → Becomes resets came to adds taken e o
   begins : (begun : Begun e o) → IsOpening came → identity_in o.after.core ≡ Some (identity_of begun.my begun.held) → ((queued : List Message) → adds queued ≡ queued) → ((read : List MessageContent) → taken read ≡ read)
       → (again : RequestedReset) → MakesPackets came begun.held.peer.tag (record { queues = opening_queues e o begun; own = Some (record { number = None; next = begun.my.first_tsn; again = again }) }) (packets_in o.events) (inside o.after)

@@ -1,10 +1,12 @@
 pub mod Asking
 pub mod Tags
+pub mod Reports
 pub mod Actions
 pub mod Untouched
 pub mod Sides
 pub mod Addressed
 pub mod Runs
+pub mod Reporting
 pub mod Completing
 pub mod PeerRequests
 pub mod Holding

@@ -24,9 +24,10 @@ use Rattle.dcsctp_spec_lemmas.specs.spec.endpoint.ResetOutcomes.{has_completed, 
 use Rattle.dcsctp_delivery_receiving.specs.Clear.{IsOwn}
 use Rattle.dcsctp_delivery_turns.specs.Asking.{own_of, AsksFit, SomeFit, AskingGrows}
 use Rattle.dcsctp_delivery_turns.specs.Addressed.{AreAddressed}
+use Rattle.dcsctp_delivery_turns.specs.Reports.{ComesReported}
 use Rattle.dcsctp_delivery_sending.specs.Queueing.{QueueWaits}
 use Rattle.dcsctp_delivery_turns.specs.Sides.{WasSent, receiving}
-use Rattle.dcsctp_delivery_directions.specs.Directions.{Direction, Beginning, BeginsAs, Asking, nothing_asked, asking_renewed, all_ended, DirectionRun, IsAwaited}
+use Rattle.dcsctp_delivery_directions.specs.Directions.{Direction, Beginning, HasReached, BeginsAs, Asking, nothing_asked, asking_renewed, all_ended, DirectionRun, IsAwaited}
 
 -- the direction, with this at its sender
 abbrev pub sender_at : Direction → List Message → EndpointQueues → ℕ → List Emission → Asking → Direction
@@ -40,6 +41,7 @@ new_direction options first size queued sender_queues acknowledged sent beginnin
       queues = sender_queues;
       acknowledged = acknowledged;
       sent = sent;
+      first_tsn = first;
       tracker = new_tracker options first;
       reassembly = new_reassembly size (part_overhead options);
       read = [];
@@ -104,11 +106,15 @@ MayDrop input beginning = (ids : List ℕ) → streams_reset_by input ≡ Some i
 abbrev pub OpensSmall : Endpoint → Input → Outcome → Type 0
 OpensSmall e input o = (begun : Begun e o) → IsOpening (came_by input) → identity_in o.after.core ≡ Some (identity_of begun.my begun.held) → begun.my.first_tsn < 2 ^ 32
 
+-- In an association what acknowledges reports a TSN that the receiver has reached.
+abbrev pub IsTold : Direction → Endpoint → Input → Type 0
+IsTold direction e input = (transfer : Transfer) → e.queues.transfer ≡ Some transfer → ComesReported (HasReached direction.first_tsn direction.tracker) (came_by input)
+
 -- This holds for each turn, also of a closed socket, with a direction on which nothing is in flight.
 abbrev pub SendersGoOn : Type 0
 SendersGoOn =
     (options : Options) (first size : ℕ) (direction : Direction) (e : Endpoint) (input : Input) (o : Outcome) → DirectionRun options first size direction → first < 2 ^ 32 → direction.queues ≡ e.queues
-    → AsksFit first (own_of e) direction.asking → EndsPerformed e o direction.asking → RefusesNone e o → MayDrop input direction.beginning → OpensSmall e input o
+    → AsksFit first (own_of e) direction.asking → EndsPerformed e o direction.asking → RefusesNone e o → MayDrop input direction.beginning → OpensSmall e input o → IsTold direction e input
     → length (queued_after e input direction.queued) < 2 ^ 64 → IsCall input → Turn e input o → SenderTurns options first size direction e input o
 
 -- A run begins where the socket was just made, with number 0 on each stream and nothing queued,

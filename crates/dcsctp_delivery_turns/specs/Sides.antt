@@ -12,8 +12,9 @@ use Rattle.dcsctp_spec_lemmas.specs.spec.queues.Transfer.{Transfer}
 use Rattle.dcsctp_delivery_sending.specs.Flushes.{NoRequests}
 use Rattle.dcsctp_delivery_turns.specs.Actions.{Ledger, Actions}
 use Rattle.dcsctp_delivery_turns.specs.PeerRequests.{SameWaits}
+use Rattle.dcsctp_delivery_turns.specs.Reports.{ComesReported}
 use Rattle.dcsctp_delivery_sending.specs.Places.{HasEntry}
-use Rattle.dcsctp_delivery_directions.specs.Directions.{Direction, Beginning, DirectionStep, DirectionRun}
+use Rattle.dcsctp_delivery_directions.specs.Directions.{Direction, Beginning, HasReached, DirectionStep, DirectionRun}
 
 -- one step after another
 pub data DirectionSteps (old : Direction) : Direction → Type 0 where
@@ -27,20 +28,21 @@ StepsGoOn = (options : Options) (first size : ℕ) (old new : Direction) → Dir
 -- ---- the direction on which it sends
 
 -- the direction, with what the other side has received, and whether the socket began with number 0 on each stream
-abbrev pub sending : Ledger → ℕ → TrackerState → ReassemblyState → List MessageContent → Beginning → Direction
-sending own acknowledged tracker reassembly read beginning =
-    record { queued = own.queued; queues = own.queues; acknowledged = acknowledged; sent = own.sent; tracker = tracker; reassembly = reassembly; read = read; asking = own.asking; beginning = beginning }
+abbrev pub sending : Ledger → ℕ → ℕ → TrackerState → ReassemblyState → List MessageContent → Beginning → Direction
+sending own acknowledged first_tsn tracker reassembly read beginning =
+    record { queued = own.queued; queues = own.queues; acknowledged = acknowledged; sent = own.sent; first_tsn = first_tsn; tracker = tracker; reassembly = reassembly; read = read; asking = own.asking; beginning = beginning }
 
 -- The socket comes there by steps; more TSNs may have been acknowledged.
-pub record SendingSteps (old new : Ledger) (acknowledged : ℕ) (tracker : TrackerState) (reassembly : ReassemblyState) (read : List MessageContent) (beginning : Beginning) : Type 0 where
+pub record SendingSteps (old new : Ledger) (acknowledged first_tsn : ℕ) (tracker : TrackerState) (reassembly : ReassemblyState) (read : List MessageContent) (beginning : Beginning) : Type 0 where
   pub later : ℕ
-  pub steps : DirectionSteps (sending old acknowledged tracker reassembly read beginning) (sending new later tracker reassembly read beginning)
+  pub steps : DirectionSteps (sending old acknowledged first_tsn tracker reassembly read beginning) (sending new later first_tsn tracker reassembly read beginning)
 
--- Whatever is received, the actions of a socket are steps of the direction on which it sends.
+-- Whatever is received, the actions of a socket are steps of the direction on which it sends, where what acknowledges reports a TSN
+-- that the other side has reached.
 abbrev pub ActionsSend : Type 0
 ActionsSend =
-    (came : Option Content) (to : ℕ) (old new : Ledger) (acknowledged : ℕ) (tracker : TrackerState) (reassembly : ReassemblyState) (read : List MessageContent) (beginning : Beginning) → Actions came to old new
-    → SendingSteps old new acknowledged tracker reassembly read beginning
+    (came : Option Content) (to : ℕ) (old new : Ledger) (acknowledged first_tsn : ℕ) (tracker : TrackerState) (reassembly : ReassemblyState) (read : List MessageContent) (beginning : Beginning)
+    → ((transfer : Transfer) → old.queues.transfer ≡ Some transfer → ComesReported (HasReached first_tsn tracker) came) → Actions came to old new → SendingSteps old new acknowledged first_tsn tracker reassembly read beginning
 
 -- ---- the direction on which it receives
 

@@ -4,6 +4,7 @@ ghost use Rattle.dcsctp_delivery_turns.specs.Actions.{TurnsAreActions};
 ghost use Rattle.dcsctp_delivery_turns.specs.Addressed.{DataGoesToPeer, AddressedTagsAreOwn};
 ghost use Rattle.dcsctp_delivery_turns.specs.Completing.{CompletesOwn};
 ghost use Rattle.dcsctp_delivery_turns.specs.PeerRequests.{CalmAsksNothing, EndsAskNothing, PeersTurn, UnlinkedAsksNothing};
+ghost use Rattle.dcsctp_delivery_turns.specs.Reporting.{TurnsReport};
 ghost use Rattle.dcsctp_delivery_turns.specs.Runs.{ReceiversBegin, ReceiversGoOn, SendersBegin, SendersBeginAnew, SendersGoOn};
 ghost use Rattle.dcsctp_delivery_turns.specs.Sides.{StepsGoOn, ActionsSend, ActionsReceive};
 ghost use Rattle.dcsctp_delivery_turns.specs.Tags.{TagsAreOwn, EchoesBearOwnTag, FlushesGoToPeer};
@@ -22,7 +23,15 @@ pub fn turns_are_actions()
     ensures { TurnsAreActions }
 {}
 
-/// These actions are steps of the direction on which the socket sends, and of the one on which it receives.
+/// Each SACK and each SHUTDOWN that a turn sends reports a TSN that was received: the cumulative TSN that its
+/// association's tracker has when it is made, or had earlier in the turn. It goes to the association's peer. All other
+/// packets report none.
+pub fn turns_report()
+    ensures { TurnsReport }
+{}
+
+/// These actions are steps of the direction on which the socket sends, where each TSN that is acknowledged to it was
+/// reached, and of the one on which it receives.
 pub fn actions_are_steps()
     ensures more { StepsGoOn }
     ensures sends { ActionsSend }
@@ -36,7 +45,8 @@ pub fn data_goes_to_peer()
     ensures admitted { AddressedTagsAreOwn }
 {}
 
-/// Every turn of either side continues a run of a direction; or the association ends, or is replaced by another.
+/// Every turn of either side continues a run of a direction; or the association ends, or is replaced by another. A SACK
+/// or a SHUTDOWN that the sender handles reports a TSN that the receiver has reached.
 pub fn runs_go_on()
     ensures made { SendersBegin }
     ensures sends { SendersGoOn }

@@ -254,10 +254,9 @@ impl<R: Rng + Drop> World<R> {
     /// any stream, either none has a lifetime or a limit on retransmissions, or fewer than 2^15 on each stream are ordered.
     ///
     /// None is missing before one that was read on a stream for which the sender's user never called `reset_streams`,
-    /// refused calls included, if the sender had no other own tag, and no message of the stream has such a limit. Other
-    /// streams may be reset. Where messages don't interleave, no message of any stream may have a limit either, or
-    /// fewer than 2^15 ordered ones are sent on this stream. Then what was read of its ordered messages is a prefix of
-    /// what was sent on it.
+    /// refused calls included, if the sender had no other own tag, and no message of the stream has such a limit.
+    /// Messages of other streams may have one, and those streams may be reset. Then what was read of its ordered
+    /// messages is a prefix of what was sent on it.
     ///
     /// The rest holds whatever comes from outside. In one lifetime an association connects at most once, and
     /// the numbers of requests to reset streams go up by one. Each request that was accepted is performed at
