@@ -18,7 +18,7 @@ minutes() {
     echo "$((SECONDS / 60)) min so far"
 }
 
-# progress: a line for each crate of what rt ci says. A crate's folder out/ is made when its check begins.
+# progress: a line for each crate of what rt ci says, at once where one fails. A crate's folder out/ is made when its check begins.
 progress() {
     local line name count=0 begun
     while IFS= read -r line; do
@@ -32,6 +32,7 @@ progress() {
                 begun=$(stat -c %W "crates/$name/out" 2>/dev/null) || begun=$(date +%s)
                 echo "[$count/$crates] $name proved, $(($(date +%s) - begun)) s, $(minutes)"
                 ;;
+            'rt: '*'NOT PROVED'* | 'rt: '*': NOT REFUSED'*) echo "        ${line#rt: }, $(minutes)" ;;
             'rt: '*': its tests are proved' | 'rt: '*': trying its must-fail edits '*)
                 echo "        ${line#rt: }, $(minutes)"
                 ;;
