@@ -192,7 +192,7 @@ ends_begin never_resets mine options =
         };
         unlinked = λ none. refl;
       };
-      reported = tt;
+      reported = record { heard = tt; named = λ my number has. absurd (elim has [ inl none ↦ none | inr none ↦ none ]); renewable = λ old is. absurd (cc) };
     }
   where
     nothing : SendingEnd

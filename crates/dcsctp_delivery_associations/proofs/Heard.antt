@@ -8,6 +8,8 @@ use Rattle.dcsctp_spec_lemmas.specs.spec.Packet.{Content, init, init_ack, cookie
 use Rattle.dcsctp_spec_lemmas.specs.spec.association.Effect.{Effect}
 use Rattle.dcsctp_spec_lemmas.specs.spec.queues.Tracker.{TrackerState}
 use Rattle.dcsctp_spec_runs.specs.Past.{HasEffect}
+use Rattle.dcsctp_spec_lemmas.specs.spec.endpoint.Event.{Event, packets_in}
+use Rattle.dcsctp_delivery_directions.proofs.Requests.{packets_apart}
 use Rattle.dcsctp_delivery_sending.specs.Places.{HasEntry}
 use Rattle.dcsctp_delivery_directions.specs.Directions.{HasReached, DirectionRun}
 use Rattle.dcsctp_delivery_directions.proofs.Reached.{run_starts}
@@ -60,6 +62,10 @@ heard_later gets gets' past past' within grown (emission ∷ heard) are = (one a
 pub heard_both : (gets : ℕ → ReceivingEnd) (past : List Effect) (heard more : List Emission) → AreHeard gets past heard → AreHeard gets past more → AreHeard gets past (heard ++ more)
 heard_both gets past [] more are are' = are'
 heard_both gets past (emission ∷ heard) more are are' = (are.0, heard_both gets past heard more are.1 are')
+
+-- So are the packets among more events.
+pub heard_all : (gets : ℕ → ReceivingEnd) (past : List Effect) (seen more : List (Event Emission)) → AreHeard gets past (packets_in seen) → AreHeard gets past (packets_in more) → AreHeard gets past (packets_in (seen ++ more))
+heard_all gets past seen more are are' = subst (AreHeard gets past) (sym (packets_apart seen more)) (heard_both gets past (packets_in seen) (packets_in more) are are')
 
 -- ---- packets of a turn
 

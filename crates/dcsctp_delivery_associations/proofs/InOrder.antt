@@ -5,7 +5,9 @@ use Rattle.dcsctp_spec_lemmas.specs.types.declared.options.Options.{Options}
 use Rattle.dcsctp_spec_lemmas.specs.types.queues.Messages.{MessageContent}
 use Rattle.dcsctp_spec_lemmas.specs.spec.endpoint.Endpoint.{Endpoint}
 use Rattle.dcsctp_spec_lemmas.specs.spec.Packet.{Emission}
-use Rattle.dcsctp_spec_lemmas.specs.spec.association.Effect.{Effect}
+use Rattle.dcsctp_spec_lemmas.specs.spec.association.Effect.{AssociationIdentity, Effect, identity_in}
+use Rattle.dcsctp_spec_lemmas.specs.spec.queues.Reassembly.{ReassemblyState}
+use Rattle.dcsctp_spec_lemmas.specs.spec.queues.Transfer.{EndpointQueues}
 use Rattle.dcsctp_delivery_sending.specs.Places.{HasEntry, at_place}
 use Rattle.dcsctp_delivery_sending.specs.Log.{Message}
 use Rattle.dcsctp_delivery_sending.specs.ChunkCounts.{chunks_to}
@@ -23,6 +25,8 @@ use Rattle.dcsctp_spec_lemmas.proofs.MarkedItemLemmas.{le_or_lt}
 use Rattle.dcsctp_delivery_order.specs.Delivered.{DeliveredInOrder, DeliveredWithoutGaps}
 use Rattle.dcsctp_delivery_order.specs.Queue.{IsOrderedOn, ComeInOrder, LeaveNoGap}
 use Rattle.dcsctp_delivery_order.specs.Streams.{DeliveredByStream, DeliveredOn}
+use Rattle.dcsctp_delivery_order.specs.Complete.{HasNothingLeft, DeliveredAllOn}
+use Rattle.dcsctp_delivery_order.proofs.PlainComplete.{plain_streams_arrive}
 use Rattle.dcsctp_delivery_order.proofs.Directions.{directions_deliver_in_order}
 use Rattle.dcsctp_delivery_order.proofs.PlainDirections.{plain_directions_deliver_in_order}
 use Rattle.dcsctp_delivery_order.proofs.StreamDirections.{streams_deliver_without_gaps, directions_deliver_without_gaps}
@@ -30,10 +34,11 @@ use Rattle.dcsctp_delivery_order.proofs.FewDirections.{plain_few_deliver_in_orde
 use Rattle.dcsctp_delivery_order.specs.PlainDirections.{FewOnEachStream}
 use Rattle.dcsctp_delivery_associations.proofs.FewMarks.{few_marks}
 use Rattle.dcsctp_delivery_order.proofs.PlainFront.{plain_streams_deliver_without_gaps, plain_directions_deliver_without_gaps}
-use Rattle.dcsctp_delivery_associations.specs.Ends.{ReceivingEnd, joined, Ends, HadKind, IsOnlyOwn, BeginsAnew, Awaits, chunks_before, Between}
-use Rattle.dcsctp_delivery_associations.specs.InOrder.{InterleavesUnder, IsReliableKept}
+use Rattle.dcsctp_delivery_associations.specs.Ends.{ReceivingEnd, joined, Ends, sender_key, HadKind, IsOnlyOwn, BeginsAnew, Awaits, chunks_before, IsCurrentEnd, Between}
+use Rattle.dcsctp_delivery_associations.specs.InOrder.{InterleavesUnder, IsReliableKept, AreThrough}
 use Rattle.dcsctp_delivery_associations.specs.Reads.{Reading, with_key}
 use Rattle.dcsctp_delivery_associations.proofs.Delivers.{were_unmarked}
+use Rattle.dcsctp_delivery_associations.proofs.Senders.{link_tag}
 use Rattle.dcsctp_delivery_associations.proofs.Growing.{AllFound}
 
 -- ---- what is marked comes in the same order
@@ -146,13 +151,21 @@ by_stream_unmarked keeps never_resets marks queued contents found kept d =
           no_gap_unmarked marks queued contents d.ordered.delivered.places id found d.ordered.delivered.were_queued (d.no_gap id (kept id never) (unlimited_on_marks id marks queued found are));
     }
 
-on_unmarked : (keeps never_resets : ℕ → Bool) (marks queued : List Message) (contents : List MessageContent) → AllFound marks queued → ((id : ℕ) → never_resets id ≡ true → keeps id ≡ true)
+abbrev on_unmarked : (keeps never_resets : ℕ → Bool) (marks queued : List Message) (contents : List MessageContent) → AllFound marks queued → ((id : ℕ) → never_resets id ≡ true → keeps id ≡ true)
     → DeliveredOn keeps marks contents → DeliveredOn never_resets queued contents
 on_unmarked keeps never_resets marks queued contents found kept d =
     record {
       delivered = record { places = d.delivered.places; were_queued = were_unmarked marks queued d.delivered.places contents found d.delivered.were_queued; once = d.delivered.once };
       in_order = λ id never. order_unmarked marks queued id d.delivered.places contents found d.delivered.were_queued (d.in_order id (kept id never));
       no_gap = λ id never. no_gap_unmarked marks queued contents d.delivered.places id found d.delivered.were_queued (d.no_gap id (kept id never));
+    }
+
+all_unmarked : (these : ℕ → Bool) (marks queued : List Message) (contents : List MessageContent) → AllFound marks queued → length marks ≡ length queued → DeliveredAllOn these marks contents → DeliveredAllOn these queued contents
+all_unmarked these marks queued contents found long d =
+    record {
+      on = on_unmarked these these marks queued contents found (λ id mine. mine) d.on;
+      all = λ id mine place on.
+          d.all id mine place (is_ordered marks queued id place found (below_at place marks (let below = at_below place on.message queued on.at in omega (arith, below, long))) on);
     }
 
 -- ---- one association
@@ -282,6 +295,40 @@ module _ (options : Options) (ends : Ends) (e : Endpoint) (queued : List Message
           by_begun tag (nothing_on these queued (with_key tag reading.reads))
           (λ some had. on_unmarked these these (ends.sends tag).queued queued (with_key tag reading.reads) (h.sender.marks tag) (λ id mine. mine)
           (subst (DeliveredOn these (ends.sends tag).queued) (sym (h.receiver.were_read tag)) (own_on tag some only (ends.sends tag).queues.queue.is_interleaved refl)))
+
+      -- All came where nothing is left.
+      pub ends_arrive : (through : AreThrough e other) → IsOnlyOwn past through.link.my.tag → DeliveredAllOn these queued (with_key through.link.my.tag reading.reads)
+      ends_arrive through only = go (h.receiver.current through.transfer through.there)
+        where
+          key_is : sender_key e.core ≡ through.link.my.tag
+          key_is = link_tag e.core through.link through.linked
+
+          queues_are : (ends.sends through.link.my.tag).queues ≡ e.queues
+          queues_are = subst (λ (k : ℕ). (ends.sends k).queues ≡ e.queues) key_is h.sender.queues_are
+
+          long : length (ends.sends through.link.my.tag).queued ≡ length queued
+          long = subst (λ (k : ℕ). length (ends.sends k).queued ≡ length queued) key_is h.sender.long
+
+          go : IsCurrentEnd ends other their_past through.transfer → DeliveredAllOn these queued (with_key through.link.my.tag reading.reads)
+          go c =
+              let both : Some c.link ≡ Some through.theirs = sym c.linked ∙ through.theirs_linked in
+              let same : c.link ≡ through.theirs = cc in
+              let from : c.link.peer.tag ≡ through.link.my.tag = ap (λ (l : AssociationIdentity). l.peer.tag) same ∙ through.one in
+              let some : through.link.my.tag ≢ 0 = λ zero. c.had.some (from ∙ zero) in
+              let had : HadKind past through.link.my.tag e.queues.queue.is_interleaved = subst (λ (k : ℕ). HadKind past k e.queues.queue.is_interleaved) key_is (h.sender.kind (λ zero. some (sym key_is ∙ zero))) in
+              let kind : (ends.sends through.link.my.tag).queues.queue.is_interleaved ≡ false =
+              ap (λ (b : EndpointQueues). b.queue.is_interleaved) queues_are ∙ sym (had.kind_is through.link (h.mine through.link through.linked) refl) ∙ through.plain in
+              let ready : (ends.gets through.link.my.tag).reassembly.incoming.ready ≡ [] =
+              ap (λ (k : ℕ). (ends.gets k).reassembly.incoming.ready) (sym from) ∙ ap (λ (r : ReassemblyState). r.incoming.ready) c.reassembly ∙ through.none_ready in
+              all_unmarked these (ends.sends through.link.my.tag).queued queued (with_key through.link.my.tag reading.reads) (h.sender.marks through.link.my.tag) long
+              (subst (DeliveredAllOn these (ends.sends through.link.my.tag).queued) (sym (h.receiver.were_read through.link.my.tag))
+              (plain_streams_arrive these options (ends.firsts through.link.my.tag) options.max_receiver_window_buffer_size (own through.link.my.tag) (h.runs through.link.my.tag) (h.small through.link.my.tag)
+              (little through.link.my.tag) (short through.link.my.tag) room kind (h.numbered through.link.my.tag some (inr only))
+              (λ id mine. record {
+                keeps = h.kept through.link.my.tag some only id (reliable id mine).never;
+                unlimited = unlimited_on_marks id (ends.sends through.link.my.tag).queued queued (h.sender.marks through.link.my.tag) (reliable id mine).unlimited;
+              })
+              (subst HasNothingLeft (sym queues_are) through.left) ready))
 
     -- Either way of numbering leaves no gap.
     own_front : AreUnlimited queued → (tag : ℕ) → tag ≢ 0 → ((id : ℕ) → ends.never_resets id ≡ true) → IsOnlyOwn past tag → (kind : Bool) → (ends.sends tag).queues.queue.is_interleaved ≡ kind

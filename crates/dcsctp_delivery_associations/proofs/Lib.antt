@@ -10,6 +10,7 @@ pub mod SenderOpens
 pub mod SenderAnswers
 pub mod Held
 pub mod Senders
+pub mod Seen
 pub mod SenderStays
 pub mod SenderBegins
 pub mod SenderOutlasts

@@ -37,6 +37,7 @@ use Rattle.dcsctp_delivery_associations.proofs.UnaskedPasts.{same_numbers, reset
 use Rattle.dcsctp_delivery_associations.proofs.AnsweringRests as answering
 use Rattle.dcsctp_delivery_associations.proofs.AnsweringRests.{none_performed, same_requests}
 use Rattle.dcsctp_delivery_associations.proofs.AnsweringNewest.{IsDueAt, numbers_of, newest_where, behind_where, due_there}
+use Rattle.dcsctp_delivery_associations.proofs.Seen.{IsNamedNow}
 use Rattle.dcsctp_delivery_associations.proofs.AnsweringDefers as defers
 use Rattle.dcsctp_delivery_associations.proofs.AnsweringPerforms as performs
 
@@ -180,6 +181,27 @@ module _ (ends : Ends) (e : Endpoint) (past : List Effect) (d : Endpoint) (their
                 asks = wants;
                 own = own_same one.newest.reset reset transfer.reassembly.deferral wants one.own;
                 unknown = ap (λ (a : Asking). a.is_performed) asked_is ∙ one.unknown;
+              }
+
+      -- What is performed is a request of the sender.
+      pub named_here : (my : Pair) (its : ℕ) → WasPerformed my its o.effects → IsNamedNow ends.sends input my its
+      named_here my its done = by_peers peers
+        where
+          by_peers : PeerTurns link their_past d input o transfer.reassembly.deferral left.reassembly.deferral → IsNamedNow ends.sends input my its
+          by_peers (asks_nothing none same) = absurd (none_performed o.effects none my its done)
+          by_peers (defers_it number other came due none accept perform kept is waits) = absurd (none my its done)
+          by_peers (begins_anew begun opening linked' none empty) = absurd (none_performed o.effects none my its done)
+          by_peers (performs_it number reset came due only has accept perform empty) =
+              let found = handled number reset came in
+              let one = only my its done in
+              record {
+                some = subst (λ (p : Pair). p.tag ≢ 0) (sym one.0) (answers_here.theirs_held link refl).0.some;
+                begun = found.0;
+                has = subst (λ (p : Pair). places.HasEntry found.0 (ends.sends p.tag).asking.requests) (sym one.0) found.1;
+                number_is = found.2 ∙ sym one.1;
+                parameters = outgoing_reset_request number (number_answered number reset.is_new) reset ∷ [];
+                came = came;
+                asked = ap (λ (r : RequestedReset). Some r) (sym found.3);
               }
 
       -- Where nothing was asked nothing is performed.

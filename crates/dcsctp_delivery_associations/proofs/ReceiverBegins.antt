@@ -5,7 +5,7 @@ use Rattle.dcsctp_spec_lemmas.specs.types.declared.association.Pair.{Pair}
 use Rattle.dcsctp_spec_lemmas.specs.types.declared.options.Options.{Options}
 use Rattle.dcsctp_spec_lemmas.specs.types.Settings.{SameOptions}
 use Rattle.dcsctp_spec_lemmas.specs.spec.endpoint.Endpoint.{Endpoint}
-use Rattle.dcsctp_spec_lemmas.specs.spec.endpoint.Event.{packets_in}
+use Rattle.dcsctp_spec_lemmas.specs.spec.endpoint.Event.{Event, packets_in}
 use Rattle.dcsctp_spec_lemmas.specs.spec.endpoint.Outcome.{Outcome}
 use Rattle.dcsctp_spec_lemmas.specs.spec.Packet.{Emission}
 use Rattle.dcsctp_spec_runs.specs.Past.{HasEffect}
@@ -22,22 +22,26 @@ use Rattle.dcsctp_delivery_sending.proofs.Places.{decide, set_same, set_other}
 use Rattle.dcsctp_delivery_directions.specs.Directions as steps
 use Rattle.dcsctp_delivery_directions.specs.Directions.{HasReached, DirectionRun}
 use Rattle.dcsctp_delivery_directions.proofs.Directions.{direction_queues}
-use Rattle.dcsctp_delivery_turns.specs.Actions.{AreReports, begun_transfer, peer_tag, IsCall}
+use Rattle.dcsctp_delivery_turns.specs.Actions.{AreReports, begun_transfer, came_by, peer_tag, IsCall}
+use Rattle.dcsctp_delivery_turns.specs.ToldResets.{TellsResets}
 use Rattle.dcsctp_delivery_turns.specs.Reporting.{IsReachedBetween, TurnReports, reports_on, reports_anew, reports_nothing, reports_nowhere}
 use Rattle.dcsctp_delivery_turns.specs.Asking.{own_of, AsksFit}
 use Rattle.dcsctp_delivery_turns.specs.Runs.{OpensAssociation}
-use Rattle.dcsctp_delivery_associations.specs.Ends.{SendingEnd, ReceivingEnd, joined, new_end, Ends, sender_key, HadPeer, Awaits, Sender, NewTag, HadTag, Receiver, unbegun_end, MetOrAlone, AreHeard, Between}
+use Rattle.dcsctp_delivery_associations.specs.Ends.{SendingEnd, ReceivingEnd, joined, new_end, Ends, sender_key, HadPeer, Awaits, Sender, NewTag, HadTag, Receiver, unbegun_end, MetOrAlone, AreHeard, AreSeen, Between}
 use Rattle.dcsctp_delivery_associations.specs.Reads.{Tags, tags_of, Reading, tags_or, with_key}
 use Rattle.dcsctp_delivery_associations.proofs.Growing.{set_all}
 use Rattle.dcsctp_delivery_associations.proofs.Growing.{set_three}
-use Rattle.dcsctp_delivery_associations.proofs.Heard.{same_grown, heard_later, heard_both, heard_there, heard_nothing, passed_reached}
+use Rattle.dcsctp_delivery_associations.proofs.Heard.{same_grown, heard_later, heard_all, heard_there, heard_nothing, passed_reached}
+use Rattle.dcsctp_delivery_associations.proofs.Seen.{seen_turn}
 use Rattle.dcsctp_delivery_associations.proofs.Senders.{alone_later}
 use Rattle.dcsctp_delivery_associations.proofs.WhatIsRead.{all_of_later}
 use Rattle.dcsctp_delivery_turns.proofs.Runs.{senders_begin}
 use Rattle.dcsctp_delivery_associations.proofs.WhatIsLeft.{goes_left}
 use Rattle.dcsctp_delivery_associations.specs.Answered.{AreAnswered}
 use Rattle.dcsctp_delivery_associations.specs.Laws.{AreEnds}
-use Rattle.dcsctp_delivery_associations.proofs.ReceiverOpens.{opens_answered}
+use Rattle.dcsctp_delivery_turns.proofs.PeersTurns.{calm_asks_nothing}
+use Rattle.dcsctp_delivery_associations.proofs.AnsweringRests.{none_performed}
+use Rattle.dcsctp_delivery_associations.proofs.ReceiverOpens.{opening_calm, opens_answered}
 use Rattle.dcsctp_delivery_associations.proofs.ReceiverStays.{tag_later, sender_same, sender_first}
 
 -- What an association has received that just begins.
@@ -65,7 +69,7 @@ known ends key to below queued past their_past packets new s is =
     of_had had = sym had.first_is ∙ ap (λ (p : Pair). p.first_tsn) (is.match had.link had.held had.tag_is)
 
 module _ (options : Options) (ends : Ends) (e : Endpoint) (queued : List Message) (past : List Effect) (packets : List Emission) (d : Endpoint) (their_past : List Effect) (reading : Reading)
-    (h : Between options ends e queued past packets d their_past reading) (few : length queued < 2 ^ 64) (same : SameOptions options d.options) (input : Input) (o : Outcome) (w : AreAnswered ends e past d their_past) (may : IsCall input) (turn : Turn d input o) (heard : List Emission) (reported : AreHeard ends.gets their_past heard) (reports : TurnReports d input o) where
+    (h : Between options ends e queued past packets d their_past reading) (few : length queued < 2 ^ 64) (same : SameOptions options d.options) (input : Input) (o : Outcome) (w : AreAnswered ends e past d their_past) (may : IsCall input) (turn : Turn d input o) (seen : List (Event Emission)) (reported : AreSeen ends d their_past seen) (reports : TurnReports d input o) (tells : TellsResets d input o) where
   module _ (opens : OpensAssociation d input o) (is : NewTag their_past past (identity_of opens.begun.my opens.begun.held)) where
     abbrev tag : ℕ
     tag = opens.begun.held.peer.tag
@@ -189,13 +193,19 @@ module _ (options : Options) (ends : Ends) (e : Endpoint) (queued : List Message
         go (reports_nowhere none linked says) =
             (let clash : ◌≡◌ {A = Option AssociationIdentity} None (Some (identity_of opens.begun.my opens.begun.held)) = sym (w.unlinked none) ∙ sym linked ∙ opens.linked in absurd (cc))
 
-    heard_opened : AreHeard (set_at tag got ends.gets) (after_effects o.effects their_past) (heard ++ packets_in o.events)
+    heard_opened : AreHeard (set_at tag got ends.gets) (after_effects o.effects their_past) (packets_in (seen ++ o.events))
     heard_opened =
-        heard_both (set_at tag got ends.gets) (after_effects o.effects their_past) heard (packets_in o.events)
+        heard_all (set_at tag got ends.gets) (after_effects o.effects their_past) seen o.events
         (heard_later ends.gets (set_at tag got ends.gets) their_past (after_effects o.effects their_past) (after_within o.effects their_past)
-        (λ t had. same_grown (ends.gets t) (set_at tag got ends.gets t) (set_other tag t got ends.gets (λ here. is.other had.link had.held (had.tag_is ∙ here)))) heard reported) new_reports
+        (λ t had. same_grown (ends.gets t) (set_at tag got ends.gets t) (set_other tag t got ends.gets (λ here. is.other had.link had.held (had.tag_is ∙ here)))) (packets_in seen) reported.heard) new_reports
 
-    crossed_opens : ends.firsts tag ≡ first → ends.gets tag ≡ new_end options (ends.firsts tag) → AreEnds ends.never_resets (heard ++ packets_in o.events) options e queued past packets o.after (after_effects o.effects their_past) (record { reads = reading.reads; last = tags_of (identity_of opens.begun.my opens.begun.held) })
+    -- The user is told of no reset.
+    seen_opened : (firsts : ℕ → ℕ) → AreSeen (record ends { sends = ends.sends; gets = set_at tag got ends.gets; firsts = firsts }) o.after (after_effects o.effects their_past) (seen ++ o.events)
+    seen_opened firsts =
+        seen_turn ends (record ends { sends = ends.sends; gets = set_at tag got ends.gets; firsts = firsts }) e past d their_past seen input o w (λ t some begun has. has) heard_opened tells
+        (λ my number has. absurd (none_performed o.effects (calm_asks_nothing d input o (opening_calm (came_by input) opens.opening) may turn) my number has)) reported
+
+    crossed_opens : ends.firsts tag ≡ first → ends.gets tag ≡ new_end options (ends.firsts tag) → AreEnds ends.never_resets (seen ++ o.events) options e queued past packets o.after (after_effects o.effects their_past) (record { reads = reading.reads; last = tags_of (identity_of opens.begun.my opens.begun.held) })
     crossed_opens here fresh =
         let end : ends.gets tag ≡ new_end options first = fresh ∙ ap (new_end options) here in
         let start : DirectionRun options first options.max_receiver_window_buffer_size (joined (ends.sends tag) (new_end options first)) =
@@ -220,10 +230,10 @@ module _ (options : Options) (ends : Ends) (e : Endpoint) (queued : List Message
             alone = later_alone ends.firsts here (λ t ne. refl);
           };
           answered = opens_answered ends e past d their_past w input o may turn opens is (set_at tag got ends.gets) ends.firsts here (λ t ne. refl) (inl here);
-          reported = heard_opened;
+          reported = seen_opened ends.firsts;
         }
 
-    awaited_opens : Awaits (ends.sends tag) → tag ≢ sender_key e.core → ends.gets tag ≡ new_end options (ends.firsts tag) → AreEnds ends.never_resets (heard ++ packets_in o.events) options e queued past packets o.after (after_effects o.effects their_past) (record { reads = reading.reads; last = tags_of (identity_of opens.begun.my opens.begun.held) })
+    awaited_opens : Awaits (ends.sends tag) → tag ≢ sender_key e.core → ends.gets tag ≡ new_end options (ends.firsts tag) → AreEnds ends.never_resets (seen ++ o.events) options e queued past packets o.after (after_effects o.effects their_past) (record { reads = reading.reads; last = tags_of (identity_of opens.begun.my opens.begun.held) })
     awaited_opens waits apart fresh =
         let queues = direction_queues options (ends.firsts tag) options.max_receiver_window_buffer_size (joined (ends.sends tag) (ends.gets tag)) (h.runs tag) (h.small tag)
         (let short = h.sender.short tag in omega (arith, few, short)) in
@@ -261,20 +271,20 @@ module _ (options : Options) (ends : Ends) (e : Endpoint) (queued : List Message
           };
           answered = opens_answered ends e past d their_past w input o may turn opens is (set_at tag got ends.gets) (set_at tag first ends.firsts) (set_same tag first ends.firsts) (λ t ne. set_other tag t first ends.firsts ne)
               (inr (waits.asking, apart));
-          reported = heard_opened;
+          reported = seen_opened (set_at tag first ends.firsts);
         }
 
-    opens_last : AreEnds ends.never_resets (heard ++ packets_in o.events) options e queued past packets o.after (after_effects o.effects their_past) (record { reads = reading.reads; last = tags_of (identity_of opens.begun.my opens.begun.held) })
+    opens_last : AreEnds ends.never_resets (seen ++ o.events) options e queued past packets o.after (after_effects o.effects their_past) (record { reads = reading.reads; last = tags_of (identity_of opens.begun.my opens.begun.held) })
     opens_last =
         elim (h.receiver.begun tag) [
           | inl fresh ↦ go fresh (known ends (sender_key e.core) (peer_tag e.core) e.queues queued past their_past packets (identity_of opens.begun.my opens.begun.held) h.sender is)
           | inr had ↦ absurd (is.other had.link had.held had.tag_is)
         ]
       where
-        go : ends.gets tag ≡ new_end options (ends.firsts tag) → Known ends (sender_key e.core) (identity_of opens.begun.my opens.begun.held) → AreEnds ends.never_resets (heard ++ packets_in o.events) options e queued past packets o.after (after_effects o.effects their_past) (record { reads = reading.reads; last = tags_of (identity_of opens.begun.my opens.begun.held) })
+        go : ends.gets tag ≡ new_end options (ends.firsts tag) → Known ends (sender_key e.core) (identity_of opens.begun.my opens.begun.held) → AreEnds ends.never_resets (seen ++ o.events) options e queued past packets o.after (after_effects o.effects their_past) (record { reads = reading.reads; last = tags_of (identity_of opens.begun.my opens.begun.held) })
         go fresh (is_crossed here) = crossed_opens here fresh
         go fresh (is_awaited waits apart) = awaited_opens waits apart fresh
 
-    pub opens_goes : AreEnds ends.never_resets (heard ++ packets_in o.events) options e queued past packets o.after (after_effects o.effects their_past) (record { reads = reading.reads; last = tags_or reading.last (identity_in o.after.core) })
+    pub opens_goes : AreEnds ends.never_resets (seen ++ o.events) options e queued past packets o.after (after_effects o.effects their_past) (record { reads = reading.reads; last = tags_or reading.last (identity_in o.after.core) })
     opens_goes =
-        subst (λ (n : Tags). AreEnds ends.never_resets (heard ++ packets_in o.events) options e queued past packets o.after (after_effects o.effects their_past) (record { reads = reading.reads; last = n })) (sym (ap (tags_or reading.last) opens.linked)) opens_last
+        subst (λ (n : Tags). AreEnds ends.never_resets (seen ++ o.events) options e queued past packets o.after (after_effects o.effects their_past) (record { reads = reading.reads; last = n })) (sym (ap (tags_or reading.last) opens.linked)) opens_last

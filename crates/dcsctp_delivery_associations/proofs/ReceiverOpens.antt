@@ -29,7 +29,7 @@ use Rattle.dcsctp_delivery_associations.proofs.AnsweringOpens.{IsCrossedOrAwaite
 use Rattle.dcsctp_delivery_associations.proofs.Senders.{link_tag}
 
 -- No RE-CONFIG begins an association.
-opening_calm : (came : Option Content) → IsOpening came → IsCalm came
+pub opening_calm : (came : Option Content) → IsOpening came → IsCalm came
 opening_calm (Some (init_ack theirs cookie)) opening parameters is = absurd (cc)
 opening_calm (Some (cookie_echo cookie)) opening parameters is = absurd (cc)
 opening_calm None opening parameters is = absurd opening

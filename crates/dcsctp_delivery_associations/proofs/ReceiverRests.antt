@@ -5,7 +5,7 @@ use Rattle.std.specs.Prelude.{◌⊎◌}
 use Rattle.dcsctp_spec_lemmas.specs.types.declared.options.Options.{Options}
 use Rattle.dcsctp_spec_lemmas.specs.spec.endpoint.DataOutcomes.{ready_where}
 use Rattle.dcsctp_spec_lemmas.specs.spec.endpoint.Endpoint.{Endpoint}
-use Rattle.dcsctp_spec_lemmas.specs.spec.endpoint.Event.{packets_in}
+use Rattle.dcsctp_spec_lemmas.specs.spec.endpoint.Event.{Event, packets_in}
 use Rattle.dcsctp_spec_lemmas.specs.spec.endpoint.Outcome.{Outcome}
 use Rattle.dcsctp_spec_lemmas.specs.spec.Packet.{Emission}
 use Rattle.dcsctp_spec_lemmas.specs.spec.endpoint.Turn.{Input, user_takes, Turn}
@@ -27,40 +27,42 @@ use Rattle.dcsctp_spec_lemmas.specs.types.declared.association.Pair.{Pair}
 use Rattle.dcsctp_spec_runs.specs.Past.{WasPerformed}
 use Rattle.dcsctp_delivery_turns.specs.Actions.{peer_tag, IsCall}
 use Rattle.dcsctp_delivery_turns.specs.Asking.{own_of, SomeFit}
-use Rattle.dcsctp_delivery_associations.specs.Ends.{ReceivingEnd, joined, new_end, Ends, sender_key, HadTag, LeavesReady, unbegun_end, MetOrAlone, AreHeard, Between}
+use Rattle.dcsctp_delivery_associations.specs.Ends.{ReceivingEnd, joined, new_end, Ends, sender_key, HadTag, LeavesReady, unbegun_end, MetOrAlone, AreHeard, AreSeen, Between}
 use Rattle.dcsctp_delivery_associations.specs.Reads.{Tags, Read, Reading, tags_or, reading_after, tagged_after, and_first, with_key}
 use Rattle.dcsctp_delivery_associations.proofs.WhatIsLeft.{left_idle, left_taken}
 use Rattle.dcsctp_delivery_associations.proofs.WhatIsRead.{all_of_first, all_of_later, of_link_later, MayRead, reads_first, reads_none, may_read, first_own, first_other}
 use Rattle.dcsctp_delivery_associations.proofs.Growing.{set_all}
 use Rattle.dcsctp_delivery_associations.specs.Laws.{AreEnds}
 use Rattle.dcsctp_theorem_association.proofs.Growth.{after_within}
-use Rattle.dcsctp_delivery_associations.proofs.Heard.{HasGrown, not_grown, heard_later, heard_both, heard_nothing, heard_nowhere}
+use Rattle.dcsctp_delivery_associations.proofs.Heard.{HasGrown, not_grown, heard_later, heard_all, heard_nothing, heard_nowhere}
+use Rattle.dcsctp_delivery_associations.proofs.Seen.{seen_turn}
+use Rattle.dcsctp_delivery_turns.specs.ToldResets.{TellsResets}
 use Rattle.dcsctp_delivery_turns.specs.Reporting.{TurnReports, reports_on, reports_anew, reports_nothing, reports_nowhere}
 use Rattle.dcsctp_delivery_associations.proofs.Senders.{no_peer, alone_later, met_later}
 use Rattle.dcsctp_delivery_associations.proofs.ReceiverStays.{tag_later, begun_later, sender_same}
 
 module _ (options : Options) (ends : Ends) (e : Endpoint) (queued : List Message) (past : List Effect) (packets : List Emission) (d : Endpoint) (their_past : List Effect) (reading : Reading)
-    (h : Between options ends e queued past packets d their_past reading) (input : Input) (o : Outcome) (w : AreAnswered ends e past d their_past) (may : IsCall input) (turn : Turn d input o) (heard : List Emission) (reported : AreHeard ends.gets their_past heard) (reports : TurnReports d input o) where
+    (h : Between options ends e queued past packets d their_past reading) (input : Input) (o : Outcome) (w : AreAnswered ends e past d their_past) (may : IsCall input) (turn : Turn d input o) (seen : List (Event Emission)) (reported : AreSeen ends d their_past seen) (reports : TurnReports d input o) (tells : TellsResets d input o) where
   -- what is to be shown of the turn
   abbrev Turned : Type 0
-  Turned = AreEnds ends.never_resets (heard ++ packets_in o.events) options e queued past packets o.after (after_effects o.effects their_past) (reading_after d input o.after reading)
+  Turned = AreEnds ends.never_resets (seen ++ o.events) options e queued past packets o.after (after_effects o.effects their_past) (reading_after d input o.after reading)
 
   -- what is known after the turn, once this was read
   abbrev After : List Read → Type 0
-  After reads = AreEnds ends.never_resets (heard ++ packets_in o.events) options e queued past packets o.after (after_effects o.effects their_past) (record { reads = reads; last = tags_or reading.last (identity_in o.after.core) })
+  After reads = AreEnds ends.never_resets (seen ++ o.events) options e queued past packets o.after (after_effects o.effects their_past) (record { reads = reads; last = tags_or reading.last (identity_in o.after.core) })
 
   unread_goes : tagged_after reading.last d input reading.reads ≡ reading.reads → After reading.reads → Turned
   unread_goes unread goes = subst After (sym unread) goes
 
   -- Without an association the last one stays the last.
-  still_last : identity_in o.after.core ≡ None → (reads : List Read) → AreEnds ends.never_resets (heard ++ packets_in o.events) options e queued past packets o.after (after_effects o.effects their_past) (record { reads = reads; last = reading.last }) → After reads
-  still_last unlinked reads = subst (λ (n : Tags). AreEnds ends.never_resets (heard ++ packets_in o.events) options e queued past packets o.after (after_effects o.effects their_past) (record { reads = reads; last = n })) (sym (ap (tags_or reading.last) unlinked))
+  still_last : identity_in o.after.core ≡ None → (reads : List Read) → AreEnds ends.never_resets (seen ++ o.events) options e queued past packets o.after (after_effects o.effects their_past) (record { reads = reads; last = reading.last }) → After reads
+  still_last unlinked reads = subst (λ (n : Tags). AreEnds ends.never_resets (seen ++ o.events) options e queued past packets o.after (after_effects o.effects their_past) (record { reads = reads; last = n })) (sym (ap (tags_or reading.last) unlinked))
 
-  -- What is reported in the turn is heard.
-  heard_resting : o.after.queues.transfer ≡ None → identity_in o.after.core ≡ None → AreHeard ends.gets (after_effects o.effects their_past) (heard ++ packets_in o.events)
+  -- What is reported in the turn is seen.
+  heard_resting : o.after.queues.transfer ≡ None → identity_in o.after.core ≡ None → AreHeard ends.gets (after_effects o.effects their_past) (packets_in (seen ++ o.events))
   heard_resting none unlinked =
-      heard_both ends.gets (after_effects o.effects their_past) heard (packets_in o.events)
-      (heard_later ends.gets ends.gets their_past (after_effects o.effects their_past) (after_within o.effects their_past) (λ t had. not_grown (ends.gets t)) heard reported) (go reports)
+      heard_all ends.gets (after_effects o.effects their_past) seen o.events
+      (heard_later ends.gets ends.gets their_past (after_effects o.effects their_past) (after_within o.effects their_past) (λ t had. not_grown (ends.gets t)) (packets_in seen) reported.heard) (go reports)
     where
       go : TurnReports d input o → AreHeard ends.gets (after_effects o.effects their_past) (packets_in o.events)
       go (reports_on old left linked was left_is grows says) = (let clash : ◌≡◌ {A = Option Transfer} None (Some left) = sym none ∙ left_is in absurd (cc))
@@ -99,7 +101,7 @@ module _ (options : Options) (ends : Ends) (e : Endpoint) (queued : List Message
           alone = λ tag. alone_later options ends ends past past their_past (after_effects o.effects their_past) (λ effect has. has) (after_within o.effects their_past) tag refl refl (h.alone tag);
         };
         answered = rests_answered ends e past d their_past w input o may turn unlinked no_performs;
-        reported = heard_resting none unlinked;
+        reported = seen_turn ends ends e past d their_past seen input o w (λ tag some begun has. has) (heard_resting none unlinked) tells (λ my number has. absurd (no_performs my number has)) reported;
       })
 
   -- ---- without an association
@@ -160,8 +162,10 @@ module _ (options : Options) (ends : Ends) (e : Endpoint) (queued : List Message
             answers = same_requests (requests_of (record ends { gets = set_at tag got ends.gets }) rest.pairs) (requests_of ends rest.pairs) (identity_in e.core) past (identity_in o.after.core) (after_effects o.effects their_past) (waiting_deferral o.after.queues.transfer) (λ t. refl) rest.answers;
             unlinked = rest.unlinked;
           };
-          reported = heard_later ends.gets (set_at tag got ends.gets) (after_effects o.effects their_past) (after_effects o.effects their_past) (λ effect has. has)
-              (λ t met. set_all (λ t g. HasGrown (ends.gets t) g) tag got ends.gets (record { first_is = refl; grows = omega arith }) (λ t ne. not_grown (ends.gets t)) t) (heard ++ packets_in o.events) (heard_resting gone unlinked);
+          reported = seen_turn ends (record ends { gets = set_at tag got ends.gets }) e past d their_past seen input o w (λ t some begun has. has)
+              (heard_later ends.gets (set_at tag got ends.gets) (after_effects o.effects their_past) (after_effects o.effects their_past) (λ effect has. has)
+              (λ t met. set_all (λ t g. HasGrown (ends.gets t) g) tag got ends.gets (record { first_is = refl; grows = omega arith }) (λ t ne. not_grown (ends.gets t)) t) (packets_in (seen ++ o.events)) (heard_resting gone unlinked))
+              tells (λ my number has. absurd (no_performs my number has)) reported;
         })
       where
         -- Something was received under this tag.

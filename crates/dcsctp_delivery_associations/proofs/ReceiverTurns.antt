@@ -4,7 +4,7 @@ use Rattle.std.specs.Prelude.{◌⊎◌}
 use Rattle.dcsctp_spec_lemmas.specs.types.declared.options.Options.{Options}
 use Rattle.dcsctp_spec_lemmas.specs.types.Settings.{SameOptions}
 use Rattle.dcsctp_spec_lemmas.specs.spec.endpoint.Endpoint.{Endpoint}
-use Rattle.dcsctp_spec_lemmas.specs.spec.endpoint.Event.{packets_in}
+use Rattle.dcsctp_spec_lemmas.specs.spec.endpoint.Event.{Event, packets_in}
 use Rattle.dcsctp_spec_lemmas.specs.spec.endpoint.Outcome.{Outcome}
 use Rattle.dcsctp_spec_lemmas.specs.spec.Packet.{Emission}
 use Rattle.dcsctp_spec_lemmas.specs.spec.endpoint.Turn.{Input, Turn}
@@ -13,7 +13,7 @@ use Rattle.dcsctp_spec_lemmas.specs.spec.association.Effect.{AssociationIdentity
 use Rattle.dcsctp_spec_lemmas.specs.spec.queues.Reassembly.{ReassemblyState}
 use Rattle.dcsctp_spec_lemmas.specs.spec.queues.Tracker.{TrackerState}
 use Rattle.dcsctp_spec_lemmas.specs.spec.queues.Transfer.{Transfer}
-use Rattle.dcsctp_delivery_sending.specs.Places.{set_at}
+use Rattle.dcsctp_delivery_sending.specs.Places.{HasEntry, set_at}
 use Rattle.dcsctp_delivery_sending.specs.Log.{Message}
 use Rattle.dcsctp_delivery_sending.proofs.Places.{decide, set_same, set_other}
 use Rattle.dcsctp_delivery_directions.specs.Directions.{Asking, nothing_asked, Direction, HasReached, DirectionRun}
@@ -26,9 +26,10 @@ use Rattle.dcsctp_delivery_associations.specs.Answered.{IsInStep, StandsSo, in_s
 use Rattle.dcsctp_delivery_associations.specs.Laws.{AsksLittle}
 use Rattle.dcsctp_delivery_associations.proofs.UnaskedPasts.{reset_none}
 use Rattle.dcsctp_delivery_associations.proofs.AnsweringRests.{none_performed}
-use Rattle.dcsctp_delivery_associations.proofs.ReceiverAnswers.{asked_ends, Standing, performs_newest, newest_or_not, nothing_performed, goes_answered}
+use Rattle.dcsctp_delivery_associations.proofs.ReceiverAnswers.{asked_ends, plainly_sent, named_here, Standing, performs_newest, newest_or_not, nothing_performed, goes_answered}
 use Rattle.dcsctp_spec_lemmas.specs.spec.Packet.{re_config}
-use Rattle.dcsctp_spec_runs.specs.Past.{HasEffect}
+use Rattle.dcsctp_spec_lemmas.specs.types.declared.association.Pair.{Pair}
+use Rattle.dcsctp_spec_runs.specs.Past.{HasEffect, WasPerformed}
 use Rattle.dcsctp_spec_lemmas.specs.spec.Reconfiguration.{RequestedReset, ResetParameter}
 use Rattle.dcsctp_spec_lemmas.specs.spec.association.Effect.{holds}
 use Rattle.dcsctp_spec_lemmas.specs.spec.endpoint.ResetOutcomes.{has_reset, requested_in}
@@ -39,7 +40,7 @@ use Rattle.dcsctp_delivery_turns.specs.Sides.{WasSent, receiving}
 use Rattle.dcsctp_delivery_turns.specs.Runs.{ReceiverTurns, receiver_goes_on, receiver_ends, receiver_begins, IdleTurns, idle_stays, idle_begins}
 use Rattle.dcsctp_delivery_turns.proofs.Runs.{receivers_go_on, receivers_begin}
 use Rattle.dcsctp_delivery_turns.proofs.Reporting.{turns_report}
-use Rattle.dcsctp_delivery_associations.specs.Ends.{LeavesReady, ReceivingEnd, joined, new_end, Ends, sender_key, HadBoth, NewTag, HadTag, IsCurrentEnd, unbegun_end, MetOrAlone, AreHeard, Between}
+use Rattle.dcsctp_delivery_associations.specs.Ends.{LeavesReady, ReceivingEnd, joined, new_end, Ends, sender_key, HadBoth, NewTag, HadTag, IsCurrentEnd, unbegun_end, MetOrAlone, AreHeard, AreSeen, Between}
 use Rattle.dcsctp_delivery_associations.specs.Reads.{Tags, tags_of, Read, Reading, tags_or, reading_after, tagged_after, with_key}
 use Rattle.dcsctp_delivery_associations.proofs.WhatIsLeft.{goes_left, ends_left}
 use Rattle.dcsctp_delivery_associations.proofs.WhatIsRead.{all_of_after, all_of_later, reads_still, opening_still, own_read, other_read}
@@ -47,7 +48,10 @@ use Rattle.dcsctp_delivery_associations.proofs.Growing.{set_all}
 use Rattle.dcsctp_delivery_associations.proofs.Own.{unlinked_some}
 use Rattle.dcsctp_delivery_associations.specs.Laws.{AreEnds}
 use Rattle.dcsctp_theorem_association.proofs.Growth.{after_within}
-use Rattle.dcsctp_delivery_associations.proofs.Heard.{HasGrown, not_grown, heard_later, heard_both, heard_there, passed_reached, begun_with}
+use Rattle.dcsctp_delivery_associations.proofs.Heard.{HasGrown, not_grown, heard_later, heard_all, heard_there, passed_reached, begun_with}
+use Rattle.dcsctp_delivery_associations.proofs.Seen.{RequestsStay, IsNamedNow, seen_turn}
+use Rattle.dcsctp_delivery_turns.specs.ToldResets.{TellsResets}
+use Rattle.dcsctp_delivery_turns.proofs.ToldResets.{turns_tell_resets}
 use Rattle.dcsctp_delivery_associations.proofs.Senders.{link_peer, alone_later, met_later}
 use Rattle.dcsctp_delivery_associations.proofs.ReceiverStays.{tag_later, begun_later, sender_asked}
 use Rattle.dcsctp_delivery_associations.proofs.ReceiverBegins.{opens_goes}
@@ -56,19 +60,19 @@ use Rattle.dcsctp_delivery_associations.proofs.ReceiverRests.{rests, idle_rests}
 module _ (options : Options) (ends : Ends) (e : Endpoint) (queued : List Message) (past : List Effect) (packets : List Emission) (d : Endpoint) (their_past : List Effect) (reading : Reading)
     (h : Between options ends e queued past packets d their_past reading) (few : length queued < 2 ^ 64) (same : SameOptions options d.options) (input : Input) (o : Outcome)
     (new : (begun : Begun d o) → IsOpening (came_by input) → identity_in o.after.core ≡ Some (identity_of begun.my begun.held) → NewTag their_past past (identity_of begun.my begun.held)) (w : AreAnswered ends e past d their_past)
-    (little : AsksLittle packets) (new_tags : (link old : AssociationIdentity) → HasEffect (holds link) o.effects → HasEffect (holds old) their_past → old.peer.tag ≢ link.peer.tag) (may : IsCall input) (turn : Turn d input o) (heard : List Emission) (reported : AreHeard ends.gets their_past heard) where
+    (little : AsksLittle packets) (new_tags : (link old : AssociationIdentity) → HasEffect (holds link) o.effects → HasEffect (holds old) their_past → old.peer.tag ≢ link.peer.tag) (may : IsCall input) (turn : Turn d input o) (seen : List (Event Emission)) (reported : AreSeen ends d their_past seen) where
   -- what is to be shown of the turn
   abbrev pub Turned : Type 0
-  Turned = AreEnds ends.never_resets (heard ++ packets_in o.events) options e queued past packets o.after (after_effects o.effects their_past) (reading_after d input o.after reading)
+  Turned = AreEnds ends.never_resets (seen ++ o.events) options e queued past packets o.after (after_effects o.effects their_past) (reading_after d input o.after reading)
 
   -- what its packets report
   reports : TurnReports d input o
   reports = turns_report d input o h.receiver.fits (λ begun opening linked. (new begun opening linked).own_small) may turn
 
   unread_goes : tagged_after reading.last d input reading.reads ≡ reading.reads
-      → AreEnds ends.never_resets (heard ++ packets_in o.events) options e queued past packets o.after (after_effects o.effects their_past) (record { reads = reading.reads; last = tags_or reading.last (identity_in o.after.core) }) → Turned
+      → AreEnds ends.never_resets (seen ++ o.events) options e queued past packets o.after (after_effects o.effects their_past) (record { reads = reading.reads; last = tags_or reading.last (identity_in o.after.core) }) → Turned
   unread_goes unread goes =
-      subst (λ (l : List Read). AreEnds ends.never_resets (heard ++ packets_in o.events) options e queued past packets o.after (after_effects o.effects their_past) (record { reads = l; last = tags_or reading.last (identity_in o.after.core) })) (sym unread) goes
+      subst (λ (l : List Read). AreEnds ends.never_resets (seen ++ o.events) options e queued past packets o.after (after_effects o.effects their_past) (record { reads = l; last = tags_or reading.last (identity_in o.after.core) })) (sym unread) goes
 
   -- ---- an association continues
 
@@ -118,7 +122,7 @@ module _ (options : Options) (ends : Ends) (e : Endpoint) (queued : List Message
 
     -- What is reported in the turn was reached in it.
     heard_going : identity_in o.after.core ≡ identity_in d.core → (left : Transfer) → o.after.queues.transfer ≡ Some left
-        → AreHeard (set_at c.link.peer.tag (alone_end left) ends.gets) (after_effects o.effects their_past) (heard ++ packets_in o.events)
+        → AreHeard (set_at c.link.peer.tag (alone_end left) ends.gets) (after_effects o.effects their_past) (packets_in (seen ++ o.events))
     heard_going linked left is = go reports
       where
         same_link : (found : Option AssociationIdentity) (one two : AssociationIdentity) → found ≡ Some one → found ≡ Some two → one ≡ two
@@ -150,7 +154,7 @@ module _ (options : Options) (ends : Ends) (e : Endpoint) (queued : List Message
             (subst (λ (n : ℕ). HasReached n left.tracker tsn) (sym started.0)
             (passed_reached (ends.firsts c.link.peer.tag) transfer.tracker.cumulative left.tracker tsn (let from = started.1 in let same' = number in omega (arith, from, same')) passed))) says
 
-        go : TurnReports d input o → AreHeard (set_at c.link.peer.tag (alone_end left) ends.gets) (after_effects o.effects their_past) (heard ++ packets_in o.events)
+        go : TurnReports d input o → AreHeard (set_at c.link.peer.tag (alone_end left) ends.gets) (after_effects o.effects their_past) (packets_in (seen ++ o.events))
         go (reports_on old other same' was other_is grows says) =
             let one : old ≡ transfer = same_transfer d.queues.transfer old transfer was there in
             let two : other ≡ left = same_transfer o.after.queues.transfer other left other_is is in
@@ -160,8 +164,8 @@ module _ (options : Options) (ends : Ends) (e : Endpoint) (queued : List Message
             subst (λ (t : Transfer). AreReports c.link.peer.tag (IsReachedBetween t.tracker.cumulative left.tracker.cumulative) (packets_in o.events)) one
             (subst (λ (t : Transfer). AreReports c.link.peer.tag (IsReachedBetween old.tracker.cumulative t.tracker.cumulative) (packets_in o.events)) two
             (subst (λ (n : ℕ). AreReports n (IsReachedBetween old.tracker.cumulative other.tracker.cumulative) (packets_in o.events)) (link_peer d.core c.link c.linked) says)) in
-            heard_both (set_at c.link.peer.tag (alone_end left) ends.gets) (after_effects o.effects their_past) heard (packets_in o.events)
-            (heard_later ends.gets (set_at c.link.peer.tag (alone_end left) ends.gets) their_past (after_effects o.effects their_past) (after_within o.effects their_past) (λ t had. grown more t) heard reported)
+            heard_all (set_at c.link.peer.tag (alone_end left) ends.gets) (after_effects o.effects their_past) seen o.events
+            (heard_later ends.gets (set_at c.link.peer.tag (alone_end left) ends.gets) their_past (after_effects o.effects their_past) (after_within o.effects their_past) (λ t had. grown more t) (packets_in seen) reported.heard)
             (turn_heard more to)
         go (reports_anew begun other opening linked' other_is grows says) =
             absurd ((new begun opening linked').other c.link c.held
@@ -172,14 +176,15 @@ module _ (options : Options) (ends : Ends) (e : Endpoint) (queued : List Message
     receives : identity_in o.after.core ≡ identity_in d.core → (left : Transfer) → o.after.queues.transfer ≡ Some left → SomeFit (own_of o.after) → (asking : Asking)
         → ((ends.sends c.link.peer.tag).asking ≡ nothing_asked → asking ≡ nothing_asked) → ((first : ℕ) (own : Option Own) → AsksFit first own (ends.sends c.link.peer.tag).asking → AsksFit first own asking)
         → AreAnswered (asked_ends ends c.link.peer.tag asking (record { first_tsn = (ends.gets c.link.peer.tag).first_tsn; tracker = left.tracker; reassembly = left.reassembly; read = read_after d input (ends.gets c.link.peer.tag).read })) e past o.after (after_effects o.effects their_past)
+        → TellsResets d input o → RequestsStay (ends.sends c.link.peer.tag).asking asking → ((my : Pair) (number : ℕ) → WasPerformed my number o.effects → IsNamedNow ends.sends input my number)
         → (HadBoth past c.link.peer.tag c.link.my.tag ⊎ WasSent [] (came_by input)) → DirectionRun options (ends.firsts c.link.peer.tag) options.max_receiver_window_buffer_size
         (record (receiving (joined (ends.sends c.link.peer.tag) (ends.gets c.link.peer.tag)) left (read_after d input (ends.gets c.link.peer.tag).read)) { asking = asking })
         → Turned
-    receives linked left is fits asking still fit answered met run =
+    receives linked left is fits asking still fit answered tells stay named met run =
         let tag : ℕ = c.link.peer.tag in
         let got : ReceivingEnd = record { first_tsn = (ends.gets tag).first_tsn; tracker = left.tracker; reassembly = left.reassembly; read = read_after d input (ends.gets tag).read } in
-        subst (λ (n : Tags). AreEnds ends.never_resets (heard ++ packets_in o.events) options e queued past packets o.after (after_effects o.effects their_past) (record { reads = tagged_after n d input reading.reads; last = tags_or reading.last (identity_in o.after.core) })) (sym (h.receiver.last c.link c.linked))
-        (subst (λ (n : Tags). AreEnds ends.never_resets (heard ++ packets_in o.events) options e queued past packets o.after (after_effects o.effects their_past) (record { reads = tagged_after (tags_of c.link) d input reading.reads; last = n })) (sym (ap (tags_or reading.last) (linked ∙ c.linked)))
+        subst (λ (n : Tags). AreEnds ends.never_resets (seen ++ o.events) options e queued past packets o.after (after_effects o.effects their_past) (record { reads = tagged_after n d input reading.reads; last = tags_or reading.last (identity_in o.after.core) })) (sym (h.receiver.last c.link c.linked))
+        (subst (λ (n : Tags). AreEnds ends.never_resets (seen ++ o.events) options e queued past packets o.after (after_effects o.effects their_past) (record { reads = tagged_after (tags_of c.link) d input reading.reads; last = n })) (sym (ap (tags_or reading.last) (linked ∙ c.linked)))
         (record {
           ends = asked_ends ends tag asking got;
           is = refl;
@@ -240,7 +245,8 @@ module _ (options : Options) (ends : Ends) (e : Endpoint) (queued : List Message
             ];
           };
           answered = answered;
-          reported = heard_going linked left is;
+          reported = seen_turn ends (asked_ends ends tag asking got) e past d their_past seen input o w
+              (set_all (λ t a. t ≢ 0 → RequestsStay (ends.sends t).asking a) tag asking (λ n. (ends.sends n).asking) (λ some. stay) (λ t ne some begun has. has)) (heard_going linked left is) tells named reported;
         }))
       where
         same_link : (found : Option AssociationIdentity) (one two : AssociationIdentity) → found ≡ Some one → found ≡ Some two → one ≡ two
@@ -289,7 +295,20 @@ module _ (options : Options) (ends : Ends) (e : Endpoint) (queued : List Message
         out_same None none = none
         out_same (Some number) one = record { one = one.one; earlier = one.earlier; is = one.is }
 
+    -- What is asked stays.
+    performed_stays : (known reset : Bool) (old asking : Asking) → asking ≡ performed_where known reset old → RequestsStay old asking
+    performed_stays false true old asking is begun has = subst (λ (a : Asking). HasEntry begun a.requests) (sym is) has
+    performed_stays false false old asking is begun has = subst (λ (a : Asking). HasEntry begun a.requests) (sym is) has
+    performed_stays true false old asking is begun has = subst (λ (a : Asking). HasEntry begun a.requests) (sym is) has
+    performed_stays true true old asking is begun has = subst (λ (a : Asking). HasEntry begun a.requests) (sym is) has
+
     module _ (sent : WasSent (ends.sends c.link.peer.tag).sent (came_by input)) (met : HadBoth past c.link.peer.tag c.link.my.tag ⊎ WasSent [] (came_by input)) (knows : KnowsPeerIn their_past d.core) where
+      -- what the user is told of resets
+      tells : TellsResets d input o
+      tells =
+          turns_tell_resets d input o
+          (inr (plainly_sent options (ends.firsts c.link.peer.tag) options.max_receiver_window_buffer_size (joined (ends.sends c.link.peer.tag) (ends.gets c.link.peer.tag)) (h.runs c.link.peer.tag) (came_by input) sent)) may turn
+
       -- Where nothing was asked nothing is performed.
       still_nothing : (is_known : Bool) (asking : Asking) → PerformedBy is_known input o (joined (ends.sends c.link.peer.tag) (ends.gets c.link.peer.tag)) asking → (left : Transfer) → o.after.queues.transfer ≡ Some left
           → (ends.sends c.link.peer.tag).asking ≡ nothing_asked → asking ≡ nothing_asked
@@ -313,13 +332,16 @@ module _ (options : Options) (ends : Ends) (e : Endpoint) (queued : List Message
           receives linked left is fits asking (still_nothing is_known asking by left is)
           (λ first own fit. subst (λ (a : Asking). AsksFit first own a) (sym by.3) (fits_performed is_known by.0 first own (ends.sends c.link.peer.tag).asking fit))
           (goes_answered ends e past d their_past w input o may turn new_tags c.link c.linked transfer left there is options.max_receiver_window_buffer_size options
-          (joined (ends.sends c.link.peer.tag) (ends.gets c.link.peer.tag)) (ends.firsts c.link.peer.tag) (h.runs c.link.peer.tag) refl sent few_asked knows new_same linked is_known (stands left is) asking by _) met run
+          (joined (ends.sends c.link.peer.tag) (ends.gets c.link.peer.tag)) (ends.firsts c.link.peer.tag) (h.runs c.link.peer.tag) refl sent few_asked knows new_same linked is_known (stands left is) asking by _)
+          tells (performed_stays is_known by.0 (ends.sends c.link.peer.tag).asking asking by.3)
+          (named_here ends e past d their_past w input o may turn new_tags c.link c.linked transfer left there is options.max_receiver_window_buffer_size options
+          (joined (ends.sends c.link.peer.tag) (ends.gets c.link.peer.tag)) (ends.firsts c.link.peer.tag) (h.runs c.link.peer.tag) refl sent few_asked knows) met run
       by_turn is_known stands (receiver_ends none gone unread) =
           unread_goes (reads_still reading.last d input transfer reading.reads there unread)
-          (rests options ends e queued past packets d their_past reading h input o w may turn heard reported reports gone (unlinked_some o.after none) none (none_performed o.effects (ends_ask_nothing d input o transfer may turn there gone))
+          (rests options ends e queued past packets d their_past reading h input o w may turn seen reported reports tells gone (unlinked_some o.after none) none (none_performed o.effects (ends_ask_nothing d input o transfer may turn there gone))
           (subst (λ (n : Tags). LeavesReady ends.gets n.peer o.after.left o.after.queues.transfer) (sym (h.receiver.last c.link c.linked)) (ends_left d input o may turn ends.gets reading.last.peer c.link.peer.tag transfer there gone c.reassembly h.receiver.left)))
       by_turn is_known stands (receiver_begins opens) =
-          unread_goes (opening_still reading.last d input reading.reads opens.opening) (opens_goes options ends e queued past packets d their_past reading h few same input o w may turn heard reported reports opens (new opens.begun opens.opening opens.linked))
+          unread_goes (opening_still reading.last d input reading.reads opens.opening) (opens_goes options ends e queued past packets d their_past reading h few same input o w may turn seen reported reports tells opens (new opens.begun opens.opening opens.linked))
 
       goes_known : (is_known : Bool) → KnowsRequest is_known (joined (ends.sends c.link.peer.tag) (ends.gets c.link.peer.tag)) transfer (came_by input) o.effects
           → ReceiverTurns is_known options (ends.firsts c.link.peer.tag) options.max_receiver_window_buffer_size (joined (ends.sends c.link.peer.tag) (ends.gets c.link.peer.tag)) transfer d input o
@@ -354,11 +376,14 @@ module _ (options : Options) (ends : Ends) (e : Endpoint) (queued : List Message
 
   -- ---- in any turn
 
+  idle_tells : d.queues.transfer ≡ None → TellsResets d input o
+  idle_tells nowhere = turns_tell_resets d input o (inl (w.unlinked nowhere)) may turn
+
   idle_goes : d.queues.transfer ≡ None → IdleTurns d input o → Turned
   idle_goes nowhere (idle_stays which none fits unread) =
-      idle_rests options ends e queued past packets d their_past reading h input o w may turn heard reported reports nowhere none fits (elim which [ inl gone ↦ gone | inr same' ↦ same' ∙ w.unlinked nowhere ]) (none_performed o.effects (unlinked_asks_nothing d input o may turn (w.unlinked nowhere)).0)
+      idle_rests options ends e queued past packets d their_past reading h input o w may turn seen reported reports (idle_tells nowhere) nowhere none fits (elim which [ inl gone ↦ gone | inr same' ↦ same' ∙ w.unlinked nowhere ]) (none_performed o.effects (unlinked_asks_nothing d input o may turn (w.unlinked nowhere)).0)
   idle_goes nowhere (idle_begins opens) =
-      unread_goes (opening_still reading.last d input reading.reads opens.opening) (opens_goes options ends e queued past packets d their_past reading h few same input o w may turn heard reported reports opens (new opens.begun opens.opening opens.linked))
+      unread_goes (opening_still reading.last d input reading.reads opens.opening) (opens_goes options ends e queued past packets d their_past reading h few same input o w may turn seen reported reports (idle_tells nowhere) opens (new opens.begun opens.opening opens.linked))
 
   -- What is handled in an association was sent in it.
   abbrev pub Sent : Type 0

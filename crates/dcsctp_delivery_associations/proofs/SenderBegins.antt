@@ -5,7 +5,7 @@ use Rattle.std.specs.List.{AllByRecursion}
 use Rattle.dcsctp_spec_lemmas.specs.types.declared.options.Options.{Options}
 use Rattle.dcsctp_spec_lemmas.specs.types.declared.association.Pair.{Pair}
 use Rattle.dcsctp_spec_lemmas.specs.spec.endpoint.Endpoint.{Endpoint}
-use Rattle.dcsctp_spec_lemmas.specs.spec.endpoint.Event.{packets_in}
+use Rattle.dcsctp_spec_lemmas.specs.spec.endpoint.Event.{Event, packets_in}
 use Rattle.dcsctp_spec_lemmas.specs.spec.endpoint.Outcome.{Outcome}
 use Rattle.dcsctp_spec_lemmas.specs.spec.Packet.{Emission}
 use Rattle.dcsctp_spec_runs.specs.Past.{HasEffect}
@@ -31,7 +31,7 @@ use Rattle.dcsctp_delivery_turns.proofs.Beginnings.{begun_at_zero}
 use Rattle.dcsctp_delivery_turns.proofs.Runs.{senders_begin}
 use Rattle.dcsctp_delivery_turns.proofs.Unbegun.{unbegun_begins_at_zero, unbegun_begins_waiting}
 use Rattle.dcsctp_delivery_associations.proofs.Held.{never_held, none_held, some_held}
-use Rattle.dcsctp_delivery_associations.specs.Ends.{SendingEnd, ReceivingEnd, joined, new_end, Ends, HadPeer, HadKind, HadBoth, sender_key, unbegun_end, MetOrAlone, KeepsThese, KeepsOnlyThese, BeginsAnew, Awaits, Sender, NewPeer, HadTag, IsCurrentEnd, Receiver, AreHeard, Between, IsOnlyOwn, IsBefore}
+use Rattle.dcsctp_delivery_associations.specs.Ends.{SendingEnd, ReceivingEnd, joined, new_end, Ends, HadPeer, HadKind, HadBoth, sender_key, unbegun_end, MetOrAlone, KeepsThese, KeepsOnlyThese, BeginsAnew, Awaits, Sender, NewPeer, HadTag, IsCurrentEnd, Receiver, AreSeen, Between, IsOnlyOwn, IsBefore}
 use Rattle.dcsctp_delivery_directions.proofs.RequestCounts.{requests_more_to, requests_are_sent}
 use Rattle.dcsctp_delivery_associations.specs.Answered.{AnswersRequests, requests_of, waiting_deferral, AreAnswered}
 use Rattle.dcsctp_delivery_associations.proofs.AskedOn.{MayBegin}
@@ -43,6 +43,7 @@ use Rattle.dcsctp_delivery_associations.proofs.Growing.{set_all, set_three}
 use Rattle.dcsctp_delivery_associations.proofs.AnsweringRests.{after_split}
 use Rattle.dcsctp_delivery_associations.proofs.Senders.{link_tag, link_peer, alone_later, renewed_end, renewed_ends, renewed}
 use Rattle.dcsctp_delivery_associations.proofs.Heard.{HasGrown, same_grown, heard_later}
+use Rattle.dcsctp_delivery_associations.proofs.Seen.{RequestsStay, AllStay, nothing_stays, seen_still}
 use Rattle.dcsctp_delivery_associations.proofs.SenderStays.{receiver_same, all_wait_marked}
 use Rattle.dcsctp_delivery_associations.proofs.WhatIsLeft.{ready_same}
 
@@ -282,10 +283,16 @@ module _ (options : Options) (ends : Ends) (e : Endpoint) (queued : List Message
   none_there : identity_in o.after.core ≡ Some new → identity_in o.after.core ≡ None → o.after.queues.transfer ≡ None
   none_there linked unlinked = (let clash : ◌≡◌ {A = Option AssociationIdentity} None (Some new) = sym unlinked ∙ linked in absurd (cc))
 
-  crossed_begins : (heard : List Emission) → AreHeard ends.gets their_past heard → NewPeer past their_past new → Awaits (ends.sends begun.my.tag) → identity_in o.after.core ≡ Some new → AreAddressed begun.held.peer.tag (packets_in o.events)
+  -- Nothing was begun under this tag.
+  all_stay : Awaits (ends.sends begun.my.tag) → (end : SendingEnd) → AllStay ends.sends (set_at begun.my.tag end ends.sends)
+  all_stay waits end =
+      set_all (λ tag s. tag ≢ 0 → RequestsStay (ends.sends tag).asking s.asking) begun.my.tag end ends.sends
+      (λ some. nothing_stays (ends.sends begun.my.tag).asking end.asking (ap (λ (a : Asking). a.requests) waits.asking)) (λ tag ne some begun has. has)
+
+  crossed_begins : (seen : List (Event Emission)) → AreSeen ends d their_past seen → NewPeer past their_past new → Awaits (ends.sends begun.my.tag) → identity_in o.after.core ≡ Some new → AreAddressed begun.held.peer.tag (packets_in o.events)
       → QueueWaits marks e.queues.queue → AllByRecursion Fits marks → Later → ends.firsts begun.my.tag ≡ begun.my.first_tsn
-      → AreEnds ends.never_resets heard options o.after queued (after_effects o.effects past) (packets ++ packets_in o.events) d their_past reading
-  crossed_begins heard reported is waits linked addressed shown fit later same =
+      → AreEnds ends.never_resets seen options o.after queued (after_effects o.effects past) (packets ++ packets_in o.events) d their_past reading
+  crossed_begins seen reported is waits linked addressed shown fit later same =
       let to : ℕ = begun.my.tag in
       let ps : List Emission = packets_in o.events in
       let start : DirectionRun options begun.my.first_tsn options.max_receiver_window_buffer_size (joined (ends.sends to) (ends.gets to)) =
@@ -319,14 +326,14 @@ module _ (options : Options) (ends : Ends) (e : Endpoint) (queued : List Message
         answered = answered_by ends' linked (set_at to begun.my w.pairs)
             (begins_answers ends e past d their_past w new is.some is.match waits.asking end ends.gets ends.firsts same (λ tag ne. refl)
             (begins_little addressed options options.max_receiver_window_buffer_size run.0 run.1 (record (joined (ends.sends to) (ends.gets to)) { beginning = begins_anew }) run.2 run.3 linked run.4) (λ other there tag. same) (after_effects o.effects past) (after_within o.effects past) new_held);
-        reported = reported;
+        reported = seen_still ends ends' e past d their_past seen w (all_stay waits end) reported.heard reported;
       }
 
-  fresh_begins : (heard : List Emission) → AreHeard ends.gets their_past heard → NewPeer past their_past new → Awaits (ends.sends begun.my.tag) → identity_in o.after.core ≡ Some new → AreAddressed begun.held.peer.tag (packets_in o.events)
+  fresh_begins : (seen : List (Event Emission)) → AreSeen ends d their_past seen → NewPeer past their_past new → Awaits (ends.sends begun.my.tag) → identity_in o.after.core ≡ Some new → AreAddressed begun.held.peer.tag (packets_in o.events)
       → QueueWaits marks e.queues.queue → AllByRecursion Fits marks → Later → ends.gets begun.my.tag ≡ new_end options (ends.firsts begun.my.tag)
       → ((transfer : Transfer) (link : AssociationIdentity) → d.queues.transfer ≡ Some transfer → identity_in d.core ≡ Some link → link.peer.tag ≢ begun.my.tag)
-      → AreEnds ends.never_resets heard options o.after queued (after_effects o.effects past) (packets ++ packets_in o.events) d their_past reading
-  fresh_begins heard reported is waits linked addressed shown fit later fresh apart =
+      → AreEnds ends.never_resets seen options o.after queued (after_effects o.effects past) (packets ++ packets_in o.events) d their_past reading
+  fresh_begins seen reported is waits linked addressed shown fit later fresh apart =
       let to : ℕ = begun.my.tag in
       let first : ℕ = begun.my.first_tsn in
       let ps : List Emission = packets_in o.events in
@@ -370,7 +377,8 @@ module _ (options : Options) (ends : Ends) (e : Endpoint) (queued : List Message
             (begins_answers ends e past d their_past w new is.some is.match waits.asking end gets firsts (set_same to first ends.firsts) (λ tag ne. set_other to tag first ends.firsts ne)
             (begins_little addressed options options.max_receiver_window_buffer_size run.0 run.1 (new_direction options first options.max_receiver_window_buffer_size [] (record { queue = empty_queue options; transfer = None }) 0 [] begins_anew) run.2 run.3 linked run.4)
             (λ other there tag. absurd (nowhere d.queues.transfer refl other there tag)) (after_effects o.effects past) (after_within o.effects past) new_held);
-        reported = heard_later ends.gets gets their_past their_past (λ effect has. has) (λ tag had. stays is fresh tag had (decide tag to)) heard reported;
+        reported = seen_still ends ends' e past d their_past seen w (all_stay waits end)
+            (heard_later ends.gets gets their_past their_past (λ effect has. has) (λ tag had. stays is fresh tag had (decide tag to)) (packets_in seen) reported.heard) reported;
       }
     where
       -- Nothing was received from this tag, and another association of it would have begun with the same TSN.
@@ -388,10 +396,10 @@ module _ (options : Options) (ends : Ends) (e : Endpoint) (queued : List Message
       nowhere None none other there tag = (let clash : ◌≡◌ {A = Option AssociationIdentity} None (Some other) = sym (w.unlinked none) ∙ there in absurd (cc))
       nowhere (Some transfer) some other there tag = apart transfer other some there tag
 
-  pub begins : (heard : List Emission) → AreHeard ends.gets their_past heard → NewPeer past their_past new → identity_in o.after.core ≡ Some new → AreAddressed begun.held.peer.tag (packets_in o.events)
+  pub begins : (seen : List (Event Emission)) → AreSeen ends d their_past seen → NewPeer past their_past new → identity_in o.after.core ≡ Some new → AreAddressed begun.held.peer.tag (packets_in o.events)
       → QueueWaits (ends.sends (sender_key e.core)).queued e.queues.queue → AllByRecursion Fits (ends.sends (sender_key e.core)).queued → Later
-      → AreEnds ends.never_resets heard options o.after queued (after_effects o.effects past) (packets ++ packets_in o.events) d their_past reading
-  begins heard reported is linked addressed shown fit later =
+      → AreEnds ends.never_resets seen options o.after queued (after_effects o.effects past) (packets ++ packets_in o.events) d their_past reading
+  begins seen reported is linked addressed shown fit later =
       elim (h.sender.begun begun.my.tag is.some) [
         | inl waits ↦ go waits (known options ends d past their_past reading h.receiver new is d.queues.transfer refl)
         | inr had ↦ absurd (is.other had.link had.held had.tag_is)
@@ -405,6 +413,6 @@ module _ (options : Options) (ends : Ends) (e : Endpoint) (queued : List Message
       fit_marks : AllByRecursion Fits marks
       fit_marks = all_marked_fit (length (ends.sends (sender_key e.core)).queued) (ends.sends (sender_key e.core)).queues.queue.streams (ends.sends (sender_key e.core)).queued fit
 
-      go : Awaits (ends.sends begun.my.tag) → Known options ends d new → AreEnds ends.never_resets heard options o.after queued (after_effects o.effects past) (packets ++ packets_in o.events) d their_past reading
-      go waits (is_crossed same) = crossed_begins heard reported is waits linked addressed holds_marks fit_marks later same
-      go waits (is_fresh fresh apart) = fresh_begins heard reported is waits linked addressed holds_marks fit_marks later fresh apart
+      go : Awaits (ends.sends begun.my.tag) → Known options ends d new → AreEnds ends.never_resets seen options o.after queued (after_effects o.effects past) (packets ++ packets_in o.events) d their_past reading
+      go waits (is_crossed same) = crossed_begins seen reported is waits linked addressed holds_marks fit_marks later same
+      go waits (is_fresh fresh apart) = fresh_begins seen reported is waits linked addressed holds_marks fit_marks later fresh apart

@@ -7,7 +7,7 @@ use Rattle.dcsctp_spec_lemmas.specs.types.declared.options.Options.{Options}
 use Rattle.dcsctp_spec_lemmas.specs.types.declared.association.Pair.{Pair}
 use Rattle.dcsctp_spec_lemmas.specs.spec.endpoint.Endpoint.{Endpoint, Core, closed, cookie_wait, cookie_echoed, open_in, OutstandingRequest}
 use Rattle.dcsctp_spec_lemmas.specs.spec.endpoint.BegunResets.{BegunReset}
-use Rattle.dcsctp_spec_lemmas.specs.spec.endpoint.Event.{packets_in}
+use Rattle.dcsctp_spec_lemmas.specs.spec.endpoint.Event.{Event, packets_in}
 use Rattle.dcsctp_spec_lemmas.specs.spec.endpoint.Outcome.{Outcome}
 use Rattle.dcsctp_spec_lemmas.specs.spec.Packet.{Emission}
 use Rattle.dcsctp_spec_runs.specs.Past.{HasEffect}
@@ -26,9 +26,10 @@ use Rattle.dcsctp_delivery_directions.proofs.RequestCounts.{requests_more, reque
 use Rattle.dcsctp_delivery_turns.specs.Actions.{came_by, peer_tag, Collides}
 use Rattle.dcsctp_delivery_turns.specs.Asking.{Own, own_in, own_of, IsAsking, AsksFit, AskingGrows}
 use Rattle.dcsctp_delivery_turns.specs.Runs.{sender_at, Outlasts}
-use Rattle.dcsctp_delivery_associations.specs.Ends.{SendingEnd, joined, Ends, HadKind, IsBefore, PlaceWasTaken, sender_key, chunks_before, Sender, BeginsAnew, KeepsThese, KeepsOnlyThese, Between, IsOnlyOwn, AreHeard, WentBefore}
+use Rattle.dcsctp_delivery_associations.specs.Ends.{SendingEnd, joined, Ends, HadKind, IsBefore, PlaceWasTaken, sender_key, chunks_before, Sender, BeginsAnew, KeepsThese, KeepsOnlyThese, Between, IsOnlyOwn, AreSeen, WentBefore}
 use Rattle.dcsctp_delivery_associations.specs.Answered.{AnswersRequests, Requests, requests_of, waiting_deferral, AreAnswered, SenderHadPeer, WasJoined}
 use Rattle.dcsctp_delivery_associations.specs.Laws.{AreEnds, AsksLittle}
+use Rattle.dcsctp_delivery_associations.proofs.Seen.{RequestsStay, nothing_stays, seen_still}
 use Rattle.dcsctp_delivery_associations.specs.Reads.{Reading}
 use Rattle.dcsctp_delivery_associations.proofs.AskedOn as asked
 use Rattle.dcsctp_delivery_associations.proofs.Renewed.{ends_so}
@@ -373,8 +374,8 @@ module _ (options : Options) (ends : Ends) (e : Endpoint) (queued : List Message
   only_before : (tag : ℕ) → IsOnlyOwn (after_effects o.effects past) tag → IsOnlyOwn past tag
   only_before tag only = λ each has. only each (within (holds each) has)
 
-  pub outlasts_goes_on : (heard : List Emission) → AreHeard ends.gets their_past heard → o.after.options.follow_rfc ≡ e.options.follow_rfc → AreEnds ends.never_resets heard options o.after queued (after_effects o.effects past) (packets ++ packets_in o.events) d their_past reading
-  outlasts_goes_on heard reported follows =
+  pub outlasts_goes_on : (seen : List (Event Emission)) → AreSeen ends d their_past seen → o.after.options.follow_rfc ≡ e.options.follow_rfc → AreEnds ends.never_resets seen options o.after queued (after_effects o.effects past) (packets ++ packets_in o.events) d their_past reading
+  outlasts_goes_on seen reported follows =
       record {
         ends = later;
         is = refl;
@@ -401,7 +402,9 @@ module _ (options : Options) (ends : Ends) (e : Endpoint) (queued : List Message
           answers = subst (λ (l : Option AssociationIdentity). AnswersRequests (requests_of later w.pairs) l (after_effects o.effects past) (identity_in d.core) their_past (waiting_deferral d.queues.transfer)) (sym goes.collision.opened.linked) answers_then;
           unlinked = w.unlinked;
         };
-        reported = reported;
+        reported = seen_still ends later e past d their_past seen w
+            (set_all (λ tag s. tag ≢ 0 → RequestsStay (ends.sends tag).asking s.asking) key end ends.sends
+            (λ some'. nothing_stays (ends.sends key).asking outlasts.asking (ap (λ (a : Asking). a.requests) asked_nothing)) (λ tag ne some' begun has. has)) reported.heard reported;
       }
     where
       the_one : (each : AssociationIdentity) → identity_in o.after.core ≡ Some each → goes.collision.opened.link ≡ each

@@ -7,7 +7,7 @@ use Rattle.std.proofs.lemmas.List.{length-append}
 use Rattle.dcsctp_spec_lemmas.specs.types.declared.options.Options.{Options}
 use Rattle.dcsctp_spec_lemmas.specs.types.declared.association.Pair.{Pair}
 use Rattle.dcsctp_spec_lemmas.specs.spec.endpoint.Endpoint.{Endpoint, Core, closed, cookie_wait, cookie_echoed, open_in, OutstandingRequest, is_cookie_echoed}
-use Rattle.dcsctp_spec_lemmas.specs.spec.endpoint.Event.{packets_in}
+use Rattle.dcsctp_spec_lemmas.specs.spec.endpoint.Event.{Event, packets_in}
 use Rattle.dcsctp_spec_lemmas.specs.spec.endpoint.Outcome.{Outcome}
 use Rattle.dcsctp_spec_lemmas.specs.spec.Packet.{Emission}
 use Rattle.dcsctp_spec_lemmas.specs.spec.endpoint.Turn.{Input, Turn}
@@ -31,9 +31,10 @@ use Rattle.dcsctp_delivery_turns.proofs.Runs.{senders_go_on, receivers_begin}
 use Rattle.dcsctp_delivery_turns.specs.Unbegun.{UnbegunTurns, stays_unbegun, begins_first}
 use Rattle.dcsctp_delivery_turns.proofs.Unbegun.{stays_at_zero}
 use Rattle.dcsctp_spec_runs.specs.Past.{HasEffect}
-use Rattle.dcsctp_delivery_associations.specs.Ends.{SendingEnd, joined, Ends, sender_key, TakesOver, IsUnbegun, NeverHeld, NewPeer, AreHeard, CameBack, Between}
+use Rattle.dcsctp_delivery_associations.specs.Ends.{SendingEnd, joined, Ends, sender_key, TakesOver, IsUnbegun, NeverHeld, NewPeer, AreSeen, CameBack, Between}
 use Rattle.dcsctp_delivery_associations.specs.Answered.{AnswersRequests, requests_of, waiting_deferral, AreAnswered}
 use Rattle.dcsctp_delivery_associations.specs.Laws.{CompletesPerformed, AsksLittle, AreEnds, ResetsAs}
+use Rattle.dcsctp_delivery_associations.proofs.Seen.{between_stays, grows_stays}
 use Rattle.dcsctp_delivery_associations.specs.Reads.{Reading}
 use Rattle.dcsctp_delivery_associations.proofs.AskedOn as asked
 use Rattle.dcsctp_delivery_associations.proofs.AskedOn.{MayBegin}
@@ -69,7 +70,7 @@ queues_none more queued same = no_message more (let long = length-append more qu
 
 module _ (options : Options) (ends : Ends) (e : Endpoint) (queued : List Message) (past : List Effect) (packets : List Emission) (d : Endpoint) (their_past : List Effect) (reading : Reading)
     (h : Between options ends e queued past packets d their_past reading) (input : Input) (o : Outcome) (new : (begun : Begun e o) → IsOpening (came_by input) → identity_in o.after.core ≡ Some (identity_of begun.my begun.held) → NewPeer past their_past (identity_of begun.my begun.held) ⊎ TakesOver past their_past e input (identity_of begun.my begun.held))
-    (w : AreAnswered ends e past d their_past) (little : AsksLittle (packets ++ packets_in o.events)) (heard : List Emission) (reported : AreHeard ends.gets their_past heard) where
+    (w : AreAnswered ends e past d their_past) (little : AsksLittle (packets ++ packets_in o.events)) (seen : List (Event Emission)) (reported : AreSeen ends d their_past seen) where
   abbrev key : ℕ
   key = sender_key e.core
 
@@ -279,13 +280,13 @@ module _ (options : Options) (ends : Ends) (e : Endpoint) (queued : List Message
       → TakesOver past their_past e input (identity_of (other_begun e input o collision).my (other_begun e input o collision).held)
       → (ends.firsts (sender_key e.core) ≡ collision.opened.link.my.first_tsn → (ends.sends (sender_key e.core)).asking ≡ nothing_asked
       → Outlasts options (ends.firsts (sender_key e.core)) options.max_receiver_window_buffer_size (joined (ends.sends (sender_key e.core)) (ends.gets (sender_key e.core))) e input o collision)
-      → AreEnds ends.never_resets heard options o.after (queued_after e input queued) (after_effects o.effects past) (packets ++ packets_in o.events) d their_past reading
+      → AreEnds ends.never_resets seen options o.after (queued_after e input queued) (after_effects o.effects past) (packets ++ packets_in o.events) d their_past reading
   unfolding goes_so
   replaces follows may turn same collision takes later =
       let none : queued_after e input [] ≡ [] = queues_none (queued_after e input []) (ends.sends (sender_key e.core)).queued (sym (input_adds e input (ends.sends (sender_key e.core)).queued) ∙ same) in
       let stays : queued_after e input queued ≡ queued = input_adds e input queued ∙ ap (λ (l : List Message). l ++ queued) none in
-      subst (λ (l : List Message). AreEnds ends.never_resets heard options o.after l (after_effects o.effects past) (packets ++ packets_in o.events) d their_past reading) (sym stays)
-      (outlasts_goes_on options ends e queued past packets d their_past reading h input o w little (goes_so collision takes) later (λ each has. holds_mean e input o each may turn has) heard reported follows)
+      subst (λ (l : List Message). AreEnds ends.never_resets seen options o.after l (after_effects o.effects past) (packets ++ packets_in o.events) d their_past reading) (sym stays)
+      (outlasts_goes_on options ends e queued past packets d their_past reading h input o w little (goes_so collision takes) later (λ each has. holds_mean e input o each may turn has) seen reported follows)
 
   -- Where it takes the place of the one that is there, what was sent goes on.
   collided : (begun : Begun e o) → IsOpening (came_by input) → TakesOver past their_past e input (identity_of begun.my begun.held) → Turn e input o → GoesThere (came_by input) e o
@@ -311,7 +312,7 @@ module _ (options : Options) (ends : Ends) (e : Endpoint) (queued : List Message
 
   replaced : o.after.options.follow_rfc ≡ e.options.follow_rfc → IsCall input → Turn e input o → queued_after e input (ends.sends (sender_key e.core)).queued ≡ (ends.sends (sender_key e.core)).queued → (begun : Begun e o) → IsOpening (came_by input)
       → identity_in o.after.core ≡ Some (identity_of begun.my begun.held) → TakesOver past their_past e input (identity_of begun.my begun.held)
-      → AreEnds ends.never_resets heard options o.after (queued_after e input queued) (after_effects o.effects past) (packets ++ packets_in o.events) d their_past reading
+      → AreEnds ends.never_resets seen options o.after (queued_after e input queued) (after_effects o.effects past) (packets ++ packets_in o.events) d their_past reading
   replaced follows may turn same begun opening linked takes =
       let there : GoesThere (came_by input) e o = collided begun opening takes turn in
       let one : identity_of begun.my begun.held ≡ there.collision.opened.link = one_link (identity_of begun.my begun.held) there.collision.opened.link linked there.collision.opened.linked in
@@ -346,33 +347,35 @@ module _ (options : Options) (ends : Ends) (e : Endpoint) (queued : List Message
           (let clash : ◌≡◌ {A = Option AssociationIdentity} None (Some (identity_of opens.begun.my opens.begun.held)) = sym unlinked ∙ opens.linked in absurd (cc))
 
   -- What acknowledges was reached.
-  told : ((link : AssociationIdentity) → identity_in e.core ≡ Some link → CameBack heard link.my.tag (came_by input)) → IsTold (joined (ends.sends (sender_key e.core)) (ends.gets (sender_key e.core))) e input
+  told : ((link : AssociationIdentity) → identity_in e.core ≡ Some link → CameBack (packets_in seen) link.my.tag (came_by input)) → IsTold (joined (ends.sends (sender_key e.core)) (ends.gets (sender_key e.core))) e input
   told back transfer there = go (identity_in e.core) refl
     where
       go : (found : Option AssociationIdentity) → identity_in e.core ≡ found → ComesReported (HasReached (ends.gets (sender_key e.core)).first_tsn (ends.gets (sender_key e.core)).tracker) (came_by input)
       go None unlinked = (let clash : ◌≡◌ {A = Option Transfer} None (Some transfer) = sym (h.idle unlinked) ∙ there in absurd (cc))
       go (Some link) linked =
           subst (λ (t : ℕ). ComesReported (HasReached (ends.gets t).first_tsn (ends.gets t).tracker) (came_by input)) (sym (link_tag e.core link linked))
-          (came_back ends.gets their_past heard link.my.tag (came_by input) (h.sender.known link (h.mine link linked)).0 reported (back link linked))
+          (came_back ends.gets their_past (packets_in seen) link.my.tag (came_by input) (h.sender.known link (h.mine link linked)).0 reported.heard (back link linked))
 
   by_turn : length (queued_after e input queued) < 2 ^ 64 → o.after.options.follow_rfc ≡ e.options.follow_rfc → ResetsAs ends.never_resets input → IsCall input → Turn e input o → RefusesNone e o → CompletesPerformed their_past o
       → SenderTurns options (ends.firsts (sender_key e.core)) options.max_receiver_window_buffer_size (joined (ends.sends (sender_key e.core)) (ends.gets (sender_key e.core))) e input o
-      → AreEnds ends.never_resets heard options o.after (queued_after e input queued) (after_effects o.effects past) (packets ++ packets_in o.events) d their_past reading
+      → AreEnds ends.never_resets seen options o.after (queued_after e input queued) (after_effects o.effects past) (packets ++ packets_in o.events) d their_past reading
   by_turn few follows resets may turn refuses completes_so (run_goes_on linked addressed kind' acknowledged between asking is grows fit run) =
-      goes_on options ends e queued past packets d their_past reading h input o heard reported (none_then may turn (h.mine, linked)) follows (unbegun_after few resets may turn) linked kind' addressed acknowledged asking fit
+      goes_on options ends e queued past packets d their_past reading h input o seen reported w (none_then may turn (h.mine, linked)) follows (unbegun_after few resets may turn) linked kind' addressed acknowledged asking
+      (λ begun has. grows_stays between asking grows begun (between_stays o.effects (ends.sends (sender_key e.core)).asking between is begun has)) fit
       (goes_answered (identity_in e.core) refl may turn refuses completes_so linked addressed kind' acknowledged between asking is grows fit (few_then addressed o.after.queues acknowledged asking run)) run
       (idle_then linked may turn)
   by_turn few follows resets may turn refuses completes_so (run_ends none addressed last kind' acknowledged asking grows fit run is shown fit') =
       let none_began = none_ended may turn none in
-      ended options ends e queued past packets d their_past reading h input o heard reported none_began follows (unbegun_after few resets may turn) none addressed last kind' is shown fit' acknowledged asking
+      ended options ends e queued past packets d their_past reading h input o seen reported w none_began follows (unbegun_after few resets may turn) none addressed last kind' is shown fit' acknowledged asking
+      (grows_stays (ends.sends (sender_key e.core)).asking asking grows)
       (ends_answered (identity_in e.core) refl may turn completes_so none none_began addressed last kind' acknowledged asking grows fit (few_then addressed last acknowledged asking run)) run
   by_turn few follows resets may turn refuses completes_so (run_begins begun opening linked addressed kind' same shown fit later) =
       let none : queued_after e input [] ≡ [] = queues_none (queued_after e input []) (ends.sends (sender_key e.core)).queued (sym (input_adds e input (ends.sends (sender_key e.core)).queued) ∙ same) in
       let stays : queued_after e input queued ≡ queued = input_adds e input queued ∙ ap (λ (l : List Message). l ++ queued) none in
       elim (new begun opening linked) [
         | inl is ↦
-            subst (λ (l : List Message). AreEnds ends.never_resets heard options o.after l (after_effects o.effects past) (packets ++ packets_in o.events) d their_past reading) (sym stays)
-            (begins options ends e queued past packets d their_past reading h input o w little begun (λ each has. holds_mean e input o each may turn has) follows kind' heard reported is linked addressed shown fit later)
+            subst (λ (l : List Message). AreEnds ends.never_resets seen options o.after l (after_effects o.effects past) (packets ++ packets_in o.events) d their_past reading) (sym stays)
+            (begins options ends e queued past packets d their_past reading h input o w little begun (λ each has. holds_mean e input o each may turn has) follows kind' seen reported is linked addressed shown fit later)
         | inr takes ↦ replaced follows may turn same begun opening linked takes
       ]
   by_turn few follows resets may turn refuses completes_so (run_outlasts collision same later) =
@@ -397,8 +400,8 @@ module _ (options : Options) (ends : Ends) (e : Endpoint) (queued : List Message
       among_dropped [] each = tt
       among_dropped (id ∷ some) each = (each id (rw (eq-eqb id id refl) refl), among_dropped some (λ other named. each other (rw named (or_true (id == other)))))
 
-  pub sender_turns : ((link : AssociationIdentity) → identity_in e.core ≡ Some link → CameBack heard link.my.tag (came_by input)) → length (queued_after e input queued) < 2 ^ 64 → RefusesNone e o → ResetsAs ends.never_resets input → CompletesPerformed their_past o → o.after.options.follow_rfc ≡ e.options.follow_rfc → IsCall input → Turn e input o
-      → AreEnds ends.never_resets heard options o.after (queued_after e input queued) (after_effects o.effects past) (packets ++ packets_in o.events) d their_past reading
+  pub sender_turns : ((link : AssociationIdentity) → identity_in e.core ≡ Some link → CameBack (packets_in seen) link.my.tag (came_by input)) → length (queued_after e input queued) < 2 ^ 64 → RefusesNone e o → ResetsAs ends.never_resets input → CompletesPerformed their_past o → o.after.options.follow_rfc ≡ e.options.follow_rfc → IsCall input → Turn e input o
+      → AreEnds ends.never_resets seen options o.after (queued_after e input queued) (after_effects o.effects past) (packets ++ packets_in o.events) d their_past reading
   sender_turns back few refuses resets completes_so follows may turn =
       by_turn few follows resets may turn refuses completes_so
       (senders_go_on options (ends.firsts key) options.max_receiver_window_buffer_size now e input o (h.runs key) (h.small key) h.sender.queues_are h.asks

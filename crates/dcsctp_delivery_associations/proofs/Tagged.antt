@@ -141,3 +141,19 @@ module _ (options : Options) (ends : Ends) (e : Endpoint) (queued : List Message
               let there = crossed r among in
               let one : there.0 ≡ here.0 = theirs_differ there.0 here.0 there.1 here.1 (there.2 ∙ same ∙ sym here.2) in
               sym there.3 ∙ ap (λ (l : AssociationIdentity). l.my.tag) one ∙ here.3 ∙ is
+
+  -- Where both are in one association, what was read under the one tag was read of the other.
+  pub read_of_both : (key own : ℕ) → HadBoth past key own → (theirs : AssociationIdentity) → HasEffect (holds theirs) their_past → theirs.peer.tag ≡ key → theirs.my.tag ≡ own → with_tag own reading.reads ≡ with_key key reading.reads
+  read_of_both key own both theirs held peer_is own_is = same_reads reading.reads own key (λ r has. (to_peer r has, to_own r has))
+    where
+      to_peer : (r : Read) → HasEntry r reading.reads → r.tags.own ≡ own → r.tags.peer ≡ key
+      to_peer r has same =
+          let there = crossed r has in
+          let one : there.4.link ≡ both.link = mine_differ there.4.link both.link there.4.held both.held (there.4.peer_is ∙ same ∙ sym both.peer_is) in
+          sym there.4.tag_is ∙ ap (λ (l : AssociationIdentity). l.my.tag) one ∙ both.tag_is
+
+      to_own : (r : Read) → HasEntry r reading.reads → r.tags.peer ≡ key → r.tags.own ≡ own
+      to_own r has same =
+          let there = crossed r has in
+          let one : there.0 ≡ theirs = theirs_differ there.0 theirs there.1 held (there.2 ∙ same ∙ sym peer_is) in
+          sym there.3 ∙ ap (λ (l : AssociationIdentity). l.my.tag) one ∙ own_is

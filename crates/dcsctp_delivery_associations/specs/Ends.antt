@@ -7,8 +7,12 @@ use Rattle.dcsctp_spec_lemmas.specs.types.declared.options.Options.{Options}
 use Rattle.dcsctp_spec_lemmas.specs.spec.endpoint.Endpoint.{Endpoint, Core, closed, cookie_wait, cookie_echoed, open_in, is_cookie_echoed}
 use Rattle.dcsctp_spec_lemmas.specs.wire.Content.{sack_chunk}
 use Rattle.dcsctp_spec_lemmas.specs.spec.Packet.{Content, shutdown, unworked, plain, Emission}
+use Rattle.dcsctp_spec_lemmas.specs.spec.endpoint.Event.{Event, incoming_stream_reset, packets_in}
 use Rattle.dcsctp_spec_lemmas.specs.spec.endpoint.Turn.{Input}
-use Rattle.dcsctp_spec_runs.specs.Past.{HasEffect}
+use Rattle.dcsctp_spec_lemmas.specs.spec.endpoint.BegunResets.{BegunReset}
+use Rattle.dcsctp_spec_lemmas.specs.spec.Reconfiguration.{NumberedReset}
+use Rattle.dcsctp_spec_lemmas.specs.types.declared.association.Pair.{Pair}
+use Rattle.dcsctp_spec_runs.specs.Past.{HasEffect, WasPerformed}
 use Rattle.dcsctp_spec_lemmas.specs.spec.association.Effect.{AssociationIdentity, Effect, holds, identity_in}
 use Rattle.dcsctp_spec_lemmas.specs.types.queues.Messages.{MessageContent}
 use Rattle.dcsctp_spec_lemmas.specs.spec.queues.Reassembly.{ReassemblyState, new_reassembly}
@@ -340,6 +344,22 @@ abbrev pub CameBack : List Emission → ℕ → Option Content → Type 0
 CameBack heard tag (Some (plain (unworked (sack_chunk sack)))) = CameIn heard tag (plain (unworked (sack_chunk sack)))
 CameBack heard tag (Some (shutdown tsn)) = CameIn heard tag (shutdown tsn)
 CameBack heard tag came = Unit {0}
+
+-- ---- what the receiver's user is told
+
+-- A request of the sender with this number, under this tag of its own: the receiver's user was told that it has reset its streams.
+pub record WasNamed (sends : ℕ → SendingEnd) (seen : List (Event Emission)) (tag number : ℕ) : Type 0 where
+  pub begun : BegunReset
+  pub has : places.HasEntry begun (sends tag).asking.requests
+  pub number_is : begun.number ≡ number
+  pub told : places.HasEntry (incoming_stream_reset begun.reset.streams) seen
+
+-- What the receiver has shown in these events: what its packets report, and that it has performed these requests, and the one that
+-- may come again.
+pub record AreSeen (ends : Ends) (e : Endpoint) (past : List Effect) (seen : List (Event Emission)) : Type 0 where
+  pub heard : AreHeard ends.gets past (packets_in seen)
+  pub named : (my : Pair) (number : ℕ) → WasPerformed my number past → WasNamed ends.sends seen my.tag number
+  pub renewable : (old : NumberedReset) → e.renewable ≡ Some old → places.HasEntry (incoming_stream_reset old.reset.streams) seen
 
 -- ---- all
 

@@ -1,10 +1,11 @@
 -- What a user reads in one association comes in the order in which it was queued, stream by stream,
 -- and without gaps where nothing may be left out (RFC 9260, section 6.6).
-use Rattle.std.specs.Prelude.{◌≡◌, ◌⊎◌, ◌<◌, ◌+◌, ◌^◌, ℕ, Bool, true, List, length}
+use Rattle.std.specs.Prelude.{◌≡◌, ◌⊎◌, ◌<◌, ◌+◌, ◌^◌, ℕ, Bool, true, false, Some, List, [], length}
 use Rattle.dcsctp_spec_lemmas.specs.types.declared.options.Options.{Options}
 use Rattle.dcsctp_spec_lemmas.specs.spec.endpoint.Endpoint.{Endpoint}
 use Rattle.dcsctp_spec_lemmas.specs.spec.Packet.{Emission}
-use Rattle.dcsctp_spec_lemmas.specs.spec.association.Effect.{AssociationIdentity, Effect, holds}
+use Rattle.dcsctp_spec_lemmas.specs.spec.association.Effect.{AssociationIdentity, Effect, holds, identity_in}
+use Rattle.dcsctp_spec_lemmas.specs.spec.queues.Transfer.{Transfer}
 use Rattle.dcsctp_spec_runs.specs.Past.{HasEffect}
 use Rattle.dcsctp_delivery_sending.specs.Log.{Message}
 use Rattle.dcsctp_delivery_sending.specs.ChunkCounts.{chunks_to}
@@ -13,6 +14,7 @@ use Rattle.dcsctp_delivery_directions.specs.Requests.{requests_to}
 use Rattle.dcsctp_delivery_order.specs.PlainDirections.{FewOnEachStream}
 use Rattle.dcsctp_delivery_order.specs.Delivered.{DeliveredInOrder, DeliveredWithoutGaps}
 use Rattle.dcsctp_delivery_order.specs.Streams.{DeliveredByStream, DeliveredOn}
+use Rattle.dcsctp_delivery_order.specs.Complete.{HasNothingLeft, DeliveredAllOn}
 use Rattle.dcsctp_delivery_associations.specs.Ends.{Ends, IsOnlyOwn, BeginsAnew, chunks_before, Between}
 use Rattle.dcsctp_delivery_associations.specs.Reads.{Reading, with_key}
 
@@ -65,3 +67,26 @@ EndsDeliverWithoutGaps =
     (options : Options) (ends : Ends) (e : Endpoint) (queued : List Message) (past : List Effect) (packets : List Emission) (other : Endpoint) (their_past : List Effect) (reading : Reading)
     → Between options ends e queued past packets other their_past reading → length queued < 2 ^ 64 → ((tag : ℕ) → chunks_before (ends.former tag) packets + chunks_to (ends.latest tag) packets < 2 ^ 30) → options.max_receiver_window_buffer_size < 2 ^ 32
     → AreUnlimited queued → ((id : ℕ) → ends.never_resets id ≡ true) → (tag : ℕ) → IsOnlyOwn past tag → DeliveredWithoutGaps queued (with_key tag reading.reads)
+
+-- ---- all of it
+
+-- Both are in one association, where messages don't interleave. The sender has nothing left, and the receiver has no message ready.
+pub record AreThrough (e other : Endpoint) : Type 0 where
+  pub link : AssociationIdentity
+  pub linked : identity_in e.core ≡ Some link
+  pub theirs : AssociationIdentity
+  pub theirs_linked : identity_in other.core ≡ Some theirs
+  pub one : theirs.peer.tag ≡ link.my.tag
+  pub crossing : theirs.my.tag ≡ link.peer.tag
+  pub plain : link.capabilities.message_interleaving ≡ false
+  pub left : HasNothingLeft e.queues
+  pub transfer : Transfer
+  pub there : other.queues.transfer ≡ Some transfer
+  pub none_ready : transfer.reassembly.incoming.ready ≡ []
+
+-- Then all ordered messages of each of these streams were read: what was acknowledged has arrived.
+abbrev pub EndsArrive : Type 0
+EndsArrive =
+    (these : ℕ → Bool) (options : Options) (ends : Ends) (e : Endpoint) (queued : List Message) (past : List Effect) (packets : List Emission) (other : Endpoint) (their_past : List Effect) (reading : Reading)
+    → Between options ends e queued past packets other their_past reading → length queued < 2 ^ 64 → ((tag : ℕ) → chunks_before (ends.former tag) packets + chunks_to (ends.latest tag) packets < 2 ^ 30) → options.max_receiver_window_buffer_size < 2 ^ 32
+    → ((id : ℕ) → these id ≡ true → IsReliableKept ends.never_resets queued id) → (through : AreThrough e other) → IsOnlyOwn past through.link.my.tag → DeliveredAllOn these queued (with_key through.link.my.tag reading.reads)

@@ -1,17 +1,19 @@
 -- What is known of all associations of two sockets, in the direction from one to the other, turn by
 -- turn, with interleaving or without.
-use Rattle.std.specs.Prelude.{◌≡◌, ◌≢◌, ◌⊎◌, ◌<◌, ◌+◌, ◌-◌, ◌^◌, Bool, true, false, Some, List, [], ◌++◌, length, ℕ}
+use Rattle.std.specs.Prelude.{◌≡◌, ◌≢◌, ◌⊎◌, ◌<◌, ◌+◌, ◌-◌, ◌^◌, Bool, true, false, Some, List, [], ◌++◌, length, map, ℕ}
 use Rattle.dcsctp_spec_lemmas.specs.types.declared.options.Options.{Options}
 use Rattle.dcsctp_spec_lemmas.specs.types.Settings.{SameOptions}
 use Rattle.dcsctp_spec_lemmas.specs.spec.endpoint.Endpoint.{Endpoint, fresh_endpoint}
-use Rattle.dcsctp_spec_lemmas.specs.spec.endpoint.Event.{packets_in}
+use Rattle.dcsctp_spec_lemmas.specs.spec.endpoint.Event.{Event, incoming_stream_reset, streams_reset_performed, packets_in}
 use Rattle.dcsctp_spec_lemmas.specs.spec.endpoint.Outcome.{Outcome}
 use Rattle.dcsctp_spec_lemmas.specs.spec.Packet.{Emission}
 use Rattle.dcsctp_spec_lemmas.specs.spec.endpoint.Turn.{Input, Turn}
 use Rattle.dcsctp_spec_runs.specs.World.{after_effects}
 use Rattle.dcsctp_spec_lemmas.specs.spec.association.Effect.{AssociationIdentity, Effect, identity_of, identity_in}
 use Rattle.dcsctp_spec_lemmas.specs.spec.queues.Transfer.{Transfer}
+use Rattle.dcsctp_spec_lemmas.specs.spec.endpoint.BegunResets.{stream_field}
 use Rattle.dcsctp_delivery_sending.specs.Log.{Message}
+use Rattle.dcsctp_delivery_sending.specs.Places as places
 use Rattle.dcsctp_delivery_sending.specs.ChunkCounts.{chunks_to}
 use Rattle.dcsctp_delivery_directions.specs.Directions.{Delivered}
 use Rattle.dcsctp_delivery_turns.specs.Actions.{IsOpening, came_by, queued_after, Begun, resets_stream, IsCall}
@@ -23,7 +25,7 @@ use Rattle.dcsctp_spec_lemmas.specs.spec.association.Effect.{holds, completes}
 use Rattle.dcsctp_delivery_directions.specs.Requests.{requests_to}
 use Rattle.dcsctp_delivery_associations.specs.Answered.{request_number_at, AreAnswered}
 use Rattle.dcsctp_delivery_turns.specs.Sides.{WasSent}
-use Rattle.dcsctp_delivery_associations.specs.Ends.{Ends, NewPeer, TakesOver, NewTag, chunks_before, HadBoth, AreHeard, CameBack, Between}
+use Rattle.dcsctp_delivery_associations.specs.Ends.{Ends, NewPeer, TakesOver, NewTag, chunks_before, HadBoth, AreSeen, CameBack, Between}
 use Rattle.dcsctp_delivery_associations.specs.Reads.{Reading, nothing_read, reading_after, messages_of}
 
 -- A request of ours that ends as performed was performed by the peer, or it is the 2^32nd of its association.
@@ -39,13 +41,18 @@ abbrev pub ResetsAs : (ℕ → Bool) → Input → Type 0
 ResetsAs never_resets input = (id : ℕ) → never_resets id ≡ true → resets_stream id input ≡ false
 
 -- There are ends for what was done so far, and for what was read, where the sender's user never resets these streams. What the
--- receiver reported in these packets was reached.
-pub record AreEnds (never_resets : ℕ → Bool) (heard : List Emission) (options : Options) (e : Endpoint) (queued : List Message) (past : List Effect) (packets : List Emission) (other : Endpoint) (their_past : List Effect) (reading : Reading) : Type 0 where
+-- receiver's packets among these events report was reached, and its user was told of each reset that it has performed.
+pub record AreEnds (never_resets : ℕ → Bool) (seen : List (Event Emission)) (options : Options) (e : Endpoint) (queued : List Message) (past : List Effect) (packets : List Emission) (other : Endpoint) (their_past : List Effect) (reading : Reading) : Type 0 where
   pub ends : Ends
   pub is : ends.never_resets ≡ never_resets
   pub between : Between options ends e queued past packets other their_past reading
   pub answered : AreAnswered ends e past other their_past
-  pub reported : AreHeard ends.gets their_past heard
+  pub reported : AreSeen ends other their_past seen
+
+-- Of each reset of ours that ends as performed in this turn, the receiver's user was told in these events: it names the same streams,
+-- each as a field of 16 bits has it.
+abbrev pub ResetsWereSeen : List (Event Emission) → Outcome → Type 0
+ResetsWereSeen seen o = (my : Pair) (number : ℕ) (streams : List ℕ) → HasEffect (completes my number) o.effects → places.HasEntry (streams_reset_performed streams) o.events → places.HasEntry (incoming_stream_reset (map stream_field streams)) seen
 
 -- Two sockets that were just made have them; `options` are those of the receiver.
 abbrev pub EndsBegin : Type 0
@@ -60,20 +67,28 @@ NewPeerTags past o = (link old : AssociationIdentity) → HasEffect (holds link)
 -- receiver, and what acknowledges came in a packet of the receiver to our own tag.
 abbrev pub SendersTurn : Type 0
 SendersTurn =
-    (heard : List Emission) (options : Options) (ends : Ends) (e : Endpoint) (queued : List Message) (past : List Effect) (packets : List Emission) (other : Endpoint) (their_past : List Effect) (reading : Reading) (input : Input) (o : Outcome)
-    → Between options ends e queued past packets other their_past reading → AreAnswered ends e past other their_past → AreHeard ends.gets their_past heard
-    → ((link : AssociationIdentity) → identity_in e.core ≡ Some link → CameBack heard link.my.tag (came_by input)) → ((begun : Begun e o) → IsOpening (came_by input) → identity_in o.after.core ≡ Some (identity_of begun.my begun.held) → NewPeer past their_past (identity_of begun.my begun.held) ⊎ TakesOver past their_past e input (identity_of begun.my begun.held)) → length (queued_after e input queued) < 2 ^ 64 → AsksLittle (packets ++ packets_in o.events)
-    → RefusesNone e o → ResetsAs ends.never_resets input → CompletesPerformed their_past o → o.after.options.follow_rfc ≡ e.options.follow_rfc → IsCall input → Turn e input o → AreEnds ends.never_resets heard options o.after (queued_after e input queued) (after_effects o.effects past) (packets ++ packets_in o.events) other their_past reading
+    (seen : List (Event Emission)) (options : Options) (ends : Ends) (e : Endpoint) (queued : List Message) (past : List Effect) (packets : List Emission) (other : Endpoint) (their_past : List Effect) (reading : Reading) (input : Input) (o : Outcome)
+    → Between options ends e queued past packets other their_past reading → AreAnswered ends e past other their_past → AreSeen ends other their_past seen
+    → ((link : AssociationIdentity) → identity_in e.core ≡ Some link → CameBack (packets_in seen) link.my.tag (came_by input)) → ((begun : Begun e o) → IsOpening (came_by input) → identity_in o.after.core ≡ Some (identity_of begun.my begun.held) → NewPeer past their_past (identity_of begun.my begun.held) ⊎ TakesOver past their_past e input (identity_of begun.my begun.held)) → length (queued_after e input queued) < 2 ^ 64 → AsksLittle (packets ++ packets_in o.events)
+    → RefusesNone e o → ResetsAs ends.never_resets input → CompletesPerformed their_past o → o.after.options.follow_rfc ≡ e.options.follow_rfc → IsCall input → Turn e input o → AreEnds ends.never_resets seen options o.after (queued_after e input queued) (after_effects o.effects past) (packets ++ packets_in o.events) other their_past reading
 
 -- So does one of the receiver, if what is handled in its association was sent in it, the peer of each association that is recorded
 -- has a new tag, and few requests went to each tag.
 abbrev pub ReceiversTurn : Type 0
 ReceiversTurn =
-    (heard : List Emission) (options : Options) (ends : Ends) (e : Endpoint) (queued : List Message) (past : List Effect) (packets : List Emission) (other : Endpoint) (their_past : List Effect) (reading : Reading) (input : Input) (o : Outcome)
-    → Between options ends e queued past packets other their_past reading → AreAnswered ends e past other their_past → AreHeard ends.gets their_past heard → length queued < 2 ^ 64 → AsksLittle packets → SameOptions options other.options → KnowsPeerIn their_past other.core
+    (seen : List (Event Emission)) (options : Options) (ends : Ends) (e : Endpoint) (queued : List Message) (past : List Effect) (packets : List Emission) (other : Endpoint) (their_past : List Effect) (reading : Reading) (input : Input) (o : Outcome)
+    → Between options ends e queued past packets other their_past reading → AreAnswered ends e past other their_past → AreSeen ends other their_past seen → length queued < 2 ^ 64 → AsksLittle packets → SameOptions options other.options → KnowsPeerIn their_past other.core
     → NewPeerTags their_past o → ((begun : Begun other o) → IsOpening (came_by input) → identity_in o.after.core ≡ Some (identity_of begun.my begun.held) → NewTag their_past past (identity_of begun.my begun.held))
     → ((transfer : Transfer) (link : AssociationIdentity) → other.queues.transfer ≡ Some transfer → identity_in other.core ≡ Some link → WasSent (ends.sends link.peer.tag).sent (came_by input) × (HadBoth past link.peer.tag link.my.tag ⊎ WasSent [] (came_by input))) → IsCall input → Turn other input o
-    → AreEnds ends.never_resets (heard ++ packets_in o.events) options e queued past packets o.after (after_effects o.effects their_past) (reading_after other input o.after reading)
+    → AreEnds ends.never_resets (seen ++ o.events) options e queued past packets o.after (after_effects o.effects their_past) (reading_after other input o.after reading)
+
+-- A turn of the sender tells its user of no reset of which the receiver's wasn't told, if few requests went to each tag, and one that
+-- ends as performed was performed by the receiver.
+abbrev pub SendersResets : Type 0
+SendersResets =
+    (seen : List (Event Emission)) (options : Options) (ends : Ends) (e : Endpoint) (queued : List Message) (past : List Effect) (packets : List Emission) (other : Endpoint) (their_past : List Effect) (reading : Reading) (input : Input) (o : Outcome)
+    → Between options ends e queued past packets other their_past reading → AreAnswered ends e past other their_past → AreSeen ends other their_past seen → AsksLittle packets
+    → CompletesPerformed their_past o → IsCall input → Turn e input o → ResetsWereSeen seen o
 
 -- Each message that was read, in any association or after it, was queued, and none twice, if fewer than 2^30 chunks of data
 -- went to the peers of each tag: none assigned 2^31 TSNs.

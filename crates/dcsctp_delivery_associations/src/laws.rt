@@ -1,7 +1,7 @@
 //! The laws of this crate.
 
-ghost use Rattle.dcsctp_delivery_associations.specs.InOrder.{EndsDeliverByStream, EndsDeliverOnStreams, EndsDeliverDataInOrder, EndsDeliverWithoutGaps, EndsDeliverInOrder};
-ghost use Rattle.dcsctp_delivery_associations.specs.Laws.{EndsBegin, EndsDeliver, ReceiversTurn, SendersTurn};
+ghost use Rattle.dcsctp_delivery_associations.specs.InOrder.{EndsArrive, EndsDeliverByStream, EndsDeliverOnStreams, EndsDeliverDataInOrder, EndsDeliverWithoutGaps, EndsDeliverInOrder};
+ghost use Rattle.dcsctp_delivery_associations.specs.Laws.{EndsBegin, EndsDeliver, ReceiversTurn, SendersResets, SendersTurn};
 
 /// Two sockets that were just made have nothing between them.
 pub fn ends_begin()
@@ -20,6 +20,12 @@ pub fn senders_turn()
 /// to reset streams went to each tag.
 pub fn receivers_turn()
     ensures { ReceiversTurn }
+{}
+
+/// Where a reset of streams ends as performed at the sender, the receiver's user was told of one of the same streams (RFC
+/// 6525, section 5.2), if few requests went to each tag.
+pub fn senders_resets()
+    ensures { SendersResets }
 {}
 
 /// Each message that was read, in any association or after it has ended, was queued, and none was read twice, if fewer
@@ -44,4 +50,10 @@ pub fn ends_deliver_without_gaps()
     ensures streams { EndsDeliverByStream }
     ensures reliable { EndsDeliverOnStreams }
     ensures all { EndsDeliverWithoutGaps }
+{}
+
+/// What was acknowledged has arrived: without interleaving all ordered messages of such streams were read once the
+/// sender has nothing left that waits or is in flight, and the receiver has no message ready.
+pub fn ends_arrive()
+    ensures { EndsArrive }
 {}

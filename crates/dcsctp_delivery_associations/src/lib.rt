@@ -7,5 +7,5 @@ mod laws;
 
 pub use laws::{
     ends_begin, ends_deliver, ends_deliver_in_order, ends_deliver_without_gaps, receivers_turn,
-    senders_turn,
+    senders_resets, senders_turn,
 };

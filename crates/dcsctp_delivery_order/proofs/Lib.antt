@@ -45,5 +45,7 @@ pub mod FewSkipping
 pub mod FewReceived
 pub mod FewEntries
 pub mod PlainFront
+pub mod PlainWhole
+pub mod PlainComplete
 pub mod Directions
 pub mod StreamDirections

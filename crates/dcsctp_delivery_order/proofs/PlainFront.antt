@@ -16,13 +16,14 @@ use Rattle.dcsctp_delivery_order.specs.Queue.{LeaveNoGap}
 use Rattle.dcsctp_delivery_order.specs.Delivered.{DeliveredWithoutGaps}
 use Rattle.dcsctp_delivery_order.specs.Gaps.{SendsInTurn}
 use Rattle.dcsctp_delivery_order.specs.Order.{IsSentAs}
-use Rattle.dcsctp_delivery_order.specs.Plain.{with_turns, CountsPlain, IncomingPlain}
+use Rattle.dcsctp_delivery_order.specs.Plain.{with_turns, CountsPlain, CountsThese, IncomingPlain}
 use Rattle.dcsctp_delivery_order.specs.Streams.{NoneLostOn, IsKeptReliable, DeliveredOn}
 use Rattle.dcsctp_delivery_directions.proofs.Directions.{direction_queues}
+use Rattle.dcsctp_delivery_directions.proofs.Standing.{Stands}
 use Rattle.dcsctp_delivery_order.proofs.PlainSteps.{can_count}
 use Rattle.dcsctp_delivery_order.proofs.Delivered.{no_gap_front}
 use Rattle.dcsctp_delivery_order.proofs.Gaps.{apart_no_gap}
-use Rattle.dcsctp_delivery_order.proofs.PlainDirections.{Arrives, AreUnasked, run_plain, counts_plain, counts_these, arrived_in_order}
+use Rattle.dcsctp_delivery_order.proofs.PlainDirections.{Arrives, AreUnasked, run_plain, counts_these, arrived_in_order}
 use Rattle.dcsctp_delivery_order.proofs.PlainReceived.{ReassemblesPlain, none_handled, some_handled}
 use Rattle.dcsctp_delivery_order.proofs.PlainRows.{sent_as, sent_from, one_message, turns_follow}
 use Rattle.dcsctp_delivery_order.proofs.Sending.{sent_before}
@@ -62,28 +63,55 @@ pub unlimited_on : (id : ℕ) (queued : List Message) → AreUnlimited queued �
 unlimited_on id [] are = tt
 unlimited_on id (message ∷ queued) are = (λ on. are.0, unlimited_on id queued are.1)
 
-pub plain_streams_deliver_without_gaps : (these : ℕ → Bool) (options : Options) (first size : ℕ) (direction : Direction) → DirectionRun options first size direction
+-- ---- streams that the sender keeps, and on which no message may be abandoned
+
+-- What was read of these: the history, what the receiver has, and that none is left out.
+pub record CameOn (these : ℕ → Bool) (first : ℕ) (direction : Direction) : Type 0 where
+  pub stands : Stands first direction
+  pub counts : CountsThese false these stands.history
+  pub arrives : Arrives false these first stands.history direction.queued direction.read direction.tracker direction.reassembly
+  pub kept : (id : ℕ) → these id ≡ true → NoneLostOn id direction.queued stands.history.log direction.queues.queue.streams
+  pub no_gap : (id : ℕ) → these id ≡ true → LeaveNoGap direction.queued id arrives.places
+
+pub came_on : (these : ℕ → Bool) (options : Options) (first size : ℕ) (direction : Direction) → DirectionRun options first size direction
     → first < 2 ^ 32 → assigned direction < 2 ^ 31 → length direction.queued < 2 ^ 64 → size ≤ 2 ^ 63 → direction.queues.queue.is_interleaved ≡ false → direction.beginning.from_zero ≡ true
-    → ((id : ℕ) → these id ≡ true → IsKeptReliable direction id) → DeliveredOn these direction.queued direction.read
-plain_streams_deliver_without_gaps these options first size direction run small little few window kind from reliable =
+    → ((id : ℕ) → these id ≡ true → IsKeptReliable direction id) → CameOn these first direction
+came_on these options first size direction run small little few window kind from reliable =
     let g = run_plain false these options first size direction small few run kind in
     let s = g.stands in
     let count = s.count in
     let low : length s.history.log < 2 ^ 31 = omega (arith, count, little) in
     let unlimited : (id : ℕ) → these id ≡ true → AreUnlimitedOn id direction.queued = λ id mine. (reliable id mine).unlimited in
     let unasked : AreUnasked these direction = λ begun has id mine. g.unnamed id (reliable id mine).keeps begun has in
-    let each : (id : ℕ) → these id ≡ true → CountsPlain id s.history = λ id mine. counts_plain first direction s kind (g.zero from) low id (λ begun has. unasked begun has id mine) in
     let counts = counts_these first direction s kind (g.zero from) low false these unasked (λ some. unlimited) in
     let can = can_count size direction.queued window (direction_queues options first size direction run small few).1 in
     let a = g.arrives unasked counts can ((λ exact. absurd (cc)), (λ some. unlimited)) in
+    let kept : (id : ℕ) → these id ≡ true → NoneLostOn id direction.queued s.history.log direction.queues.queue.streams = λ id mine. g.kept id (reliable id mine).keeps (unlimited id mine) in
     record {
-      delivered = record { places = a.places; were_queued = a.were; once = a.once };
-      in_order = arrived_in_order false these first s.history direction.queued direction.read direction.tracker direction.reassembly a;
+      stands = s;
+      counts = counts;
+      arrives = a;
+      kept = kept;
       no_gap = λ id mine.
-          arrived_no_gap direction.queued s.history s.queues.cut id (each id mine)
-          (plain_in_turn direction.queued s.history s.queues.cut id (each id mine) direction.queues.queue s.queues.queue_holds (g.kept id (reliable id mine).keeps (unlimited id mine)))
+          arrived_no_gap direction.queued s.history s.queues.cut id (counts.each id mine)
+          (plain_in_turn direction.queued s.history s.queues.cut id (counts.each id mine) direction.queues.queue s.queues.queue_holds (kept id mine))
           false these mine first direction.read direction.tracker direction.reassembly a;
     }
+
+-- So it is of what was read.
+abbrev pub read_on : (these : ℕ → Bool) (first : ℕ) (direction : Direction) → CameOn these first direction → DeliveredOn these direction.queued direction.read
+read_on these first direction c =
+    record {
+      delivered = record { places = c.arrives.places; were_queued = c.arrives.were; once = c.arrives.once };
+      in_order = arrived_in_order false these first c.stands.history direction.queued direction.read direction.tracker direction.reassembly c.arrives;
+      no_gap = c.no_gap;
+    }
+
+pub plain_streams_deliver_without_gaps : (these : ℕ → Bool) (options : Options) (first size : ℕ) (direction : Direction) → DirectionRun options first size direction
+    → first < 2 ^ 32 → assigned direction < 2 ^ 31 → length direction.queued < 2 ^ 64 → size ≤ 2 ^ 63 → direction.queues.queue.is_interleaved ≡ false → direction.beginning.from_zero ≡ true
+    → ((id : ℕ) → these id ≡ true → IsKeptReliable direction id) → DeliveredOn these direction.queued direction.read
+plain_streams_deliver_without_gaps these options first size direction run small little few window kind from reliable =
+    read_on these first direction (came_on these options first size direction run small little few window kind from reliable)
 
 pub plain_directions_deliver_without_gaps : (options : Options) (first size : ℕ) (direction : Direction) → DirectionRun options first size direction
     → first < 2 ^ 32 → assigned direction < 2 ^ 31 → length direction.queued < 2 ^ 64 → size ≤ 2 ^ 63 → direction.queues.queue.is_interleaved ≡ false

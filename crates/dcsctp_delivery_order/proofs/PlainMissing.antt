@@ -61,15 +61,13 @@ module _ (queued : List Message) (history : History) (cut : Cut queued history.l
     GoesUpTo : ℕ → Type 0
     GoesUpTo j = (k : ℕ) → b < k → k < j → ContinuesAt history.log first.piece.place k
 
-    -- After its pieces comes one that begins another message.
+    -- The last of its pieces ends it.
     record Row (end : ℕ) : Type 0 where
       last : ℕ
       from : b ≤ last
       to : last < end
       goes : GoesUpTo (last + 1)
-      next : Piece
-      at : at_place (last + 1) history.log ≡ Some (Some next)
-      start : next.start ≡ 0
+      ends : (f : Piece) → at_place last history.log ≡ Some (Some f) → is_end f ≡ true
 
     module _ (end : ℕ) (later : IsFirstAt history.log id end) (all : (i : ℕ) (f : Piece) → b ≤ i → i + 1 < end → CarriesOrdered history.log id i f → (g : Piece) × (at_place (i + 1) history.log ≡ Some (Some g))) where
       -- its pieces are ordered ones of the stream
@@ -102,12 +100,19 @@ module _ (queued : List Message) (history : History) (cut : Cut queued history.l
       find : (d i : ℕ) → b ≤ i → i + 1 + d ≡ end → GoesUpTo (i + 1) → Row end
       unfolding GoesUpTo
       find zero i low is goes =
-          record { last = i; from = low; to = omega (arith, is); goes = goes; next = later.piece; at = ap (λ (k : ℕ). at_place k history.log) (let same : i + 1 ≡ end = omega (arith, is) in same) ∙ later.is.at; start = later.start }
+          let same : i + 1 ≡ end = omega (arith, is) in
+          record {
+            last = i;
+            from = low;
+            to = omega (arith, is);
+            goes = goes;
+            ends = λ f at. counts.closes i f later.piece at (ap (λ (k : ℕ). at_place k history.log) same ∙ later.is.at) later.start;
+          }
       find (suc d) i low is goes =
           let (f, of) = own i low goes in
           let (g, at) = all i f low (omega (arith, is)) of in
           elim (eqb_tells g.start 0) [
-            | inl e ↦ record { last = i; from = low; to = omega (arith, is); goes = goes; next = g; at = at; start = e.1 }
+            | inl e ↦ record { last = i; from = low; to = omega (arith, is); goes = goes; ends = λ f' at'. counts.closes i f' g at' at e.1 }
             | inr e ↦
                 (let ne : g.start ≡ 0 → ⊥ = e.1 in
                 let c = continues i g low goes at (omega (arith, ne)) in
@@ -155,7 +160,7 @@ module _ (queued : List Message) (history : History) (cut : Cut queued history.l
       last_part = part r.last r.from (omega arith)
 
       ended : is_end last_part.piece ≡ true
-      ended = counts.closes r.last last_part.piece r.next last_part.is.at r.at r.start
+      ended = r.ends last_part.piece last_part.is.at
 
       -- a row that begins with it is of it, and ends with it
       of_first : (k : ℕ) (f : Piece) → (row' : RowOf history.log id f.place k) → row'.from ≡ b → f.place ≡ first.piece.place
@@ -169,10 +174,16 @@ module _ (queued : List Message) (history : History) (cut : Cut queued history.l
             (let more : r.last < k = e.1 in
             let low = r.from in
             let c = row'.inside (r.last + 1) (omega (arith, low, same)) (omega (arith, more)) in
-            let one = one_piece (r.last + 1) (r.last + 1) c.piece r.next c.at r.at refl in
-            let start : c.piece.start ≡ 0 = ap (λ (x : Piece). x.start) one ∙ r.start in
-            let inside = c.inside in
-            omega (arith, start, inside))
+            let before = cut.rows (r.last + 1) c.piece (omega arith) c.at c.inside in
+            let one : before.before ≡ last_part.piece = one_piece before.earlier r.last before.before last_part.piece before.at last_part.is.at (let is = before.is in omega (arith, is)) in
+            let stop : last_part.piece.start + last_part.piece.size ≡ length last_part.piece.message.payload = eqb-true (last_part.piece.start + last_part.piece.size) (length last_part.piece.message.payload) ended in
+            let start : last_part.piece.start + last_part.piece.size ≡ c.piece.start = ap (λ (y : Piece). y.start + y.size) (sym one) ∙ before.start in
+            let text : last_part.piece.message ≡ c.piece.message = ap (λ (y : Piece). y.message) (sym one) ∙ before.message in
+            let sizes : length last_part.piece.message.payload ≡ length c.piece.message.payload = ap (λ (m : Message). length m.payload) text in
+            let of = cut.pieces (r.last + 1) c.piece c.at in
+            let some = of.some in
+            let inside = of.within in
+            omega (arith, stop, start, sizes, some, inside))
       ]
 
       first_at : (k : ℕ) (f : Piece) → (row' : RowOf history.log id f.place k) → turn_at id k history.log ≡ turn_at id b history.log → row'.from ≡ b
@@ -351,3 +362,28 @@ module _ (queued : List Message) (history : History) (cut : Cut queued history.l
             go : (slot : Slot) → at_place (i + 1) history.log ≡ Some slot → (g : Piece) × (at_place (i + 1) history.log ≡ Some (Some g))
             go None at = absurd ((all (i + 1) (omega (arith, low)) up).never_shuts i f refl of at)
             go (Some g) at = (g, at)
+
+    -- Nor were all of its own, once its last one was sent.
+    pub incomplete_last : (n : ℕ) (f : Piece) (row' : RowOf history.log id f.place n) → CarriesOrdered history.log id n f → is_end f ≡ true → row'.from ≡ b → (got : List ℕ) (base : ℕ) (stream : StreamModel)
+        → AreRows history.log got (ordered_base base) (IsOn history id) stream.ordered → ((run : RunModel) → HasEntry run stream.ordered → IsNumberedRun history.log base id run)
+        → number_at id b history.log ≡ stream.next → LieApart 0 stream.ordered → AscendFrom (stream.next + 1) stream.waiting
+        → ((n : ℕ) (f : Piece) → CarriesOrdered history.log id n f → HasEntry n got → stream.next ≤ number_at id n history.log → IsHeldOrWaits history.log base id stream n)
+        → ((k : ℕ) → b ≤ k → k ≤ n → PassedOn history.log got id k) → ⊥
+    unfolding GoesUpTo
+    incomplete_last n f row' of e same got base stream rows runs number apart waits held all =
+        not_all (n + 1) its_row got base stream rows runs number apart waits held (λ k low up. (
+        let mine = part (n + 1) its_row k low up in
+        (all k low up).handled mine.piece mine.is.at mine.is.stream))
+      where
+        place : f.place ≡ first.piece.place
+        place = sym row'.is ∙ ap (λ (x : Piece). x.place) (one_piece row'.from b row'.first.piece first.piece row'.first.is.at first.is.at same)
+
+        its_row : Row (n + 1)
+        its_row =
+            record {
+              last = n;
+              from = (let up = row'.up_to in omega (arith, up, same));
+              to = omega arith;
+              goes = λ k low up. (let c = row'.inside k (omega (arith, low, same)) (omega (arith, up)) in record { piece = c.piece; at = c.at; inside = c.inside; is = c.is ∙ place });
+              ends = λ g at. ap is_end (one_piece n n g f at of.at refl) ∙ e;
+            }

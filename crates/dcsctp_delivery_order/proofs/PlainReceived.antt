@@ -241,7 +241,7 @@ module _ (queued : List Message) (history : History) (first size : ℕ) (cut : C
       (subst (λ (l : List ℕ). IncomingPlain these queued history l base read old) (sym none) (empty base)) takes)
 
   -- what the tracker has passed is handled, where it is of these streams
-  passed_on : (tracker : TrackerState) (reassembly : ReassemblyState) (r : HasReceivedPlain whole these queued history first read tracker reassembly) → (id : ℕ) → these id ≡ true → (k : ℕ) → k < tracker.cumulative + 1 - tracked first 0
+  pub passed_on : (tracker : TrackerState) (reassembly : ReassemblyState) (r : HasReceivedPlain whole these queued history first read tracker reassembly) → (id : ℕ) → these id ≡ true → (k : ℕ) → k < tracker.cumulative + 1 - tracked first 0
       → PassedOn history.log r.got id k
   passed_on tracker reassembly r id mine k less =
       record {

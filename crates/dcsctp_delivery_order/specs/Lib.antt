@@ -13,3 +13,4 @@ pub mod Received
 pub mod Directions
 pub mod Streams
 pub mod PlainDirections
+pub mod Complete

@@ -1,5 +1,6 @@
 //! The laws of this crate.
 
+ghost use Rattle.dcsctp_delivery_order.specs.Complete.{PlainStreamsArrive};
 ghost use Rattle.dcsctp_delivery_order.specs.Delivered.{ReadIsWithoutGaps, ReadIsInOrder};
 ghost use Rattle.dcsctp_delivery_order.specs.Directions.{DirectionsDeliverWithoutGaps, DirectionsDeliverInOrder};
 ghost use Rattle.dcsctp_delivery_order.specs.Gaps.{FilledLeavesNoGap, NewStreamsAreFilled, RowsFill};
@@ -139,4 +140,10 @@ pub fn streams_deliver_without_gaps()
 /// TSNs that weren't received (RFC 3758, section 3.5).
 pub fn plain_streams_deliver_without_gaps()
     ensures { PlainStreamsDeliverWithoutGaps }
+{}
+
+/// What was acknowledged has arrived. Without interleaving all ordered messages of such a stream were read once the
+/// sender has nothing left and the receiver has none ready (RFC 9260, section 6.2).
+pub fn plain_streams_arrive()
+    ensures { PlainStreamsArrive }
 {}

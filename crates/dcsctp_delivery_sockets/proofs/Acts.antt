@@ -1,5 +1,5 @@
 -- What two sockets do one after another.
-use Rattle.std.proofs.Common.{◌≡◌, ℕ, ◌<◌, ◌≤◌, ◌^◌, List, [], ◌∷◌, ◌++◌, length, refl, sym, ◌∙◌, ap, arith, subst, Bool, inr}
+use Rattle.std.proofs.Common.{◌≡◌, ℕ, ◌<◌, ◌≤◌, ◌^◌, List, [], ◌∷◌, ◌++◌, append_assoc, length, refl, sym, ◌∙◌, ap, arith, subst, Bool, inr}
 use Rattle.std.specs.List.{AllByRecursion}
 use Rattle.std.proofs.lemmas.List.{append-nil, length-append}
 use Rattle.dcsctp_spec_lemmas.specs.wire.Content.{PacketContent}
@@ -22,12 +22,13 @@ use Rattle.dcsctp_delivery_sending.specs.Places as places
 use Rattle.dcsctp_delivery_directions.proofs.RequestCounts.{requests_more_to}
 use Rattle.dcsctp_delivery_turns.specs.Actions.{came_by, queued_after, IsCall}
 use Rattle.dcsctp_delivery_turns.specs.Sides.{WasSent}
-use Rattle.dcsctp_delivery_associations.specs.Laws.{AsksLittle, AreEnds}
+use Rattle.dcsctp_delivery_associations.specs.Laws.{AsksLittle, ResetsWereSeen, AreEnds}
 use Rattle.dcsctp_delivery_associations.specs.Reads.{Reading, reading_after}
 use Rattle.dcsctp_delivery_sockets.specs.Acts.{queued_through, AreTurns, AreNewPeers, HearsBack, ResetsIn}
 use Rattle.dcsctp_delivery_sockets.specs.Echoes.{GoesToMaker}
 use Rattle.dcsctp_delivery_sockets.specs.Packets.{reading_through, AreNewTags}
 use Rattle.dcsctp_delivery_associations.proofs.Growing.{input_adds}
+use Rattle.dcsctp_delivery_associations.proofs.Seen.{resets_were_seen}
 use Rattle.dcsctp_delivery_associations.proofs.SenderTurns.{sender_turns}
 use Rattle.dcsctp_delivery_associations.proofs.ReceiverTurns.{receiver_turns}
 use Rattle.dcsctp_delivery_sockets.proofs.Calls.{NoChunk, NoChunks}
@@ -46,23 +47,42 @@ queued_grows e (t ∷ turns) queued =
 asks_little : (packets more : List Emission) → AsksLittle (packets ++ more) → AsksLittle packets
 asks_little packets more little tag = (let both = requests_more_to tag packets more in let few = little tag in omega (arith, both, few))
 
-module _ (never_resets : ℕ → Bool) (heard : List Emission) (options : Options) (d : Endpoint) (their_past : List Effect) (reading : Reading) where
-  pub senders_act : (turns : List Transition) (e : Endpoint) (queued : List Message) (past : List Effect) (packets : List Emission) → AreEnds never_resets heard options e queued past packets d their_past reading → AreTurns e turns
-      → AlongTurns (ResetsIn never_resets) e turns → AlongTurns (HearsBack heard) e turns → AreNewPeers past their_past e turns → length (queued_through e turns queued) < 2 ^ 64 → AsksLittle (packets ++ packets_in (events_of turns))
-      → AreEnds never_resets heard options (after_all e turns) (queued_through e turns queued) (after_effects (effects_of turns) past) (packets ++ packets_in (events_of turns)) d their_past reading
-  senders_act [] e queued past packets h taken resets back new few little = subst (λ (l : List Emission). AreEnds never_resets heard options e queued past l d their_past reading) (sym (append-nil packets)) h
-  senders_act (t ∷ turns) e queued past packets h taken resets back new few little =
+module _ (never_resets : ℕ → Bool) (seen : List (Event Emission)) (options : Options) (d : Endpoint) (their_past : List Effect) (reading : Reading) where
+  -- the first of these turns
+  sender_first : (t : Transition) (turns : List Transition) (e : Endpoint) (queued : List Message) (past : List Effect) (packets : List Emission) → AreEnds never_resets seen options e queued past packets d their_past reading → AreTurns e (t ∷ turns)
+      → AlongTurns (ResetsIn never_resets) e (t ∷ turns) → AlongTurns (HearsBack (packets_in seen)) e (t ∷ turns) → AreNewPeers past their_past e (t ∷ turns) → length (queued_through e (t ∷ turns) queued) < 2 ^ 64
+      → AsksLittle ((packets ++ packets_in t.outcome.events) ++ packets_in (events_of turns))
+      → AreEnds never_resets seen options t.outcome.after (queued_after e t.input queued) (after_effects t.outcome.effects past) (packets ++ packets_in t.outcome.events) d their_past reading
+  sender_first t turns e queued past packets h taken resets back new few all =
       let grows = queued_grows t.outcome.after turns (queued_after e t.input queued) in
-      let all : AsksLittle ((packets ++ packets_in t.outcome.events) ++ packets_in (events_of turns)) = subst AsksLittle (sym (packets_apart packets t turns)) little in
-      let first : AreEnds never_resets heard options t.outcome.after (queued_after e t.input queued) (after_effects t.outcome.effects past) (packets ++ packets_in t.outcome.events) d their_past reading =
-      (subst (λ (n : ℕ → Bool). AreEnds n heard options t.outcome.after (queued_after e t.input queued) (after_effects t.outcome.effects past) (packets ++ packets_in t.outcome.events) d their_past reading) h.is
+      (subst (λ (n : ℕ → Bool). AreEnds n seen options t.outcome.after (queued_after e t.input queued) (after_effects t.outcome.effects past) (packets ++ packets_in t.outcome.events) d their_past reading) h.is
       (sender_turns options h.ends e queued past packets d their_past reading h.between t.input t.outcome new.1 h.answered
-      (asks_little (packets ++ packets_in t.outcome.events) (packets_in (events_of turns)) all) heard h.reported back.0 (omega (arith, few, grows)) new.2 (λ id never. resets.0 id (sym (ap (λ (n : ℕ → Bool). n id) h.is) ∙ never)) new.3 new.4 new.0 taken.0)) in
+      (asks_little (packets ++ packets_in t.outcome.events) (packets_in (events_of turns)) all) seen h.reported back.0 (omega (arith, few, grows)) new.2 (λ id never. resets.0 id (sym (ap (λ (n : ℕ → Bool). n id) h.is) ∙ never)) new.3 new.4 new.0 taken.0))
+
+  pub senders_act : (turns : List Transition) (e : Endpoint) (queued : List Message) (past : List Effect) (packets : List Emission) → AreEnds never_resets seen options e queued past packets d their_past reading → AreTurns e turns
+      → AlongTurns (ResetsIn never_resets) e turns → AlongTurns (HearsBack (packets_in seen)) e turns → AreNewPeers past their_past e turns → length (queued_through e turns queued) < 2 ^ 64 → AsksLittle (packets ++ packets_in (events_of turns))
+      → AreEnds never_resets seen options (after_all e turns) (queued_through e turns queued) (after_effects (effects_of turns) past) (packets ++ packets_in (events_of turns)) d their_past reading
+  senders_act [] e queued past packets h taken resets back new few little = subst (λ (l : List Emission). AreEnds never_resets seen options e queued past l d their_past reading) (sym (append-nil packets)) h
+  senders_act (t ∷ turns) e queued past packets h taken resets back new few little =
+      let all : AsksLittle ((packets ++ packets_in t.outcome.events) ++ packets_in (events_of turns)) = subst AsksLittle (sym (packets_apart packets t turns)) little in
+      let first = sender_first t turns e queued past packets h taken resets back new few all in
       let rest = senders_act turns t.outcome.after (queued_after e t.input queued) (after_effects t.outcome.effects past) (packets ++ packets_in t.outcome.events) first taken.1 resets.1 back.1 new.5 few all in
-      subst (λ (l : List Effect). AreEnds never_resets heard options (after_all t.outcome.after turns) (queued_through t.outcome.after turns (queued_after e t.input queued)) l (packets ++ packets_in (t.outcome.events ++ events_of turns)) d their_past reading)
+      subst (λ (l : List Effect). AreEnds never_resets seen options (after_all t.outcome.after turns) (queued_through t.outcome.after turns (queued_after e t.input queued)) l (packets ++ packets_in (t.outcome.events ++ events_of turns)) d their_past reading)
       (sym (after_effects-append t.outcome.effects (effects_of turns) past))
-      (subst (λ (l : List Emission). AreEnds never_resets heard options (after_all t.outcome.after turns) (queued_through t.outcome.after turns (queued_after e t.input queued)) (after_effects (effects_of turns) (after_effects t.outcome.effects past)) l d their_past reading)
+      (subst (λ (l : List Emission). AreEnds never_resets seen options (after_all t.outcome.after turns) (queued_through t.outcome.after turns (queued_after e t.input queued)) (after_effects (effects_of turns) (after_effects t.outcome.effects past)) l d their_past reading)
       (packets_apart packets t turns) rest)
+
+  -- Of each reset that the sender's user is told is performed, the receiver's was told.
+  pub senders_reset : (turns : List Transition) (e : Endpoint) (queued : List Message) (past : List Effect) (packets : List Emission) → AreEnds never_resets seen options e queued past packets d their_past reading → AreTurns e turns
+      → AlongTurns (ResetsIn never_resets) e turns → AlongTurns (HearsBack (packets_in seen)) e turns → AreNewPeers past their_past e turns → length (queued_through e turns queued) < 2 ^ 64 → AsksLittle (packets ++ packets_in (events_of turns))
+      → AllByRecursion (λ turn. ResetsWereSeen seen turn.outcome) turns
+  senders_reset [] e queued past packets h taken resets back new few little = tt
+  senders_reset (t ∷ turns) e queued past packets h taken resets back new few little =
+      let all : AsksLittle ((packets ++ packets_in t.outcome.events) ++ packets_in (events_of turns)) = subst AsksLittle (sym (packets_apart packets t turns)) little in
+      let first = sender_first t turns e queued past packets h taken resets back new few all in (
+        resets_were_seen seen options h.ends e queued past packets d their_past reading t.input t.outcome h.between h.answered h.reported (asks_little packets (packets_in (events_of (t ∷ turns))) little) new.3 new.0 taken.0,
+        senders_reset turns t.outcome.after (queued_after e t.input queued) (after_effects t.outcome.effects past) (packets ++ packets_in t.outcome.events) first taken.1 resets.1 back.1 new.5 few all,
+      )
 
 -- ---- the receiver
 
@@ -83,54 +103,54 @@ none_sent sent (inputs.time_passes moment) none = tt
 none_sent sent (inputs.restores state) none = tt
 
 module _ (never_resets : ℕ → Bool) (options : Options) (e : Endpoint) (queued : List Message) (past : List Effect) (packets : List Emission) (few : length queued < 2 ^ 64) (little : AsksLittle packets) where
-  pub receivers_act : (turns : List Transition) (heard : List Emission) (d : Endpoint) (their_past : List Effect) (reading : Reading) → AreEnds never_resets heard options e queued past packets d their_past reading → NoChunks turns → AreTurns d turns
+  pub receivers_act : (turns : List Transition) (seen : List (Event Emission)) (d : Endpoint) (their_past : List Effect) (reading : Reading) → AreEnds never_resets seen options e queued past packets d their_past reading → NoChunks turns → AreTurns d turns
       → AllByRecursion (λ turn. IsCall turn.input) turns → AreNewTags options their_past past d turns
-      → AreEnds never_resets (heard ++ packets_in (events_of turns)) options e queued past packets (after_all d turns) (after_effects (effects_of turns) their_past) (reading_through d turns reading)
-  receivers_act [] heard d their_past reading h none taken may new = subst (λ (l : List Emission). AreEnds never_resets l options e queued past packets d their_past reading) (sym (append-nil heard)) h
-  receivers_act (t ∷ turns) heard d their_past reading h none taken may new =
-      let first : AreEnds never_resets (heard ++ packets_in t.outcome.events) options e queued past packets t.outcome.after (after_effects t.outcome.effects their_past) (reading_after d t.input t.outcome.after reading) =
-      (subst (λ (n : ℕ → Bool). AreEnds n (heard ++ packets_in t.outcome.events) options e queued past packets t.outcome.after (after_effects t.outcome.effects their_past) (reading_after d t.input t.outcome.after reading)) h.is
-      (receiver_turns options h.ends e queued past packets d their_past reading h.between few new.0 t.input t.outcome new.1 h.answered little new.3.0 may.0 taken.0 heard h.reported new.2
+      → AreEnds never_resets (seen ++ events_of turns) options e queued past packets (after_all d turns) (after_effects (effects_of turns) their_past) (reading_through d turns reading)
+  receivers_act [] seen d their_past reading h none taken may new = subst (λ (l : List (Event Emission)). AreEnds never_resets l options e queued past packets d their_past reading) (sym (append-nil seen)) h
+  receivers_act (t ∷ turns) seen d their_past reading h none taken may new =
+      let first : AreEnds never_resets (seen ++ t.outcome.events) options e queued past packets t.outcome.after (after_effects t.outcome.effects their_past) (reading_after d t.input t.outcome.after reading) =
+      (subst (λ (n : ℕ → Bool). AreEnds n (seen ++ t.outcome.events) options e queued past packets t.outcome.after (after_effects t.outcome.effects their_past) (reading_after d t.input t.outcome.after reading)) h.is
+      (receiver_turns options h.ends e queued past packets d their_past reading h.between few new.0 t.input t.outcome new.1 h.answered little new.3.0 may.0 taken.0 seen h.reported new.2
       (λ transfer link there linked. (none_sent (h.ends.sends link.peer.tag).sent t.input none.0, inr (none_sent [] t.input none.0))))) in
-      let rest = receivers_act turns (heard ++ packets_in t.outcome.events) t.outcome.after (after_effects t.outcome.effects their_past) (reading_after d t.input t.outcome.after reading) first none.1 taken.1 may.1 new.4 in
-      subst (λ (l : List Effect). AreEnds never_resets (heard ++ packets_in (events_of (t ∷ turns))) options e queued past packets (after_all t.outcome.after turns) l (reading_through t.outcome.after turns (reading_after d t.input t.outcome.after reading)))
+      let rest = receivers_act turns (seen ++ t.outcome.events) t.outcome.after (after_effects t.outcome.effects their_past) (reading_after d t.input t.outcome.after reading) first none.1 taken.1 may.1 new.4 in
+      subst (λ (l : List Effect). AreEnds never_resets (seen ++ events_of (t ∷ turns)) options e queued past packets (after_all t.outcome.after turns) l (reading_through t.outcome.after turns (reading_after d t.input t.outcome.after reading)))
       (sym (after_effects-append t.outcome.effects (effects_of turns) their_past))
-      (subst (λ (l : List Emission). AreEnds never_resets l options e queued past packets (after_all t.outcome.after turns) (after_effects (effects_of turns) (after_effects t.outcome.effects their_past)) (reading_through t.outcome.after turns (reading_after d t.input t.outcome.after reading)))
-      (packets_apart heard t turns) rest)
+      (subst (λ (l : List (Event Emission)). AreEnds never_resets l options e queued past packets (after_all t.outcome.after turns) (after_effects (effects_of turns) (after_effects t.outcome.effects their_past)) (reading_through t.outcome.after turns (reading_after d t.input t.outcome.after reading)))
+      (append_assoc seen t.outcome.events (events_of turns)) rest)
 
   one_turn : (d : Endpoint) (their_past : List Effect) (reading : Reading) (input : Input) (t : Transition) → NoChunk input → IsCall input → IsTurn d input t → NoChunk t.input × IsCall t.input × Turn d t.input t.outcome
   one_turn d their_past reading input t none may turn =
       (subst NoChunk (sym turn.is) none, subst IsCall (sym turn.is) may, subst (λ (i : Input). Turn d i t.outcome) (sym turn.is) turn.comes)
 
-  pub receivers_handle : (heard : List Emission) (d : Endpoint) (their_past : List Effect) (reading : Reading) (emission : Emission) (bytes : List ℕ) (turns : List Transition) → AreEnds never_resets heard options e queued past packets d their_past reading → places.HasEntry emission packets
+  pub receivers_handle : (seen : List (Event Emission)) (d : Endpoint) (their_past : List Effect) (reading : Reading) (emission : Emission) (bytes : List ℕ) (turns : List Transition) → AreEnds never_resets seen options e queued past packets d their_past reading → places.HasEntry emission packets
       → GoesToMaker emission → ((packet : PacketContent) → IsPacket (wire_options d.options) packet bytes → packet_in packet ≡ emission.packet)
       → AreNewTags options their_past past d turns → HandleInput d bytes turns
-      → AreEnds never_resets (heard ++ packets_in (events_of turns)) options e queued past packets (after_all d turns) (after_effects (effects_of turns) their_past) (reading_through d turns reading)
-  receivers_handle heard d their_past reading emission bytes turns h has go is new (unreadable ts unread taken) = two ts new taken
+      → AreEnds never_resets (seen ++ events_of turns) options e queued past packets (after_all d turns) (after_effects (effects_of turns) their_past) (reading_through d turns reading)
+  receivers_handle seen d their_past reading emission bytes turns h has go is new (unreadable ts unread taken) = two ts new taken
     where
       two : (turns : List Transition) → AreNewTags options their_past past d turns → Turns d (arrival ∷ refusal unreadable_text ∷ []) turns
-          → AreEnds never_resets (heard ++ packets_in (events_of turns)) options e queued past packets (after_all d turns) (after_effects (effects_of turns) their_past) (reading_through d turns reading)
+          → AreEnds never_resets (seen ++ events_of turns) options e queued past packets (after_all d turns) (after_effects (effects_of turns) their_past) (reading_through d turns reading)
       two [] new taken = absurd taken
       two (t ∷ []) new taken = absurd taken.1
       two (t ∷ u ∷ []) new taken =
           let a = one_turn d their_past reading arrival t tt tt taken.0 in
           let b = one_turn t.outcome.after their_past reading (refusal unreadable_text) u tt tt taken.1.0 in
-          receivers_act (t ∷ u ∷ []) heard d their_past reading h (a.0, (b.0, tt)) (a.2, (b.2, tt)) (a.1, (b.1, tt)) new
+          receivers_act (t ∷ u ∷ []) seen d their_past reading h (a.0, (b.0, tt)) (a.2, (b.2, tt)) (a.1, (b.1, tt)) new
       two (t ∷ u ∷ v ∷ turns) new taken = absurd taken.1.1
-  receivers_handle heard d their_past reading emission bytes turns h has go is new (readable packet counted ts is_packet counting admitted) =
+  receivers_handle seen d their_past reading emission bytes turns h has go is new (readable packet counted ts is_packet counting admitted) =
       let a = one_turn d their_past reading arrival counted tt tt counting in
-      let first = receivers_act (counted ∷ []) heard d their_past reading h (a.0, tt) (a.2, tt) (a.1, tt) (new.0, new.1, new.2, new.3, tt) in
+      let first = receivers_act (counted ∷ []) seen d their_past reading h (a.0, tt) (a.2, tt) (a.1, tt) (new.0, new.1, new.2, new.3, tt) in
       let core : counted.outcome.after.core ≡ d.core = ap (λ (x : Outcome). x.after.core) counting.comes in
       let same : AdmittedTurns counted.outcome.after emission.packet (admits counted.outcome.after.core emission.packet) ts =
       subst (λ (c : Core). AdmittedTurns counted.outcome.after emission.packet (admits c emission.packet) ts) (sym core)
       (subst (λ (p : Packet). AdmittedTurns counted.outcome.after p (admits d.core p) ts) (is packet is_packet) admitted) in
-      let more : List Emission = heard ++ packets_in counted.outcome.events in
-      let alone : heard ++ packets_in (events_of (counted ∷ [])) ≡ more = ap (λ (events : List (Event Emission)). heard ++ packets_in events) (append-nil counted.outcome.events) in
-      subst (λ (l : List Effect). AreEnds never_resets (heard ++ packets_in (events_of (counted ∷ ts))) options e queued past packets (after_all counted.outcome.after ts) l (reading_through counted.outcome.after ts (reading_after d counted.input counted.outcome.after reading)))
+      let more : List (Event Emission) = seen ++ counted.outcome.events in
+      let alone : seen ++ events_of (counted ∷ []) ≡ more = ap (λ (events : List (Event Emission)). seen ++ events) (append-nil counted.outcome.events) in
+      subst (λ (l : List Effect). AreEnds never_resets (seen ++ events_of (counted ∷ ts)) options e queued past packets (after_all counted.outcome.after ts) l (reading_through counted.outcome.after ts (reading_after d counted.input counted.outcome.after reading)))
       (sym (after_effects-append counted.outcome.effects (effects_of ts) their_past))
-      (subst (λ (l : List Emission). AreEnds never_resets l options e queued past packets (after_all counted.outcome.after ts) (after_effects (effects_of ts) (after_effects counted.outcome.effects their_past)) (reading_through counted.outcome.after ts (reading_after d counted.input counted.outcome.after reading)))
-      (packets_apart heard counted ts)
+      (subst (λ (l : List (Event Emission)). AreEnds never_resets l options e queued past packets (after_all counted.outcome.after ts) (after_effects (effects_of ts) (after_effects counted.outcome.effects their_past)) (reading_through counted.outcome.after ts (reading_after d counted.input counted.outcome.after reading)))
+      (append_assoc seen counted.outcome.events (events_of ts))
       (packet_goes never_resets options e queued past packets few little emission has more counted.outcome.after (after_effects counted.outcome.effects their_past) (reading_after d counted.input counted.outcome.after reading) ts
       (subst (λ (l : List Effect). AreEnds never_resets more options e queued past packets counted.outcome.after (after_effects l their_past) (reading_after d counted.input counted.outcome.after reading)) (append-nil counted.outcome.effects)
-      (subst (λ (l : List Emission). AreEnds never_resets l options e queued past packets counted.outcome.after (after_effects (counted.outcome.effects ++ []) their_past) (reading_after d counted.input counted.outcome.after reading)) alone first)) new.4 go
+      (subst (λ (l : List (Event Emission)). AreEnds never_resets l options e queued past packets counted.outcome.after (after_effects (counted.outcome.effects ++ []) their_past) (reading_after d counted.input counted.outcome.after reading)) alone first)) new.4 go
       (admits counted.outcome.after.core emission.packet) refl same))

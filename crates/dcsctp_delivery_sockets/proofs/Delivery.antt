@@ -38,7 +38,7 @@ use Rattle.dcsctp_delivery_turns.specs.Actions.{resets_streams, resets_stream}
 use Rattle.std.specs.List.{AllByRecursion}
 use Rattle.std.specs.Prelude.{not, ◌&&◌}
 use Rattle.dcsctp_delivery_order.specs.Delivered.{DeliveredInOrder, DeliveredWithoutGaps}
-use Rattle.dcsctp_delivery_associations.specs.InOrder.{Interleaves, InterleavesUnder}
+use Rattle.dcsctp_delivery_associations.specs.InOrder.{Interleaves, InterleavesUnder, AreThrough}
 use Rattle.dcsctp_delivery_associations.specs.InOrder.{IsReliableKept}
 use Rattle.dcsctp_delivery_order.proofs.StreamDirections.{are_unlimited_on as unlimited_test, unlimited_so, so_unlimited}
 use Rattle.dcsctp_delivery_receiving.proofs.Joining.{both}
@@ -47,10 +47,12 @@ use Rattle.dcsctp_spec_lemmas.specs.spec.endpoint.MessageOutcomes.{Sending}
 use Rattle.dcsctp_spec_lemmas.specs.spec.endpoint.Turn.{Input, arrival, refusal, packet_begins, chunk_input, packet_ends, act_input, user_sets, user_sends, user_resets, user_takes, timer_expires, time_passes, restores}
 use Rattle.dcsctp_delivery_order.specs.PlainDirections.{FewOnEachStream}
 use Rattle.dcsctp_delivery_sending.specs.Losing.{AreUnlimited}
-use Rattle.dcsctp_delivery_sockets.specs.Ordered.{SetsNoLimits, SendsFew, IsDeliveredOn}
+use Rattle.dcsctp_delivery_sockets.specs.Ordered.{SetsNoLimits, SendsFew, IsDeliveredOn, IsDeliveredAllOn}
 use Rattle.dcsctp_delivery_sockets.proofs.FewSent.{few_queued_on}
-use Rattle.dcsctp_delivery_associations.proofs.InOrder.{ends_deliver_in_order, ends_deliver_data_in_order, ends_deliver_by_stream, ends_deliver_on_streams, ends_deliver_without_gaps, nothing_in_order, nothing_before, nothing_by_stream, nothing_on}
+use Rattle.dcsctp_delivery_associations.proofs.InOrder.{ends_deliver_in_order, ends_deliver_data_in_order, ends_deliver_by_stream, ends_deliver_on_streams, ends_arrive, ends_deliver_without_gaps, nothing_in_order, nothing_before, nothing_by_stream, nothing_on}
 use Rattle.dcsctp_delivery_associations.proofs.Heard.{one_heard, silent_or_free}
+use Rattle.dcsctp_theorem_sockets.specs.Telling.{SocketsTellEffects}
+use Rattle.dcsctp_delivery_sockets.proofs.Resets.{AllSeen, seen_both, seen_more, resets_shared}
 use Rattle.dcsctp_delivery_sockets.proofs.PacketBack.{turns_back, packet_back}
 use Rattle.dcsctp_delivery_sockets.proofs.Calls.{AreCalls, call_without, call_is, input_is}
 use Rattle.dcsctp_delivery_sockets.proofs.Echoes.{echoes_go_to_makers}
@@ -61,15 +63,16 @@ use Rattle.dcsctp_delivery_sockets.proofs.Replaced.{match_swapped, peers_differ,
 use Rattle.dcsctp_delivery_sockets.proofs.Performed.{SidePerformed, BothPerformed, both_performed, fresh_front}
 use Rattle.dcsctp_delivery_sockets.proofs.Known.{past_more, rest_turns, rest_moves, same_rules_after, own_turn, IsOwn, GoodPacket, SideKnown, BothKnown, both_front}
 use Rattle.dcsctp_delivery_sockets.proofs.Stands.{Stand, queued_of, packets_of, reading_of, queued_same, sender_more, receiver_calls, receiver_handles, few_queued}
-use Rattle.dcsctp_delivery_sockets.proofs.UserMessages.{is_by_stream, is_on, SaysSame, are_unlimited, are_unlimited_on, nothing_same, turns_same, turns_read, is_delivered, is_in_order, SaysSame, is_without_gaps}
+use Rattle.dcsctp_delivery_sockets.proofs.UserMessages.{is_by_stream, is_on, is_all_on, SaysSame, are_unlimited, are_unlimited_on, nothing_same, turns_same, turns_read, is_delivered, is_in_order, SaysSame, is_without_gaps}
 use Rattle.dcsctp_spec_lemmas.specs.spec.association.Effect.{AssociationIdentity, Effect, holds}
 use Rattle.dcsctp_spec_runs.specs.Past.{HasEffect, Each}
-use Rattle.dcsctp_delivery_associations.proofs.Tagged.{ReadUnder, nothing_under, under_key, read_under_key}
+use Rattle.dcsctp_delivery_associations.proofs.Tagged.{ReadUnder, nothing_under, under_key, read_under_key, read_of_both}
 use Rattle.dcsctp_delivery_sending.specs.ChunkCounts.{chunks_to}
 use Rattle.dcsctp_delivery_directions.specs.Requests.{requests_to}
+use Rattle.dcsctp_delivery_order.specs.Complete.{DeliveredAllOn}
 use Rattle.dcsctp_delivery_order.specs.Streams.{DeliveredByStream, DeliveredOn}
 use Rattle.dcsctp_spec_lemmas.specs.types.queues.Messages.{MessageContent}
-use Rattle.dcsctp_spec_lemmas.proofs.TurnLists.{after_all-append}
+use Rattle.dcsctp_spec_lemmas.proofs.TurnLists.{after_all-append, events_of-append}
 use Rattle.dcsctp_spec_runs.specs.World.{after_effects}
 
 -- ---- a packet that is delivered
@@ -93,6 +96,7 @@ record ActedSide (never_resets their_never : ℕ → Bool) (mine theirs : Option
   sends : Stand never_resets mine theirs (turns ++ more) others
   receives : Stand their_never theirs mine others (turns ++ more)
   side_stands : StandsSo (endpoint_after mine (turns ++ more)) (noted_past (turns ++ more))
+  resets : AllSeen (events_of others) more
 
 module _ (law : Below) (never_resets their_never : ℕ → Bool) (mine theirs : Options) (turns others more : List Transition) (fits : FitsEndpoint (endpoint_after mine turns)) (their_fits : FitsOptions theirs)
     (known : SideKnown never_resets mine (noted_past others) (turns ++ more)) (their_known : SideKnown their_never theirs (noted_past (turns ++ more)) others)
@@ -106,6 +110,7 @@ module _ (law : Below) (never_resets their_never : ℕ → Bool) (mine theirs : 
         sends = subst (λ (ts : List Transition). Stand never_resets mine theirs ts others) same sends;
         receives = subst (λ (ts : List Transition). Stand their_never theirs mine others ts) same receives;
         side_stands = subst (λ (ts : List Transition). StandsSo (endpoint_after mine ts) (noted_past ts)) same stands;
+        resets = subst (AllSeen (events_of others)) (sym none) tt;
       }
 
   stand_so : AreCalls more → AllOpenFitting more → StandsSo (endpoint_after mine (turns ++ more)) (noted_past (turns ++ more))
@@ -122,9 +127,11 @@ module _ (law : Below) (never_resets their_never : ℕ → Bool) (mine theirs : 
       λ packet found. reads_as_sent law.built e.options theirs out.emission packet their_fits out.good.good.sendable (subst (λ (bs : List ℕ). IsPacket (wire_options e.options) packet bs) out.is found) in
       let opens : AllOpenFitting more = packet_opens law.offers e bytes out.emission more fits out.good.good.sendable is taken in
       let calls : AreCalls more = input_is e bytes more taken in
+      let done = sender_more never_resets mine theirs turns others more sends known matched stands side.performed side.found side.restored calls opens (packet_echoes e bytes out.emission more out.good.good.goes is taken)
+      (packet_back (packets_of others) out.emission out.good.has e bytes more out.good.good.goes (silent_or_free sends.ends.gets (noted_past others) out.emission (one_heard sends.ends.gets (noted_past others) (packets_of others) out.emission sends.reported.heard out.good.has)) is taken) in
       record {
-        sends = sender_more never_resets mine theirs turns others more sends known matched stands side.performed side.found side.restored calls opens (packet_echoes e bytes out.emission more out.good.good.goes is taken)
-            (packet_back (packets_of others) out.emission out.good.has e bytes more out.good.good.goes (silent_or_free sends.ends.gets (noted_past others) out.emission (one_heard sends.ends.gets (noted_past others) (packets_of others) out.emission sends.reported out.good.has)) is taken);
+        sends = done.0;
+        resets = done.1;
         receives = receiver_handles their_never never_resets theirs mine others turns more receives known their_known.tags matched stands side.found side.restored their_known.little bytes out.emission out.good.has
             out.good.good is taken calls opens;
         side_stands = stand_so calls opens;
@@ -140,8 +147,10 @@ module _ (law : Below) (never_resets their_never : ℕ → Bool) (mine theirs : 
   side_acts (call_step which call) in_memory taken =
       let calls : AreCalls more = call_is (endpoint_after mine turns) call more in_memory taken in
       let none = call_without (endpoint_after mine turns) call more taken in
+      let done = sender_more never_resets mine theirs turns others more sends known matched stands side.performed side.found side.restored calls (none_open more none) (none_echo more none) (turns_back (packets_of others) (endpoint_after mine turns) more none) in
       record {
-        sends = sender_more never_resets mine theirs turns others more sends known matched stands side.performed side.found side.restored calls (none_open more none) (none_echo more none) (turns_back (packets_of others) (endpoint_after mine turns) more none);
+        sends = done.0;
+        resets = done.1;
         receives = receiver_calls their_never never_resets theirs mine others turns more receives known their_known.tags matched stands side.found side.restored their_known.little call taken calls;
         side_stands = stand_so calls (none_open more none);
       }
@@ -155,17 +164,33 @@ record BothStand (never_resets : Both (ℕ → Bool)) (options : Both Options) (
   to_a : Stand never_resets.b options.b options.a turns.b turns.a
   a_stands : StandsSo (endpoint_after options.a turns.a) (noted_past turns.a)
   b_stands : StandsSo (endpoint_after options.b turns.b) (noted_past turns.b)
+  a_resets : AllSeen (events_of turns.b) turns.a
+  b_resets : AllSeen (events_of turns.a) turns.b
 
 stepped : Below → (never_resets : Both (ℕ → Bool)) (options : Both Options) (turns : Both (List Transition)) (step : StepContent) (more : List Transition) (side : Side) → AreUsable options → Joined options turns → BothKnown never_resets options (side_turns_added side more turns)
     → BothPerformed (side_turns_added side more turns) → FitsStep step → BothStand never_resets options turns → StepTurns (endpoint_after (of_side side options) (of_side side turns)) (packets_shown (of_other side options) (of_other side turns)) step more
     → BothStand never_resets options (side_turns_added side more turns)
 stepped law never_resets options turns step more sides.A are j known performed in_memory h taken =
     let done = side_acts law never_resets.a never_resets.b options.a options.b turns.a turns.b more j.a.fits (are sides.B).fits known.a known.b known.matched performed.a h.a_stands h.to_b h.to_a step in_memory taken in
-    record { to_b = done.sends; to_a = done.receives; a_stands = done.side_stands; b_stands = h.b_stands }
+    record {
+      to_b = done.sends;
+      to_a = done.receives;
+      a_stands = done.side_stands;
+      b_stands = h.b_stands;
+      a_resets = seen_both (events_of turns.b) turns.a more h.a_resets done.resets;
+      b_resets = subst (λ (seen : List (Event Emission)). AllSeen seen turns.b) (sym (events_of-append turns.a more)) (seen_more (events_of turns.a) (events_of more) turns.b h.b_resets);
+    }
 stepped law never_resets options turns step more sides.B are j known performed in_memory h taken =
     let done = side_acts law never_resets.b never_resets.a options.b options.a turns.b turns.a more j.b.fits (are sides.A).fits known.b known.a
     (match_swapped options.a options.b (noted_past turns.a) (noted_past (turns.b ++ more)) known.matched) performed.b h.b_stands h.to_a h.to_b step in_memory taken in
-    record { to_b = done.receives; to_a = done.sends; a_stands = h.a_stands; b_stands = done.side_stands }
+    record {
+      to_b = done.receives;
+      to_a = done.sends;
+      a_stands = h.a_stands;
+      b_stands = done.side_stands;
+      a_resets = subst (λ (seen : List (Event Emission)). AllSeen seen turns.a) (sym (events_of-append turns.b more)) (seen_more (events_of turns.b) (events_of more) turns.a h.a_resets);
+      b_resets = seen_both (events_of turns.a) turns.b more h.b_resets done.resets;
+    }
 
 acted : Below → (never_resets : Both (ℕ → Bool)) (options : Both Options) (turns : Both (List Transition)) (act : ActContent) (more : List Transition) → AreUsable options → IsHonestAct act → AreInMemory (act ∷ []) → Joined options turns
     → BothKnown never_resets options (side_turns_added (side_of_act act) more turns) → BothPerformed (side_turns_added (side_of_act act) more turns) → BothStand never_resets options turns → NextTurns options turns act more → BothStand never_resets options (side_turns_added (side_of_act act) more turns)
@@ -175,7 +200,7 @@ acted law never_resets options turns (outside_act outside) more are honest in_me
 both_stand : Below → AnswerKeepsAgreement → (never_resets : Both (ℕ → Bool)) (options : Both Options) (run : List PerformedAct) → AreUsable options → SocketRun options run → AreHonest (acts_of run) → AreFresh (turns_after run) → AreInMemory (acts_of run)
     → BothKnown never_resets options (turns_after run)
     → BothStand never_resets options (turns_after run)
-both_stand law answers never_resets options [] are runs honest fresh in_memory known = record { to_b = ends_begin never_resets.a options.a options.b; to_a = ends_begin never_resets.b options.b options.a; a_stands = fresh_stands options.a; b_stands = fresh_stands options.b }
+both_stand law answers never_resets options [] are runs honest fresh in_memory known = record { to_b = ends_begin never_resets.a options.a options.b; to_a = ends_begin never_resets.b options.b options.a; a_stands = fresh_stands options.a; b_stands = fresh_stands options.b; a_resets = tt; b_resets = tt }
 both_stand law answers never_resets options (worked ∷ earlier) are runs honest fresh in_memory known =
     let before : BothKnown never_resets options (turns_after earlier) = both_front never_resets options (turns_after earlier) (side_of_act worked.act) worked.turns known in
     acted law never_resets options (turns_after earlier) worked.act worked.turns are honest.0 (in_memory.0, tt) (joined law options earlier are runs.1 honest.1) known
@@ -408,8 +433,35 @@ module _ (never_resets : ℕ → Bool) (mine theirs : Options) (turns others : L
       is_on reliable_kept (IsReliable mine turns) (queued_of mine turns) sent_all (read_under tag theirs others) sent_same (reliable_so never)
       (by_key (DeliveredOn reliable_kept (queued_of mine turns)) tag (nothing_on reliable_kept (queued_of mine turns) [] refl) (λ key both' their_link held own. these_of tag key both' their_link held own reliable_kept kept_so only))
 
-pub sockets_deliver : DeliveryLaws → SocketsDeliver
-sockets_deliver law options run are in_memory runs honest fresh allows side =
+  one_complete : ((stream : ℕ) → resets_none turns stream ≡ true → never_resets stream ≡ true) → HasOneTag (noted_past turns) → (through : AreThrough (endpoint_after mine turns) (endpoint_after theirs others))
+      → IsDeliveredAllOn (IsReliable mine turns) sent_all (read_under through.theirs.my.tag theirs others)
+  one_complete never only through =
+      is_all_on reliable_kept (IsReliable mine turns) (queued_of mine turns) sent_all (read_under through.theirs.my.tag theirs others) sent_same (reliable_so never)
+      (subst (DeliveredAllOn reliable_kept (queued_of mine turns)) (sym same) all)
+    where
+      link_held : HasEffect (holds through.link) (noted_past turns)
+      link_held = h.between.mine through.link through.linked
+
+      their_held : HasEffect (holds through.theirs) (noted_past others)
+      their_held =
+          let c = h.between.receiver.current through.transfer through.there in
+          let both : Some c.link ≡ Some through.theirs = sym c.linked ∙ through.theirs_linked in
+          let one : c.link ≡ through.theirs = cc in
+          subst (λ (l : AssociationIdentity). HasEffect (holds l) (noted_past others)) one c.held
+
+      same : read_under through.theirs.my.tag theirs others ≡ with_key through.link.my.tag (reading_of theirs others).reads
+      same =
+          read_of_both theirs h.ends (endpoint_after mine turns) (queued_of mine turns) (noted_past turns) (packets_of turns) (endpoint_after theirs others) (noted_past others) (reading_of theirs others) h.between
+          (peers_differ mine (noted_past others) (noted_past turns) each) (peers_differ theirs (noted_past turns) (noted_past others) their_each) through.link.my.tag through.theirs.my.tag
+          (record { link = through.link; held = link_held; tag_is = refl; peer_is = sym through.crossing }) through.theirs their_held through.one refl
+
+      all : DeliveredAllOn reliable_kept (queued_of mine turns) (with_key through.link.my.tag (reading_of theirs others).reads)
+      all =
+          ends_arrive theirs h.ends (endpoint_after mine turns) (queued_of mine turns) (noted_past turns) (packets_of turns) (endpoint_after theirs others) (noted_past others) (reading_of theirs others) h.between
+          (few_queued mine turns little) few_went window reliable_kept kept_so through (λ link has. only link through.link has link_held)
+
+pub sockets_deliver : DeliveryLaws → SocketsTellEffects → SocketsDeliver
+sockets_deliver law told options run are in_memory runs honest fresh allows side =
     both_deliver (both_stand law.below law.answers (both_resets_none turns) options run are runs honest fresh in_memory known) side
   where
     turns : Both (List Transition)
@@ -429,6 +481,8 @@ sockets_deliver law options run are in_memory runs honest fresh allows side =
           no_gaps = one_without_gaps (resets_none turns.b) options.b options.a turns.b turns.a (allows.little sides.B) (allows.together sides.B) h.to_a (window sides.A) known.b.tags known.a.tags (λ stream is. is);
           by_stream = one_by_stream (resets_none turns.b) options.b options.a turns.b turns.a (allows.little sides.B) (allows.together sides.B) h.to_a (window sides.A) known.b.tags known.a.tags (λ stream is. is);
           on_streams = one_on_streams (resets_none turns.b) options.b options.a turns.b turns.a (allows.little sides.B) (allows.together sides.B) h.to_a (window sides.A) known.b.tags known.a.tags (λ stream is. is);
+          complete = one_complete (resets_none turns.b) options.b options.a turns.b turns.a (allows.little sides.B) (allows.together sides.B) h.to_a (window sides.A) known.b.tags known.a.tags (λ stream is. is);
+          shared_resets = resets_shared (events_of turns.a) turns.b (told options run are runs sides.B) h.b_resets;
         }
     both_deliver h sides.B =
         record {
@@ -437,4 +491,6 @@ sockets_deliver law options run are in_memory runs honest fresh allows side =
           no_gaps = one_without_gaps (resets_none turns.a) options.a options.b turns.a turns.b (allows.little sides.A) (allows.together sides.A) h.to_b (window sides.B) known.a.tags known.b.tags (λ stream is. is);
           by_stream = one_by_stream (resets_none turns.a) options.a options.b turns.a turns.b (allows.little sides.A) (allows.together sides.A) h.to_b (window sides.B) known.a.tags known.b.tags (λ stream is. is);
           on_streams = one_on_streams (resets_none turns.a) options.a options.b turns.a turns.b (allows.little sides.A) (allows.together sides.A) h.to_b (window sides.B) known.a.tags known.b.tags (λ stream is. is);
+          complete = one_complete (resets_none turns.a) options.a options.b turns.a turns.b (allows.little sides.A) (allows.together sides.A) h.to_b (window sides.B) known.a.tags known.b.tags (λ stream is. is);
+          shared_resets = resets_shared (events_of turns.b) turns.a (told options run are runs sides.A) h.a_resets;
         }

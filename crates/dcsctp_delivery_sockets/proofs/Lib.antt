@@ -13,6 +13,7 @@ pub mod Performed
 pub mod Known
 pub mod Stands
 pub mod FewSent
+pub mod Resets
 pub mod Delivery
 pub mod Replaced
 pub mod Opening

@@ -1,4 +1,5 @@
 -- What is known of all associations in one direction outlasts each act of either side.
+use Rattle.std.specs.List.{AllByRecursion}
 use Rattle.std.proofs.Common.{◌≡◌, Bool, ℕ, ◌<◌, ◌^◌, List, [], ◌∷◌, ◌++◌, length, refl, sym, ◌∙◌, ap, arith, subst}
 use Rattle.dcsctp_spec_lemmas.specs.wire.Content.{PacketContent}
 use Rattle.dcsctp_spec_lemmas.specs.wire.Format.{IsPacket}
@@ -7,7 +8,7 @@ use Rattle.dcsctp_spec_lemmas.specs.types.Schedule.{CallContent}
 use Rattle.dcsctp_spec_lemmas.specs.types.Settings.{wire_options}
 use Rattle.dcsctp_spec_lemmas.specs.spec.endpoint.CallTurns.{Transition, AlongTurns, HandleInput, after_all, effects_of, events_of}
 use Rattle.dcsctp_spec_lemmas.specs.spec.endpoint.Endpoint.{Endpoint, fresh_endpoint}
-use Rattle.dcsctp_spec_lemmas.specs.spec.endpoint.Event.{packets_in}
+use Rattle.dcsctp_spec_lemmas.specs.spec.endpoint.Event.{Event, packets_in}
 use Rattle.dcsctp_spec_lemmas.specs.spec.Packet.{packet_in, Emission}
 use Rattle.dcsctp_spec_runs.specs.Past.{Each}
 use Rattle.dcsctp_spec_lemmas.specs.spec.endpoint.UserTurns.{UserTurns}
@@ -20,13 +21,13 @@ use Rattle.dcsctp_theorem_sockets.proofs.Bursts.{packets_in-append}
 use Rattle.dcsctp_delivery_sending.specs.Log.{Message}
 use Rattle.dcsctp_delivery_sending.specs.Places as places
 use Rattle.dcsctp_delivery_turns.specs.Actions.{queued_after}
-use Rattle.dcsctp_delivery_associations.specs.Laws.{AsksLittle, AreEnds}
+use Rattle.dcsctp_delivery_associations.specs.Laws.{AsksLittle, ResetsWereSeen, AreEnds}
 use Rattle.dcsctp_delivery_associations.specs.Reads.{Reading, nothing_read, reading_after}
 use Rattle.dcsctp_delivery_sockets.specs.Acts.{queued_through, AreNewPeers, HearsBack}
 use Rattle.dcsctp_delivery_sockets.specs.Packets.{reading_through, AreNewTags}
 use Rattle.dcsctp_delivery_sockets.specs.UserMessages.{message_sent, messages_sent_in}
 use Rattle.dcsctp_delivery_sockets.specs.Delivery.{IsOfNewTagsBut, MatchOrUnmatched, SendsLittle}
-use Rattle.dcsctp_delivery_sockets.proofs.Acts.{senders_act, receivers_act, receivers_handle}
+use Rattle.dcsctp_delivery_sockets.proofs.Acts.{senders_act, senders_reset, receivers_act, receivers_handle}
 use Rattle.dcsctp_delivery_sockets.proofs.Calls.{NoChunks, AreCalls, call_without}
 use Rattle.dcsctp_delivery_sockets.proofs.OpenFitting.{AllOpenFitting, none_open}
 use Rattle.dcsctp_delivery_sockets.proofs.Early.{AllFound, NoneRestored, StandsSo, AllEcho}
@@ -48,7 +49,7 @@ reading_of options turns = reading_through (fresh_endpoint options) turns nothin
 -- the direction from the one to the other
 abbrev pub Stand : (ℕ → Bool) → Options → Options → List Transition → List Transition → Type 0
 Stand never_resets mine theirs turns others =
-    AreEnds never_resets (packets_of others) theirs (endpoint_after mine turns) (queued_of mine turns) (noted_past turns) (packets_of turns) (endpoint_after theirs others) (noted_past others) (reading_of theirs others)
+    AreEnds never_resets (events_of others) theirs (endpoint_after mine turns) (queued_of mine turns) (noted_past turns) (packets_of turns) (endpoint_after theirs others) (noted_past others) (reading_of theirs others)
 
 queued_more : (e : Endpoint) (turns more : List Transition) (queued : List Message) → queued_through e (turns ++ more) queued ≡ queued_through (after_all e turns) more (queued_through e turns queued)
 queued_more e [] more queued = refl
@@ -71,19 +72,19 @@ few_queued options turns little = (let same = queued_same options turns in let f
 
 -- ---- the sender acts
 
-module _ (never_resets : ℕ → Bool) (heard : List Emission) (theirs : Options) (d : Endpoint) (their_past : List Effect) (reading : Reading) where
+module _ (never_resets : ℕ → Bool) (seen : List (Event Emission)) (theirs : Options) (d : Endpoint) (their_past : List Effect) (reading : Reading) where
   same_sender : (e e' : Endpoint) (queued queued' : List Message) (past past' : List Effect) (packets packets' : List Emission) → e ≡ e' → queued ≡ queued' → past ≡ past' → packets ≡ packets'
-      → AreEnds never_resets heard theirs e queued past packets d their_past reading → AreEnds never_resets heard theirs e' queued' past' packets' d their_past reading
+      → AreEnds never_resets seen theirs e queued past packets d their_past reading → AreEnds never_resets seen theirs e' queued' past' packets' d their_past reading
   same_sender e e' queued queued' past past' packets packets' same_e same_queued same_past same_packets h =
-      subst (λ (x : Endpoint). AreEnds never_resets heard theirs x queued' past' packets' d their_past reading) same_e
-      (subst (λ (x : List Message). AreEnds never_resets heard theirs e x past' packets' d their_past reading) same_queued
-      (subst (λ (x : List Effect). AreEnds never_resets heard theirs e queued x packets' d their_past reading) same_past
-      (subst (λ (x : List Emission). AreEnds never_resets heard theirs e queued past x d their_past reading) same_packets h)))
+      subst (λ (x : Endpoint). AreEnds never_resets seen theirs x queued' past' packets' d their_past reading) same_e
+      (subst (λ (x : List Message). AreEnds never_resets seen theirs e x past' packets' d their_past reading) same_queued
+      (subst (λ (x : List Effect). AreEnds never_resets seen theirs e queued x packets' d their_past reading) same_past
+      (subst (λ (x : List Emission). AreEnds never_resets seen theirs e queued past x d their_past reading) same_packets h)))
 
 pub sender_more : (never_resets : ℕ → Bool) (mine theirs : Options) (turns others more : List Transition) → Stand never_resets mine theirs turns others → SideKnown never_resets mine (noted_past others) (turns ++ more)
     → MatchOrUnmatched mine theirs (noted_past (turns ++ more)) (noted_past others) → StandsSo (endpoint_after mine turns) (noted_past turns) → AllPerformed (noted_past (turns ++ more)) (noted_past others)
     → AllFound (noted_past (turns ++ more)) (noted_past others) → NoneRestored (noted_past (turns ++ more)) → AreCalls more → AllOpenFitting more → AllEcho more
-    → AlongTurns (HearsBack (packets_of others)) (endpoint_after mine turns) more → Stand never_resets mine theirs (turns ++ more) others
+    → AlongTurns (HearsBack (packets_of others)) (endpoint_after mine turns) more → Stand never_resets mine theirs (turns ++ more) others × AllByRecursion (λ turn. ResetsWereSeen (events_of others) turn.outcome) more
 sender_more never_resets mine theirs turns others more h known matched stands performed found restored calls opens makers back =
     let e : Endpoint = endpoint_after mine turns in
     let past : List Effect = noted_past turns in
@@ -95,22 +96,26 @@ sender_more never_resets mine theirs turns others more h known matched stands pe
     (subst (λ (p : List Effect). AllFound p (noted_past others)) (past_more turns more) found) (subst NoneRestored (past_more turns more) restored) in
     let few : length (queued_through e more (queued_of mine turns)) < 2 ^ 64 =
     subst (λ (q : List Message). length q < 2 ^ 64) (queued_more (fresh_endpoint mine) turns more []) (few_queued mine (turns ++ more) known.little) in
-    same_sender never_resets (packets_of others) theirs (endpoint_after theirs others) (noted_past others) (reading_of theirs others) (after_all e more) (endpoint_after mine (turns ++ more)) (queued_through e more (queued_of mine turns)) (queued_of mine (turns ++ more))
-    (after_effects (effects_of more) past) (noted_past (turns ++ more)) (packets_of turns ++ packets_of more) (packets_of (turns ++ more)) (sym (after_all-append (fresh_endpoint mine) turns more))
-    (sym (queued_more (fresh_endpoint mine) turns more [])) (sym (past_more turns more)) (sym (packets_more turns more))
-    (senders_act never_resets (packets_of others) theirs (endpoint_after theirs others) (noted_past others) (reading_of theirs others) more e (queued_of mine turns) past (packets_of turns) h (rest_turns never_resets mine turns more known) (rest_resets never_resets mine turns more known) back new few
-    (subst AsksLittle (packets_more turns more) known.little.requests))
+    let asks : AsksLittle (packets_of turns ++ packets_of more) = subst AsksLittle (packets_more turns more) known.little.requests in (
+      same_sender never_resets (events_of others) theirs (endpoint_after theirs others) (noted_past others) (reading_of theirs others) (after_all e more) (endpoint_after mine (turns ++ more)) (queued_through e more (queued_of mine turns)) (queued_of mine (turns ++ more))
+          (after_effects (effects_of more) past) (noted_past (turns ++ more)) (packets_of turns ++ packets_of more) (packets_of (turns ++ more)) (sym (after_all-append (fresh_endpoint mine) turns more))
+          (sym (queued_more (fresh_endpoint mine) turns more [])) (sym (past_more turns more)) (sym (packets_more turns more))
+          (senders_act never_resets (events_of others) theirs (endpoint_after theirs others) (noted_past others) (reading_of theirs others) more e (queued_of mine turns) past (packets_of turns) h (rest_turns never_resets mine turns more known) (rest_resets never_resets mine turns more known) back new few
+          asks),
+      senders_reset never_resets (events_of others) theirs (endpoint_after theirs others) (noted_past others) (reading_of theirs others) more e (queued_of mine turns) past (packets_of turns) h (rest_turns never_resets mine turns more known) (rest_resets never_resets mine turns more known) back new few
+          asks,
+    )
 
 -- ---- the receiver acts
 
 module _ (never_resets : ℕ → Bool) (theirs : Options) (e : Endpoint) (queued : List Message) (past : List Effect) (packets : List Emission) where
-  same_receiver : (heard heard' : List Emission) (d d' : Endpoint) (their_past their_past' : List Effect) (reading reading' : Reading) → heard ≡ heard' → d ≡ d' → their_past ≡ their_past' → reading ≡ reading'
-      → AreEnds never_resets heard theirs e queued past packets d their_past reading → AreEnds never_resets heard' theirs e queued past packets d' their_past' reading'
-  same_receiver heard heard' d d' their_past their_past' reading reading' same_heard same_d same_past same_reading h =
-      subst (λ (x : List Emission). AreEnds never_resets x theirs e queued past packets d' their_past' reading') same_heard
-      (subst (λ (x : Endpoint). AreEnds never_resets heard theirs e queued past packets x their_past' reading') same_d
-      (subst (λ (x : List Effect). AreEnds never_resets heard theirs e queued past packets d x reading') same_past
-      (subst (λ (x : Reading). AreEnds never_resets heard theirs e queued past packets d their_past x) same_reading h)))
+  same_receiver : (seen seen' : List (Event Emission)) (d d' : Endpoint) (their_past their_past' : List Effect) (reading reading' : Reading) → seen ≡ seen' → d ≡ d' → their_past ≡ their_past' → reading ≡ reading'
+      → AreEnds never_resets seen theirs e queued past packets d their_past reading → AreEnds never_resets seen' theirs e queued past packets d' their_past' reading'
+  same_receiver seen seen' d d' their_past their_past' reading reading' same_seen same_d same_past same_reading h =
+      subst (λ (x : List (Event Emission)). AreEnds never_resets x theirs e queued past packets d' their_past' reading') same_seen
+      (subst (λ (x : Endpoint). AreEnds never_resets seen theirs e queued past packets x their_past' reading') same_d
+      (subst (λ (x : List Effect). AreEnds never_resets seen theirs e queued past packets d x reading') same_past
+      (subst (λ (x : Reading). AreEnds never_resets seen theirs e queued past packets d their_past x) same_reading h)))
 
 module _ (never_resets their_never : ℕ → Bool) (mine theirs : Options) (turns others more : List Transition) (h : Stand never_resets mine theirs turns others) (known : SideKnown their_never theirs (noted_past turns) (others ++ more))
     (each : Each (IsOfNewTagsBut mine (noted_past (others ++ more))) (noted_past turns)) (matched : MatchOrUnmatched theirs mine (noted_past (others ++ more)) (noted_past turns)) (stands : StandsSo (endpoint_after theirs others) (noted_past others))
@@ -124,22 +129,22 @@ module _ (never_resets their_never : ℕ → Bool) (mine theirs : Options) (turn
       (subst (λ (p : List Effect). MatchOrUnmatched theirs mine p (noted_past turns)) same matched)
       (subst (λ (p : List Effect). AllFound p (noted_past turns)) same found) (subst NoneRestored same restored)
 
-  now_stands : AreEnds never_resets (packets_of others ++ packets_of more) theirs (endpoint_after mine turns) (queued_of mine turns) (noted_past turns) (packets_of turns) (after_all (endpoint_after theirs others) more) (after_effects (effects_of more) (noted_past others))
+  now_stands : AreEnds never_resets (events_of others ++ events_of more) theirs (endpoint_after mine turns) (queued_of mine turns) (noted_past turns) (packets_of turns) (after_all (endpoint_after theirs others) more) (after_effects (effects_of more) (noted_past others))
       (reading_through (endpoint_after theirs others) more (reading_of theirs others)) → Stand never_resets mine theirs turns (others ++ more)
   now_stands after =
-      same_receiver never_resets theirs (endpoint_after mine turns) (queued_of mine turns) (noted_past turns) (packets_of turns) (packets_of others ++ packets_of more) (packets_of (others ++ more)) (after_all (endpoint_after theirs others) more) (endpoint_after theirs (others ++ more))
+      same_receiver never_resets theirs (endpoint_after mine turns) (queued_of mine turns) (noted_past turns) (packets_of turns) (events_of others ++ events_of more) (events_of (others ++ more)) (after_all (endpoint_after theirs others) more) (endpoint_after theirs (others ++ more))
       (after_effects (effects_of more) (noted_past others)) (noted_past (others ++ more)) (reading_through (endpoint_after theirs others) more (reading_of theirs others)) (reading_of theirs (others ++ more))
-      (sym (packets_more others more)) (sym (after_all-append (fresh_endpoint theirs) others more)) (sym (past_more others more)) (sym (reading_more (fresh_endpoint theirs) others more nothing_read)) after
+      (sym (events_of-append others more)) (sym (after_all-append (fresh_endpoint theirs) others more)) (sym (past_more others more)) (sym (reading_more (fresh_endpoint theirs) others more nothing_read)) after
 
   pub receiver_calls : (call : CallContent) → UserTurns (endpoint_after theirs others) call more → AreCalls more → Stand never_resets mine theirs turns (others ++ more)
   receiver_calls call taken calls =
       let none : NoChunks more = call_without (endpoint_after theirs others) call more taken in
-      now_stands (receivers_act never_resets theirs (endpoint_after mine turns) (queued_of mine turns) (noted_past turns) (packets_of turns) (few_queued mine turns little) little.requests more (packets_of others) (endpoint_after theirs others) (noted_past others)
+      now_stands (receivers_act never_resets theirs (endpoint_after mine turns) (queued_of mine turns) (noted_past turns) (packets_of turns) (few_queued mine turns little) little.requests more (events_of others) (endpoint_after theirs others) (noted_past others)
       (reading_of theirs others) h none (rest_turns their_never theirs others more known) calls (their_tags calls (none_open more none)))
 
   pub receiver_handles : (bytes : List ℕ) (emission : Emission) → places.HasEntry emission (packets_of turns) → GoodPacket emission
       → ((packet : PacketContent) → IsPacket (wire_options (endpoint_after theirs others).options) packet bytes → packet_in packet ≡ emission.packet) → HandleInput (endpoint_after theirs others) bytes more → AreCalls more → AllOpenFitting more
       → Stand never_resets mine theirs turns (others ++ more)
   receiver_handles bytes emission has good is taken calls opens =
-      now_stands (receivers_handle never_resets theirs (endpoint_after mine turns) (queued_of mine turns) (noted_past turns) (packets_of turns) (few_queued mine turns little) little.requests (packets_of others) (endpoint_after theirs others) (noted_past others)
+      now_stands (receivers_handle never_resets theirs (endpoint_after mine turns) (queued_of mine turns) (noted_past turns) (packets_of turns) (few_queued mine turns little) little.requests (events_of others) (endpoint_after theirs others) (noted_past others)
       (reading_of theirs others) emission bytes more h has good.goes is (their_tags calls opens) taken)

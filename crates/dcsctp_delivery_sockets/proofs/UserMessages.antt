@@ -24,8 +24,9 @@ use Rattle.dcsctp_delivery_sending.specs.Queueing.{has_limits}
 use Rattle.dcsctp_delivery_associations.proofs.InOrder.{MarkAt, below_at, unlimited_of, unlimited_on_of}
 use Rattle.std.specs.List.{AllByRecursion}
 use Rattle.dcsctp_delivery_order.specs.Queue.{IsOrderedOn, ComeInOrder}
+use Rattle.dcsctp_delivery_order.specs.Complete.{DeliveredAllOn}
 use Rattle.dcsctp_delivery_order.specs.Streams.{DeliveredByStream, DeliveredOn}
-use Rattle.dcsctp_delivery_sockets.specs.Ordered.{IsOrderedAt, RiseOn, IsDeliveredInOrder, IsDeliveredWithoutGaps, IsDeliveredByStream, IsDeliveredOn}
+use Rattle.dcsctp_delivery_sockets.specs.Ordered.{IsOrderedAt, RiseOn, IsDeliveredInOrder, IsDeliveredWithoutGaps, IsDeliveredByStream, IsDeliveredOn, IsDeliveredAllOn}
 use Rattle.dcsctp_delivery_sockets.specs.UserMessages.{accepted_where, accepted_as, sent_as, all_sent_as, message_sent, first_readable, read_in, read_of, WereSent, IsDelivered}
 
 -- ---- lists
@@ -180,7 +181,7 @@ module _ (queued : List Message) (sent : List Sending) (h : SaysSame (λ sending
   same_sending : {one two : Sending} → Some one ≡ Some two → one ≡ two
   same_sending is = cc
 
-  ordered_on : (p : ℕ) → IsOrderedAt sent stream p → IsOrderedOn queued stream p
+  pub ordered_on : (p : ℕ) → IsOrderedAt sent stream p → IsOrderedOn queued stream p
   ordered_on p on =
       let m : MarkAt queued p = below_at p queued (let below = found_below sent p on.sending on.at in let size = h.size in omega (arith, below, size)) in
       let one = h.at p m.mark m.at in
@@ -239,7 +240,7 @@ is_by_stream never_resets reliable queued sent read same which d =
           );
     }
 
-pub is_on : (never_resets : ℕ → Bool) (streams : ℕ → Type 0) (queued : List Message) (sent : List Sending) (read : List MessageContent) → SaysSame (λ sending. sending) queued sent
+abbrev pub is_on : (never_resets : ℕ → Bool) (streams : ℕ → Type 0) (queued : List Message) (sent : List Sending) (read : List MessageContent) → SaysSame (λ sending. sending) queued sent
     → ((stream : ℕ) → streams stream → never_resets stream ≡ true) → DeliveredOn never_resets queued read → IsDeliveredOn streams sent read
 is_on never_resets streams queued sent read same which d =
     record {
@@ -248,6 +249,14 @@ is_on never_resets streams queued sent read same which d =
       once = d.delivered.once;
       in_order = λ stream is. rise_on queued sent same stream d.delivered.places (d.in_order stream (which stream is));
       no_gap = λ stream is earlier later has on on' before. d.no_gap stream (which stream is) earlier later has (ordered_on queued sent same stream later on) (ordered_on queued sent same stream earlier on') before;
+    }
+
+pub is_all_on : (never_resets : ℕ → Bool) (streams : ℕ → Type 0) (queued : List Message) (sent : List Sending) (read : List MessageContent) → SaysSame (λ sending. sending) queued sent
+    → ((stream : ℕ) → streams stream → never_resets stream ≡ true) → DeliveredAllOn never_resets queued read → IsDeliveredAllOn streams sent read
+is_all_on never_resets streams queued sent read same which d =
+    record {
+      on = is_on never_resets streams queued sent read same which d.on;
+      all = λ stream is place on. d.all stream (which stream is) place (ordered_on queued sent same stream place on);
     }
 
 -- ---- without limits

@@ -8,7 +8,7 @@ use Rattle.dcsctp_spec_lemmas.specs.types.Schedule.{CallContent}
 use Rattle.dcsctp_spec_lemmas.specs.types.Settings.{wire_options}
 use Rattle.dcsctp_spec_lemmas.specs.spec.endpoint.CallTurns.{Transition, AlongTurns, HandleInput, after_all, effects_of, events_of}
 use Rattle.dcsctp_spec_lemmas.specs.spec.endpoint.Endpoint.{Endpoint}
-use Rattle.dcsctp_spec_lemmas.specs.spec.endpoint.Event.{packets_in}
+use Rattle.dcsctp_spec_lemmas.specs.spec.endpoint.Event.{Event, packets_in}
 use Rattle.dcsctp_spec_lemmas.specs.spec.Packet.{packet_in, Emission}
 use Rattle.dcsctp_spec_lemmas.specs.spec.endpoint.UserTurns.{UserTurns}
 use Rattle.dcsctp_spec_lemmas.specs.spec.endpoint.Turn.{Turn}
@@ -18,7 +18,7 @@ use Rattle.dcsctp_delivery_sending.specs.Log.{Message}
 use Rattle.dcsctp_delivery_sending.specs.Places as places
 use Rattle.dcsctp_delivery_turns.specs.Actions.{came_by, queued_after, IsOpening, Begun, IsCall}
 use Rattle.dcsctp_delivery_associations.specs.Answered.{AreAnswered}
-use Rattle.dcsctp_delivery_associations.specs.Ends.{Ends, NewPeer, TakesOver, AreHeard, CameBack, Between}
+use Rattle.dcsctp_delivery_associations.specs.Ends.{Ends, NewPeer, TakesOver, AreSeen, CameBack, Between}
 use Rattle.dcsctp_delivery_turns.specs.Runs.{RefusesNone}
 use Rattle.dcsctp_delivery_associations.specs.Laws.{CompletesPerformed, AsksLittle, ResetsAs, AreEnds}
 use Rattle.dcsctp_delivery_associations.specs.Reads.{Reading}
@@ -59,25 +59,25 @@ HearsBack heard e turn = (link : AssociationIdentity) → identity_in e.core ≡
 -- Turns of the sender leave what is known of all associations.
 abbrev pub SendersAct : Type 0
 SendersAct =
-    (heard : List Emission) (options : Options) (ends : Ends) (e : Endpoint) (queued : List Message) (past : List Effect) (packets : List Emission) (other : Endpoint) (their_past : List Effect) (reading : Reading) (turns : List Transition)
-    → Between options ends e queued past packets other their_past reading → AreAnswered ends e past other their_past → AreHeard ends.gets their_past heard → AreTurns e turns
-    → AlongTurns (ResetsIn ends.never_resets) e turns → AlongTurns (HearsBack heard) e turns → AreNewPeers past their_past e turns → length (queued_through e turns queued) < 2 ^ 64
+    (seen : List (Event Emission)) (options : Options) (ends : Ends) (e : Endpoint) (queued : List Message) (past : List Effect) (packets : List Emission) (other : Endpoint) (their_past : List Effect) (reading : Reading) (turns : List Transition)
+    → Between options ends e queued past packets other their_past reading → AreAnswered ends e past other their_past → AreSeen ends other their_past seen → AreTurns e turns
+    → AlongTurns (ResetsIn ends.never_resets) e turns → AlongTurns (HearsBack (packets_in seen)) e turns → AreNewPeers past their_past e turns → length (queued_through e turns queued) < 2 ^ 64
     → AsksLittle (packets ++ packets_in (events_of turns))
-    → AreEnds ends.never_resets heard options (after_all e turns) (queued_through e turns queued) (after_effects (effects_of turns) past) (packets ++ packets_in (events_of turns)) other their_past reading
+    → AreEnds ends.never_resets seen options (after_all e turns) (queued_through e turns queued) (after_effects (effects_of turns) past) (packets ++ packets_in (events_of turns)) other their_past reading
 
 -- So does a call at the receiver,
 abbrev pub ReceiversCall : Type 0
 ReceiversCall =
-    (heard : List Emission) (options : Options) (ends : Ends) (e : Endpoint) (queued : List Message) (past : List Effect) (packets : List Emission) (other : Endpoint) (their_past : List Effect) (reading : Reading) (call : CallContent) (turns : List Transition)
-    → Between options ends e queued past packets other their_past reading → AreAnswered ends e past other their_past → AreHeard ends.gets their_past heard → length queued < 2 ^ 64 → AsksLittle packets → UserTurns other call turns → AreTurns other turns
+    (seen : List (Event Emission)) (options : Options) (ends : Ends) (e : Endpoint) (queued : List Message) (past : List Effect) (packets : List Emission) (other : Endpoint) (their_past : List Effect) (reading : Reading) (call : CallContent) (turns : List Transition)
+    → Between options ends e queued past packets other their_past reading → AreAnswered ends e past other their_past → AreSeen ends other their_past seen → length queued < 2 ^ 64 → AsksLittle packets → UserTurns other call turns → AreTurns other turns
     → AllByRecursion (λ turn. IsCall turn.input) turns → AreNewTags options their_past past other turns
-    → AreEnds ends.never_resets (heard ++ packets_in (events_of turns)) options e queued past packets (after_all other turns) (after_effects (effects_of turns) their_past) (reading_through other turns reading)
+    → AreEnds ends.never_resets (seen ++ events_of turns) options e queued past packets (after_all other turns) (after_effects (effects_of turns) their_past) (reading_through other turns reading)
 
 -- and so do bytes that are handed to it, if they are those of a packet that was sent.
 abbrev pub ReceiversHandle : Type 0
 ReceiversHandle =
-    (heard : List Emission) (options : Options) (ends : Ends) (e : Endpoint) (queued : List Message) (past : List Effect) (packets : List Emission) (other : Endpoint) (their_past : List Effect) (reading : Reading) (emission : Emission)
-    (bytes : List ℕ) (turns : List Transition) → Between options ends e queued past packets other their_past reading → AreAnswered ends e past other their_past → AreHeard ends.gets their_past heard → length queued < 2 ^ 64 → AsksLittle packets
+    (seen : List (Event Emission)) (options : Options) (ends : Ends) (e : Endpoint) (queued : List Message) (past : List Effect) (packets : List Emission) (other : Endpoint) (their_past : List Effect) (reading : Reading) (emission : Emission)
+    (bytes : List ℕ) (turns : List Transition) → Between options ends e queued past packets other their_past reading → AreAnswered ends e past other their_past → AreSeen ends other their_past seen → length queued < 2 ^ 64 → AsksLittle packets
     → places.HasEntry emission packets → GoesToMaker emission → ((packet : PacketContent) → IsPacket (wire_options other.options) packet bytes → packet_in packet ≡ emission.packet)
     → AreNewTags options their_past past other turns → HandleInput other bytes turns
-    → AreEnds ends.never_resets (heard ++ packets_in (events_of turns)) options e queued past packets (after_all other turns) (after_effects (effects_of turns) their_past) (reading_through other turns reading)
+    → AreEnds ends.never_resets (seen ++ events_of turns) options e queued past packets (after_all other turns) (after_effects (effects_of turns) their_past) (reading_through other turns reading)

@@ -1,15 +1,17 @@
 -- What a user reads is what its peer's user sent, over every list of honest acts of two sockets,
 -- with interleaving or without.
-use Rattle.std.specs.Prelude.{◌≡◌, ◌≢◌, ◌⊎◌, ◌<◌, ◌-◌, ◌^◌, ℕ, List, length, true, Some, ◌+◌}
+use Rattle.std.specs.Prelude.{◌≡◌, ◌≢◌, ◌⊎◌, ◌<◌, ◌-◌, ◌^◌, ℕ, List, length, map, true, Some, ◌+◌}
 use Rattle.std.specs.List.{AllByRecursion}
 use Rattle.dcsctp_spec_lemmas.specs.types.declared.options.Options.{Options}
 use Rattle.dcsctp_spec_lemmas.specs.types.declared.schedule.Side.{Side}
 use Rattle.dcsctp_spec_lemmas.specs.types.Schedule.{CallContent, set_call, send_call, send_many_call, reset_call, StepContent, call_step, ActContent, step_act, AreHonest}
 use Rattle.dcsctp_spec_lemmas.specs.spec.endpoint.CallTurns.{Transition, AlongTurns, events_of}
 use Rattle.dcsctp_spec_lemmas.specs.spec.endpoint.Endpoint.{Endpoint, fresh_endpoint}
-use Rattle.dcsctp_spec_lemmas.specs.spec.endpoint.Event.{packets_in}
+use Rattle.dcsctp_spec_lemmas.specs.spec.endpoint.Event.{streams_reset_performed, incoming_stream_reset, packets_in}
+use Rattle.dcsctp_spec_lemmas.specs.spec.endpoint.BegunResets.{stream_field}
+use Rattle.dcsctp_delivery_sending.specs.Places.{HasEntry}
 use Rattle.dcsctp_spec_runs.specs.Past.{HasEffect, Each, current}
-use Rattle.dcsctp_spec_runs.specs.Sockets.{PerformedAct, Both, of_side, of_other, turns_after, SocketRun, acts_of}
+use Rattle.dcsctp_spec_runs.specs.Sockets.{PerformedAct, Both, of_side, of_other, turns_after, endpoint_after, SocketRun, acts_of}
 use Rattle.dcsctp_spec_lemmas.specs.spec.association.Effect.{AssociationIdentity, Effect, holds}
 use Rattle.dcsctp_spec_lemmas.specs.types.queues.Messages.{MessageContent}
 use Rattle.dcsctp_theorem_sockets.specs.Agreement.{AreUsable, AreFresh, noted_past}
@@ -17,8 +19,8 @@ use Rattle.dcsctp_delivery_sending.specs.ChunkCounts.{chunks_to}
 use Rattle.dcsctp_delivery_sending.specs.Queueing.{SettingFits}
 use Rattle.dcsctp_delivery_directions.specs.Requests.{requests_to}
 use Rattle.dcsctp_delivery_turns.specs.Runs.{RefusesNone}
-use Rattle.dcsctp_delivery_associations.specs.InOrder.{Interleaves}
-use Rattle.dcsctp_delivery_sockets.specs.Ordered.{HasOneTag, IsDeliveredOn, AllowsOrder, AllowsNoGaps, IsDeliveredInOrder, IsDeliveredWithoutGaps, IsReliable, IsDeliveredByStream, read_under}
+use Rattle.dcsctp_delivery_associations.specs.InOrder.{Interleaves, AreThrough}
+use Rattle.dcsctp_delivery_sockets.specs.Ordered.{HasOneTag, IsDeliveredOn, AllowsOrder, AllowsNoGaps, IsDeliveredInOrder, IsDeliveredWithoutGaps, IsReliable, IsDeliveredByStream, IsDeliveredAllOn, read_under}
 use Rattle.dcsctp_delivery_sockets.specs.UserMessages.{messages_sent_in, sendings_in, read_of, IsDelivered}
 
 -- ---- messages and streams in memory
@@ -136,6 +138,13 @@ IsUnrefused e turn = RefusesNone e turn.outcome
 abbrev pub NoneRefused : Both Options → Both (List Transition) → Type 0
 NoneRefused options turns = (side : Side) → AlongTurns IsUnrefused (fresh_endpoint (of_side side options)) (of_side side turns)
 
+-- ---- resets of streams
+
+-- Of each reset of streams that the one user was told is performed, the other user was told: it names the same streams, each as a
+-- field of 16 bits has it.
+abbrev pub SharesResets : List Transition → List Transition → Type 0
+SharesResets turns others = (streams : List ℕ) → HasEntry (streams_reset_performed streams) (events_of turns) → HasEntry (incoming_stream_reset (map stream_field streams)) (events_of others)
+
 -- ---- the theorem
 
 -- All that delivery asks of the turns of a run, beside what agreement asks.
@@ -148,7 +157,9 @@ pub record TurnsAllowDelivery (options : Both Options) (turns : Both (List Trans
 -- What this side's user read is what the other's user sent, and no message was read twice, in any association or after it has
 -- ended. What it read in one association came in the order in which it was sent, stream by stream, where the other side allows
 -- it, and is a prefix of that where the other side allows no gaps. Where the other side had no other own tag, it is a prefix on each
--- reliable stream, whatever happens on other streams. Where messages interleave, other streams come in order besides.
+-- reliable stream, whatever happens on other streams; and it is all, without interleaving, once the other side has nothing left
+-- that waits or isn't acknowledged, and this side no message ready. Where messages interleave, other streams come in order besides. And each
+-- reset of streams that the other side's user was told is performed, this side's user was told of.
 pub record Delivers (options : Both Options) (turns : Both (List Transition)) (side : Side) : Type 0 where
   pub once : IsDelivered (messages_sent_in (fresh_endpoint (of_other side options)) (of_other side turns)) (read_of (fresh_endpoint (of_side side options)) (of_side side turns))
   pub in_order : (tag : ℕ) → AllowsOrder (of_other side options) (of_other side turns) tag
@@ -160,6 +171,10 @@ pub record Delivers (options : Both Options) (turns : Both (List Transition)) (s
       (read_under tag (of_side side options) (of_side side turns))
   pub on_streams : (tag : ℕ) → HasOneTag (noted_past (of_other side turns))
       → IsDeliveredOn (IsReliable (of_other side options) (of_other side turns)) (sendings_in (fresh_endpoint (of_other side options)) (of_other side turns)) (read_under tag (of_side side options) (of_side side turns))
+  pub complete : HasOneTag (noted_past (of_other side turns))
+      → (through : AreThrough (endpoint_after (of_other side options) (of_other side turns)) (endpoint_after (of_side side options) (of_side side turns)))
+      → IsDeliveredAllOn (IsReliable (of_other side options) (of_other side turns)) (sendings_in (fresh_endpoint (of_other side options)) (of_other side turns)) (read_under through.theirs.my.tag (of_side side options) (of_side side turns))
+  pub shared_resets : SharesResets (of_other side turns) (of_side side turns)
 
 -- So it is at the end of a run that is honest, in which no tag was drawn twice, each served one association or two of which the one
 -- took the place of the other, little was sent, and with interleaving no request to reset streams failed.

@@ -64,6 +64,11 @@ pub record IsDeliveredOn (streams : ℕ → Type 0) (sent : List Sending) (read 
   pub in_order : (stream : ℕ) → streams stream → RiseOn sent stream places
   pub no_gap : (stream : ℕ) → streams stream → (earlier later : ℕ) → HasEntry later places → IsOrderedAt sent stream later → IsOrderedAt sent stream earlier → earlier < later → HasEntry earlier places
 
+-- And each ordered message that was sent on them was read.
+pub record IsDeliveredAllOn (streams : ℕ → Type 0) (sent : List Sending) (read : List MessageContent) : Type 0 where
+  pub on : IsDeliveredOn streams sent read
+  pub all : (stream : ℕ) → streams stream → (place : ℕ) → IsOrderedAt sent stream place → HasEntry place on.places
+
 -- the messages that the user of this socket read in these turns in the association with this own tag, or after it had ended
 abbrev pub read_under : ℕ → Options → List Transition → List MessageContent
 read_under tag options turns = with_tag tag (reading_through (fresh_endpoint options) turns nothing_read).reads

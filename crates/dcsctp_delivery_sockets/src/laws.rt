@@ -11,6 +11,7 @@ use dcsctp_spec_runs::{
     packets_are_controlled,
 };
 use dcsctp_theorem_association::effects_mean;
+use dcsctp_theorem_sockets::sockets_tell_effects;
 use dcsctp_wire_laws::built_packet_reads_as_itself;
 
 /// Each COOKIE ECHO that a socket sends goes to the tag that its cookie's maker had drawn, and is the first chunk
@@ -53,7 +54,8 @@ pub fn acts_keep_ends()
 /// in the order in which they were sent, where the sender follows the RFC or has no other own tag, and messages
 /// interleave, across resets of the stream, or no request to reset streams was sent, and no message may be abandoned or
 /// few are ordered. Where the sender has no other own tag, those of a stream that its user never resets, and of which
-/// none may be abandoned, are a prefix of what was sent, whatever happens on other streams.
+/// none may be abandoned, are a prefix of what was sent, whatever happens on other streams. And each reset of streams
+/// that a user is told is performed, the peer's user was told of, with the same streams.
 pub fn sockets_deliver()
     ensures { SocketsDeliver }
 {
@@ -65,4 +67,5 @@ pub fn sockets_deliver()
     offer_reads_back();
     built_packet_reads_as_itself();
     answer_keeps_agreement();
+    sockets_tell_effects();
 }

@@ -1,6 +1,6 @@
 -- Which request of ours ends as performed in a turn.
 use Rattle.dcsctp_spec_lemmas.specs.spec.association.Effect as effects
-use Rattle.std.proofs.Common.{◌≡◌, ◌⊎◌, inl, inr, ℕ, Bool, true, false, cond, Option, None, Some, List, [], ◌∷◌, ◌++◌, refl, sym, ◌∙◌, ap, subst}
+use Rattle.std.proofs.Common.{◌≡◌, ◌⊎◌, inl, inr, ℕ, Bool, true, false, cond, Option, None, Some, List, [], ◌∷◌, ◌++◌, map, refl, sym, ◌∙◌, ap, subst}
 use Rattle.std.proofs.lemmas.Bool.{eqb-true}
 use Rattle.dcsctp_spec_lemmas.specs.wire.declared.reconfiguration.ReconfigurationResponseResult.{ReconfigurationResponseResult}
 use Rattle.dcsctp_spec_lemmas.specs.wire.declared.reconfiguration.ReconfigurationResponseResult.TheVariants.{SuccessNothingToDo, SuccessPerformed, Denied, ErrorWrongSSN, ErrorRequestAlreadyInProgress, ErrorBadSequenceNumber, InProgress}
@@ -10,7 +10,7 @@ use Rattle.dcsctp_spec_lemmas.specs.types.declared.word.Word.{Word}
 use Rattle.dcsctp_spec_lemmas.specs.types.declared.word.Word.TheVariants.{U32}
 use Rattle.dcsctp_spec_lemmas.specs.spec.Reconfiguration.{RequestState, early, due, renewed, ResetParameter, outgoing_reset_request, incoming_reset_request, reconfiguration_response, other_reset_parameter}
 use Rattle.dcsctp_spec_lemmas.specs.spec.Packet.{Introduction, Content, init, init_ack, cookie_echo, cookie_ack, re_config, abort, shutdown, shutdown_ack, shutdown_complete, plain, Emission}
-use Rattle.dcsctp_spec_lemmas.specs.spec.endpoint.Endpoint.{Endpoint, Core, closed, cookie_wait, cookie_echoed, open_in, established, shutdown_pending, shutdown_sent, shutdown_received, shutdown_ack_sent, with_secret, secret_with}
+use Rattle.dcsctp_spec_lemmas.specs.spec.endpoint.Endpoint.{Endpoint, Core, OutstandingRequest, closed, cookie_wait, cookie_echoed, open_in, established, shutdown_pending, shutdown_sent, shutdown_received, shutdown_ack_sent, with_secret, secret_with}
 use Rattle.dcsctp_spec_lemmas.specs.spec.endpoint.Event.{Event}
 use Rattle.dcsctp_spec_lemmas.specs.spec.endpoint.Outcome.{Outcome, quiet, sends, fits, emits, to_peer}
 use Rattle.dcsctp_spec_runs.specs.Past.{HasEffect}
@@ -19,11 +19,12 @@ use Rattle.dcsctp_spec_lemmas.specs.spec.endpoint.Turn.{Input, arrival, refusal,
 use Rattle.dcsctp_spec_lemmas.specs.spec.association.Acts.{Act, shutdown_repeats, flushes}
 use Rattle.dcsctp_spec_lemmas.specs.spec.association.Effect.{Effect, Change, identity_of, identity_in}
 use Rattle.dcsctp_spec_lemmas.specs.spec.association.ResetChanges.{RequestPlace, again, next, astray, request_place, performed_request, repeated, next_request, is_due, outgoing_by, incoming_by, informed_where, is_outstanding, HandledParameters, work_parameters, work_chunk}
-use Rattle.dcsctp_spec_lemmas.specs.spec.endpoint.BegunResets.{BegunReset, begun_effects}
+use Rattle.dcsctp_spec_lemmas.specs.spec.endpoint.BegunResets.{BegunReset, begun_effects, stream_field}
 use Rattle.dcsctp_spec_lemmas.specs.spec.endpoint.FlushOutcomes.{Answer, draft_to, first_ask, packets_allowed}
 use Rattle.dcsctp_spec_lemmas.specs.spec.endpoint.HandshakeOutcomes.{pair_from, renewed_pair, renewed_pair_outcome, init_ack_emission, init_outcome}
 use Rattle.dcsctp_spec_lemmas.specs.spec.endpoint.OwnTimers.{timer_act}
-use Rattle.dcsctp_spec_lemmas.specs.spec.endpoint.ResetOutcomes.{request_state, renewable_left, parameters_handled_in, answered_in, reset_events_of, resets_handled, responses_outcome, responses_by, ResponseAnswers, WorksResets, ResetTurn}
+use Rattle.dcsctp_spec_lemmas.specs.spec.endpoint.ReconfigurationOutcomes.{reset_again}
+use Rattle.dcsctp_spec_lemmas.specs.spec.endpoint.ResetOutcomes.{requested_in, their_streams, own_streams, request_state, renewable_left, parameters_handled_in, answered_in, reset_events_of, resets_handled, responses_outcome, responses_by, ResponseAnswers, WorksResets, ResetTurn}
 use Rattle.dcsctp_spec_lemmas.proofs.ControlEcho.{cookie_echo_controlled}
 use Rattle.dcsctp_spec_lemmas.proofs.ControlHandshake.{init_ack_controlled, cookie_ack_controlled, abort_controlled}
 use Rattle.dcsctp_spec_laws.proofs.ControlLemmas.{begin_stands, acts_are_controlled}
@@ -40,6 +41,7 @@ use Rattle.dcsctp_theorem_sockets.proofs.OneSocket.{noted_happened}
 use Rattle.dcsctp_delivery_turns.specs.Actions.{IsCall}
 use Rattle.dcsctp_delivery_turns.specs.Asking.{own_with, own_of, own_in}
 use Rattle.dcsctp_delivery_turns.specs.Completing.{EndsOwn, CompletesOwn}
+use Rattle.dcsctp_delivery_turns.proofs.Telling.{Told, own_told, sent_tell}
 use Rattle.dcsctp_delivery_turns.proofs.Performed.{outgoing_out, incoming_out}
 use Rattle.dcsctp_spec_lemmas.proofs.EarlyLemmas.{content_by}
 
@@ -181,8 +183,13 @@ module _ (my : Pair) (number : ℕ) where
       let base : Endpoint = (responses_outcome e held responses).after in
       begun_none (begun_by answers) (subst Completed (flush_keeps first_ask (packets_allowed base.options.max_burst base.core) base (draft_to held) answers allowed).effects has)
 
+  -- Its streams are our request's.
+  told_are : (request : Option OutstandingRequest) (streams : List ℕ) → streams ≡ own_streams request → (reset_again request).streams ≡ map stream_field streams
+  told_are None streams is = ap (map stream_field) (sym is)
+  told_are (Some request) streams is = ap (map stream_field) (sym is)
+
   works_ends : (e : Endpoint) (own : Pair) (held : Held) (parameters : List ResetParameter) (o : Outcome) → identity_in e.core ≡ Some (identity_of own held) → own_of e ≡ Some (own_with held e.outstanding)
-      → WorksResets e own held parameters o → Completed o.effects → EndsOwn e my number
+      → WorksResets e own held parameters o → Completed o.effects → EndsOwn e o my number
   works_ends e own held parameters o linked kept turn has =
       let w : HandledParameters = parameters_handled_in e own held parameters in
       let state : RequestState = request_state e held parameters in
@@ -194,9 +201,19 @@ module _ (my : Pair) (number : ℕ) where
         | inl front ↦ chunk_ends own state held parameters front
         | inr behind ↦ absurd (sent_none w.is_refused base (reset_events_of e parameters w.effects) w.held parameters w.answers turn.answers turn.allowed behind)
       ] in
-      record { link = identity_of own held; linked = linked; mine = ends.0; own = own_with held e.outstanding; kept = kept; outstanding = ends.1 }
+      record {
+        link = identity_of own held;
+        linked = linked;
+        mine = ends.0;
+        own = own_with held e.outstanding;
+        kept = kept;
+        outstanding = ends.1;
+        told = λ streams shown. told_are e.outstanding streams
+            (own_told streams (their_streams (requested_in parameters)) (own_streams e.outstanding) w.effects
+            (sent_tell streams w.is_refused base (reset_events_of e parameters w.effects) w.held parameters w.answers turn.answers (subst (λ (x : Outcome). Told streams x.events) turn.is shown)));
+      }
 
-  reset_ends : (e : Endpoint) (core : Core) (parameters : List ResetParameter) (o : Outcome) → e.core ≡ core → ResetTurn e core parameters o → Completed o.effects → EndsOwn e my number
+  reset_ends : (e : Endpoint) (core : Core) (parameters : List ResetParameter) (o : Outcome) → e.core ≡ core → ResetTurn e core parameters o → Completed o.effects → EndsOwn e o my number
   reset_ends e closed parameters o same turn has = absurd (subst (λ (x : Outcome). Completed x.effects) turn has)
   reset_ends e (cookie_wait own) parameters o same turn has = absurd (subst (λ (x : Outcome). Completed x.effects) turn has)
   reset_ends e (cookie_echoed own held cookie) parameters o same turn has =
@@ -241,7 +258,7 @@ module _ (my : Pair) (number : ℕ) where
   init_none e theirs (open_in shutdown_received own held) word later has = renewed_none e theirs word has
   init_none e theirs (open_in shutdown_ack_sent own held) word later has = emits_none e [] (to_peer held shutdown_ack) has
 
-  content_ends : (e : Endpoint) (tag : ℕ) (content : Content) (o : Outcome) → ContentTurn e tag content o → Completed o.effects → EndsOwn e my number
+  content_ends : (e : Endpoint) (tag : ℕ) (content : Content) (o : Outcome) → ContentTurn e tag content o → Completed o.effects → EndsOwn e o my number
   content_ends e tag (init theirs) o turn has =
       absurd (same_none o _ turn.2
       (init_by (λ (x : Outcome). Completed x.effects → ⊥) e theirs turn.0 turn.1 (λ none. none) (init_none e theirs e.core turn.0 turn.1)) has)
@@ -256,7 +273,7 @@ module _ (my : Pair) (number : ℕ) where
   content_ends e tag (shutdown_complete reflected) o turn has = absurd (by_chunk e tag (shutdown_complete reflected) o (shutdown_complete_controlled e tag reflected o turn) has)
   content_ends e tag (plain chunk) o turn has = absurd (by_chunk e tag (plain chunk) o (plain_controlled e tag chunk o turn) has)
 
-  turn_ends : (e : Endpoint) (input : Input) (o : Outcome) → IsCall input → Turn e input o → Completed o.effects → EndsOwn e my number
+  turn_ends : (e : Endpoint) (input : Input) (o : Outcome) → IsCall input → Turn e input o → Completed o.effects → EndsOwn e o my number
   turn_ends e arrival o may turn has = absurd (same_none o _ turn (λ h. h) has)
   turn_ends e (refusal text) o may turn has = absurd (same_none o _ turn (λ h. h) has)
   turn_ends e (packet_begins contents) o may turn has =

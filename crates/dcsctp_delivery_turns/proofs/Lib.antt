@@ -29,6 +29,7 @@ pub mod EchoedStays
 pub mod Connecting
 pub mod Keeping
 pub mod Runs
+pub mod Telling
 pub mod Completing
 pub mod Holding
 pub mod Waiting
@@ -39,6 +40,7 @@ pub mod UnaskedTurns
 pub mod PeerRequests
 pub mod AskedResets
 pub mod PeersTurns
+pub mod ToldResets
 pub mod ResetInputs
 pub mod IdleFlush
 pub mod UnbegunOn

@@ -1,6 +1,7 @@
 -- The turn of a RE-CONFIG, as what it does with the peer's requests to reset streams (RFC 6525,
 -- section 5.2.2).
-use Rattle.std.proofs.Common.{◌≡◌, ℕ, Bool, true, false, cond, Option, None, Some, List, [], ◌∷◌, ◌++◌, refl, sym, ◌∙◌, subst, ap}
+use Rattle.dcsctp_spec_lemmas.specs.spec.association.Effect as effects
+use Rattle.std.proofs.Common.{◌≡◌, inl, ℕ, Bool, true, false, cond, Option, None, Some, List, [], ◌∷◌, ◌++◌, refl, sym, ◌∙◌, subst, ap}
 use Rattle.dcsctp_spec_lemmas.specs.wire.declared.reconfiguration.ReconfigurationResponseResult.{ReconfigurationResponseResult}
 use Rattle.dcsctp_spec_lemmas.specs.wire.declared.reconfiguration.ReconfigurationResponseResult.TheVariants.{SuccessNothingToDo, SuccessPerformed, Denied, ErrorWrongSSN, ErrorRequestAlreadyInProgress, ErrorBadSequenceNumber, InProgress}
 use Rattle.dcsctp_spec_lemmas.specs.types.declared.association.Held.{Held}
@@ -15,13 +16,13 @@ use Rattle.dcsctp_spec_lemmas.specs.spec.association.ResetChanges.{informed_wher
 use Rattle.dcsctp_spec_lemmas.specs.spec.queues.Transfer.{Transfer}
 use Rattle.dcsctp_spec_lemmas.specs.spec.endpoint.BegunResets.{BegunReset, begun_effects}
 use Rattle.dcsctp_spec_lemmas.specs.spec.endpoint.FlushOutcomes.{Answer, draft_to, flush_of, first_ask, packets_allowed}
-use Rattle.dcsctp_spec_lemmas.specs.spec.endpoint.ResetOutcomes.{requested_in, request_state, renewable_left, parameters_handled_in, has_reset, answers_in_progress, ResetsInQueues, defers_reset, answered_in, resets_handled, reset_events_of, responses_outcome, responses_by, ResponseAnswers, WorksResets}
+use Rattle.dcsctp_spec_lemmas.specs.spec.endpoint.ResetOutcomes.{requested_in, request_state, renewable_after, renewable_left, parameters_handled_in, has_reset, answers_in_progress, ResetsInQueues, defers_reset, answered_in, resets_handled, reset_events_of, responses_outcome, responses_by, ResponseAnswers, WorksResets}
 use Rattle.dcsctp_spec_lemmas.proofs.FlushKeeps.{begun_by, flush_keeps}
 use Rattle.dcsctp_spec_lemmas.proofs.OneAnswerLemmas.{answered_by}
 use Rattle.dcsctp_delivery_sending.specs.Flushes.{NoRequests}
 use Rattle.dcsctp_delivery_turns.specs.PeerRequests.{NoneAsked}
 use Rattle.dcsctp_delivery_turns.proofs.Received.{Left, alike, flush_left}
-use Rattle.dcsctp_delivery_turns.proofs.Waiting.{unasked_append, begun_unasked, StillWaits, all_wait, wait_then, AsksNothing, emitted, flushed}
+use Rattle.dcsctp_delivery_turns.proofs.Waiting.{flush_renewable, unasked_append, begun_unasked, StillWaits, all_wait, wait_then, AsksNothing, emitted, flushed}
 
 -- ---- what comes after its effects
 
@@ -45,6 +46,31 @@ sent_waits true e told held parameters responses answers allowed = all_wait e.qu
 sent_waits false e told held parameters responses answers allowed =
     let base : Endpoint = (responses_outcome e held responses).after in
     wait_then e.queues.transfer base.queues.transfer (flush_of base (draft_to held) answers).after.queues.transfer (answered_waits e held responses) (flushed base (draft_to held) answers allowed).waits
+
+-- Nothing of it changes what is renewable.
+sent_renewable : (refused : Bool) (e : Endpoint) (told : List (Event Emission)) (held : Held) (parameters responses : List ResetParameter) (answers : List Answer) → ResponseAnswers refused e held responses answers
+    → (responses_by refused e told held parameters responses answers).after.renewable ≡ e.renewable
+sent_renewable true e told held parameters responses answers allowed = refl
+sent_renewable false e told held parameters responses answers allowed =
+    let base : Endpoint = (responses_outcome e held responses).after in
+    flush_renewable first_ask (packets_allowed base.options.max_burst base.core) base (draft_to held) answers allowed ∙ answered_renewable e held responses
+  where
+    packet_renewable : (b : Bool) (x : Endpoint) (emission : Emission) → (cond b (sends x [] [] emission) (quiet x [] [])).after.renewable ≡ x.renewable
+    packet_renewable true x emission = refl
+    packet_renewable false x emission = refl
+
+    answered_renewable : (x : Endpoint) (held : Held) (responses : List ResetParameter) → (responses_outcome x held responses).after.renewable ≡ x.renewable
+    answered_renewable x held [] = refl
+    answered_renewable x held (response ∷ responses) =
+        let emission : Emission = to_peer held (re_config (response ∷ responses)) in
+        answered_by (λ (o : Outcome). o.after.renewable ≡ x.renewable) x emission refl (packet_renewable (fits x emission) x emission)
+
+pub works_renewable : (e : Endpoint) (my : Pair) (held : Held) (parameters : List ResetParameter) (o : Outcome) → WorksResets e my held parameters o
+    → o.after.renewable ≡ renewable_left e held (parameters_handled_in e my held parameters) parameters
+works_renewable e my held parameters o turn =
+    let w : HandledParameters = parameters_handled_in e my held parameters in
+    let base : Endpoint = resets_handled e (answered_in held w parameters) w.held turn.left (renewable_left e held w parameters) in
+    ap (λ (x : Outcome). x.after.renewable) turn.is ∙ sent_renewable w.is_refused base (reset_events_of e parameters w.effects) w.held parameters w.answers turn.answers turn.allowed
 
 -- What it leaves: effects with these in front, and what waits from here on.
 pub record Works (e : Endpoint) (w : HandledParameters) (reset : Option RequestedReset) (o : Outcome) : Type 0 where
@@ -107,16 +133,27 @@ none_below true in_progress old new below = below
 none_below false true old new below = below
 none_below false false old new below = below
 
-pub answers_ask : (e : Endpoint) (my : Pair) (held : Held) (parameters : List ResetParameter) (o : Outcome) → NoRequests parameters → WorksResets e my held parameters o → AsksNothing e.queues.transfer o
+-- Without a request none is performed.
+unasked_reset : (happened : List Effect) → NoneAsked happened → has_reset happened ≡ false
+unasked_reset [] none = refl
+unasked_reset (effects.performs peer number ∷ happened) none = absurd none
+unasked_reset (effects.renews peer number ∷ happened) none = absurd none
+unasked_reset (effects.accepts number ∷ happened) none = absurd none
+unasked_reset (effects.resumes link own last ∷ happened) none = absurd none
+unasked_reset (effect ∷ happened) none = unasked_reset happened none
+
+pub answers_ask : (e : Endpoint) (my : Pair) (held : Held) (parameters : List ResetParameter) (o : Outcome) → NoRequests parameters → WorksResets e my held parameters o → AsksNothing e.queues.transfer e.renewable o
 answers_ask e my held parameters o none turn =
     let w : HandledParameters = parameters_handled_in e my held parameters in
     let works = works_of e my held parameters o turn in
     let same : works.left ≡ e.queues.transfer =
     none_below (has_reset w.effects) (answers_in_progress w.answers) e.queues.transfer works.left
     (subst (λ (r : Option RequestedReset). ResetsInQueues (has_reset w.effects) (answers_in_progress w.answers) r e.queues.transfer works.left) (none_requested parameters none) works.below) in
+    let unasked : NoneAsked w.effects = chunk_unasked my (request_state e held parameters) held parameters none in
     record {
-      none = subst NoneAsked (sym works.is) (unasked_append w.effects (begun_effects works.begun) (chunk_unasked my (request_state e held parameters) held parameters none) (begun_unasked works.begun));
+      none = subst NoneAsked (sym works.is) (unasked_append w.effects (begun_effects works.begun) unasked (begun_unasked works.begun));
       waits = subst (λ (l : Option Transfer). StillWaits l o.after.queues.transfer) same works.waits;
+      renews = inl (works_renewable e my held parameters o turn ∙ ap (renewable_after e held.peer_last parameters) (unasked_reset w.effects unasked));
     }
 
 -- ---- where an association ends

@@ -23,7 +23,7 @@ use Rattle.dcsctp_spec_lemmas.proofs.EarlyLemmas.{content_by}
 -- ---- what is handled
 
 -- Is a RE-CONFIG handled?
-data Handles (input : Input) : Type 0 where
+pub data Handles (input : Input) : Type 0 where
   calmly : IsCalm (came_by input) → Handles input
   handles : (tag : ℕ) (parameters : List ResetParameter) → input ≡ chunk_input tag (re_config parameters) → Handles input
 
@@ -39,7 +39,7 @@ content_handles tag shutdown_ack = calmly (λ parameters is. absurd (cc))
 content_handles tag (shutdown_complete reflected) = calmly (λ parameters is. absurd (cc))
 content_handles tag (plain chunk) = calmly (λ parameters is. absurd (cc))
 
-input_handles : (input : Input) → Handles input
+pub input_handles : (input : Input) → Handles input
 input_handles (chunk_input tag content) = content_handles tag content
 input_handles arrival = calmly (λ parameters is. absurd (cc))
 input_handles (refusal text) = calmly (λ parameters is. absurd (cc))
@@ -102,7 +102,7 @@ peer_by : (input : Input) → Handles input → (e : Endpoint) (o : Outcome) (pa
 peer_by input (calmly calm) e o past link transfer left knows plainly may turn linked known at = calm_peer link past e input o transfer left known at (calm_turns e input o calm may turn)
 peer_by input (handles tag parameters is) e o past link transfer left knows plainly may turn linked known at =
     subst (λ (i : Input). PeerTurns link past e i o transfer.reassembly.deferral left.reassembly.deferral) (sym is)
-    (content_by e tag (re_config parameters) o (λ dropped. calm_peer link past e (chunk_input tag (re_config parameters)) o transfer left known at (goes_on (as_this e.queues.transfer o _ dropped (rests e))))
+    (content_by e tag (re_config parameters) o (λ dropped. calm_peer link past e (chunk_input tag (re_config parameters)) o transfer left known at (goes_on (as_this e.queues.transfer e.renewable o _ dropped (rests e))))
     (λ handled. reset_peer link past e tag e.core parameters o transfer left knows linked (subst (λ (i : Input). IsPlainRequest (came_by i)) is plainly) known at handled)
     (subst (λ (i : Input). Turn e i o) is turn))
 
@@ -115,7 +115,7 @@ peers_turn e input o past link transfer left knows plainly may turn linked known
 abbrev WaitsNot : Endpoint → Outcome → Type 0
 WaitsNot e o = (left : Transfer) → e.queues.transfer ≡ None → o.after.queues.transfer ≡ Some left → left.reassembly.deferral ≡ None
 
-waits_not : (e : Endpoint) (o : Outcome) → AsksNothing e.queues.transfer o → WaitsNot e o
+waits_not : (e : Endpoint) (o : Outcome) → AsksNothing e.queues.transfer e.renewable o → WaitsNot e o
 waits_not e o asks = λ left none at. absurd (subst (λ (t : Option Transfer). WaitedIn t left) none (asks.waits left at))
 
 calm_unlinked : (came : Option Content) (e : Endpoint) (o : Outcome) → CalmTurns came e o → NoneAsked o.effects × WaitsNot e o
@@ -123,16 +123,16 @@ calm_unlinked came e o (goes_on asks) = (asks.none, waits_not e o asks)
 calm_unlinked came e o (begins begun opening linked asks) = (asks.none, λ left none at. asks.waits left at)
 calm_unlinked came e o (collides collision asks) = (asks.none, λ left none at. kept_waits collision left (asks.waits left at))
 
-reset_unlinked : (e : Endpoint) (core : Core) (parameters : List ResetParameter) (o : Outcome) → identity_in core ≡ None → ResetTurn e core parameters o → AsksNothing e.queues.transfer o
-reset_unlinked e closed parameters o none turn = as_this e.queues.transfer o _ turn (rests e)
-reset_unlinked e (cookie_wait my) parameters o none turn = as_this e.queues.transfer o _ turn (rests e)
+reset_unlinked : (e : Endpoint) (core : Core) (parameters : List ResetParameter) (o : Outcome) → identity_in core ≡ None → ResetTurn e core parameters o → AsksNothing e.queues.transfer e.renewable o
+reset_unlinked e closed parameters o none turn = as_this e.queues.transfer e.renewable o _ turn (rests e)
+reset_unlinked e (cookie_wait my) parameters o none turn = as_this e.queues.transfer e.renewable o _ turn (rests e)
 reset_unlinked e (cookie_echoed my held cookie) parameters o none turn = absurd (cc)
 reset_unlinked e (open_in phase my held) parameters o none turn = absurd (cc)
 
 unlinked_by : (input : Input) → Handles input → (e : Endpoint) (o : Outcome) → IsCall input → Turn e input o → identity_in e.core ≡ None → NoneAsked o.effects × WaitsNot e o
 unlinked_by input (calmly calm) e o may turn none = calm_unlinked (came_by input) e o (calm_turns e input o calm may turn)
 unlinked_by input (handles tag parameters is) e o may turn none =
-    let asks = content_by e tag (re_config parameters) o (λ dropped. as_this e.queues.transfer o _ dropped (rests e)) (λ handled. reset_unlinked e e.core parameters o none handled)
+    let asks = content_by e tag (re_config parameters) o (λ dropped. as_this e.queues.transfer e.renewable o _ dropped (rests e)) (λ handled. reset_unlinked e e.core parameters o none handled)
     (subst (λ (i : Input). Turn e i o) is turn) in
     (asks.none, waits_not e o asks)
 

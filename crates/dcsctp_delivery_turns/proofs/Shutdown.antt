@@ -34,6 +34,21 @@ step_below e (cookie_wait my) = refl
 step_below e (cookie_echoed my held cookie) = refl
 step_below e (open_in phase my held) = step_by_below (may_go_on e) e phase my held
 
+-- nor what is renewable
+step_by_renewable : (b : Bool) (e : Endpoint) (phase : OpenPhase) (my : Pair) (held : Held) → (step_by b e phase my held).after.renewable ≡ e.renewable
+step_by_renewable false e phase my held = refl
+step_by_renewable true e established my held = refl
+step_by_renewable true e shutdown_pending my held = refl
+step_by_renewable true e shutdown_sent my held = refl
+step_by_renewable true e shutdown_received my held = refl
+step_by_renewable true e shutdown_ack_sent my held = refl
+
+pub step_renewable : (e : Endpoint) (core : Core) → (step_outcome e core).after.renewable ≡ e.renewable
+step_renewable e closed = refl
+step_renewable e (cookie_wait my) = refl
+step_renewable e (cookie_echoed my held cookie) = refl
+step_renewable e (open_in phase my held) = step_by_renewable (may_go_on e) e phase my held
+
 -- and the peer stays
 step_by_peer : (b : Bool) (e : Endpoint) (phase : OpenPhase) (my : Pair) (held : Held) (to : ℕ) → IsPeerTag e.core to → held.peer.tag ≡ to → IsPeerTag (step_by b e phase my held).after.core to
 step_by_peer false e phase my held to at is = at

@@ -1,6 +1,6 @@
 -- The turns in which no RE-CONFIG is handled: no request of the peer is accepted or performed, and
 -- what waits for one waits still.
-use Rattle.std.proofs.Common.{◌≡◌, ℕ, Bool, true, false, Option, None, Some, List, [], ◌∷◌, refl, sym, ◌∙◌, subst, ap}
+use Rattle.std.proofs.Common.{◌≡◌, inl, ℕ, Bool, true, false, Option, None, Some, List, [], ◌∷◌, refl, sym, ◌∙◌, subst, ap}
 use Rattle.dcsctp_spec_lemmas.specs.wire.Content.{SackContent, no_user_data}
 use Rattle.dcsctp_spec_lemmas.specs.types.declared.arrivals.SkippedTo.{SkippedTo}
 use Rattle.dcsctp_spec_lemmas.specs.types.declared.association.Held.{Held}
@@ -23,40 +23,40 @@ use Rattle.dcsctp_spec_lemmas.specs.spec.endpoint.PreparedResets.{ResetRefusal, 
 use Rattle.dcsctp_delivery_sending.proofs.Packets.{out_below}
 use Rattle.dcsctp_delivery_turns.specs.PeerRequests.{SameWaits}
 use Rattle.dcsctp_delivery_turns.proofs.Received.{timed_alike}
-use Rattle.dcsctp_delivery_turns.proofs.Shutdown.{step_below}
-use Rattle.dcsctp_delivery_turns.proofs.Waiting.{unasked_append, same_waits, waits_by, receives_wait, moves_wait, StillWaits, some_wait, all_wait, wait_then, AsksNothing, as_this, rests, emitted, flushed}
+use Rattle.dcsctp_delivery_turns.proofs.Shutdown.{step_below, step_renewable}
+use Rattle.dcsctp_delivery_turns.proofs.Waiting.{unasked_append, same_waits, waits_by, receives_wait, moves_wait, StillWaits, some_wait, all_wait, wait_then, stays_then, out_renewable, AsksNothing, as_this, rests, emitted, flushed}
 
 -- ---- a flush by itself
 
-to_asks : (e : Endpoint) (peer : Option Held) (answers : List Answer) → AnswersTo e peer answers → AsksNothing e.queues.transfer (flush_by e peer answers)
+to_asks : (e : Endpoint) (peer : Option Held) (answers : List Answer) → AnswersTo e peer answers → AsksNothing e.queues.transfer e.renewable (flush_by e peer answers)
 to_asks e None answers allowed = rests e
 to_asks e (Some held) answers allowed = flushed e (draft_to held) answers allowed
 
-pub flush_asks : (e : Endpoint) (o : Outcome) → FlushTurn e o → AsksNothing e.queues.transfer o
-flush_asks e o turn = as_this e.queues.transfer o _ turn.2 (to_asks e (held_in e.core) turn.0 turn.1)
+pub flush_asks : (e : Endpoint) (o : Outcome) → FlushTurn e o → AsksNothing e.queues.transfer e.renewable o
+flush_asks e o turn = as_this e.queues.transfer e.renewable o _ turn.2 (to_asks e (held_in e.core) turn.0 turn.1)
 
 -- ---- data
 
 -- this is below from here on
 module _ (e : Endpoint) (transfer new : Transfer) (known : e.queues.transfer ≡ Some transfer) (waits : SameWaits transfer.reassembly.deferral new.reassembly.deferral) where
-  turns_to : AsksNothing e.queues.transfer (still (with_transfer e new))
-  turns_to = record { none = tt; waits = some_wait e.queues.transfer transfer new known waits }
+  turns_to : AsksNothing e.queues.transfer e.renewable (still (with_transfer e new))
+  turns_to = record { none = tt; waits = some_wait e.queues.transfer transfer new known waits; renews = inl refl }
 
-no_data_asks : (e : Endpoint) (peer : Option Held) (tsn : ℕ) → AsksNothing e.queues.transfer (no_user_data_outcome e peer tsn)
-no_data_asks e None tsn = record { none = tt; waits = all_wait e.queues.transfer }
-no_data_asks e (Some held) tsn = (let sent = emitted e [] (to_peer held (plain (error_of (no_user_data tsn ∷ [])))) in record { none = sent.none; waits = sent.waits })
+no_data_asks : (e : Endpoint) (peer : Option Held) (tsn : ℕ) → AsksNothing e.queues.transfer e.renewable (no_user_data_outcome e peer tsn)
+no_data_asks e None tsn = record { none = tt; waits = all_wait e.queues.transfer; renews = inl refl }
+no_data_asks e (Some held) tsn = (let sent = emitted e [] (to_peer held (plain (error_of (no_user_data tsn ∷ [])))) in record { none = sent.none; waits = sent.waits; renews = sent.renews })
 
-receive_asks : (e : Endpoint) (transfer : Option Transfer) (arrival : Arrival) (o : Outcome) → e.queues.transfer ≡ transfer → ReceiveTurn e transfer arrival o → AsksNothing e.queues.transfer o
-receive_asks e None arrival o known turn = as_this e.queues.transfer o _ turn (record { none = tt; waits = all_wait e.queues.transfer })
-receive_asks e (Some transfer) arrival o known turn = as_this e.queues.transfer o _ turn.2 (turns_to e transfer turn.0 known (receives_wait arrival transfer turn.0 turn.1))
+receive_asks : (e : Endpoint) (transfer : Option Transfer) (arrival : Arrival) (o : Outcome) → e.queues.transfer ≡ transfer → ReceiveTurn e transfer arrival o → AsksNothing e.queues.transfer e.renewable o
+receive_asks e None arrival o known turn = as_this e.queues.transfer e.renewable o _ turn (record { none = tt; waits = all_wait e.queues.transfer; renews = inl refl })
+receive_asks e (Some transfer) arrival o known turn = as_this e.queues.transfer e.renewable o _ turn.2 (turns_to e transfer turn.0 known (receives_wait arrival transfer turn.0 turn.1))
 
-pub data_asks : (e : Endpoint) (arrival : Arrival) (payload : List ℕ) (o : Outcome) → DataWhere e arrival payload o → AsksNothing e.queues.transfer o
-data_asks e arrival [] o turn = as_this e.queues.transfer o _ turn (no_data_asks e (held_in e.core) arrival.tsn)
+pub data_asks : (e : Endpoint) (arrival : Arrival) (payload : List ℕ) (o : Outcome) → DataWhere e arrival payload o → AsksNothing e.queues.transfer e.renewable o
+data_asks e arrival [] o turn = as_this e.queues.transfer e.renewable o _ turn (no_data_asks e (held_in e.core) arrival.tsn)
 data_asks e arrival (byte ∷ bytes) o turn = receive_asks e e.queues.transfer arrival o refl turn
 
-pub forward_asks : (e : Endpoint) (transfer : Option Transfer) (tsn : ℕ) (entries : List SkippedTo) (o : Outcome) → e.queues.transfer ≡ transfer → ForwardTurn e transfer tsn entries o → AsksNothing e.queues.transfer o
-forward_asks e None tsn entries o known turn = as_this e.queues.transfer o _ turn (rests e)
-forward_asks e (Some transfer) tsn entries o known turn = as_this e.queues.transfer o _ turn.2 (turns_to e transfer turn.0 known (moves_wait tsn entries transfer turn.0 turn.1))
+pub forward_asks : (e : Endpoint) (transfer : Option Transfer) (tsn : ℕ) (entries : List SkippedTo) (o : Outcome) → e.queues.transfer ≡ transfer → ForwardTurn e transfer tsn entries o → AsksNothing e.queues.transfer e.renewable o
+forward_asks e None tsn entries o known turn = as_this e.queues.transfer e.renewable o _ turn (rests e)
+forward_asks e (Some transfer) tsn entries o known turn = as_this e.queues.transfer e.renewable o _ turn.2 (turns_to e transfer turn.0 known (moves_wait tsn entries transfer turn.0 turn.1))
 
 -- ---- SACK
 
@@ -69,7 +69,13 @@ fast_waits true e held transfer o known turn =
     (subst (λ (b : EndpointQueues). StillWaits (Some transfer) b.transfer) (sym (out_below base [] (draft_to held).with_checksum (draft_to held).packet.tag (plain_contents turn.chunks)))
     (some_wait (Some transfer) transfer (record transfer { retransmission = turn.left }) refl (same_waits transfer.reassembly.deferral)))
 
-pub acknowledges_asks : (e : Endpoint) (held : Held) (transfer : Transfer) (sack : SackContent) (o : Outcome) → e.queues.transfer ≡ Some transfer → AcknowledgesBy e held transfer sack o → AsksNothing e.queues.transfer o
+fast_renewable : (b : Bool) (e : Endpoint) (held : Held) (transfer : Transfer) (o : Outcome) → FastRetransmits b e held transfer o → o.after.renewable ≡ e.renewable
+fast_renewable false e held transfer o turn = ap (λ (x : Outcome). x.after.renewable) turn
+fast_renewable true e held transfer o turn =
+    let base : Endpoint = with_transfer e (record transfer { retransmission = turn.left }) in
+    ap (λ (x : Outcome). x.after.renewable) turn.is ∙ out_renewable base [] (draft_to held).with_checksum (draft_to held).packet.tag (plain_contents turn.chunks)
+
+pub acknowledges_asks : (e : Endpoint) (held : Held) (transfer : Transfer) (sack : SackContent) (o : Outcome) → e.queues.transfer ≡ Some transfer → AcknowledgesBy e held transfer sack o → AsksNothing e.queues.transfer e.renewable o
 acknowledges_asks e held transfer sack o known turn =
     let taken : Endpoint = sack_taken e transfer turn.left in
     let same : turn.stepped.after.queues ≡ taken.queues = ap (λ (x : Outcome). x.after.queues) turn.steps ∙ step_below taken e.core in
@@ -80,40 +86,43 @@ acknowledges_asks e held transfer sack o known turn =
     let second : StillWaits (Some turn.left) turn.fast.after.queues.transfer =
     fast_waits (has_fast_retransmit turn.left.retransmission) turn.stepped.after held turn.left turn.fast (ap (λ (b : EndpointQueues). b.transfer) same) turn.resends in
     let last = flushed turn.fast.after (draft_to held) turn.answers turn.allowed in
-    as_this e.queues.transfer o _ turn.is
+    as_this e.queues.transfer e.renewable o _ turn.is
     (record {
       none = last.none;
       waits = wait_then e.queues.transfer turn.fast.after.queues.transfer _ (wait_then e.queues.transfer (Some turn.left) turn.fast.after.queues.transfer first second) last.waits;
+      renews = stays_then e.renewable turn.fast.after.renewable _
+          (inl (fast_renewable (has_fast_retransmit turn.left.retransmission) turn.stepped.after held turn.left turn.fast turn.resends ∙ ap (λ (x : Outcome). x.after.renewable) turn.steps ∙ step_renewable taken e.core)) last.renews;
     })
 
-sack_where_asks : (b : Bool) (e : Endpoint) (held : Held) (transfer : Transfer) (sack : SackContent) (o : Outcome) → e.queues.transfer ≡ Some transfer → SackWhere b e held transfer sack o → AsksNothing e.queues.transfer o
-sack_where_asks false e held transfer sack o known turn = as_this e.queues.transfer o _ turn (rests e)
+sack_where_asks : (b : Bool) (e : Endpoint) (held : Held) (transfer : Transfer) (sack : SackContent) (o : Outcome) → e.queues.transfer ≡ Some transfer → SackWhere b e held transfer sack o → AsksNothing e.queues.transfer e.renewable o
+sack_where_asks false e held transfer sack o known turn = as_this e.queues.transfer e.renewable o _ turn (rests e)
 sack_where_asks true e held transfer sack o known turn = acknowledges_asks e held transfer sack o known turn
 
-sack_by_asks : (e : Endpoint) (peer : Option Held) (transfer : Transfer) (sack : SackContent) (o : Outcome) → e.queues.transfer ≡ Some transfer → SackBy e peer transfer sack o → AsksNothing e.queues.transfer o
-sack_by_asks e None transfer sack o known turn = as_this e.queues.transfer o _ turn (rests e)
+sack_by_asks : (e : Endpoint) (peer : Option Held) (transfer : Transfer) (sack : SackContent) (o : Outcome) → e.queues.transfer ≡ Some transfer → SackBy e peer transfer sack o → AsksNothing e.queues.transfer e.renewable o
+sack_by_asks e None transfer sack o known turn = as_this e.queues.transfer e.renewable o _ turn (rests e)
 sack_by_asks e (Some held) transfer sack o known turn = sack_where_asks (is_sack_valid transfer.retransmission sack.cumulative_tsn_ack) e held transfer sack o known turn
 
-pub sack_asks : (e : Endpoint) (transfer : Option Transfer) (sack : SackContent) (o : Outcome) → e.queues.transfer ≡ transfer → SackTurn e transfer sack o → AsksNothing e.queues.transfer o
-sack_asks e None sack o known turn = as_this e.queues.transfer o _ turn (record { none = tt; waits = all_wait e.queues.transfer })
+pub sack_asks : (e : Endpoint) (transfer : Option Transfer) (sack : SackContent) (o : Outcome) → e.queues.transfer ≡ transfer → SackTurn e transfer sack o → AsksNothing e.queues.transfer e.renewable o
+sack_asks e None sack o known turn = as_this e.queues.transfer e.renewable o _ turn (record { none = tt; waits = all_wait e.queues.transfer; renews = inl refl })
 sack_asks e (Some transfer) sack o known turn = sack_by_asks e (held_in e.core) transfer sack o known turn
 
 -- ---- the end of a packet, what the user takes, and the timers of both
 
-end_where_asks : (b : Bool) (e : Endpoint) (peer : Option Held) (transfer : Transfer) (tracker : TrackerState) (o : Outcome) → e.queues.transfer ≡ Some transfer → EndWhere b e peer transfer tracker o → AsksNothing e.queues.transfer o
+end_where_asks : (b : Bool) (e : Endpoint) (peer : Option Held) (transfer : Transfer) (tracker : TrackerState) (o : Outcome) → e.queues.transfer ≡ Some transfer → EndWhere b e peer transfer tracker o → AsksNothing e.queues.transfer e.renewable o
 end_where_asks true e (Some held) transfer tracker o known turn =
     let base : Endpoint = endpoint_with_tracker e transfer (sacked tracker) in
     let last = flushed base (acknowledging e held (own_sack (room_in e (draft_to held)) (record transfer { tracker = tracker }))) turn.answers turn.allowed in
-    as_this e.queues.transfer o _ turn.is
+    as_this e.queues.transfer e.renewable o _ turn.is
     (record {
       none = last.none;
       waits = wait_then e.queues.transfer base.queues.transfer _ (some_wait e.queues.transfer transfer (record transfer { tracker = sacked tracker }) known (same_waits transfer.reassembly.deferral)) last.waits;
+      renews = last.renews;
     })
-end_where_asks true e None transfer tracker o known turn = as_this e.queues.transfer o _ turn (turns_to e transfer (record transfer { tracker = tracker }) known (same_waits transfer.reassembly.deferral))
-end_where_asks false e peer transfer tracker o known turn = as_this e.queues.transfer o _ turn (turns_to e transfer (record transfer { tracker = tracker }) known (same_waits transfer.reassembly.deferral))
+end_where_asks true e None transfer tracker o known turn = as_this e.queues.transfer e.renewable o _ turn (turns_to e transfer (record transfer { tracker = tracker }) known (same_waits transfer.reassembly.deferral))
+end_where_asks false e peer transfer tracker o known turn = as_this e.queues.transfer e.renewable o _ turn (turns_to e transfer (record transfer { tracker = tracker }) known (same_waits transfer.reassembly.deferral))
 
-pub end_asks : (e : Endpoint) (transfer : Option Transfer) (o : Outcome) → e.queues.transfer ≡ transfer → EndsBy e transfer o → AsksNothing e.queues.transfer o
-end_asks e None o known turn = as_this e.queues.transfer o _ turn (rests e)
+pub end_asks : (e : Endpoint) (transfer : Option Transfer) (o : Outcome) → e.queues.transfer ≡ transfer → EndsBy e transfer o → AsksNothing e.queues.transfer e.renewable o
+end_asks e None o known turn = as_this e.queues.transfer e.renewable o _ turn (rests e)
 end_asks e (Some transfer) o known turn =
     let tracker = after_packet_end e.moment transfer.tracker in end_where_asks (is_acknowledgement_due tracker) e (held_in e.core) transfer tracker o known turn
 
@@ -122,65 +131,67 @@ told_waits : (b : Bool) (moment : ℕ) (transfer : Transfer) → SameWaits trans
 told_waits true moment transfer = same_waits transfer.reassembly.deferral
 told_waits false moment transfer = same_waits transfer.reassembly.deferral
 
-take_where_asks : (e : Endpoint) (transfer : Transfer) (messages : List MessageContent) (o : Outcome) → e.queues.transfer ≡ Some transfer → TakeWhere e transfer messages o → AsksNothing e.queues.transfer o
-take_where_asks e transfer [] o known turn = as_this e.queues.transfer o _ turn (rests e)
+take_where_asks : (e : Endpoint) (transfer : Transfer) (messages : List MessageContent) (o : Outcome) → e.queues.transfer ≡ Some transfer → TakeWhere e transfer messages o → AsksNothing e.queues.transfer e.renewable o
+take_where_asks e transfer [] o known turn = as_this e.queues.transfer e.renewable o _ turn (rests e)
 take_where_asks e transfer (message ∷ messages) o known turn =
     let left : Transfer = with_messages messages transfer in
-    as_this e.queues.transfer o _ turn (turns_to e transfer (taken_to e.options e.moment messages transfer) known (told_waits (opens_window e.options transfer left) e.moment left))
+    as_this e.queues.transfer e.renewable o _ turn (turns_to e transfer (taken_to e.options e.moment messages transfer) known (told_waits (opens_window e.options transfer left) e.moment left))
 
-take_left_asks : (e : Endpoint) (left : List MessageContent) (o : Outcome) → TakeLeft e left o → AsksNothing e.queues.transfer o
-take_left_asks e [] o turn = as_this e.queues.transfer o _ turn (rests e)
-take_left_asks e (message ∷ messages) o turn = as_this e.queues.transfer o _ turn (record { none = tt; waits = all_wait e.queues.transfer })
+take_left_asks : (e : Endpoint) (left : List MessageContent) (o : Outcome) → TakeLeft e left o → AsksNothing e.queues.transfer e.renewable o
+take_left_asks e [] o turn = as_this e.queues.transfer e.renewable o _ turn (rests e)
+take_left_asks e (message ∷ messages) o turn = as_this e.queues.transfer e.renewable o _ turn (record { none = tt; waits = all_wait e.queues.transfer; renews = inl refl })
 
-pub take_asks : (e : Endpoint) (transfer : Option Transfer) (o : Outcome) → e.queues.transfer ≡ transfer → TakeTurn e transfer o → AsksNothing e.queues.transfer o
+pub take_asks : (e : Endpoint) (transfer : Option Transfer) (o : Outcome) → e.queues.transfer ≡ transfer → TakeTurn e transfer o → AsksNothing e.queues.transfer e.renewable o
 take_asks e None o known turn = take_left_asks e e.left o turn
 take_asks e (Some transfer) o known turn = take_where_asks e transfer transfer.reassembly.incoming.ready o known turn
 
-pub delay_asks : (e : Endpoint) (transfer : Option Transfer) → e.queues.transfer ≡ transfer → AsksNothing e.queues.transfer (delay_outcome e transfer)
+pub delay_asks : (e : Endpoint) (transfer : Option Transfer) → e.queues.transfer ≡ transfer → AsksNothing e.queues.transfer e.renewable (delay_outcome e transfer)
 delay_asks e None known = rests e
 delay_asks e (Some transfer) known = turns_to e transfer _ known (same_waits transfer.reassembly.deferral)
 
-pub loss_asks : (e : Endpoint) (transfer : Option Transfer) (o : Outcome) → e.queues.transfer ≡ transfer → LossTurn e transfer o → AsksNothing e.queues.transfer o
-loss_asks e None o known turn = as_this e.queues.transfer o _ turn (rests e)
+pub loss_asks : (e : Endpoint) (transfer : Option Transfer) (o : Outcome) → e.queues.transfer ≡ transfer → LossTurn e transfer o → AsksNothing e.queues.transfer e.renewable o
+loss_asks e None o known turn = as_this e.queues.transfer e.renewable o _ turn (rests e)
 loss_asks e (Some transfer) o known turn =
-    as_this e.queues.transfer o _ turn (record { none = tt; waits = some_wait e.queues.transfer transfer _ known (same_waits transfer.reassembly.deferral) })
+    as_this e.queues.transfer e.renewable o _ turn (record { none = tt; waits = some_wait e.queues.transfer transfer _ known (same_waits transfer.reassembly.deferral); renews = inl refl })
 
 -- ---- what the user sends and resets
 
-queue_by_asks : (e : Endpoint) (sending : Sending) (refusal : Option MessageRefusal) → AsksNothing e.queues.transfer (queue_by e sending refusal)
-queue_by_asks e sending None = record { none = tt; waits = all_wait e.queues.transfer }
-queue_by_asks e sending (Some refusal) = record { none = tt; waits = all_wait e.queues.transfer }
+queue_by_asks : (e : Endpoint) (sending : Sending) (refusal : Option MessageRefusal) → AsksNothing e.queues.transfer e.renewable (queue_by e sending refusal)
+queue_by_asks e sending None = record { none = tt; waits = all_wait e.queues.transfer; renews = inl refl }
+queue_by_asks e sending (Some refusal) = record { none = tt; waits = all_wait e.queues.transfer; renews = inl refl }
 
-queue_all_asks : (e : Endpoint) (sendings : List Sending) → AsksNothing e.queues.transfer (queue_all e sendings)
+queue_all_asks : (e : Endpoint) (sendings : List Sending) → AsksNothing e.queues.transfer e.renewable (queue_all e sendings)
 queue_all_asks e [] = rests e
 queue_all_asks e (sending ∷ sendings) =
-    let first : AsksNothing e.queues.transfer (queue_one e sending) = queue_by_asks e sending (sending_refusal e sending) in
+    let first : AsksNothing e.queues.transfer e.renewable (queue_one e sending) = queue_by_asks e sending (sending_refusal e sending) in
     let rest = queue_all_asks (queue_one e sending).after sendings in
     record {
       none = unasked_append (queue_one e sending).effects (queue_all (queue_one e sending).after sendings).effects first.none rest.none;
       waits = wait_then e.queues.transfer (queue_one e sending).after.queues.transfer _ first.waits rest.waits;
+      renews = stays_then e.renewable (queue_one e sending).after.renewable _ first.renews rest.renews;
     }
 
-send_by_asks : (b : Bool) (e : Endpoint) (answers : List Answer) → SendAnswers b e answers → AsksNothing e.queues.transfer (send_by b e answers)
+send_by_asks : (b : Bool) (e : Endpoint) (answers : List Answer) → SendAnswers b e answers → AsksNothing e.queues.transfer e.renewable (send_by b e answers)
 send_by_asks false e answers allowed = rests e
 send_by_asks true e answers allowed = to_asks e (held_in e.core) answers allowed
 
-pub send_asks : (e : Endpoint) (sendings : List Sending) (o : Outcome) → SendTurn e sendings o → AsksNothing e.queues.transfer o
+pub send_asks : (e : Endpoint) (sendings : List Sending) (o : Outcome) → SendTurn e sendings o → AsksNothing e.queues.transfer e.renewable o
 send_asks e sendings o turn =
     let all : Outcome = queue_all e sendings in
     let first = queue_all_asks e sendings in
     let last = send_by_asks (takes_any e sendings) all.after turn.0 turn.1 in
-    as_this e.queues.transfer o _ turn.2
+    as_this e.queues.transfer e.renewable o _ turn.2
     (record {
       none = unasked_append all.effects (send_by (takes_any e sendings) all.after turn.0).effects first.none last.none;
       waits = wait_then e.queues.transfer all.after.queues.transfer _ first.waits last.waits;
+      renews = stays_then e.renewable all.after.renewable _ first.renews last.renews;
     })
 
-resets_where_ask : (refusal : Option ResetRefusal) (e : Endpoint) (ids : List ℕ) (o : Outcome) → OwnResetsWhere refusal e ids o → AsksNothing e.queues.transfer o
+resets_where_ask : (refusal : Option ResetRefusal) (e : Endpoint) (ids : List ℕ) (o : Outcome) → OwnResetsWhere refusal e ids o → AsksNothing e.queues.transfer e.renewable o
 resets_where_ask None e ids o turn =
     let last = flush_asks (endpoint_with_queue e (prepared_all ids e.queues.queue)) turn.flushed turn.flushes in
-    as_this e.queues.transfer o _ turn.is (record { none = last.none; waits = last.waits })
-resets_where_ask (Some refusal) e ids o turn = as_this e.queues.transfer o _ turn (rests e)
+    as_this e.queues.transfer e.renewable o _ turn.is (record { none = last.none; waits = last.waits; renews = last.renews })
+resets_where_ask (Some refusal) e ids o turn = as_this e.queues.transfer e.renewable o _ turn (rests e)
 
-pub own_resets_ask : (e : Endpoint) (ids : List ℕ) (o : Outcome) → OwnResetsTurn e ids o → AsksNothing e.queues.transfer o
+pub own_resets_ask : (e : Endpoint) (ids : List ℕ) (o : Outcome) → OwnResetsTurn e ids o → AsksNothing e.queues.transfer e.renewable o
 own_resets_ask e ids o turn = resets_where_ask (reset_refusal e) e ids o turn

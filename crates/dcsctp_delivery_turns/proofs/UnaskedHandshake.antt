@@ -23,21 +23,21 @@ use Rattle.std.proofs.lemmas.Bool.{eqb-true}
 use Rattle.dcsctp_spec_lemmas.specs.types.declared.association.Held.{Held}
 use Rattle.dcsctp_spec_lemmas.specs.spec.queues.Transfer.{Transfer, transfer_kept}
 use Rattle.dcsctp_delivery_turns.proofs.Tags.{flush_link}
-use Rattle.dcsctp_delivery_turns.proofs.Waiting.{AsksNothing, rests, said, emitted, flushed, flushed_behind, ended}
+use Rattle.dcsctp_delivery_turns.proofs.Waiting.{stays_then, AsksNothing, rests, said, emitted, flushed, flushed_behind, ended}
 
 -- No request of the peer is accepted or performed, and the association continues or ends; or another one begins.
 pub data CalmTurns (came : Option Content) (e : Endpoint) (o : Outcome) : Type 0 where
-  goes_on : AsksNothing e.queues.transfer o → CalmTurns came e o
-  begins : (begun : Begun e o) → IsOpening came → identity_in o.after.core ≡ Some (identity_of begun.my begun.held) → AsksNothing (Some (begun_transfer e o begun)) o → CalmTurns came e o
-  collides : (collision : Collides came e o) → AsksNothing (Some collision.kept) o → CalmTurns came e o
+  goes_on : AsksNothing e.queues.transfer e.renewable o → CalmTurns came e o
+  begins : (begun : Begun e o) → IsOpening came → identity_in o.after.core ≡ Some (identity_of begun.my begun.held) → AsksNothing (Some (begun_transfer e o begun)) e.renewable o → CalmTurns came e o
+  collides : (collision : Collides came e o) → AsksNothing (Some collision.kept) e.renewable o → CalmTurns came e o
 
 -- ---- the handshake
 
 -- a pair is drawn before
-drawn_asks : (e : Endpoint) (words : List Word) (pair : Pair) (emission : Emission) → AsksNothing e.queues.transfer (drawing pair (emits e words emission))
-drawn_asks e words pair emission = (let sent = emitted e words emission in record { none = sent.none; waits = sent.waits })
+drawn_asks : (e : Endpoint) (words : List Word) (pair : Pair) (emission : Emission) → AsksNothing e.queues.transfer e.renewable (drawing pair (emits e words emission))
+drawn_asks e words pair emission = (let sent = emitted e words emission in record { none = sent.none; waits = sent.waits; renews = sent.renews })
 
-pub init_asks : (e : Endpoint) (theirs : Introduction) (core : Core) (word next : ℕ) → AsksNothing e.queues.transfer (init_outcome e theirs core word next)
+pub init_asks : (e : Endpoint) (theirs : Introduction) (core : Core) (word next : ℕ) → AsksNothing e.queues.transfer e.renewable (init_outcome e theirs core word next)
 init_asks e theirs closed word next = drawn_asks (with_secret e (pair_from word next)) (U32 word ∷ U32 next ∷ []) (pair_from word next) (init_ack_emission (with_secret e (pair_from word next)) theirs (pair_from word next) (secret_with e (pair_from word next)))
 init_asks e theirs (cookie_wait my) word next = emitted e [] (init_ack_emission e theirs my e.secret)
 init_asks e theirs (cookie_echoed my held cookie) word next = emitted e [] (init_ack_emission e theirs my e.secret)
@@ -47,39 +47,39 @@ init_asks e theirs (open_in shutdown_sent my held) word next = drawn_asks e (U32
 init_asks e theirs (open_in shutdown_received my held) word next = drawn_asks e (U32 word ∷ []) (renewed_pair e word) (init_ack_emission e theirs (renewed_pair e word) e.tie)
 init_asks e theirs (open_in shutdown_ack_sent my held) word next = emitted e [] (to_peer held shutdown_ack)
 
-pub connect_asks : (e : Endpoint) (core : Core) (word next : ℕ) → AsksNothing e.queues.transfer (connect_outcome e core word next)
+pub connect_asks : (e : Endpoint) (core : Core) (word next : ℕ) → AsksNothing e.queues.transfer e.renewable (connect_outcome e core word next)
 connect_asks e closed word next = drawn_asks (awaits_init_ack e (pair_from word next)) (U32 word ∷ U32 next ∷ []) (pair_from word next) (init_emission e (pair_from word next))
 connect_asks e (cookie_wait my) word next = rests e
 connect_asks e (cookie_echoed my held cookie) word next = rests e
 connect_asks e (open_in phase my held) word next = rests e
 
 echoed_asks : (b : Bool) (e : Endpoint) (words : List Word) (tag : ℕ) (cookie : List ℕ) (answers : List Answer) → EchoAnswers b e tag cookie answers
-    → AsksNothing e.queues.transfer (cond b (flush_answered answers e words [] true tag (cookie_echo cookie ∷ [])) (quiet e words []))
+    → AsksNothing e.queues.transfer e.renewable (cond b (flush_answered answers e words [] true tag (cookie_echo cookie ∷ [])) (quiet e words []))
 echoed_asks true e words tag cookie answers allowed = flushed_behind e words [] (echo_emission tag cookie) answers allowed
-echoed_asks false e words tag cookie answers allowed = said e _ tt refl
+echoed_asks false e words tag cookie answers allowed = said e _ tt refl refl
 
 echoed_link : (b : Bool) (e : Endpoint) (words : List Word) (tag : ℕ) (cookie : List ℕ) (answers : List Answer) → EchoAnswers b e tag cookie answers
     → identity_in (cond b (flush_answered answers e words [] true tag (cookie_echo cookie ∷ [])) (quiet e words [])).after.core ≡ identity_in e.core
 echoed_link true e words tag cookie answers allowed = flush_link e (echo_emission tag cookie) answers allowed
 echoed_link false e words tag cookie answers allowed = refl
 
-pub again_asks : (e : Endpoint) (core : Core) (answers : List Answer) → AgainAnswers e core answers → AsksNothing e.queues.transfer (again_by (flush_answered answers) e core)
+pub again_asks : (e : Endpoint) (core : Core) (answers : List Answer) → AgainAnswers e core answers → AsksNothing e.queues.transfer e.renewable (again_by (flush_answered answers) e core)
 again_asks e closed answers allowed = rests e
 again_asks e (cookie_wait my) answers allowed = emitted e [] (init_emission e my)
 again_asks e (cookie_echoed my held cookie) answers allowed = echoed_asks (fits e (echo_emission held.peer.tag cookie)) e [] held.peer.tag cookie answers allowed
 again_asks e (open_in phase my held) answers allowed = rests e
 
-pub cookie_ack_asks : (e : Endpoint) (core : Core) (answers : List Answer) → CookieAckAnswers e core answers → AsksNothing e.queues.transfer (cookie_ack_by (flush_answered answers) e core)
+pub cookie_ack_asks : (e : Endpoint) (core : Core) (answers : List Answer) → CookieAckAnswers e core answers → AsksNothing e.queues.transfer e.renewable (cookie_ack_by (flush_answered answers) e core)
 cookie_ack_asks e closed answers allowed = rests e
 cookie_ack_asks e (cookie_wait my) answers allowed = rests e
-cookie_ack_asks e (cookie_echoed my held cookie) answers allowed = (let last = flushed (connected_after e my held) (draft_to held) answers allowed in record { none = last.none; waits = last.waits })
+cookie_ack_asks e (cookie_echoed my held cookie) answers allowed = (let last = flushed (connected_after e my held) (draft_to held) answers allowed in record { none = last.none; waits = last.waits; renews = last.renews })
 cookie_ack_asks e (open_in phase my held) answers allowed = rests e
 
 module _ (came : Option Content) (opening : IsOpening came) (e : Endpoint) where
   accepted_calm : (my : Pair) (theirs : Introduction) (cookie : Option (List ℕ)) (word : ℕ) (answers : List Answer) → InitAckAnswers e theirs cookie (cookie_wait my) word answers
       → CalmTurns came e (accepted_init_ack_by (flush_answered answers) e my theirs cookie word)
   accepted_calm my theirs None word answers allowed =
-      goes_on (ended e.queues.transfer (emits e [] (abort_emission theirs.pair.tag)) (aborted _ no_cookie_text) (emitted e [] (abort_emission theirs.pair.tag)).none)
+      goes_on (ended e.queues.transfer e.renewable (emits e [] (abort_emission theirs.pair.tag)) (aborted _ no_cookie_text) (emitted e [] (abort_emission theirs.pair.tag)).none)
   accepted_calm my theirs (Some cookie) word answers allowed =
       let awaiting : Endpoint = awaits_cookie_ack e my theirs cookie word in
       let is_short : Bool = fits awaiting (echo_emission theirs.pair.tag cookie) in
@@ -92,7 +92,7 @@ module _ (came : Option Content) (opening : IsOpening came) (e : Endpoint) where
         noted = refl;
         queue = numbered_for (held_by_init_ack e.options my theirs).capabilities.message_interleaving (queue_restarted e.queues.queue);
         keeps = inr refl;
-      }) opening (echoed_link is_short awaiting (U64 word ∷ []) theirs.pair.tag cookie answers allowed) (record { none = last.none; waits = last.waits })
+      }) opening (echoed_link is_short awaiting (U64 word ∷ []) theirs.pair.tag cookie answers allowed) (record { none = last.none; waits = last.waits; renews = last.renews })
 
   pub init_ack_calm : (theirs : Introduction) (cookie : Option (List ℕ)) (core : Core) (word : ℕ) (answers : List Answer) → InitAckAnswers e theirs cookie core word answers
       → CalmTurns came e (init_ack_by (flush_answered answers) e theirs cookie core word)
@@ -117,7 +117,7 @@ module _ (came : Option Content) (opening : IsOpening came) (e : Endpoint) where
         noted = refl;
         queue = queue;
         keeps = keeps;
-      }) opening (flush_link base (cookie_ack_emission (held_by_cookie e.options cookie) cookie) answers allowed) (record { none = last.none; waits = last.waits })
+      }) opening (flush_link base (cookie_ack_emission (held_by_cookie e.options cookie) cookie) answers allowed) (record { none = last.none; waits = last.waits; renews = stays_then e.renewable base.renewable _ (inr refl) last.renews })
 
   anew_calm : (cookie : Cookie) (tie : ℕ) (told : List (Event Emission)) (answers : List Answer) → EstablishAnswers e cookie (queues_begun e cookie) tie answers
       → CalmTurns came e (establish_by (flush_answered answers) e cookie (queues_begun e cookie) tie told)
@@ -146,7 +146,7 @@ module _ (came : Option Content) (opening : IsOpening came) (e : Endpoint) where
         there = there;
         kept = transfer_kept e.moment e.options cookie.addressee.first_tsn (window_by_cookie e.options cookie) transfer;
         kept_is = (e.moment, window_by_cookie e.options cookie, refl);
-      }) (record { none = last.none; waits = last.waits })
+      }) (record { none = last.none; waits = last.waits; renews = stays_then e.renewable base.renewable _ (inr refl) last.renews })
 
   by_calm : (b : Bool) (mine : Pair) (held : Held) (echoed : List ℕ) (cookie : Cookie) (tie : ℕ) (transfer : Transfer) (answers : List Answer) → e.core ≡ cookie_echoed mine held echoed → e.queues.transfer ≡ Some transfer → outlasts e mine held cookie transfer ≡ b
       → EstablishAnswers e cookie (queues_by b e cookie transfer) tie answers → CalmTurns came e (establish_by (flush_answered answers) e cookie (queues_by b e cookie transfer) tie (connected ∷ []))
@@ -175,13 +175,13 @@ module _ (came : Option Content) (opening : IsOpening came) (e : Endpoint) where
   restarted_calm cookie tie (open_in shutdown_pending my held) answers allowed = anew_calm cookie tie (connection_restarted ∷ connected ∷ []) answers allowed
   restarted_calm cookie tie (open_in shutdown_sent my held) answers allowed = anew_calm cookie tie (connection_restarted ∷ connected ∷ []) answers allowed
   restarted_calm cookie tie (open_in shutdown_received my held) answers allowed = anew_calm cookie tie (connection_restarted ∷ connected ∷ []) answers allowed
-  restarted_calm cookie tie (open_in shutdown_ack_sent my held) answers allowed = goes_on (said e _ tt refl)
+  restarted_calm cookie tie (open_in shutdown_ack_sent my held) answers allowed = goes_on (said e _ tt refl refl)
 
-  maintained_asks : (cookie : Cookie) (core : Core) (answers : List Answer) → MaintainAnswers e cookie core answers → AsksNothing e.queues.transfer (maintain_by (flush_answered answers) e cookie core)
+  maintained_asks : (cookie : Cookie) (core : Core) (answers : List Answer) → MaintainAnswers e cookie core answers → AsksNothing e.queues.transfer e.renewable (maintain_by (flush_answered answers) e cookie core)
   maintained_asks cookie closed answers allowed = rests e
   maintained_asks cookie (cookie_wait my) answers allowed = rests e
   maintained_asks cookie (cookie_echoed my held echoed) answers allowed =
-      (let last = flushed (connected_after e my held) (cookie_ack_emission held cookie) answers allowed in record { none = last.none; waits = last.waits })
+      (let last = flushed (connected_after e my held) (cookie_ack_emission held cookie) answers allowed in record { none = last.none; waits = last.waits; renews = last.renews })
   maintained_asks cookie (open_in phase my held) answers allowed = flushed_behind e [] [] (cookie_ack_emission held cookie) answers allowed
 
   resolved_calm : (cookie : Cookie) (core : Core) (word : ℕ) (resolution : Resolution) (answers : List Answer) → e.core ≡ core → ResolvedAnswers e cookie core word resolution answers
@@ -189,12 +189,12 @@ module _ (came : Option Content) (opening : IsOpening came) (e : Endpoint) where
   resolved_calm cookie core word establish_new answers same allowed = established_calm cookie (queue_where e.options.follow_rfc e cookie) word (connected ∷ []) answers (kept_or_anew e.options.follow_rfc e cookie) allowed
   resolved_calm cookie core word restart answers same allowed = restarted_calm cookie word core answers allowed
   resolved_calm cookie core word simultaneous_init answers same allowed = collided_calm core cookie word answers same allowed
-  resolved_calm cookie core word discard answers same allowed = goes_on (said e _ tt refl)
+  resolved_calm cookie core word discard answers same allowed = goes_on (said e _ tt refl refl)
   resolved_calm cookie core word maintain_existing answers same allowed = goes_on (maintained_asks cookie core answers allowed)
-  resolved_calm cookie core word invalid_tag answers same allowed = goes_on (said e _ tt refl)
-  resolved_calm cookie core word stale answers same allowed = by_stale_outcome (CalmTurns came e) e cookie (goes_on (said e _ tt refl)) (goes_on (said e _ tt refl))
+  resolved_calm cookie core word invalid_tag answers same allowed = goes_on (said e _ tt refl refl)
+  resolved_calm cookie core word stale answers same allowed = by_stale_outcome (CalmTurns came e) e cookie (goes_on (said e _ tt refl refl)) (goes_on (said e _ tt refl refl))
 
   pub echo_calm : (core : Core) (header : ℕ) (found : Result Cookie (List ℕ)) (word : ℕ) (answers : List Answer) → e.core ≡ core → EchoedAnswers e core header found word answers
       → CalmTurns came e (cookie_echo_by (flush_answered answers) e core header found word)
-  echo_calm core header (Err text) word answers same allowed = goes_on (said e _ tt refl)
+  echo_calm core header (Err text) word answers same allowed = goes_on (said e _ tt refl refl)
   echo_calm core header (Ok cookie) word answers same allowed = resolved_calm cookie core word (resolved_now e core header cookie) answers same allowed

@@ -1,21 +1,22 @@
 -- What waits for a reset, where no request of the peer is handled.
 use Rattle.dcsctp_spec_lemmas.specs.spec.association.Effect as effects
-use Rattle.std.proofs.Common.{◌≡◌, ℕ, Bool, true, false, cond, Option, None, Some, List, [], ◌∷◌, ◌++◌, length, refl, sym, ◌∙◌, subst, ap}
+use Rattle.std.proofs.Common.{◌≡◌, ◌⊎◌, inl, inr, ℕ, Bool, true, false, cond, Option, None, Some, List, [], ◌∷◌, ◌++◌, length, refl, sym, ◌∙◌, subst, ap}
 use Rattle.dcsctp_spec_lemmas.specs.types.declared.arrivals.SkippedTo.{SkippedTo}
 use Rattle.dcsctp_spec_lemmas.specs.types.declared.word.Word.{Word}
 use Rattle.dcsctp_spec_lemmas.specs.spec.endpoint.Endpoint.{Endpoint}
 use Rattle.dcsctp_spec_lemmas.specs.spec.endpoint.Event.{Event}
 use Rattle.dcsctp_spec_lemmas.specs.spec.endpoint.Outcome.{Outcome, still, quiet, sends, emits, fits, behind}
-use Rattle.dcsctp_spec_lemmas.specs.spec.Packet.{Emission}
+use Rattle.dcsctp_spec_lemmas.specs.spec.Packet.{Content, Emission}
+use Rattle.dcsctp_spec_lemmas.specs.spec.Reconfiguration.{NumberedReset}
 use Rattle.dcsctp_spec_lemmas.specs.spec.association.Effect.{Effect}
 use Rattle.dcsctp_spec_lemmas.specs.spec.queues.Arrivals.{Arrival}
 use Rattle.dcsctp_spec_lemmas.specs.spec.queues.IncomingStreams.{ChunkModel}
 use Rattle.dcsctp_spec_lemmas.specs.spec.queues.Reassembly.{DeferralModel, WaitingModel, ReassemblyState, can_count, is_data_deferred, is_forward_deferred, with_waiting, AddsData, SkipsData}
 use Rattle.dcsctp_spec_lemmas.specs.spec.queues.Tracker.{is_new_tsn, is_forward, is_valid_tsn}
 use Rattle.dcsctp_spec_lemmas.specs.spec.queues.Transfer.{Transfer, EndpointQueues}
-use Rattle.dcsctp_spec_lemmas.specs.spec.endpoint.BegunResets.{BegunReset, begun_effects}
+use Rattle.dcsctp_spec_lemmas.specs.spec.endpoint.BegunResets.{BegunReset, begun_effects, after_begun}
 use Rattle.dcsctp_spec_lemmas.specs.spec.endpoint.EndOutcomes.{ended_outcome}
-use Rattle.dcsctp_spec_lemmas.specs.spec.endpoint.FlushOutcomes.{Answer, answer_contents, filled, asked, next_draft, flush_of, FlushAnswers, Ask, first_ask, later_ask, IsAnswerOfQueues, IsFlushAnswer, AreFlushAnswers, at_limit, at_empty, after_packet, packets_allowed}
+use Rattle.dcsctp_spec_lemmas.specs.spec.endpoint.FlushOutcomes.{Answer, answer_contents, filled, goes_out, asked, next_draft, flush_of, FlushAnswers, Ask, first_ask, later_ask, IsAnswerOfQueues, IsFlushAnswer, AreFlushAnswers, at_limit, at_empty, after_packet, packets_allowed}
 use Rattle.dcsctp_spec_lemmas.specs.spec.endpoint.TransferMoves.{AddsWhere, has_room, ReceivesWhere, ReceivesData, SkipsWhere, MovesWhere, MovesForward}
 use Rattle.dcsctp_spec_lemmas.proofs.FlushKeeps.{begun_by, flush_keeps}
 use Rattle.dcsctp_delivery_sending.proofs.Packets.{out_below}
@@ -161,41 +162,76 @@ flush_waits (Some transfer) e draft answers known allowed =
     subst (StillWaits (Some transfer)) (sym kept.is)
     (some_wait (Some transfer) transfer kept.left refl (waits_by transfer.reassembly.deferral kept.left.reassembly.deferral (ap (λ (r : ReassemblyState). r.deferral) kept.same.reassembly)))
 
+-- ---- what is renewable
+
+-- It stays, or there is none any more.
+abbrev pub StaysOrNone : Option NumberedReset → Option NumberedReset → Type 0
+StaysOrNone old new = (new ≡ old) ⊎ (new ≡ None)
+
+pub stays_then : (old between new : Option NumberedReset) → StaysOrNone old between → StaysOrNone between new → StaysOrNone old new
+stays_then old between new first (inr none) = inr none
+stays_then old between new (inl same) (inl alike) = inl (alike ∙ same)
+stays_then old between new (inr none) (inl alike) = inr (alike ∙ none)
+
+pub out_renewable : (e : Endpoint) (told : List (Event Emission)) (with_checksum : Bool) (tag : ℕ) (contents : List Content) → (goes_out e told with_checksum tag contents).after.renewable ≡ e.renewable
+out_renewable e told with_checksum tag [] = refl
+out_renewable e told with_checksum tag (content ∷ contents) = refl
+
+begun_renewable : (begun : Option BegunReset) (e : Endpoint) → (after_begun begun e).renewable ≡ e.renewable
+begun_renewable None e = refl
+begun_renewable (Some begun) e = refl
+
+asked_renewable : (ask : Ask) (e : Endpoint) (draft : Emission) (answer : Answer) → IsFlushAnswer ask e draft answer → (asked e draft answer).after.renewable ≡ e.renewable
+asked_renewable ask e draft answer does =
+    out_renewable answer.after _ draft.with_checksum draft.packet.tag (filled draft (answer_contents answer)).packet.contents
+    ∙ ap (λ (x : Endpoint). x.renewable) does.kept ∙ begun_renewable answer.begun e
+
+-- A flush leaves it.
+pub flush_renewable : (ask : Ask) (n : ℕ) (e : Endpoint) (draft : Emission) (answers : List Answer) → AreFlushAnswers ask n e draft answers → (flush_of e draft answers).after.renewable ≡ e.renewable
+flush_renewable _ _ _ _ _ (at_limit ask e draft) = refl
+flush_renewable _ _ _ _ _ (at_empty ask more e draft answer does empty) = asked_renewable ask e draft answer does
+flush_renewable _ _ _ _ _ (after_packet ask more e draft answer answers does some rest) =
+    flush_renewable later_ask more (asked e draft answer).after (next_draft e.core draft) answers rest ∙ asked_renewable ask e draft answer does
+
 -- ---- outcomes
 
--- No request of the peer is accepted or performed, and what waits for one in this waits for it still.
-pub record AsksNothing (found : Option Transfer) (o : Outcome) : Type 0 where
+-- No request of the peer is accepted or performed, what waits for one in this waits for it still, and what was renewable stays, or
+-- there is none any more.
+pub record AsksNothing (found : Option Transfer) (old : Option NumberedReset) (o : Outcome) : Type 0 where
   pub none : NoneAsked o.effects
   pub waits : StillWaits found o.after.queues.transfer
+  pub renews : StaysOrNone old o.after.renewable
 
 -- as this outcome
-pub as_this : (found : Option Transfer) (o this : Outcome) → o ≡ this → AsksNothing found this → AsksNothing found o
-as_this found o this is asks = subst (AsksNothing found) (sym is) asks
+pub as_this : (found : Option Transfer) (old : Option NumberedReset) (o this : Outcome) → o ≡ this → AsksNothing found old this → AsksNothing found old o
+as_this found old o this is asks = subst (AsksNothing found old) (sym is) asks
 
-pub rests : (e : Endpoint) → AsksNothing e.queues.transfer (still e)
-rests e = record { none = tt; waits = all_wait e.queues.transfer }
+pub rests : (e : Endpoint) → AsksNothing e.queues.transfer e.renewable (still e)
+rests e = record { none = tt; waits = all_wait e.queues.transfer; renews = inl refl }
 
 -- Nothing is asked, and what is below stays.
-pub said : (e : Endpoint) (o : Outcome) → NoneAsked o.effects → o.after.queues ≡ e.queues → AsksNothing e.queues.transfer o
-said e o none same = record { none = none; waits = subst (λ (b : EndpointQueues). StillWaits e.queues.transfer b.transfer) (sym same) (all_wait e.queues.transfer) }
+pub said : (e : Endpoint) (o : Outcome) → NoneAsked o.effects → o.after.queues ≡ e.queues → o.after.renewable ≡ e.renewable → AsksNothing e.queues.transfer e.renewable o
+said e o none same alike =
+    record { none = none; waits = subst (λ (b : EndpointQueues). StillWaits e.queues.transfer b.transfer) (sym same) (all_wait e.queues.transfer); renews = inl alike }
 
-packet_if : (b : Bool) (e : Endpoint) (words : List Word) (emission : Emission) → AsksNothing e.queues.transfer (cond b (sends e words [] emission) (quiet e words []))
-packet_if true e words emission = record { none = tt; waits = all_wait e.queues.transfer }
-packet_if false e words emission = record { none = tt; waits = all_wait e.queues.transfer }
+packet_if : (b : Bool) (e : Endpoint) (words : List Word) (emission : Emission) → AsksNothing e.queues.transfer e.renewable (cond b (sends e words [] emission) (quiet e words []))
+packet_if true e words emission = record { none = tt; waits = all_wait e.queues.transfer; renews = inl refl }
+packet_if false e words emission = record { none = tt; waits = all_wait e.queues.transfer; renews = inl refl }
 
-pub emitted : (e : Endpoint) (words : List Word) (emission : Emission) → AsksNothing e.queues.transfer (emits e words emission)
+pub emitted : (e : Endpoint) (words : List Word) (emission : Emission) → AsksNothing e.queues.transfer e.renewable (emits e words emission)
 emitted e words emission = packet_if (fits e emission) e words emission
 
-pub flushed : (e : Endpoint) (draft : Emission) (answers : List Answer) → FlushAnswers e draft answers → AsksNothing e.queues.transfer (flush_of e draft answers)
+pub flushed : (e : Endpoint) (draft : Emission) (answers : List Answer) → FlushAnswers e draft answers → AsksNothing e.queues.transfer e.renewable (flush_of e draft answers)
 flushed e draft answers allowed =
     record {
       none = subst NoneAsked (sym (flush_keeps first_ask (packets_allowed e.options.max_burst e.core) e draft answers allowed).effects) (begun_unasked (begun_by answers));
       waits = flush_waits e.queues.transfer e draft answers refl allowed;
+      renews = inl (flush_renewable first_ask (packets_allowed e.options.max_burst e.core) e draft answers allowed);
     }
 
 pub flushed_behind : (e : Endpoint) (words : List Word) (told : List (Event Emission)) (draft : Emission) (answers : List Answer) → FlushAnswers e draft answers
-    → AsksNothing e.queues.transfer (behind words told (flush_of e draft answers))
-flushed_behind e words told draft answers allowed = (let last = flushed e draft answers allowed in record { none = last.none; waits = last.waits })
+    → AsksNothing e.queues.transfer e.renewable (behind words told (flush_of e draft answers))
+flushed_behind e words told draft answers allowed = (let last = flushed e draft answers allowed in record { none = last.none; waits = last.waits; renews = last.renews })
 
-pub ended : (found : Option Transfer) (before : Outcome) (event : Event Emission) → NoneAsked before.effects → AsksNothing found (ended_outcome before event)
-ended found before event none = record { none = unasked_append before.effects (effects.ends ∷ []) none tt; waits = λ left is. absurd (cc) }
+pub ended : (found : Option Transfer) (old : Option NumberedReset) (before : Outcome) (event : Event Emission) → NoneAsked before.effects → AsksNothing found old (ended_outcome before event)
+ended found old before event none = record { none = unasked_append before.effects (effects.ends ∷ []) none tt; waits = λ left is. absurd (cc); renews = inr refl }

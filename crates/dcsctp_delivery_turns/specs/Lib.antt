@@ -9,5 +9,6 @@ pub mod Runs
 pub mod Reporting
 pub mod Completing
 pub mod PeerRequests
+pub mod ToldResets
 pub mod Holding
 pub mod Unbegun

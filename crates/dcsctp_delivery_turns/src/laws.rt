@@ -8,6 +8,7 @@ ghost use Rattle.dcsctp_delivery_turns.specs.Reporting.{TurnsReport};
 ghost use Rattle.dcsctp_delivery_turns.specs.Runs.{ReceiversBegin, ReceiversGoOn, SendersBegin, SendersBeginAnew, SendersGoOn};
 ghost use Rattle.dcsctp_delivery_turns.specs.Sides.{StepsGoOn, ActionsSend, ActionsReceive};
 ghost use Rattle.dcsctp_delivery_turns.specs.Tags.{TagsAreOwn, EchoesBearOwnTag, FlushesGoToPeer};
+ghost use Rattle.dcsctp_delivery_turns.specs.ToldResets.{TurnsTellResets};
 ghost use Rattle.dcsctp_delivery_turns.specs.Unbegun.{FreshIsAtZero, StaysAtZero, UnbegunBeginsAtZero, UnbegunBeginsWaiting};
 
 /// A flush goes to the peer's tag, and a packet with data is handled only under our own tag (RFC 9260, sections 5.2.4
@@ -56,7 +57,7 @@ pub fn runs_go_on()
 {}
 
 /// A request of ours to reset streams that ends as performed is the one that had no end, of the association that the
-/// socket holds (RFC 6525, section 5.2.7).
+/// socket holds (RFC 6525, section 5.2.7). The user is told of its streams.
 pub fn own_requests_complete()
     ensures { CompletesOwn }
 {}
@@ -69,6 +70,12 @@ pub fn peers_requests_turn()
     ensures calm { CalmAsksNothing }
     ensures unlinked { UnlinkedAsksNothing }
     ensures ends { EndsAskNothing }
+{}
+
+/// The user is told of each reset of streams that the peer has asked for and that is performed (RFC 6525, section 5.2.2),
+/// in that turn, or before where the request came again under the next number.
+pub fn turns_tell_resets()
+    ensures { TurnsTellResets }
 {}
 
 /// A socket that has had no association has begun no message: each stream is at number 0, whatever is queued, until the

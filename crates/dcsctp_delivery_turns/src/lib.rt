@@ -6,5 +6,5 @@ mod laws;
 
 pub use laws::{
     actions_are_steps, data_goes_to_peer, own_requests_complete, peers_requests_turn, runs_go_on,
-    tags_are_own, turns_are_actions, turns_report,
+    tags_are_own, turns_are_actions, turns_report, turns_tell_resets,
 };

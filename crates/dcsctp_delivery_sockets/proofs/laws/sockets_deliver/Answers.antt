@@ -12,4 +12,4 @@ returns c =
       offers = c.offer_reads_back.ensures.announced;
       built = c.built_packet_reads_as_itself.ensures;
     } in
-    sockets_deliver (record { below = law; answers = c.answer_keeps_agreement.ensures; moves = record { chunks = c.chunks_are_controlled.ensures; acts = c.acts_are_controlled.ensures } })
+    sockets_deliver (record { below = law; answers = c.answer_keeps_agreement.ensures; moves = record { chunks = c.chunks_are_controlled.ensures; acts = c.acts_are_controlled.ensures } }) c.sockets_tell_effects.ensures
