@@ -132,6 +132,7 @@ impl Run {
             Command::State(side) => written(self.print_state(side, output)),
             Command::Timeout(side) => written(self.print_timeout(side, output)),
             Command::Handover(side) => self.hand_over(side, output),
+            Command::Settle(rounds) => self.settle(rounds),
         }
     }
 
@@ -216,6 +217,12 @@ impl Run {
     // Takes a step.
     fn apply(&mut self, step: Step) -> Result<(), Failure> {
         let _reply = self.world.apply(&step)?;
+        Ok(())
+    }
+
+    // Makes quiet rounds.
+    fn settle(&mut self, rounds: usize) -> Result<(), Failure> {
+        self.world.settle(rounds)?;
         Ok(())
     }
 

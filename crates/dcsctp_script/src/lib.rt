@@ -2,8 +2,9 @@
 //!
 //! First come the lines that set options (`opt S name value`), then those that list random words
 //! (`words S w ..`), then the rest: `connect S`, `close S`, `shutdown S`, `send S stream hex`, `reset S ids`, `recv S`,
-//! `time S ms`, `give S k`, `input S hex`, `show S`, `state S` and `timeout S`. After each command its events are
-//! printed, a line each. The first line that is none of these, or comes at the wrong place, ends the run.
+//! `time S ms`, `give S k`, `input S hex`, `handover S`, `settle rounds`, `show S`, `state S` and `timeout S`. After each
+//! command its events are printed, a line each, those of A first. The first line that is none of these, or comes at the
+//! wrong place, ends the run.
 #![tactic(auto)]
 
 mod commands;

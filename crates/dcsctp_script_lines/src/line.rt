@@ -49,6 +49,9 @@ pub enum Command {
 
     /// This socket is handed over, and restored from its own snapshot.
     Handover(Side),
+
+    /// So many quiet rounds are made.
+    Settle(usize),
 }
 
 /// A line.
@@ -64,17 +67,17 @@ pub enum Line<'a> {
     Command(Command),
 }
 
-/// The line that a text is. Its second field always names a side.
+/// The line that a text is. Its second field names a side, or says how many rounds.
 ///
 /// `None` if the keyword or the side is unknown, or a field is missing or one too many. So it is if the
-/// number of a packet or of milliseconds isn't one up to 2^64 - 1, or if bytes or streams aren't written as
-/// such. The name and the value of an option and a list of words are not looked at here.
+/// number of a packet or of milliseconds isn't one up to 2^64 - 1, that of rounds one up to 1,000, or if bytes
+/// or streams aren't written as such. The name and the value of an option and a list of words are not looked at here.
 pub fn parse_line(alloc: Global, text: &str) -> Result<Option<Line<'_>>, AllocError> {
     let Some((keyword, rest)) = text.split_once(' ') else {
         return Ok(None);
     };
     match rest.split_once(' ') {
-        None => Ok(plain_line(keyword, rest)),
+        None => Ok(short_line(keyword, rest)),
         Some((name, rest)) => match side(name) {
             Some(side) => line_with_rest(alloc, keyword, side, rest),
             None => Ok(None),
@@ -95,6 +98,17 @@ fn side(name: &str) -> Option<Side>
 }
 
 // A line of two fields.
+fn short_line<'a>(keyword: &str, field: &str) -> Option<Line<'a>> {
+    match keyword {
+        "settle" => {
+            let rounds = number(field, 1000)?;
+            Some(Line::Command(Command::Settle(rounds as usize)))
+        }
+        _ => plain_line(keyword, field),
+    }
+}
+
+// One that names a side.
 fn plain_line<'a>(keyword: &str, name: &str) -> Option<Line<'a>> {
     let side = side(name)?;
     let command = match keyword {

@@ -7,7 +7,7 @@ mod BurstHandshake
 mod BurstShutdown
 mod BurstTurns
 pub mod Bursts
-mod Bytes
+pub mod Bytes
 mod DataFits
 pub mod Deliver
 mod ExpiryMoves
@@ -16,12 +16,12 @@ mod FlushFits
 mod Fresh
 mod HandoverTurns
 mod HandshakeEnds
-mod HandshakeReads
+pub mod HandshakeReads
 mod HandshakeRuns
-mod HandshakeSizes
-mod HandshakeTurns
+pub mod HandshakeSizes
+pub mod HandshakeTurns
 mod HeardShutdowns
-mod Idle
+pub mod Idle
 mod IdleTurns
 pub mod Moves
 pub mod NewAssociations
@@ -36,7 +36,7 @@ mod RequestAgain
 mod Resets
 pub mod RestoredFlush
 mod RestoreTurns
-mod Sendable
+pub mod Sendable
 mod ShutdownFits
 pub mod Sent
 pub mod Signs

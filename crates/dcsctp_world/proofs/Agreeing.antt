@@ -18,6 +18,7 @@ use Rattle.dcsctp_theorem_sockets.specs.Laws.{SocketLaws}
 use Rattle.dcsctp_theorem_sockets.specs.OneSocket.{IsWithinLimit}
 use Rattle.dcsctp_theorem_sockets.specs.Telling.{HoldsNoted}
 use Rattle.dcsctp_theorem_cookies.specs.Laws.{CookieLaws}
+use Rattle.dcsctp_theorem_progress.specs.Laws.{ProgressLaws}
 use Rattle.dcsctp_delivery_shown.specs.Delivery.{UsersReadWhatWasSent}
 use Rattle.dcsctp_core.specs.types.Schedule.{ActContent}
 use Rattle.dcsctp_world.specs.Shown.{SideShown, WorldView, options_of}
@@ -29,7 +30,7 @@ use Rattle.dcsctp_world.proofs.Honest.{honest_run}
 
 -- ---- the handshake
 
-connections_shown : (f : Emission → List ℕ) (events : List (Event Emission)) → connections_of_events (map (event_map f) events) ≡ connections_of_events events
+pub connections_shown : (f : Emission → List ℕ) (events : List (Event Emission)) → connections_of_events (map (event_map f) events) ≡ connections_of_events events
 connections_shown f [] = refl
 connections_shown f (sent packet ∷ events) = connections_shown f events
 connections_shown f (connected ∷ events) = ap suc (connections_shown f events)
@@ -93,8 +94,8 @@ keeps_promises law options world run side =
       bursts = law.bursts options run.steps run.run side;
     }
 
-pub world_keeps : {R : Type 0} → SocketLaws → CookieLaws → UsersReadWhatWasSent → (world : WorldView (Recording R)) → GoesWell world → Promises world
-world_keeps law cookies delivery world well =
+pub world_keeps : {R : Type 0} → SocketLaws → CookieLaws → UsersReadWhatWasSent → ProgressLaws → (world : WorldView (Recording R)) → GoesWell world → Promises world
+world_keeps law cookies delivery progress world well =
     let options : Both Options = options_of world in
     let run : IsRun options world = well.is_run in
     record {
@@ -107,6 +108,7 @@ world_keeps law cookies delivery world well =
       delivered = delivery options run.steps run.usable run.in_memory run.run;
       connect = λ fit side. law.connect options side run.steps run.usable fit run.run;
       handshake = handshake_connects law.connect options world run;
+      connects = λ those shown fit. progress.throughout those shown.steps shown.usable fit shown.run;
       quiet = law.quiet options run.steps run.run;
       each = keeps_promises law options world run;
     }

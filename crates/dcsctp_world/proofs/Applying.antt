@@ -12,6 +12,7 @@ use Rattle.dcsctp_core.specs.spec.endpoint.CallTurns.{Transition, events_of, wor
 use Rattle.dcsctp_spec_runs.specs.SoundRuns.{SocketsStaySound}
 use Rattle.dcsctp_spec_runs.specs.Sockets.{Both, of_side, of_other, side_of_act, TurnsOfAct}
 use Rattle.dcsctp_theorem_cookies.specs.Laws.{CookieLaws}
+use Rattle.dcsctp_theorem_progress.specs.Laws.{ProgressLaws}
 use Rattle.dcsctp_theorem_sockets.specs.Laws.{SocketLaws}
 use Rattle.dcsctp_theorem_sockets.specs.Restores.{RestoredSocketsBeginNothing}
 use Rattle.dcsctp_delivery_shown.specs.Delivery.{UsersReadWhatWasSent}
@@ -30,13 +31,14 @@ use Rattle.dcsctp_world.specs.Drawing.{AreWhole}
 use Rattle.dcsctp_world.specs.Promises.{Promises}
 use Rattle.dcsctp_world.specs.Recording.{Recording, recorded_stream}
 use Rattle.dcsctp_world.specs.Run.{IsRun, GoesWell}
+use Rattle.dcsctp_world.specs.Continuing.{Continues}
 use Rattle.dcsctp_world.specs.Acts.{ActMoves, AppliedAll, BothExtend, with_associations, ActApplied, Applied, Applies, WorksAct, WorldExtends, ActRanOutOfMemory, Ran, RunsSteps}
 use Rattle.dcsctp_world.specs.Parts.{both, world_of}
 use Rattle.dcsctp_world.proofs.Agreeing.{world_keeps}
 use Rattle.dcsctp_world.proofs.ComingBack.{both_sound, restores_by}
 use Rattle.dcsctp_world.proofs.Drawing.{applied_draws}
 use Rattle.dcsctp_world.proofs.Keeping.{extends_itself, extends_by, extends_further}
-use Rattle.dcsctp_world.proofs.Running.{is_run_next, is_run_options, is_run_of_own}
+use Rattle.dcsctp_world.proofs.Running.{shows_next, is_run_next, is_run_options, is_run_of_own, continues_further, continues_itself}
 use Rattle.dcsctp_world.proofs.Stopping.{shows_nothing}
 
 -- ---- each list begins with what it held
@@ -97,7 +99,7 @@ moved_extend stream act reply old moved new moves a b =
     let first : BothExtend old moved = moves_extend stream act reply old moved moves in
     record { a = side_extends_further old.a moved.a new.a first.a a; b = side_extends_further old.b moved.b new.b first.b b }
 
-world_extends_further : {R : Type 0} (a b c : WorldView R) → WorldExtends a b → WorldExtends b c → WorldExtends a c
+pub world_extends_further : {R : Type 0} (a b c : WorldView R) → WorldExtends a b → WorldExtends b c → WorldExtends a c
 world_extends_further a b c first second =
     record {
       sides = record {
@@ -142,6 +144,7 @@ pub record KnownLaws : Type 0 where
   pub sockets : SocketLaws
   pub cookies : CookieLaws
   pub delivery : UsersReadWhatWasSent
+  pub progress : ProgressLaws
   pub sound : SocketsStaySound
   pub restores : RestoredSocketsBeginNothing
 
@@ -154,7 +157,8 @@ applied_next stream laws act reply old new fits well applied whole =
       drawn = applied_draws (recorded_stream stream) act reply old new applied;
       options = is_run_options (options_of old) new run;
       restores = restores_by (recorded_stream stream) laws.restores act reply old new (both_sound laws.sound (options_of old) old well.is_run) applied;
-      keeps = world_keeps laws.sockets laws.cookies laws.delivery new (record { is_run = is_run_of_own (options_of old) new run; whole = whole });
+      continues = λ options earlier. shows_next (recorded_stream stream) options act reply old new fits earlier applied;
+      keeps = world_keeps laws.sockets laws.cookies laws.delivery laws.progress new (record { is_run = is_run_of_own (options_of old) new run; whole = whole });
     }
 
 -- the world's own flag doesn't matter where it is not set
@@ -191,6 +195,7 @@ ran_none stream old runs keeps =
       extends = record { sides = record { a = side_extends_itself old.sides.a; b = side_extends_itself old.sides.b }; acts = extends_itself old.acts };
       options = refl;
       drawn = λ side start drew. drew;
+      continues = continues_itself old;
       keeps = keeps;
     }
 
@@ -220,6 +225,8 @@ ran_more stream steps step reply old now new ran applied =
       extends = world_extends_further old now new ran.extends (applied_extends (recorded_stream stream) (step_act step) reply now new applied.applied);
       options = applied.options ∙ ran.options;
       drawn = λ side start drew. applied.drawn side start (ran.drawn side start drew);
+      continues = subst (λ (acts : List ActContent). Continues acts old new) (sym (map-append step_act steps (step ∷ [])))
+          (continues_further (map step_act steps) (step_act step ∷ []) old now new ran.continues applied.continues);
       keeps = applied.keeps;
     }
 

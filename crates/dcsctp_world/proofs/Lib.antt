@@ -1,7 +1,9 @@
 mod Agreeing
 mod Applying
 mod ComingBack
+mod Connecting
 mod Drawing
+mod Following
 mod Growing
 mod HandingOn
 mod Honest
@@ -11,6 +13,7 @@ mod Running
 mod SaidMessages
 mod SentMessages
 mod Setting
+mod Settling
 mod Stopping
 mod Taking
 mod Whole

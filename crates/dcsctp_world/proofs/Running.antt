@@ -1,6 +1,6 @@
 -- What a world shows stays what a run shows, from its making on and step by step.
 use Rattle.std.proofs.Common.{◌≡◌, ℕ, false, Option, List, [], ◌∷◌, ◌++◌, map, reverse, refl, sym, ap, subst, ◌∙◌, append_assoc}
-use Rattle.std.proofs.lemmas.List.{map-append}
+use Rattle.std.proofs.lemmas.List.{map-append, reverse-append}
 use Rattle.std.proofs.lemmas.Grind.{reverse_onto}
 use Rattle.rand_core.specs.Stream.{Stream}
 use Rattle.dcsctp_core.specs.types.declared.association.Pair.{Pair}
@@ -29,6 +29,8 @@ use Rattle.dcsctp_world.specs.Shown.{SideShown, WorldView, fresh_side_shown, fre
 use Rattle.dcsctp_world.specs.Growth.{Grows}
 use Rattle.dcsctp_theorem_sockets.specs.Agreement.{IsUsable}
 use Rattle.dcsctp_world.specs.Run.{SideRuns, IsRun}
+use Rattle.dcsctp_world.specs.Continuing.{ShowsAfter, Continues}
+use Rattle.dcsctp_theorem_progress.specs.Rounds.{ActsFollow}
 use Rattle.dcsctp_world.specs.Acts.{with_associations, ActApplied}
 use Rattle.dcsctp_world.specs.Parts.{shown, world_of}
 use Rattle.dcsctp_theorem_sockets.proofs.Bursts.{packets_in-append}
@@ -176,9 +178,9 @@ turns_of options turns old act os runs turned =
     subst (λ (packets : List (List ℕ)). TurnsOfAct (endpoint_after (of_side mover options) (of_side mover turns)) packets act os) (other_packets options turns old mover runs)
     (subst (λ (e : Endpoint). TurnsOfAct e (of_other mover old).packets act os) (runs mover).endpoint turned)
 
-pub is_run_next : {R : Type 0} (stream : R → Stream) (options : Both Options) (act : ActContent) (reply : Reply) (old new : WorldView R) → FitsAct act → IsRun options old
-    → ActApplied stream act reply old new → IsRun options new
-is_run_next {R = R} stream options act reply old new fits h applied =
+pub shows_next : {R : Type 0} (stream : R → Stream) (options : Both Options) (act : ActContent) (reply : Reply) (old new : WorldView R) → FitsAct act → (h : IsRun options old)
+    → ActApplied stream act reply old new → ShowsAfter options h.steps (act ∷ []) new
+shows_next {R = R} stream options act reply old new fits h applied =
     let mover : Side = side_of_act act in
     let moved : Both (SideShown R) = applied.moved in
     let os = applied.moves.grows.turns in
@@ -189,7 +191,7 @@ is_run_next {R = R} stream options act reply old new fits h applied =
     let runs : (side : Side) → SidesRun options now moved side =
     sides_next options before old.sides moved Turns mover applied.moves.grows applied.moves.other_stays (sockets_keep_options.run options h.steps h.run mover) h.sides in
     let ends = turns_of options before old.sides act os h.sides applied.moves.grows.are in
-    record {
+    let shown : IsRun options new = record {
       usable = h.usable;
       steps = worked ∷ h.steps;
       run = (ends, h.run);
@@ -202,4 +204,33 @@ is_run_next {R = R} stream options act reply old new fits h applied =
           (same_associations old.sides moved Turns mover applied.moves.grows applied.moves.other_stays side ∙ h.associations side)
           ∙ ap (λ (e : Endpoint). reverse (associations_of side options h.steps) ++ association_of e.core ∷ []) (runs side).endpoint
           ∙ sym (reverse-cons (association_of (endpoint_after (of_side side options) (of_side side now)).core) (associations_of side options h.steps));
+    } in
+    record { shown = shown; follows = record { more = worked ∷ []; is = refl; are = refl } }
+
+pub is_run_next : {R : Type 0} (stream : R → Stream) (options : Both Options) (act : ActContent) (reply : Reply) (old new : WorldView R) → FitsAct act → IsRun options old
+    → ActApplied stream act reply old new → IsRun options new
+is_run_next stream options act reply old new fits h applied = (shows_next stream options act reply old new fits h applied).shown
+
+-- ---- several acts more
+
+acts-append : (more earlier : List PerformedAct) → acts_of (more ++ earlier) ≡ acts_of more ++ acts_of earlier
+acts-append [] earlier = refl
+acts-append (worked ∷ more) earlier = ap (λ (l : List ActContent). worked.act ∷ l) (acts-append more earlier)
+
+pub follows_further : (earlier between run : List PerformedAct) (acts others : List ActContent) → ActsFollow earlier acts between → ActsFollow between others run → ActsFollow earlier (acts ++ others) run
+follows_further earlier between run acts others first second =
+    record {
+      more = second.more ++ first.more;
+      is = second.is ∙ ap (λ (l : List PerformedAct). second.more ++ l) first.is ∙ sym (append_assoc second.more first.more earlier);
+      are = acts-append second.more first.more ∙ ap (λ (l : List ActContent). l ++ acts_of first.more) second.are
+          ∙ ap (λ (l : List ActContent). reverse others ++ l) first.are ∙ sym (reverse-append acts others);
     }
+
+pub continues_further : {R : Type 0} (acts others : List ActContent) (old between new : WorldView R) → Continues acts old between → Continues others between new → Continues (acts ++ others) old new
+continues_further acts others old between new first second options earlier =
+    let now : ShowsAfter options earlier.steps acts between = first options earlier in
+    let then : ShowsAfter options now.shown.steps others new = second options now.shown in
+    record { shown = then.shown; follows = follows_further earlier.steps now.shown.steps then.shown.steps acts others now.follows then.follows }
+
+pub continues_itself : {R : Type 0} (world : WorldView R) → Continues [] world world
+continues_itself world options earlier = record { shown = earlier; follows = record { more = []; is = refl; are = refl } }

@@ -9,6 +9,7 @@ use Rattle.dcsctp_world.specs.declared.act.Reply.{Reply}
 use Rattle.dcsctp_world.specs.Shown.{SideShown, WorldView, options_of}
 use Rattle.dcsctp_world.specs.Growth.{Extends, Grows, ShowsFront, StopsKeeping, SideExtends, HandlesAct, with_association, IsReply}
 use Rattle.dcsctp_world.specs.Promises.{Promises}
+use Rattle.dcsctp_world.specs.Continuing.{Continues}
 use Rattle.dcsctp_world.specs.Drawing.{DrawOn}
 use Rattle.dcsctp_world.specs.Recording.{Recording, recorded_stream}
 use Rattle.dcsctp_world.specs.Returning.{BringsBack}
@@ -68,6 +69,8 @@ pub record Applied {R : Type 0} (stream : R → Stream) (act : ActContent) (repl
   -- A restore brings back what the snapshot has of the association.
   pub restores : BringsBack act reply (of_side (side_of_act act) old.sides).socket.view.endpoint
       (of_side (side_of_act act) new.sides).socket.view.endpoint
+  -- The runs that the old world shows continue by this act.
+  pub continues : Continues (act ∷ []) old new
   pub keeps : Promises new
 
 -- An allocation failed in an act, and the world has failed. The act isn't among its acts.
@@ -119,6 +122,7 @@ pub record Ran {R : Type 0} (stream : R → Stream) (steps : List StepContent) (
   pub extends : WorldExtends old new
   pub options : options_of new ≡ options_of old
   pub drawn : DrawOn (recorded_stream stream) old.sides new.sides
+  pub continues : Continues (map step_act steps) old new
   pub keeps : Promises new
 
 -- An allocation failed at one of these steps: those before it were applied, one after another, and the world kept its promises.

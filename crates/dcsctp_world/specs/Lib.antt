@@ -1,4 +1,6 @@
 pub mod Acts
+pub mod Connecting
+pub mod Continuing
 pub mod Drawing
 pub mod Growth
 pub mod Handshake
@@ -8,5 +10,6 @@ pub mod Parts
 pub mod Promises
 pub mod Recording
 pub mod Returning
+pub mod Rounds
 pub mod Run
 pub mod Shown

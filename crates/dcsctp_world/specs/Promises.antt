@@ -16,6 +16,7 @@ use Rattle.dcsctp_theorem_sockets.specs.Telling.{TellsNoted, HoldsNoted, AreAnew
 use Rattle.dcsctp_theorem_cookies.specs.Ages.{AgeThroughout}
 use Rattle.dcsctp_theorem_cookies.specs.Cookies.{GivenThroughout}
 use Rattle.dcsctp_delivery_shown.specs.Delivery.{DeliverThroughout}
+use Rattle.dcsctp_world.specs.Connecting.{ShownRoundsConnect}
 use Rattle.dcsctp_world.specs.Drawing.{AreWhole}
 use Rattle.dcsctp_world.specs.Handshake.{ShownHandshakeConnects}
 use Rattle.dcsctp_world.specs.Recording.{Recording}
@@ -70,6 +71,9 @@ pub record Promises {R : Type 0} (world : WorldView (Recording R)) : Type 0 wher
   pub connect : AreFitting (options_of world) → (side : Side) → ConnectThroughout (options_of world) side run.steps
   -- A world whose acts are a handshake shows that both are connected.
   pub handshake : ShownHandshakeConnects (options_of world) world
+  -- Where one side awaits an INIT ACK and the other is closed, or both await one, neither sent a message, and T1 may restart: however
+  -- many rounds are lost, one that isn't connects sockets that fit each other. It makes a COOKIE ECHO good that was lost before.
+  pub connects : ShownRoundsConnect world
   -- Time before the next deadline moves the clock alone, but for a socket that awaits a COOKIE ACK.
   pub quiet : TimeIsQuiet (options_of world) run.steps
   -- What each socket keeps by itself.

@@ -12,6 +12,7 @@
 mod act;
 mod fits;
 mod recorded;
+mod rounds;
 mod user_messages;
 mod watched_socket;
 mod world;

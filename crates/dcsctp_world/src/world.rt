@@ -9,6 +9,7 @@ use dcsctp_delivery_shown::users_read_what_was_sent;
 use dcsctp_socket::{Association, Message, Options, Pair, Socket, SocketEvent, SocketFault, Word};
 use dcsctp_spec_runs::{options_fit, sockets_stay_sound};
 use dcsctp_theorem_cookies::cookie_laws;
+use dcsctp_theorem_progress::progress_laws;
 use dcsctp_theorem_sockets::{restored_sockets_begin_nothing, socket_laws};
 use rand_core::Rng;
 use std::alloc::Global;
@@ -146,6 +147,7 @@ impl<R: Rng + Drop> World<R> {
         socket_laws();
         cookie_laws();
         users_read_what_was_sent();
+        progress_laws();
         let a = WatchedSocket::new(alloc, "a", a, Recorded::new(alloc, rng_a))?;
         let b = WatchedSocket::new(alloc, "b", b, Recorded::new(alloc, rng_b))?;
         Ok(World {
@@ -167,6 +169,7 @@ impl<R: Rng + Drop> World<R> {
         socket_laws();
         cookie_laws();
         users_read_what_was_sent();
+        progress_laws();
         sockets_stay_sound();
         restored_sockets_begin_nothing();
         act_fits(&act);
@@ -256,7 +259,12 @@ impl<R: Rng + Drop> World<R> {
     /// None is missing before one that was read on a stream for which the sender's user never called `reset_streams`,
     /// refused calls included, if the sender had no other own tag, and no message of the stream has such a limit.
     /// Messages of other streams may have one, and those streams may be reset. Then what was read of its ordered
-    /// messages is a prefix of what was sent on it.
+    /// messages is a prefix of what was sent on it. It is all that was sent on it, where messages don't interleave,
+    /// once the sender has no message that waits and no TSN that isn't acknowledged, and its peer in this association
+    /// has no message ready.
+    ///
+    /// With the premises of what is read, a side reports OnStreamsResetPerformed only of streams of which the other
+    /// has reported OnIncomingStreamReset, in one event, in the same order.
     ///
     /// The rest holds whatever comes from outside. In one lifetime an association connects at most once, and
     /// the numbers of requests to reset streams go up by one. Each request that was accepted is performed at
@@ -265,6 +273,13 @@ impl<R: Rng + Drop> World<R> {
     /// While an INIT ACK or a COOKIE ACK is awaited, T1 runs. Time before the next deadline moves the clock
     /// alone, but for a socket that awaits a COOKIE ACK. No packet is longer than the `mtu` of its side, rounded
     /// down to a multiple of 4, and no flush sends more than `max_burst` of them.
+    ///
+    /// Two sockets that fit each other connect, once the network lets a repeated INIT and what follows it through
+    /// (sections 5.1 and 5.2.1). In a round both clocks go to the earlier `poll_timeout`, and four times all that was
+    /// sent since is delivered, in order. However many rounds are lost, one that isn't leaves both Established and
+    /// crossed, each with one OnConnected more. That has premises: one awaits an INIT ACK, and the other is closed or
+    /// awaits one too; neither sent a message, and T1 may restart once more than rounds are lost. Or no round is lost,
+    /// and one awaits a COOKIE ACK, while the other is closed and takes its cookie.
     pub fn run(&mut self, steps: &[Step]) -> Result<(), SocketFault>
         ensures { RunsSteps R.stream (map step_content steps.now) self.old result self.new }
     {
@@ -275,6 +290,7 @@ impl<R: Rng + Drop> World<R> {
         socket_laws();
         cookie_laws();
         users_read_what_was_sent();
+        progress_laws();
         for step in steps {
             self.apply(step)?;
         }

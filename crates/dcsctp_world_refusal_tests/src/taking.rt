@@ -107,6 +107,12 @@ fn runs_nothing(rt: &impl Abort, world: &mut World<Counting>, steps: &[Step]) {
     );
 }
 
+// The same of rounds.
+fn settles_nothing(rt: &impl Abort, world: &mut World<Counting>, rounds: usize) {
+    let fault = world.settle(rounds).err();
+    assert_eq!(rt; fault, Some(SocketFault::Failed), "{rounds} rounds");
+}
+
 // Each later step is refused.
 fn no_step_is_applied(rt: &impl Abort, world: &mut World<Counting>) {
     for step in &LATER {
@@ -114,6 +120,8 @@ fn no_step_is_applied(rt: &impl Abort, world: &mut World<Counting>) {
         runs_nothing(rt, world, &[]);
     }
     runs_nothing(rt, world, &LATER);
+    settles_nothing(rt, world, 0);
+    settles_nothing(rt, world, 1);
 }
 
 // So is each later act from outside. No bytes and an empty snapshot take no memory.

@@ -1,7 +1,7 @@
 //! A world in which an allocation fails in a step: that step says so, each view is the first part of what it would have
-//! been, and the world applies nothing from then on. Steps are applied one by one, and by one run.
+//! been, and the world applies nothing from then on. Steps are applied one by one, by one run, and by a quiet round.
 
-use crate::deeds::Deed::{Connects, Reads, Resets, Sends, ShutsDown, Takes};
+use crate::deeds::Deed::{Connects, Passes, Reads, Resets, Sends, ShutsDown, Takes};
 use crate::deeds::{Row, steps};
 use crate::taking::{has_run_out, is_well, new_world, stays_failed, takes};
 use crate::twins::{Twin, goes_first};
@@ -16,6 +16,7 @@ use dcsctp_world::World;
 use dcsctp_world::socket::Phase::{
     CookieEchoed, CookieWait, Established, ShutdownAckSent, ShutdownSent,
 };
+use dcsctp_world::socket::SocketFault;
 use std::alloc::Global;
 use std::process::Abort;
 
@@ -70,6 +71,23 @@ static STEPS: &[Row] = &[
     (B, Takes(6), &[Event("closed", 0)], None),
 ];
 
+// A lost INIT, and a quiet round: T1 expires after a second, and the four packets of the handshake come in turn (RFC
+// 9260, sections 5.1 and 16).
+static ROUND: &[Row] = &[
+    (A, Connects, &[Packet(&[INIT])], Some(CookieWait)),
+    (A, Passes(1000), &[Packet(&[INIT])], Some(CookieWait)),
+    (B, Passes(1000), &[], None),
+    (B, Takes(2), &[Packet(&[INIT_ACK])], None),
+    (A, Takes(1), &[Packet(&[COOKIE_ECHO])], Some(CookieEchoed)),
+    (
+        B,
+        Takes(3),
+        &[Event("connected", 0), Packet(&[COOKIE_ACK])],
+        Some(Established),
+    ),
+    (A, Takes(2), &[Event("connected", 0)], Some(Established)),
+];
+
 /// How the acts of a table are applied.
 #[derive(Clone, Copy)]
 pub enum Way {
@@ -78,6 +96,9 @@ pub enum Way {
 
     /// All by one `run`.
     ByOneRun,
+
+    /// The first by itself, the others by one quiet round.
+    ByARound,
 }
 
 // The world has failed after so many acts. It applies nothing from then on, and shows what it showed.
@@ -118,12 +139,15 @@ fn follows(rt: &impl Abort, alloc: Global, world: &mut World<Counting>, twin: Tw
     true
 }
 
-// The world runs all steps. Returns whether no allocation failed.
-fn runs(rt: &impl Abort, alloc: Global, world: &mut World<Counting>, twin: Twin<'_>) -> bool {
-    let Ok(steps) = steps(alloc, twin.rows) else {
-        return false;
-    };
-    match world.run(&steps) {
+// The world has gone the way of the twin to its end, or as far as this fault. Returns whether no allocation failed.
+fn has_followed(
+    rt: &impl Abort,
+    alloc: Global,
+    world: &mut World<Counting>,
+    twin: Twin<'_>,
+    outcome: Result<(), SocketFault>,
+) -> bool {
+    match outcome {
         Ok(()) => {
             is_well(rt, world);
             twin.is_followed(rt, world, twin.rows.len());
@@ -140,6 +164,24 @@ fn runs(rt: &impl Abort, alloc: Global, world: &mut World<Counting>, twin: Twin<
     }
 }
 
+// The world runs all steps. Returns whether no allocation failed.
+fn runs(rt: &impl Abort, alloc: Global, world: &mut World<Counting>, twin: Twin<'_>) -> bool {
+    let Ok(steps) = steps(alloc, twin.rows) else {
+        return false;
+    };
+    let outcome = world.run(&steps);
+    has_followed(rt, alloc, world, twin, outcome)
+}
+
+// The world takes the first act, and makes a quiet round. Returns whether no allocation failed.
+fn settles(rt: &impl Abort, alloc: Global, world: &mut World<Counting>, twin: Twin<'_>) -> bool {
+    if !follows_in(rt, alloc, world, twin, 0) {
+        return false;
+    }
+    let outcome = world.settle(1);
+    has_followed(rt, alloc, world, twin, outcome)
+}
+
 // A new world goes the way of the twin. Returns whether no allocation failed.
 fn goes_second(rt: &impl Abort, alloc: Global, twin: Twin<'_>, way: Way) -> bool {
     let Some(mut world) = new_world(rt, alloc) else {
@@ -149,6 +191,7 @@ fn goes_second(rt: &impl Abort, alloc: Global, twin: Twin<'_>, way: Way) -> bool
     let is_whole = match way {
         Way::OneByOne => follows(rt, alloc, &mut world, twin),
         Way::ByOneRun => runs(rt, alloc, &mut world, twin),
+        Way::ByARound => settles(rt, alloc, &mut world, twin),
     };
     drop(world);
     is_whole
@@ -192,4 +235,9 @@ fn a_world_that_runs_out_in_a_step_shows_a_front_part(rt: HostRuntime) {
 #[test]
 fn a_world_that_runs_out_in_a_run_shows_a_front_part(rt: HostRuntime) {
     keeps_promises(&rt, rt.alloc(), STEPS, Way::ByOneRun);
+}
+
+#[test]
+fn a_world_that_runs_out_in_a_round_shows_a_front_part(rt: HostRuntime) {
+    keeps_promises(&rt, rt.alloc(), ROUND, Way::ByARound);
 }

@@ -24,6 +24,8 @@ mod schedules;
 #[cfg(test)]
 mod seen;
 #[cfg(test)]
+mod settling;
+#[cfg(test)]
 mod steps;
 #[cfg(test)]
 mod view;

@@ -90,6 +90,16 @@ pub fn narrow() -> Both {
     }
 }
 
+/// The same options, and T1 always restarts.
+pub fn patient(both: Both) -> Both {
+    let mut a = both.a;
+    a.max_init_retransmits = None;
+    let mut b = both.b;
+    b.max_init_retransmits = None;
+    let name = both.name;
+    Both { name, a, b }
+}
+
 /// The same options with `follow_rfc` at both ends.
 pub fn by_rfc(mut both: Both) -> Both {
     both.a.follow_rfc = true;

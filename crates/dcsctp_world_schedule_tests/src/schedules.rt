@@ -50,8 +50,8 @@ fn words(seed: u64, side: Side) -> Counter {
     }
 }
 
-// Two closed sockets.
-fn new_world(rt: &impl Abort, alloc: Global, schedule: Schedule<'_>) -> World<Counter> {
+/// Two closed sockets.
+pub fn new_world(rt: &impl Abort, alloc: Global, schedule: Schedule<'_>) -> World<Counter> {
     let Both { name, a, b } = schedule.both;
     assert!(rt; a.is_valid() && b.is_valid(), "{name}");
     let rng_a = words(schedule.seed, Side::A);

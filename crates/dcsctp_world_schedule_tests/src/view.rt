@@ -85,8 +85,8 @@ fn ends_of(association: &Option<Association>) -> Option<Ends> {
     Some((association.my, association.held?))
 }
 
-// Do the two have each other's pairs?
-fn are_crossed((my, held): &Ends, (their, their_held): &Ends) -> bool {
+/// Do the two have each other's pairs?
+pub fn are_crossed((my, held): &Ends, (their, their_held): &Ends) -> bool {
     held.peer == *their && their_held.peer == *my
 }
 

@@ -1,0 +1,22 @@
+mod Turns
+mod Echoes
+mod Facts
+mod LostInits
+mod LostInitsOfBoth
+pub mod Runs
+mod Retries
+pub mod Cookies
+pub mod EchoRuns
+mod Views
+mod Handed
+mod Chain
+mod Starts
+mod HandedBoth
+mod Collision
+mod Collides
+mod Promise
+mod TwoTry
+pub mod Connected
+pub mod Fresh
+mod Throughout
+mod EchoRound

@@ -1,0 +1,221 @@
+-- What a moment does to a socket whose INITs are lost, and to a closed one.
+use Rattle.std.specs.Prelude.{nat_le, min, max}
+use Rattle.std.specs.Duration.{max_nanos}
+use Rattle.std.specs.Option.{option_map}
+use Rattle.std.proofs.Common.{◌≡◌, ◌≤◌, ℕ, suc, Bool, true, false, Option, None, Some, List, [], ◌∷◌, length, refl, sym, subst, ap, ◌∙◌, arith}
+use Rattle.std.proofs.lemmas.Bool.Decides.{nat_tests}
+use Rattle.std.proofs.lemmas.List.{append-nil}
+use Rattle.dcsctp_spec_lemmas.specs.types.declared.association.Pair.{Pair}
+use Rattle.dcsctp_spec_lemmas.specs.spec.endpoint.Endpoint.{Endpoint, Core, closed, cookie_wait}
+use Rattle.dcsctp_spec_lemmas.specs.spec.endpoint.Timers.{RunningTimer, may_restart, next_expiries, going_on}
+use Rattle.dcsctp_spec_lemmas.specs.spec.endpoint.Outcome.{still}
+use Rattle.dcsctp_spec_lemmas.specs.spec.endpoint.Turn.{time_passes, clock_at}
+use Rattle.dcsctp_spec_lemmas.specs.spec.endpoint.CallTurns.{Transition, transition, Turns}
+use Rattle.dcsctp_spec_lemmas.specs.spec.endpoint.TimeTurns.{next_of, deadlines_of, with_deadline, deadline_of, has_come, has_restart, timers_counted, timers_in, t1_timer, ExpiryThen, ExpiryTurns, DueTurns, MomentTurns, TimeTurns, AdvanceTurns, next_moment}
+use Rattle.dcsctp_theorem_progress.specs.LostInits.{DueT1, AwaitsInitAck}
+use Rattle.dcsctp_theorem_progress.specs.Retries.{LeavesRestarts, RetriesInit}
+use Rattle.dcsctp_theorem_progress.specs.Connecting.{RestsAnew}
+use Rattle.dcsctp_theorem_sockets.proofs.HandshakeReads.{turned_as}
+use Rattle.dcsctp_theorem_progress.proofs.Turns.{init_repeated, t1_sends_init}
+use Rattle.dcsctp_theorem_progress.proofs.Views.{View, view_then}
+
+-- ---- the next moment
+
+next_by : (moment : ℕ) (deadline : Option ℕ) (at : ℕ) → deadline ≡ Some at → next_of moment (with_deadline deadline []) ≡ max at moment
+next_by moment deadline at is = ap (λ (d : Option ℕ). next_of moment (with_deadline d [])) is
+
+next_is : (e : Endpoint) (p : Pair) (timer : RunningTimer) → e.core ≡ cookie_wait p → e.timers.t1 ≡ Some timer → next_moment e ≡ max timer.deadline e.moment
+next_is e p timer is runs =
+    ap (λ (core : Core). next_of e.moment (deadlines_of e (timers_counted core))) is
+    ∙ next_by e.moment (deadline_of e.timers.t1) timer.deadline (ap deadline_of runs)
+
+-- A closed socket has none.
+pub never : (f : Endpoint) → f.core ≡ closed → next_moment f ≡ max_nanos
+never f is = ap (λ (core : Core). next_of f.moment (deadlines_of f (timers_counted core))) is
+
+greater : (n m limit : ℕ) → n ≤ limit → m ≤ limit → max n m ≤ limit
+greater n m limit a b = omega (arith, a, b)
+
+pub next_fits : (e : Endpoint) (p : Pair) (more : ℕ) → RetriesInit e p more → next_moment e ≤ max_nanos
+next_fits e p more h = subst (λ (n : ℕ). n ≤ max_nanos) (sym (next_is e p h.timer h.core h.runs)) (greater h.timer.deadline e.moment max_nanos h.deadline h.clock)
+
+reached : (n m : ℕ) → nat_le n (max m n) ≡ true
+reached n m = grind (arith, nat_tests)
+
+come_by : (n m : ℕ) → nat_le n (max n m) ≡ true
+come_by n m = grind (arith, nat_tests)
+
+-- ---- restarts
+
+restarts : (limit : Option ℕ) (expiries more : ℕ) → LeavesRestarts limit expiries (suc more) → may_restart limit (next_expiries expiries) ≡ true
+restarts None expiries more h = refl
+restarts (Some limit) expiries more h = grind (arith, nat_tests, h)
+
+one_less : (limit : Option ℕ) (expiries more : ℕ) → LeavesRestarts limit expiries (suc more) → LeavesRestarts limit (next_expiries expiries) more
+one_less None expiries more h = tt
+one_less (Some limit) expiries more h = omega (arith, h)
+
+fewer : (limit : Option ℕ) (expiries more : ℕ) → LeavesRestarts limit expiries (suc more) → LeavesRestarts limit expiries more
+fewer None expiries more h = tt
+fewer (Some limit) expiries more h = omega (arith, h)
+
+pub again : (e : Endpoint) (p : Pair) (more : ℕ) → RetriesInit e p (suc more) → has_restart e.timers.t1 ≡ true
+again e p more h = ap has_restart h.runs ∙ restarts h.timer.terms.max_restarts h.timer.expiries more h.left
+
+-- With a restart left T1 is due at the next moment.
+pub awaits_next : (e : Endpoint) (p : Pair) (more : ℕ) → RetriesInit e p (suc more) → AwaitsInitAck e p (next_moment e)
+awaits_next e p more h =
+    let next : next_moment e ≡ max h.timer.deadline e.moment = next_is e p h.timer h.core h.runs in
+    record {
+      core = h.core;
+      t1 = record {
+        present = ap (nat_le e.moment) next ∙ reached e.moment h.timer.deadline;
+        come = ap (λ (t : Option RunningTimer). has_come (next_moment e) (deadline_of t)) h.runs ∙ ap (nat_le h.timer.deadline) next ∙ come_by h.timer.deadline e.moment;
+        again = again e p more h;
+      };
+      empty = h.empty;
+      asks = h.asks;
+      pair = h.pair;
+    }
+
+-- ---- a moment
+
+abbrev pub clock_turn : ℕ → Endpoint → Transition
+clock_turn moment e = transition (time_passes moment) (still (clock_at moment e))
+
+-- The moment is earlier than the present one; T1 isn't due; or it expires, and INIT is sent again.
+pub data Advanced (e : Endpoint) (p : Pair) (moment : ℕ) (turns : List Transition) : Type 0 where
+  no_time : turns ≡ [] → Advanced e p moment turns
+  too_early : turns ≡ clock_turn moment e ∷ [] → Advanced e p moment turns
+  expires : DueT1 e moment → turns ≡ init_repeated e p moment → Advanced e p moment turns
+
+no_turns : (f : Endpoint) (turns : List Transition) → Turns f [] turns → turns ≡ []
+no_turns f [] h = refl
+no_turns f (t ∷ ts) h = absurd h
+
+not_due : (e : Endpoint) (p : Pair) (moment : ℕ) (turns : List Transition) → e.core ≡ cookie_wait p → has_come moment (deadline_of e.timers.t1) ≡ false → MomentTurns e moment turns → turns ≡ clock_turn moment e ∷ []
+not_due e p moment [] is waits h = absurd h
+not_due e p moment (t ∷ ts) is waits h =
+    let first : t ≡ clock_turn moment e = turned_as t (time_passes moment) (still (clock_at moment e)) h.0.is h.0.comes in
+    let rest : DueTurns (clock_at moment e) ts = subst (λ (x : Transition). DueTurns x.outcome.after ts) first h.1 in
+    let at_core : ExpiryTurns (t1_timer ∷ []) false (clock_at moment e) ts = subst (λ (core : Core). ExpiryTurns (timers_in core) false (clock_at moment e) ts) is rest in
+    let none : Turns (clock_at moment e) [] ts = subst (λ (b : Bool). ExpiryThen b (ExpiryTurns []) (clock_at moment e) false t1_timer ts) waits at_core in
+    ap (λ (x : Transition). x ∷ ts) first ∙ ap (λ (xs : List Transition). clock_turn moment e ∷ xs) (no_turns (clock_at moment e) ts none)
+
+advanced_by : (present come : Bool) (e : Endpoint) (p : Pair) (more moment : ℕ) (turns : List Transition) → nat_le e.moment moment ≡ present → has_come moment (deadline_of e.timers.t1) ≡ come
+    → 112 ≤ e.options.mtu → RetriesInit e p (suc more) → AdvanceTurns e moment turns → Advanced e p moment turns
+advanced_by false come e p more moment turns is_present is_come large h time = no_time (subst (λ (b : Bool). TimeTurns b e moment turns) is_present time)
+advanced_by true false e p more moment turns is_present is_come large h time =
+    too_early (not_due e p moment turns h.core is_come (subst (λ (b : Bool). TimeTurns b e moment turns) is_present time))
+advanced_by true true e p more moment turns is_present is_come large h time =
+    let due : DueT1 e moment = record { present = is_present; come = is_come; again = again e p more h } in
+    expires due (t1_sends_init e p moment turns h.core large due time)
+
+pub advanced : (e : Endpoint) (p : Pair) (more moment : ℕ) (turns : List Transition) → 112 ≤ e.options.mtu → RetriesInit e p (suc more) → AdvanceTurns e moment turns → Advanced e p moment turns
+advanced e p more moment turns large h time = advanced_by (nat_le e.moment moment) (has_come moment (deadline_of e.timers.t1)) e p more moment turns refl refl large h time
+
+-- It still tries, with a restart less at most, and told nothing.
+pub record Onward (v : View) (p : Pair) (more : ℕ) (turns : List Transition) : Type 0 where
+  pub tries : RetriesInit (view_then v turns).endpoint p more
+  pub same : (view_then v turns).endpoint.options ≡ v.endpoint.options
+  pub told : (view_then v turns).told ≡ v.told
+  pub secret : (view_then v turns).endpoint.secret ≡ v.endpoint.secret
+  pub last : (view_then v turns).endpoint.last_tag ≡ v.endpoint.last_tag
+
+cut : (n limit : ℕ) → min n limit ≤ limit
+cut n limit = omega arith
+
+stays : (e : Endpoint) (p : Pair) (more : ℕ) → RetriesInit e p (suc more) → RetriesInit e p more
+stays e p more h =
+    record {
+      core = h.core;
+      empty = h.empty;
+      asks = h.asks;
+      pair = h.pair;
+      timer = h.timer;
+      runs = h.runs;
+      left = fewer h.timer.terms.max_restarts h.timer.expiries more h.left;
+      clock = h.clock;
+      deadline = h.deadline;
+    }
+
+onward_by : (v : View) (p : Pair) (more moment : ℕ) (turns : List Transition) → moment ≤ max_nanos → RetriesInit v.endpoint p (suc more) → Advanced v.endpoint p moment turns → Onward v p more turns
+onward_by v p more moment turns fits h (no_time is) =
+    subst (Onward v p more) (sym is) (record { tries = stays v.endpoint p more h; same = refl; told = refl; secret = refl; last = refl })
+onward_by v p more moment turns fits h (too_early is) =
+    let less : RetriesInit v.endpoint p more = stays v.endpoint p more h in
+    subst (Onward v p more) (sym is)
+    (record {
+      tries = record {
+        core = less.core;
+        empty = less.empty;
+        asks = less.asks;
+        pair = less.pair;
+        timer = less.timer;
+        runs = less.runs;
+        left = less.left;
+        clock = fits;
+        deadline = less.deadline;
+      };
+      same = refl;
+      told = refl;
+      secret = refl;
+      last = refl;
+    })
+onward_by v p more moment turns fits h (expires due is) =
+    subst (Onward v p more) (sym is)
+    (record {
+      tries = record {
+        core = h.core;
+        empty = h.empty;
+        asks = h.asks;
+        pair = h.pair;
+        timer = going_on moment h.timer;
+        runs = ap (λ (t : Option RunningTimer). option_map (going_on moment) t) h.runs;
+        left = one_less h.timer.terms.max_restarts h.timer.expiries more h.left;
+        clock = fits;
+        deadline = cut _ max_nanos;
+      };
+      same = refl;
+      told = refl;
+      secret = refl;
+      last = refl;
+    })
+
+-- A moment uses at most one restart.
+pub onward : (v : View) (p : Pair) (more moment : ℕ) (turns : List Transition) → 112 ≤ v.endpoint.options.mtu → moment ≤ max_nanos → RetriesInit v.endpoint p (suc more)
+    → AdvanceTurns v.endpoint moment turns → Onward v p more turns
+onward v p more moment turns large fits h time = onward_by v p more moment turns fits h (advanced v.endpoint p more moment turns large h time)
+
+-- ---- the other meanwhile
+
+-- It is still closed, and has shown and told nothing.
+pub record Resting (w : View) (turns : List Transition) : Type 0 where
+  pub rests : RestsAnew (view_then w turns).endpoint
+  pub same : (view_then w turns).endpoint.options ≡ w.endpoint.options
+  pub told : (view_then w turns).told ≡ w.told
+  pub shown : length (view_then w turns).shown ≡ length w.shown
+
+pub closed_still : (f : Endpoint) (moment : ℕ) (turns : List Transition) → f.core ≡ closed → MomentTurns f moment turns → turns ≡ clock_turn moment f ∷ []
+closed_still f moment [] is h = absurd h
+closed_still f moment (t ∷ ts) is h =
+    let first : t ≡ clock_turn moment f = turned_as t (time_passes moment) (still (clock_at moment f)) h.0.is h.0.comes in
+    let rest : DueTurns (clock_at moment f) ts = subst (λ (x : Transition). DueTurns x.outcome.after ts) first h.1 in
+    let none : Turns (clock_at moment f) [] ts = subst (λ (core : Core). ExpiryTurns (timers_in core) false (clock_at moment f) ts) is rest in
+    ap (λ (x : Transition). x ∷ ts) first ∙ ap (λ (xs : List Transition). clock_turn moment f ∷ xs) (no_turns (clock_at moment f) ts none)
+
+resting_by : (b : Bool) (w : View) (moment : ℕ) (turns : List Transition) → RestsAnew w.endpoint → TimeTurns b w.endpoint moment turns → Resting w turns
+resting_by true w moment turns h time =
+    subst (Resting w) (sym (closed_still w.endpoint moment turns h.rests.core time))
+    (record {
+      rests = record { rests = record { core = h.rests.core; empty = h.rests.empty; secret = h.rests.secret }; anew = h.anew };
+      same = refl;
+      told = refl;
+      shown = ap length (append-nil w.shown);
+    })
+resting_by false w moment turns h time =
+    subst (Resting w) (sym time) (record { rests = h; same = refl; told = refl; shown = ap length (append-nil w.shown) })
+
+-- A closed socket stays closed while time passes.
+pub resting : (w : View) (moment : ℕ) (turns : List Transition) → RestsAnew w.endpoint → AdvanceTurns w.endpoint moment turns → Resting w turns
+resting w moment turns h time = resting_by (nat_le w.endpoint.moment moment) w moment turns h time

@@ -1,0 +1,13 @@
+-- What is known of how two sockets connect, whatever is lost.
+use Rattle.dcsctp_theorem_progress.specs.LostInits.{LostInitsAreMadeGood, LostInitsOfBothAreMadeGood}
+use Rattle.dcsctp_theorem_progress.specs.Connecting.{LostRoundsAreMadeGood, FreshSocketsConnect, RoundsConnectSockets}
+use Rattle.dcsctp_theorem_progress.specs.Echoes.{LostEchoesAreMadeGood, LostAcksAreMadeGood}
+
+pub record ProgressLaws : Type 0 where
+  pub inits : LostInitsAreMadeGood
+  pub inits_of_both : LostInitsOfBothAreMadeGood
+  pub echoes : LostEchoesAreMadeGood
+  pub acks : LostAcksAreMadeGood
+  pub rounds : LostRoundsAreMadeGood
+  pub fresh : FreshSocketsConnect
+  pub throughout : RoundsConnectSockets

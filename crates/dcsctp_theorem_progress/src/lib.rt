@@ -1,0 +1,11 @@
+//! Two sockets connect, whatever is lost, once the network lets a repeat and what follows it through: progress, over
+//! finite runs. Each law is the contract of a function that only calls others.
+#![tactic(auto)]
+
+mod laws;
+
+pub use laws::{
+    fresh_sockets_connect, lost_acks_are_made_good, lost_echoes_are_made_good,
+    lost_inits_are_made_good, lost_inits_of_both_are_made_good, lost_rounds_are_made_good,
+    progress_laws, rounds_connect_sockets,
+};
