@@ -76,6 +76,7 @@ speed() {
 memory() {
     report "bytes of a connected pair, with both sockets" each heap 1 21 hold
     report "the same after 1 MiB each way" each heap 1 21 hold used
+    report "the same a minute later" each heap 1 21 hold idle
     report "bytes of a socket itself" awk '/^socket-bytes/ { print $2 }' "$folder/said"
 }
 

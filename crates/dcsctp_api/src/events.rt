@@ -6,6 +6,7 @@ ghost use Rattle.dcsctp_wire_build.specs.Checksums.{checksum_filled, checksum_cl
 ghost use Rattle.dcsctp_api.specs.Events.{event_content};
 ghost use Rattle.dcsctp_api.specs.Packets.{entry_event, packet_event, cleared_event};
 
+use crate::spares::Spares;
 use dcsctp_spec_lemmas::types::{ErrorKind, LifecycleId, StreamId};
 use dcsctp_wire_build::{SctpPacketBuilder, clear_checksum, fill_checksum};
 use std::alloc::{AllocError, Global};
@@ -88,6 +89,9 @@ enum Entry {
 #[derive(Drop)]
 pub struct Events {
     items: VecDeque<Entry>,
+
+    /// Memory for packets. A contract doesn't see it.
+    pub spares: Spares,
 }
 
 impl Model for Events {
@@ -161,6 +165,7 @@ impl Events {
     {
         Events {
             items: VecDeque::new(alloc),
+            spares: Spares::new(alloc),
         }
     }
 

@@ -17,6 +17,7 @@ mod errors;
 mod events;
 mod laws;
 mod metrics;
+mod spares;
 mod state;
 mod state_cookie;
 
@@ -36,6 +37,7 @@ pub use laws::{
     state_cookie_reads_back, stream_id_hash, stream_id_order,
 };
 pub use metrics::{Counts, Metrics};
+pub use spares::Spares;
 pub use state::SocketState;
 pub use state_cookie::StateCookie;
 

@@ -22,8 +22,21 @@ pub enum Command {
     /// Tries a rule.
     Rules(Case),
 
-    /// Keeps that many pairs of connected sockets, each, if the flag says so, after 1 MiB was sent each way.
-    Hold(u32, bool),
+    /// Keeps that many pairs of connected sockets with this life behind them.
+    Hold(u32, Life),
+}
+
+/// What two sockets that are kept did before.
+#[derive(Clone, Copy, PartialEq, Eq)]
+pub enum Life {
+    /// They connected.
+    New,
+
+    /// They sent 1 MiB each way.
+    Used,
+
+    /// The same, and nothing for a minute.
+    Idle,
 }
 
 /// Which messages are carried, and how.
@@ -213,6 +226,15 @@ fn parse_rule(word: &str) -> Option<Rule> {
     }
 }
 
+// What sockets did before, by this word; `None` if it says nothing.
+fn parse_life(word: &str) -> Option<Life> {
+    match word {
+        "used" => Some(Life::Used),
+        "idle" => Some(Life::Idle),
+        _ => None,
+    }
+}
+
 // Is an option on, by this word? `None` if it says nothing.
 fn parse_switch(word: &str) -> Option<bool> {
     match word {
@@ -255,10 +277,11 @@ pub fn parse_command(words: &[String]) -> Option<Command> {
     match name.as_str() {
         "handshakes" if rest.is_empty() => Some(Command::Handshakes(count)),
         "messages" => Some(Command::Messages(parse_plan(count, rest)?)),
-        "hold" if rest.is_empty() => Some(Command::Hold(count, false)),
-        "hold" if rest.len() == 1 && rest.first()?.as_str() == "used" => {
-            Some(Command::Hold(count, true))
-        }
+        "hold" if rest.is_empty() => Some(Command::Hold(count, Life::New)),
+        "hold" if rest.len() == 1 => Some(Command::Hold(
+            count,
+            parse_life(rest.first()?.as_str())?,
+        )),
         _ => None,
     }
 }

@@ -1,6 +1,6 @@
 //! What the program does at each command, and what it prints of it.
 
-use crate::arguments::{Command, Plan};
+use crate::arguments::{Command, Life, Plan};
 use crate::burden::strain_sender;
 use crate::chunks::Chunks;
 use crate::failure::Failure;
@@ -20,7 +20,7 @@ pub fn obey(rt: &(impl Print + Alloc<A = Global>), command: Command) -> Result<(
         Command::Strain(strain) => strain_receiver(rt.alloc(), &strain),
         Command::Burden(burden) => strain_sender(rt.alloc(), &burden),
         Command::Rules(case) => try_rule(rt, &case),
-        Command::Hold(count, is_used) => hold(rt, count, is_used),
+        Command::Hold(count, life) => hold(rt, count, life),
     }
 }
 
@@ -34,12 +34,15 @@ fn carry_both_ways(alloc: Global, pair: &mut Pair) -> Result<(), Failure> {
     Ok(())
 }
 
-// Two connected sockets; if they are to be used, after 1 MiB was sent each way.
-fn connected(alloc: Global, is_used: bool) -> Result<Pair, Failure> {
+// Two connected sockets with this life behind them.
+fn connected(alloc: Global, life: Life) -> Result<Pair, Failure> {
     let mut pair = Pair::new(alloc, false)?;
     pair.connect()?;
-    if is_used {
+    if life != Life::New {
         carry_both_ways(alloc, &mut pair)?;
+    }
+    if life == Life::Idle {
+        pair.rest(Duration::from_secs(60))?;
     }
     Ok(pair)
 }
@@ -49,7 +52,7 @@ fn shake_hands(rt: &(impl Print + Alloc<A = Global>), count: u32) -> Result<(), 
     let mut connections = 0u32;
     let mut outcome = Ok(());
     for _ in 0..count {
-        outcome = connected(rt.alloc(), false).map(drop);
+        outcome = connected(rt.alloc(), Life::New).map(drop);
         if outcome.is_err() {
             break;
         }
@@ -113,11 +116,11 @@ fn carry(rt: &(impl Print + Alloc<A = Global>), plan: &Plan) -> Result<(), Failu
 }
 
 // Makes pairs and keeps them. There is room for no other, so that each takes only what it needs.
-fn hold(rt: &(impl Print + Alloc<A = Global>), count: u32, is_used: bool) -> Result<(), Failure> {
+fn hold(rt: &(impl Print + Alloc<A = Global>), count: u32, life: Life) -> Result<(), Failure> {
     let room = usize::try_from(count).unwrap_or(0);
     let mut pairs = Vec::<(BenchSocket, BenchSocket)>::with_capacity(rt.alloc(), room)?;
     for _ in 0..count {
-        let pair = connected(rt.alloc(), is_used)?;
+        let pair = connected(rt.alloc(), life)?;
         pairs.push(pair.into_sockets())?;
     }
     let bytes = size_of::<BenchSocket>();

@@ -5,7 +5,7 @@
 //! dcsctp_bench handshakes N
 //! dcsctp_bench messages N SIZE [unordered] [streams=K] [loss=PERMILLE] [seed=SEED] [delay=MS] [queued=Q]
 //!     [zero-checksum] [counts] [chunks]
-//! dcsctp_bench hold N [used]
+//! dcsctp_bench hold N [used | idle]
 //! dcsctp_bench strain fragments|interleaved|gaps|links|waiting|streams|reset|skips-repeated|skips-rising|
 //!     skips-waiting|skips-interleaved|skips-deferred|skips-deferred-interleaved|resets|
 //!     turns|closes|priorities|sends|reset-calls|sacks|misses|abandoned HELD MORE
@@ -19,12 +19,12 @@
 //! handshake, by SEED. Each is under way for half of MS milliseconds of simulated time. Q more messages are
 //! sent before any packet is handed over. `counts` prints the packets, too, and `chunks` the time that
 //! passed, the chunks of data that were sent, and those that the peer had when they arrived. `hold` makes N
-//! pairs and keeps them, `used` after 1 MiB was sent each way. `strain` has one socket hold HELD unfinished
-//! or waiting things that its peer sent. Then it hands it MORE packets, 10 at most, whose contents belong
-//! among those, or that name their stream as often as a FORWARD-TSN can, or that have as many FORWARD-TSNs or
-//! requests to reset a stream as a packet has room for. From `turns` on it is a sender that is strained;
-//! `burden.rt` says how. `rules` tries what the option `follow_rfc` changes, `on` or `off`, with a receive
-//! window of BYTES: `rules.rt` says what the users do. The exit status is 0 if all went well and 2 at bad
+//! pairs and keeps them, `used` after 1 MiB was sent each way, `idle` a minute later. `strain` has one socket hold
+//! HELD unfinished or waiting things that its peer sent. Then it hands it MORE packets, 10 at most, whose contents
+//! belong among those, or that name their stream as often as a FORWARD-TSN can, or that have as many FORWARD-TSNs
+//! or requests to reset a stream as a packet has room for. From `turns` on it is a sender that is strained;
+//! `burden.rt` says how. `rules` tries what the option `follow_rfc` changes, `on` or `off`, with a receive window
+//! of BYTES: `rules.rt` says what the users do. The exit status is 0 if all went well and 2 at bad
 //! arguments. Else it is 1, and standard error says why.
 #![tactic(auto)]
 
@@ -50,7 +50,7 @@ use std::{env, io};
 const USAGE: &str = "usage: dcsctp_bench handshakes N
        dcsctp_bench messages N SIZE [unordered] [streams=K] [loss=PERMILLE] [seed=SEED] [delay=MS] [queued=Q]
            [zero-checksum] [counts] [chunks]
-       dcsctp_bench hold N [used]
+       dcsctp_bench hold N [used | idle]
        dcsctp_bench strain fragments|interleaved|gaps|links|waiting|streams|reset|skips-repeated|skips-rising|
            skips-waiting|skips-interleaved|skips-deferred|skips-deferred-interleaved|resets|
            turns|closes|priorities|sends|reset-calls|sacks|misses|abandoned HELD MORE

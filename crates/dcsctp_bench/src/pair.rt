@@ -204,6 +204,13 @@ fn earlier(first: SocketTime, second: SocketTime) -> SocketTime {
     if second < first { second } else { first }
 }
 
+// Gives the memory of a packet back to the socket.
+fn give_back(socket: &BenchSocket, event: SocketEvent) {
+    if let SocketEvent::SendPacket(packet) = event {
+        socket.take_back(packet);
+    }
+}
+
 impl End {
     // A closed socket, whose words come from a seed, and whose packets go to the other side.
     fn new(alloc: Global, peer: Side, options: &Options, seed: u64) -> Result<End, SocketFault>
@@ -240,6 +247,7 @@ impl End {
                 break;
             };
             self.note(link, &event)?;
+            give_back(&self.socket, event);
         }
         Ok(())
     }
@@ -366,6 +374,20 @@ impl Pair {
     /// Lets time pass for both, until something happens.
     pub fn pass(&mut self) -> Result<(), Failure> {
         self.pass_until(SocketTime::infinite_future())
+    }
+
+    /// Lets this time pass, and hands over what is sent.
+    pub fn rest(&mut self, time: Duration) -> Result<(), Failure> {
+        let end = self.link.now + time;
+        for _ in 0..u64::MAX {
+            if self.deliver()?.is_none() {
+                if end <= self.link.now {
+                    break;
+                }
+                self.pass_until(end)?;
+            }
+        }
+        Ok(())
     }
 
     /// Lets time pass for both, until something happens or this moment has come.

@@ -8,6 +8,7 @@ ghost use Rattle.dcsctp_transfer.specs.spec.endpoint.CookieEchoOutcomes.{is_last
 ghost use Rattle.dcsctp_transfer.specs.types.Settings.{IsValid};
 
 use crate::ending::end_event;
+use crate::spares::free_spares;
 use crate::state::State;
 use crate::transmission_control_block::PerformedReset;
 use crate::tx_error_counter::TxErrorCounter;
@@ -172,6 +173,7 @@ impl<R: Rng> Context<R> {
     ghost use Rattle.dcsctp_core.specs.Handling.{Tries, Emits, EmitsToPeer, AnswersPeer, answer_counted, arrival_turn, asked_turn, report_turn, close_turn, end_event};
 
     /// A closed socket with these options, at moment zero.
+    #[inline(always)]
     pub fn new(alloc: Global, options: Options, generator: R) -> Context<R>
         requires { IsValid options }
         ensures { view_of result ≡ fresh_view options generator }
@@ -382,6 +384,7 @@ impl<R: Rng> Context<R> {
     }
 
     /// Restarts the heartbeat interval, unless it is zero, which switches heartbeats off.
+    #[inline(always)]
     pub fn start_heartbeat_interval(&mut self)
         ensures { view_of self.new ≡ record (view_of self.old) {
           endpoint = begun_heartbeats
@@ -407,15 +410,27 @@ impl<R: Rng> Context<R> {
         }
     }
 
+    // Frees the room for packets and in the queues that nothing uses.
+    fn free_room(&mut self)
+        ensures { view_of self.new ≡ view_of self.old }
+    {
+        free_spares(&self.events);
+        self.state.free_room();
+    }
+
     /// Advances the heartbeat interval to the present moment, and returns whether it expires. If so, it runs
-    /// again.
+    /// again, and memory that an idle association doesn't use is freed.
     pub fn expire_heartbeat_interval(&mut self) -> bool
         ensures answer { result
             ≡ is_timer_due (endpoint_of self.old) (own_timer heartbeat_interval) }
         ensures left { view_of self.new ≡ where_expired result (interval_expired
             (endpoint_of self.old)) (view_of self.old) }
     {
-        self.heartbeat_interval.expire(self.moment)
+        let is_expired = self.heartbeat_interval.expire(self.moment);
+        if is_expired {
+            self.free_room();
+        }
+        is_expired
     }
 
     /// Counts the next HEARTBEAT, whose answer is awaited from now on. Returns its counter, which goes up by

@@ -227,6 +227,7 @@ impl Deadlines {
     ghost use Rattle.dcsctp_core.specs.Listing.{listed, first_moment, rank, set_in, with_entry, AllBelow, IsListing};
 
     /// No deadline runs.
+    #[inline(always)]
     pub fn new() -> Deadlines
         ensures { result ≡ [] }
     {

@@ -11,6 +11,7 @@ ghost use Rattle.dcsctp_core.specs.Handling.{TakesOne, FlushAt};
 
 use crate::context::Context;
 use crate::resetting::RequestStart;
+use crate::spares::take_spare;
 use crate::state::State;
 use dcsctp_transfer::api::{Options, SocketTime};
 use dcsctp_transfer::wire_build::SctpPacketBuilder;
@@ -57,7 +58,7 @@ impl<R: Rng> Context<R> {
         if !may_fill_first(&tcb.transfer, &self.send_queue) {
             return Ok(());
         }
-        let packet = tcb.new_packet(self.alloc, &self.options)?;
+        let packet = tcb.new_packet_in(self.alloc, take_spare(&self.events), &self.options)?;
         self.send_buffered_packets_with(packet)?;
         Ok(())
     }
@@ -95,7 +96,7 @@ impl<R: Rng> Context<R> {
         if !tcb.transfer.has_data_at_once() {
             return Ok(());
         }
-        let mut packet = tcb.new_packet(self.alloc, &self.options)?;
+        let mut packet = tcb.new_packet_in(self.alloc, take_spare(&self.events), &self.options)?;
         tcb.transfer.fill_at_once(self.moment, &mut packet)?;
         self.send_unless_empty(packet)?;
         Ok(())
@@ -113,7 +114,7 @@ impl<R: Rng> Context<R> {
             if !tcb.transfer.may_fill(&self.send_queue) {
                 return Ok(());
             }
-            let packet = tcb.new_packet(self.alloc, &self.options)?;
+            let packet = tcb.new_packet_in(self.alloc, take_spare(&self.events), &self.options)?;
             if !self.send_later(packet)? {
                 return Ok(());
             }

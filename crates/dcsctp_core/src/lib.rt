@@ -13,6 +13,7 @@ mod phases;
 mod reconfiguration;
 mod resetting;
 mod showing;
+mod spares;
 mod state;
 mod timeout;
 mod transmission_control_block;
@@ -23,6 +24,7 @@ pub use deadlines::{DeadlineKind, Deadlines, Entry, relist_tells, set_tells};
 pub use expiry::Expiry;
 pub use following::Following;
 pub use resetting::{RequestStart, number_answered, stream_bytes};
+pub use spares::{free_spares, keep_spare, take_spare};
 pub use state::{CookieEchoState, CookieWaitState, OpenPhase, OpenState, ShutdownState, State};
 pub use timeout::{is_quiet, list_deadlines, poll_timeout};
 pub use transmission_control_block::{

@@ -191,6 +191,15 @@ impl State {
         }
     }
 
+    /// Frees the room that the queues of an open association don't use.
+    pub(crate) fn free_room(&mut self)
+        ensures { self.new ≡ self.old }
+    {
+        if let State::Open(opened) = self {
+            opened.tcb.transfer.free_room();
+        }
+    }
+
     /// Our verification tag in the association that ends now, if it has a peer; else that of the last one. Allocates
     /// nothing.
     pub(crate) fn ended_tag(&self, last: Option<u32>) -> Option<u32>
@@ -239,15 +248,18 @@ impl State {
     pub fn establish(&mut self)
         ensures { self.new ≡ established_from self.old }
     {
-        *self = match std::mem::replace(self, State::Closed) {
-            State::CookieEchoed(echoed) => State::Open(OpenState {
-                phase: OpenPhase::Established,
-                tcb: echoed.tcb,
-            }),
-            State::Closed => State::Closed,
-            State::CookieWait(wait) => State::CookieWait(wait),
-            State::Open(opened) => State::Open(opened),
-        };
+        // Each arm writes by itself, so that a state isn't moved once more.
+        match std::mem::replace(self, State::Closed) {
+            State::CookieEchoed(echoed) => {
+                *self = State::Open(OpenState {
+                    phase: OpenPhase::Established,
+                    tcb: echoed.tcb,
+                });
+            }
+            State::Closed => {}
+            State::CookieWait(wait) => *self = State::CookieWait(wait),
+            State::Open(opened) => *self = State::Open(opened),
+        }
     }
 
     /// Is there no association? Allocates nothing.

@@ -16,7 +16,7 @@ use dcsctp_transfer::api::{
 };
 use dcsctp_transfer::send_timer::Timer;
 use dcsctp_transfer::types::HandoverReadiness;
-use dcsctp_transfer::wire::Chunk;
+use dcsctp_transfer::wire::{Chunk, CommonHeader};
 use dcsctp_transfer::wire_build::SctpPacketBuilder;
 use dcsctp_transfer::{DataToSend, Transfer, make_data_chunk};
 use std::alloc::{AllocError, Global};
@@ -102,6 +102,7 @@ pub struct TransmissionControlBlock {
 
 impl TransmissionControlBlock {
     /// An association with this peer, with nothing sent and nothing received. Allocates nothing.
+    #[inline(always)]
     pub fn new(
         alloc: Global,
         options: &Options,
@@ -123,6 +124,7 @@ impl TransmissionControlBlock {
     }
 
     /// An association with this peer that goes on with what was sent. Allocates nothing.
+    #[inline(always)]
     pub fn with_transfer(
         my: Pair,
         peer: &Peer,
@@ -155,13 +157,26 @@ impl TransmissionControlBlock {
         ensures { IfOk result (λ builder. builder ≡ empty_packet options.now
             (self.now.capabilities.zero_checksum_method.0 == 0) self.now.peer.tag) }
     {
-        let builder = SctpPacketBuilder::new(
-            alloc,
-            self.peer.tag,
-            options.local_port,
-            options.remote_port,
-            options.mtu,
-        )?;
+        self.new_packet_in(alloc, Vec::new(alloc), options)
+    }
+
+    /// The same, in the memory of an earlier packet if it has room.
+    pub fn new_packet_in(
+        &self,
+        alloc: Global,
+        block: Vec<u8>,
+        options: &Options,
+    ) -> Result<SctpPacketBuilder, AllocError>
+        requires { IsValid options.now }
+        ensures { IfOk result (λ builder. builder ≡ empty_packet options.now
+            (self.now.capabilities.zero_checksum_method.0 == 0) self.now.peer.tag) }
+    {
+        let header = CommonHeader {
+            source_port: options.local_port,
+            destination_port: options.remote_port,
+            verification_tag: self.peer.tag,
+        };
+        let builder = SctpPacketBuilder::new_in(alloc, block, header, options.mtu)?;
         Ok(builder.write_checksum(!self.capabilities.zero_checksum_enabled()))
     }
 

@@ -28,6 +28,7 @@ impl TxErrorCounter {
     ghost use Rattle.dcsctp_transfer.specs.spec.endpoint.HeartbeatOutcomes.{error_counted, is_exhausted};
 
     /// No error was counted yet. `None` is no limit.
+    #[inline(always)]
     pub fn new(limit: Option<u32>) -> TxErrorCounter
         ensures { result ≡ record {
           limit = limit;

@@ -3,7 +3,7 @@
 ghost use Rattle.dcsctp_core.specs.Handling.{TakesOne};
 ghost use Rattle.dcsctp_core_data.specs.Data.{EndsAt, AcknowledgesAt};
 
-use dcsctp_core::Context;
+use dcsctp_core::{Context, take_spare};
 use rand_core::Rng;
 use std::alloc::AllocError;
 
@@ -16,7 +16,8 @@ fn acknowledge<R: Rng>(context: &mut Context<R>) -> Result<(), AllocError>
     match context.state.tcb() {
         None => {}
         Some(tcb) => {
-            let mut packet = tcb.new_packet(context.alloc, &context.options)?;
+            let block = take_spare(&context.events);
+            let mut packet = tcb.new_packet_in(context.alloc, block, &context.options)?;
             context.state.acknowledge(false, &mut packet)?;
             context.send_buffered_packets_with(packet)?;
         }

@@ -38,6 +38,7 @@ fn send_cookie_ack<R: Rng>(context: &mut Context<R>) -> Result<(), AllocError>
 }
 
 // Establishes this association. What belongs to the one before is dropped.
+#[inline(always)]
 fn hold<R: Rng>(context: &mut Context<R>, tcb: TransmissionControlBlock)
     ensures { view_of context.new ≡ record (view_of context.old) {
       endpoint = holding (endpoint_of context.old) tcb;

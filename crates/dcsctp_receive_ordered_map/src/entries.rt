@@ -13,6 +13,7 @@ use std::collections::BTreeMap;
 use std::ops::Bound;
 
 /// The last entry whose key is this one or less. The last of all is found without a search by key.
+#[inline(always)]
 pub fn entry_up_to<'x, V>(entries: &'x BTreeMap<u128, V>, key: u128) -> Option<(&'x u128, &'x V)>
     ensures entry { option_map deref_pair result
         ≡ entry_before (count_up_to key entries.now.entries) entries.now.entries }

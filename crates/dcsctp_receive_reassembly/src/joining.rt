@@ -77,6 +77,7 @@ fn used_by(run: Option<(u128, &Run)>, overhead: usize) -> u128
 }
 
 // The message of a part with the run that it follows on, and the run that follows on it.
+#[inline(always)]
 fn joined(
     alloc: Global,
     before: Option<(u128, &Run)>,
@@ -120,6 +121,7 @@ fn joined(
 }
 
 // The part goes alone among the runs.
+#[inline(always)]
 fn keep_alone(alloc: Global, runs: &mut BTreeMap<u128, Run>, part: Part) -> Result<(), AllocError>
     requires absent { is_held_before (count_up_to part.place runs.old.entries)
         (map run_model runs.old.entries) part.place ≡ false }
@@ -203,6 +205,7 @@ fn keep_between(
 
 /// Keeps the part, whose message isn't whole yet, with the runs that it joins. `Err`: an allocation failed,
 /// and the runs are unchanged.
+#[inline(always)]
 pub fn keep(
     alloc: Global,
     runs: &mut BTreeMap<u128, Run>,
@@ -232,6 +235,7 @@ pub fn keep(
 }
 
 // Takes the runs out that a message was joined from: they begin at these places.
+#[inline(always)]
 fn take_out(runs: &mut BTreeMap<u128, Run>, first: Option<u128>, next: Option<u128>)
     requires ordered { IsOrdered nat_cmp runs.old }
     ensures { (at : ℕ) → BeginsIf first (entry_before at (map run_model runs.old.entries))
@@ -255,6 +259,7 @@ fn take_out(runs: &mut BTreeMap<u128, Run>, first: Option<u128>, next: Option<u1
 }
 
 // The run that begins at this place, where one is named.
+#[inline(always)]
 fn run_at<'x>(runs: &'x BTreeMap<u128, Run>, first: Option<u128>) -> Option<(u128, &'x Run)>
     requires { IsOrdered nat_cmp runs.now }
     ensures { (at : ℕ) → BeginsIf first (slice_get (map run_model runs.now.entries) at)
@@ -268,6 +273,7 @@ fn run_at<'x>(runs: &'x BTreeMap<u128, Run>, first: Option<u128>) -> Option<(u12
 
 /// Takes out the runs with which a part makes its message whole, and returns the message. `Err`: an allocation
 /// failed, and the runs are unchanged.
+#[inline(always)]
 pub fn finish(
     alloc: Global,
     runs: &mut BTreeMap<u128, Run>,
@@ -324,6 +330,7 @@ pub fn add_alone(runs: &BTreeMap<u128, Run>, part: Part) -> Assembled
 
 /// Adds a part, and returns its message if that is whole now. One that was received before is dropped. If an
 /// allocation fails, the runs are unchanged.
+#[inline(always)]
 pub fn add_part(
     alloc: Global,
     runs: &mut BTreeMap<u128, Run>,

@@ -59,6 +59,7 @@ fn run_before<'x>(nearest: Option<(u128, &'x Run)>, part: &Part) -> Option<(u128
 }
 
 // The run that follows on the part. Nothing follows on an end.
+#[inline(always)]
 fn run_behind<'x>(part: &Part, runs: &'x BTreeMap<u128, Run>) -> Option<(u128, &'x Run)>
     ensures { lent_run result
         ≡ run_behind (part_of part.now) (count_up_to part.now.place runs.now.entries)
@@ -102,6 +103,7 @@ fn is_held_by(nearest: Option<(u128, &Run)>, place: u128) -> bool
 }
 
 /// Does a run hold the place?
+#[inline(always)]
 pub fn is_held(runs: &BTreeMap<u128, Run>, place: u128) -> bool
     ensures held { result
         ≡ is_held_before (count_up_to place runs.now.entries) (map run_model runs.now.entries)
@@ -120,6 +122,7 @@ fn first_of(run: Option<(u128, &Run)>) -> Option<u128>
 }
 
 /// The runs that a part joins; `None` if it is there already.
+#[inline(always)]
 pub fn joins_of(runs: &BTreeMap<u128, Run>, part: &Part) -> Option<Joins>
     ensures held { IfNone result
         (is_held_before (count_up_to part.now.place runs.now.entries)

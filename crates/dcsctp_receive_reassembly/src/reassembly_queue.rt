@@ -96,6 +96,15 @@ impl ReassemblyQueue {
         self.incoming.next_message()
     }
 
+    /// Frees the room for messages that are ready if there are none.
+    pub fn free_room(&mut self)
+        ensures { self.new ≡ self.old }
+    {
+        if self.incoming.ready.is_empty() {
+            self.incoming.ready.shrink_to_fit();
+        }
+    }
+
     /// The messages that are ready to be taken, in order. All else is dropped. Allocates nothing.
     pub fn into_ready_messages(self) -> VecDeque<Message>
         ensures { map message_content result.items ≡ self.incoming.ready }
@@ -201,6 +210,7 @@ impl ReassemblyQueue {
     }
 
     // Does what comes with this TSN on this stream wait for the end of a deferred reset?
+    #[inline(always)]
     fn is_deferred(&self, tsn: u32, id: StreamId) -> bool
         ensures { result ≡ is_data_deferred tsn id.0 self.now.deferral }
     {

@@ -77,6 +77,7 @@ pub fn holds(first: u128, run: &Run, place: u128) -> bool
 
 /// The last run that begins at this place or before it, and where. The last of all is found without a search
 /// by key.
+#[inline(always)]
 pub fn run_up_to<'x>(runs: &'x BTreeMap<u128, Run>, place: u128) -> Option<(u128, &'x Run)>
     ensures run { lent_run result
         ≡ entry_before (count_up_to place runs.now.entries) (map run_model runs.now.entries) }

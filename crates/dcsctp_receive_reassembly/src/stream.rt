@@ -223,6 +223,7 @@ impl Stream {
     /// Waiting messages that are numbered below the next one become ready, and those that follow in a row
     /// from it on. The next one is then the first that is missing. Returns how many they are. There is room
     /// for all that wait.
+    #[inline(always)]
     pub fn deliver(&mut self, ready: &mut VecDeque<Message>) -> usize
         requires { deque_len ready.old + btree_map_len self.old.waiting ≤ deque_capacity ready.old }
         ensures stream { stream_model self.new
@@ -246,6 +247,7 @@ impl Stream {
     }
 
     // The next message is whole: it becomes ready, with those that waited for it. There is room for them.
+    #[inline(always)]
     fn deliver_next(&mut self, whole: Whole, ready: &mut VecDeque<Message>) -> usize
         requires room { deque_len ready.old + btree_map_len self.old.waiting
             < deque_capacity ready.old }
@@ -263,6 +265,7 @@ impl Stream {
     }
 
     // The same, with what is counted then. The part that made it whole has that many bytes.
+    #[inline(always)]
     fn deliver_whole(
         &mut self,
         size: usize,
@@ -469,6 +472,7 @@ impl Stream {
 
     /// Adds data of this stream, except for unordered DATA. `Err`: an allocation failed, and nothing has
     /// changed.
+    #[inline(always)]
     pub fn route_part(
         &mut self,
         alloc: Global,

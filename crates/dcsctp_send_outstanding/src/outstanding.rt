@@ -374,6 +374,15 @@ impl Outstanding {
         }
     }
 
+    /// Frees the room for items if there are none.
+    pub fn free_room(&mut self)
+        ensures { self.new ≡ self.old }
+    {
+        if self.items.is_empty() {
+            self.items.shrink_to_fit();
+        }
+    }
+
     // Drops the first item.
     fn remove_one(&mut self)
         requires { 0 < length self.old.items }

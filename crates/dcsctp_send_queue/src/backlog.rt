@@ -187,6 +187,7 @@ impl Backlog {
     }
 
     /// Reports which amounts fall to their thresholds if that much leaves the stream.
+    #[inline(always)]
     pub fn tell_low(&self, events: &mut Events, place: usize, size: usize) -> Result<(), AllocError>
         requires { place < length self.now.streams }
         ensures ok { OnOk result

@@ -129,6 +129,14 @@ impl RetransmissionQueue {
         self.spare = tsns;
     }
 
+    /// Frees the room that nothing uses.
+    pub fn free_room(&mut self)
+        ensures { self.new ≡ self.old }
+    {
+        self.outstanding.free_room();
+        self.spare = Vec::new(self.alloc);
+    }
+
     /// Are messages sent as I-DATA (RFC 8260, section 2.1)?
     pub fn is_interleaving(&self) -> bool
         ensures { result ≡ self.now.outstanding.is_interleaved }

@@ -247,6 +247,7 @@ impl OutgoingStream {
     }
 
     /// Adds a message after the others. `Err`: an allocation failed, and nothing has changed.
+    #[inline(always)]
     pub fn push(&mut self, message: QueuedMessage) -> Result<(), AllocError>
         ensures ok { OnOk result (self.new ≡ with_message message self.old) }
         ensures err { OnErr result (self.new ≡ self.old) }
@@ -303,6 +304,7 @@ impl OutgoingStream {
     }
 
     // Gives half of the room for messages back if less than a quarter of it is in use.
+    #[inline(always)]
     fn give_room_back(&mut self)
         ensures { self.new ≡ self.old }
     {

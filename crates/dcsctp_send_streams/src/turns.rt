@@ -66,6 +66,7 @@ fn replace_turn(turns: &mut VecDeque<Turn>, before: Turn, after: Turn)
 }
 
 /// Puts one turn in the place of another, if there are any.
+#[inline(always)]
 pub fn move_turn(turns: &mut VecDeque<Turn>, before: Option<Turn>, after: Option<Turn>)
     requires { HoldsTurns turns.old.items before (deque_capacity turns.old) }
     ensures turns { (others : List Turn) → turns.old.items ≡ with_optional_turn before others

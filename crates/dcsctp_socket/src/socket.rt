@@ -8,7 +8,9 @@ use dcsctp_core::api::{
     Metrics, Options, Pair, ResetStreamsError, RestoreError, SendError, SendOptions, SocketEvent,
     SocketFault, SocketState, SocketTime, StreamId, Word,
 };
-use dcsctp_core::{Context, Deadlines, is_quiet, list_deadlines, poll_timeout};
+use dcsctp_core::{
+    Context, Deadlines, State, free_spares, is_quiet, keep_spare, list_deadlines, poll_timeout,
+};
 use dcsctp_spec_laws::{calls_keep_soundness, time_passes_quietly};
 use rand_core::Rng;
 use std::alloc::{AllocError, Global};
@@ -154,6 +156,16 @@ impl<R: Rng + Drop> Socket<R> {
         self.context.events.next_event_without_checksum()
     }
 
+    /// Takes back the bytes of a packet that `poll_event` has given, once they are sent: their memory serves a later
+    /// packet until the association ends or sends a HEARTBEAT. You needn't call it. Allocates nothing.
+    pub fn take_back(&self, packet: Vec<u8>) {
+        match self.context.state {
+            State::Open(_) => keep_spare(&self.context.events, packet),
+            State::Closed => free_spares(&self.context.events),
+            State::CookieWait(_) | State::CookieEchoed(_) => {}
+        }
+    }
+
     /// Did an allocation fail in an earlier call? Allocates nothing.
     pub fn has_failed(&self) -> bool
         ensures { result ≡ self.now.failed }
@@ -282,9 +294,9 @@ impl<R: Rng + Drop> DcSctpSocket for Socket<R> {
 
     fn get_next_message(&mut self) -> Option<Message> {
         calls_keep_soundness();
-        let message = dcsctp_socket_calls::get_next_message(&mut self.context);
+        let message = dcsctp_socket_calls::get_next_message(&mut self.context)?;
         list_deadlines(&self.context, &mut self.deadlines);
-        message
+        Some(message)
     }
 
     fn messages_ready_count(&self) -> usize {

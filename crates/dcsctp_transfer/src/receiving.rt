@@ -144,6 +144,14 @@ impl Transfer {
         self.data_tracker.handle_timeout(now)
     }
 
+    /// Frees the room that nothing uses.
+    pub fn free_room(&mut self)
+        ensures { self.new ≡ self.old }
+    {
+        self.retransmission_queue.free_room();
+        self.reassembly_queue.free_room();
+    }
+
     /// Takes the message that became ready first, and gives its bytes back to the receive window; `None` if
     /// none is ready. With `Options::follow_rfc` an acknowledgement is due at the moment `now` if a small
     /// window opens by that (RFC 9260, section 6.2). Allocates nothing.

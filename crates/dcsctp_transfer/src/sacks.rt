@@ -98,6 +98,7 @@ impl Transfer {
     }
 
     /// Takes a round trip into account, if one was measured.
+    #[inline(always)]
     pub fn observe_round_trip(&mut self, rtt: Option<Duration>)
         ensures { self.new ≡ timed_by (option_map as_nanos rtt) self.old }
     {

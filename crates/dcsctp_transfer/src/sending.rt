@@ -179,6 +179,7 @@ fn add_sack(sack: &SelectiveAck, packet: &mut SctpPacketBuilder)
 }
 
 // Puts the chunks of these TSNs into the packet, which has room for them.
+#[inline(always)]
 fn add_chunks(queue: &RetransmissionQueue, tsns: &[u32], packet: &mut SctpPacketBuilder)
     requires small { packet.old.size ≤ 65535 }
     requires room { HandsOut (bytes_remaining packet.old) queue.now.outstanding tsns.now }

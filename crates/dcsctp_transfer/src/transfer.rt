@@ -60,6 +60,7 @@ impl Transfer {
     /// Nothing was sent or received yet. `first_tsn` is the first TSN that we send, and `peer_first_tsn` the
     /// first one of the peer. `a_rwnd` is the receive window that the peer announced, in bytes. Allocates
     /// nothing.
+    #[inline(always)]
     pub fn new(
         alloc: Global,
         options: &Options,

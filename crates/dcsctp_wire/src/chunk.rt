@@ -184,6 +184,9 @@ fn read_chunk(alloc: Global, bytes: &[u8]) -> Result<(Chunk<'_>, &[u8]), PacketE
     Ok((chunk, frame.rest))
 }
 
+// For how many chunks a list begins with room. Few packets have more.
+const ROOM: usize = 4;
+
 /// The chunks that the bytes are, in their order.
 ///
 /// # Errors
@@ -194,7 +197,7 @@ pub(crate) fn read_chunks(alloc: Global, bytes: &[u8]) -> Result<Vec<Chunk<'_>>,
     ensures malformed { IsErrOf result PacketError.Malformed
         → (chunks : List ChunkContent) → AreChunks chunks bytes.now → ⊥ }
 {
-    let mut chunks = Vec::new(alloc);
+    let mut chunks = Vec::with_capacity(alloc, ROOM)?;
     let mut rest = bytes;
     while !rest.is_empty() {
         let (chunk, after) = read_chunk(alloc, rest)?;

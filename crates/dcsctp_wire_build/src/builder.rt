@@ -1,7 +1,7 @@
 //! Writing a packet (RFC 9260, section 3.1).
 
 ghost use Rattle.std.specs.Prelude.{◌≡◌, ◌≤◌, ◌↔◌, ℕ, ◌+◌, ◌-◌, ◌%◌, List, [], ◌++◌, length, true, false, IfOk, IsTrue};
-ghost use Rattle.std.specs.Vec.{vec_len};
+ghost use Rattle.std.specs.Vec.{vec_capacity, vec_len};
 ghost use Rattle.dcsctp_wire_build.specs.Building.{bytes_remaining};
 ghost use Rattle.dcsctp_wire_build.specs.Checksums.{checksum_filled};
 ghost use Rattle.dcsctp_wire.specs.Content.{chunk_content};
@@ -68,6 +68,20 @@ fn header_without_checksum(header: CommonHeader) -> [u8; 12]
     ]
 }
 
+// The block, emptied, if it has room for that many bytes; else another.
+#[inline(always)]
+fn emptied(alloc: Global, block: Vec<u8>, size: usize) -> Result<Vec<u8>, AllocError>
+    ensures empty { IfOk result (λ bytes. bytes.items ≡ []) }
+    ensures room { IfOk result (λ bytes. size ≤ vec_capacity bytes) }
+{
+    if block.capacity() < size {
+        return Vec::with_capacity(alloc, size);
+    }
+    let mut bytes = block;
+    bytes.clear();
+    Ok(bytes)
+}
+
 impl SctpPacketBuilder {
     /// A packet with no chunks and at most `size` bytes, rounded down to a multiple of 4.
     ///
@@ -96,8 +110,30 @@ impl SctpPacketBuilder {
             destination_port: remote_port,
             verification_tag,
         };
+        SctpPacketBuilder::new_in(alloc, Vec::new(alloc), header, size)
+    }
+
+    /// The same with this header, in the memory of an earlier packet if it has room.
+    #[inline(always)]
+    pub fn new_in(
+        alloc: Global,
+        block: Vec<u8>,
+        header: CommonHeader,
+        size: usize,
+    ) -> Result<SctpPacketBuilder, AllocError>
+        requires low { 12 ≤ size }
+        requires high { size ≤ 65535 }
+        ensures { IfOk result (λ builder. builder ≡ record {
+          source_port = header.source_port;
+          destination_port = header.destination_port;
+          verification_tag = header.verification_tag;
+          size = size - size % 4;
+          with_checksum = true;
+          body = [];
+        }) }
+    {
         let size = size - size % 4;
-        let mut bytes = Vec::with_capacity(alloc, size)?;
+        let mut bytes = emptied(alloc, block, size)?;
         put(&mut bytes, &header_without_checksum(header));
         Ok(SctpPacketBuilder {
             header,

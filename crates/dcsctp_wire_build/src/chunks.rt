@@ -84,6 +84,7 @@ fn put_value(out: &mut Vec<u8>, chunk_type: u8, flags: u8, value: &[u8])
     put_padded(out, &head, value);
 }
 
+#[inline(always)]
 fn put_data(out: &mut Vec<u8>, chunk: &DataChunk<'_>)
     requires fits { length (chunk_bytes (chunk_content (Chunk.Data chunk.now))) < 2 ^ 16 }
     requires room { vec_len out.old + length (chunk_bytes (chunk_content (Chunk.Data chunk.now)))
@@ -138,6 +139,7 @@ fn put_forward(out: &mut Vec<u8>, chunk_type: u8, tsn: u32, streams: &[u8])
 }
 
 /// Adds the chunk with its padding. Allocates nothing.
+#[inline(always)]
 pub(crate) fn put_chunk(out: &mut Vec<u8>, chunk: &Chunk<'_>)
     requires fits { length (chunk_bytes (chunk_content chunk.now)) < 2 ^ 16 }
     requires room { vec_len out.old + length (chunk_bytes (chunk_content chunk.now))

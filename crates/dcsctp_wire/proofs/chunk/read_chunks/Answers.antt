@@ -11,7 +11,7 @@ use Rattle.dcsctp_wire.proofs.chunk.read_chunks.Goals as goal
 pub returns-in_err-chunk-clause-malformed : goal.returns-in_err-chunk-clause-malformed
 returns-in_err-chunk-clause-malformed c = λ is ps h.
     let left = c.loop-rest.invariant.only ps h in
-    let returned = err_from_is_err_and c.from_residual.result c.from_residual.ensures.1 in
+    let returned = err_from_is_err_and c.from_residual-in_err-chunk.result c.from_residual-in_err-chunk.ensures.1 in
     none_are IsReadByHeader c.loop-rest.rest.now (some_left c.loop-rest.rest.now (sym c.is_empty.ensures ∙ c.loop-rest-test.true)) (c.in_err-chunk.ensures.malformed (cc (returned.1, returned.2, is))) left.0 left.1
 
 pub loop-rest-preserved : goal.loop-rest-preserved
