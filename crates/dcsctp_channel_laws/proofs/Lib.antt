@@ -1,0 +1,14 @@
+pub mod Adding
+pub mod Rows
+pub mod Calls
+pub mod Polling
+pub mod Turns
+pub mod Maps
+pub mod Places
+pub mod Telling
+pub mod Waits
+pub mod First
+pub mod BeginsTell
+pub mod CallsTell
+pub mod PollsTell
+pub mod Room

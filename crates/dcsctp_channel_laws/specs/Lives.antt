@@ -1,0 +1,136 @@
+-- What a user hears of each channel, from its name to its end.
+use Rattle.std.specs.Prelude.{◌≡◌, ◌==◌, ◌<◌, ℕ, Bool, true, false, ◌||◌, Option, Some, None, is_some, Ok, List, [], ◌∷◌, ◌++◌, nat_lt, if◌then◌else◌}
+use Rattle.dcsctp_channel_calls.specs.messages.channel_spec.Slots.{name_in, opened, incoming, message, ended}
+use Rattle.dcsctp_channel_calls.specs.declared.channel.HeldStream.{HeldStream}
+use Rattle.dcsctp_channel_calls.specs.View.{WaitingChannel, ChannelNotice, packet_out, association_made, of_channel, amount_low, association_over, LayerView, ChannelsView, entry_at, slot_of, slot_at}
+use Rattle.dcsctp_channel_calls.specs.declared.channel.ChannelState.TheVariants.{Closed}
+use Rattle.dcsctp_channel_calls.specs.Queries.{is_waiting, channel_state}
+use Rattle.dcsctp_channel_calls.specs.Polls.{PollsAs}
+use Rattle.dcsctp_channel_laws.specs.Names.{ChannelsCall, opens_channel, IsCallMade, WasTaken}
+
+-- ---- where channels are
+
+-- a channel waits for a stream, or has one
+abbrev pub is_placed : List (ℕ × ℕ) → List WaitingChannel → ℕ → Bool
+is_placed names waiting name = is_waiting name waiting || is_some (entry_at name names)
+
+abbrev pub ComesFirst : {A : Type 0} → ℕ → List (ℕ × A) → Type 0
+ComesFirst number [] = Unit {0}
+ComesFirst number (entry ∷ entries) = (number < entry.0) × ComesFirst number entries
+
+-- each number is below those after it
+abbrev pub AreRising : {A : Type 0} → List (ℕ × A) → Type 0
+AreRising [] = Unit {0}
+AreRising (entry ∷ entries) = ComesFirst entry.0 entries × AreRising entries
+
+-- no two of them have one name
+abbrev pub WaitApart : List WaitingChannel → Type 0
+WaitApart [] = Unit {0}
+WaitApart (waits ∷ rest) = (is_waiting waits.name rest ≡ false) × WaitApart rest
+
+-- Each channel is in one place: it waits, or it is the channel of the stream that its name leads to. Its name was given.
+pub record IsInOrder (streams : List (ℕ × HeldStream)) (names : List (ℕ × ℕ)) (waiting : List WaitingChannel) (named : ℕ) : Type 0 where
+  pub streams_rise : AreRising streams
+  pub names_rise : AreRising names
+  pub leads : (number name : ℕ) → name_in (slot_of (entry_at number streams)) ≡ Some name → entry_at name names ≡ Some number
+  pub led_to : (name number : ℕ) → entry_at name names ≡ Some number → name_in (slot_of (entry_at number streams)) ≡ Some name
+  pub wait_apart : WaitApart waiting
+  pub no_stream : (name : ℕ) → is_waiting name waiting ≡ true → entry_at name names ≡ None
+  pub was_named : (name number : ℕ) → entry_at name names ≡ Some number → name < named
+  pub waits_named : (name : ℕ) → is_waiting name waiting ≡ true → name < named
+
+abbrev pub IsOrderly : LayerView → Type 0
+IsOrderly layer = IsInOrder layer.streams layer.names layer.waiting layer.named
+
+-- ---- the life of a channel
+
+-- Its name wasn't given yet; it is there; it is over.
+pub data Life : Type 0 where
+  unnamed : Life
+  lasting : Life
+  gone : Life
+
+abbrev pub life_where : Bool → Bool → Life
+life_where true is_named = lasting
+life_where false true = gone
+life_where false false = unnamed
+
+abbrev pub life_in : LayerView → ℕ → Life
+life_in layer name = life_where (is_placed layer.names layer.waiting name) (nat_lt name layer.named)
+
+-- what a user hears of a channel: that there is one, something of it, its end
+pub data News : Type 0 where
+  of_birth : News
+  of_life : News
+  of_end : News
+
+abbrev pub news_where : Bool → News → Option News
+news_where true news = Some news
+news_where false news = None
+
+-- what is said of the channel of this name
+abbrev pub news_in : ℕ → ChannelNotice → Option News
+news_in name (packet_out packet) = None
+news_in name association_made = None
+news_in name (of_channel (opened other)) = news_where (other == name) of_life
+news_in name (of_channel (incoming other opening)) = news_where (other == name) of_birth
+news_in name (of_channel (message other content)) = news_where (other == name) of_life
+news_in name (of_channel (ended other why)) = news_where (other == name) of_end
+news_in name (amount_low other) = news_where (other == name) of_life
+news_in name association_over = None
+
+-- Each channel is born once and ends once. Nothing is said of it before or after.
+abbrev pub LivesOn : Option News → Life → Life → Type 0
+LivesOn None before after = after ≡ before
+LivesOn (Some of_birth) before after = (before ≡ unnamed) × (after ≡ lasting)
+LivesOn (Some of_life) before after = (before ≡ lasting) × (after ≡ lasting)
+LivesOn (Some of_end) before after = (before ≡ lasting) × (after ≡ gone)
+
+-- what is said of a channel in turn, from the one life to the other
+abbrev pub Hears : ℕ → Life → List ChannelNotice → Life → Type 0
+Hears name before [] after = after ≡ before
+Hears name before (notice ∷ notices) after = (between : Life) × LivesOn (news_in name notice) before between × Hears name between notices after
+
+-- More is reported behind what there was. It tells how each channel fares.
+pub record TellsLives (before : ℕ → Life) (old : LayerView) (taken : List ChannelNotice) (new : LayerView) : Type 0 where
+  pub more : List ChannelNotice
+  pub behind : taken ++ new.notices ≡ old.notices ++ more
+  pub lives : (name : ℕ) → Hears name (before name) more (life_in new name)
+  pub apart : IsOrderly new
+
+-- ---- calls
+
+-- A call that opens a channel returns its name, which is said by that.
+abbrev pub life_from : ChannelsCall → LayerView → ℕ → Life
+life_from (opens_channel opening negotiated (Ok id)) layer name = if id.0 == name then lasting else life_in layer name
+life_from call layer name = life_in layer name
+
+abbrev pub CallsTellLives : Type 0
+CallsTellLives = (call : ChannelsCall) (old new : ChannelsView) → IsCallMade call old new → IsOrderly old.layer → TellsLives (life_from call old.layer) old.layer [] new.layer
+
+pub record PollTells (result : Option ChannelNotice) (old new : LayerView) : Type 0 where
+  pub taken : List ChannelNotice
+  pub was_taken : WasTaken result taken
+  pub tells : TellsLives (life_in old) old taken new
+
+abbrev pub PollsTellLives : Type 0
+PollsTellLives = (result : Option ChannelNotice) (old new : ChannelsView) → PollsAs old result new → IsOrderly old.layer → PollTells result old.layer new.layer
+
+-- ---- what follows
+
+-- So it is at first.
+abbrev pub BeginApart : Type 0
+BeginApart = (layer : LayerView) → layer.streams ≡ [] → layer.names ≡ [] → layer.waiting ≡ [] → IsOrderly layer
+
+-- No two streams have one channel.
+abbrev pub StreamsAreApart : Type 0
+StreamsAreApart =
+    (layer : LayerView) → IsOrderly layer → (one other name : ℕ) → name_in (slot_at layer one) ≡ Some name → name_in (slot_at layer other) ≡ Some name → one ≡ other
+
+-- A channel is shown as closed where it isn't there, and nowhere else.
+pub record IsSeenAs (layer : LayerView) (name : ℕ) : Type 0 where
+  pub closed : is_placed layer.names layer.waiting name ≡ false → channel_state layer name ≡ Closed
+  pub only : channel_state layer name ≡ Closed → is_placed layer.names layer.waiting name ≡ false
+
+abbrev pub StatesAreTrue : Type 0
+StatesAreTrue = (layer : LayerView) → IsOrderly layer → (name : ℕ) → IsSeenAs layer name

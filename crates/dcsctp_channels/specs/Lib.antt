@@ -1,0 +1,4 @@
+pub mod Layer
+pub mod Rows
+pub mod Shown
+pub mod Weights
