@@ -16,6 +16,8 @@ OBJCOPY ?= objcopy
 NM ?= nm
 READELF ?= readelf
 CFLAGS ?= -O2 -g
+# (Debian's aiortc is its own Python's, which may not be the first one)
+AIORTC_PYTHON ?= $(shell python3 -c 'import aiortc' 2>/dev/null && echo python3 || echo /usr/bin/python3)
 KIT ?= $(shell dirname "$$(dirname "$$(readlink -f "$$(command -v rt)")")")
 
 # ---- Which build ------------------------------------------------------------------------------
@@ -27,7 +29,7 @@ ifneq ($(filter unproved,$(MAKECMDGOALS)),)
 ARCHIVE := $(UNPROVED_ARCHIVE)
 else ifneq ($(filter prove,$(MAKECMDGOALS))$(wildcard $(PROVED_ARCHIVE)),)
 ARCHIVE := $(PROVED_ARCHIVE)
-else ifneq ($(filter demo test fuzz bench bench-server check-restart,$(MAKECMDGOALS))$(wildcard $(UNPROVED_ARCHIVE)),)
+else ifneq ($(filter demo chat test fuzz bench bench-server check-restart,$(MAKECMDGOALS))$(wildcard $(UNPROVED_ARCHIVE)),)
 ARCHIVE := $(UNPROVED_ARCHIVE)
 else
 ARCHIVE := no-library
@@ -48,7 +50,7 @@ VERSION := $(shell awk '/define DCSCTP_VERSION_[MP]/ { v = v s $$3; s = "." } EN
 
 TESTS = names calls queries many options events ends kept handover refusals random threads channels \
     deadlines trace seed checksum
-EXAMPLES = demo two_sockets file_transfer channels server load
+EXAMPLES = demo two_sockets two_channels file_transfer channels server load
 WARNINGS = -Wall -Wextra -Wshadow -pedantic -Werror
 COMPILE = $(CC) -std=c11 $(WARNINGS) $(CFLAGS) -Iinclude
 
@@ -71,7 +73,9 @@ help:
 	@echo "make bench             instructions, beside those of docs/figures.md  5 min"
 	@echo "make bench-server      messages a second of the server on 1, 2, 4 cores 6 min"
 	@echo "make check-restart     restarts the server twenty times               1 min"
+	@echo "make chat              a page in your browser, whose texts come back"
 	@echo "make check-browser     a page in Chromium uses data channels          1 min"
+	@echo "make check-peers       data channels to Chromium, pion, aiortc, usrsctp 3 min"
 	@echo "make check-usrsctp     programs for usrsctp run over this library     1 min"
 	@echo "make check-janus       Debian's Janus serves a text room over it      15 s"
 	@echo "make clean             removes out/"
@@ -206,7 +210,7 @@ $(OUT)/tests/%: tests/c/%.c $(wildcard tests/c/*.h) $(HEADERS) $(LIBRARY)
 	    $(if $(filter refusals random costs,$*),$(WRAP)) -pthread -o $@
 
 # The server has a store where hiredis is installed.
-STORE := $(shell echo '\#include <hiredis/hiredis.h>' | $(CC) -E -x c - >/dev/null 2>&1 && echo -DWITH_STORE -lhiredis)
+STORE := $(shell $(CC) -E -include hiredis/hiredis.h -x c /dev/null >/dev/null 2>&1 && echo -DWITH_STORE -lhiredis)
 $(OUT)/examples/%: examples/c/%.c include/dcsctp.h $(LIBRARY)
 	@mkdir -p $(OUT)/examples
 	$(COMPILE) $(filter %.c,$^) $(LIBRARY) $(if $(filter server,$*),-pthread $(STORE)) -o $@
@@ -215,8 +219,7 @@ c-programs: $(TESTS:%=$(OUT)/tests/%) $(EXAMPLES:%=$(OUT)/examples/%)
 examples: $(EXAMPLES:%=$(OUT)/examples/%)
 	@printf 'built %s\n' $^
 
-# Data channels, deadlines and traces are files that users copy.
-$(OUT)/tests/channels $(OUT)/examples/channels: examples/c/data_channel.c examples/c/data_channel.h
+# Deadlines and traces are files that users copy.
 $(OUT)/tests/deadlines $(OUT)/examples/server $(OUT)/examples/load: examples/c/deadlines.c \
     examples/c/deadlines.h
 $(OUT)/examples/server: examples/c/server.h $(wildcard examples/c/server_*.c)
@@ -302,12 +305,16 @@ check-cffi: check-symbols
 	else echo "skipped: cffi reads dcsctp.h: no cffi (apt install python3-cffi)"; fi
 
 # The examples, the file transfer with 20 of 1,000 packets lost in each direction, and the server with 100
-# associations. README has the loop of the first.
+# associations. README has the loop of the first, and the guide to channels that of the second.
 check-examples: $(EXAMPLES:%=$(OUT)/examples/%)
 	sed -n '/^static int drain/,/^}/p' examples/c/two_sockets.c >$(OUT)/drain
 	sed -n '/^```c$$/,/^```$$/p' README.md | sed '1d; $$d' | diff - $(OUT)/drain
 	$(OUT)/examples/two_sockets | diff examples/c/two_sockets.stdout -
 	@echo "check: two_sockets"
+	sed -n '/^static int take/,/^}/p' examples/c/two_channels.c >$(OUT)/take
+	sed -n '/^```c$$/,/^```$$/p' docs/guide/channels.md | sed '1d; $$d' | diff - $(OUT)/take
+	$(OUT)/examples/two_channels | diff examples/c/two_channels.stdout -
+	@echo "check: two_channels"
 	$(OUT)/examples/channels | diff examples/c/channels.stdout -
 	@echo "check: channels"
 	$(OUT)/examples/demo $(OUT)/demo.pcap | diff examples/c/demo.stdout -
@@ -318,8 +325,11 @@ check-examples: $(EXAMPLES:%=$(OUT)/examples/%)
 	$(CXX) -std=c++11 $(WARNINGS) $(CFLAGS) -Iinclude -x c++ examples/c/two_sockets.c -x none \
 	    $(LIBRARY) -o $(OUT)/examples/in_cpp; \
 	$(OUT)/examples/in_cpp | diff examples/c/two_sockets.stdout -; \
-	$(CXX) -std=c++11 $(WARNINGS) $(CFLAGS) -Iinclude -x c++ examples/c/channels.c \
-	    examples/c/data_channel.c -x none $(LIBRARY) -o $(OUT)/examples/in_cpp; \
+	$(CXX) -std=c++11 $(WARNINGS) $(CFLAGS) -Iinclude -x c++ examples/c/two_channels.c -x none \
+	    $(LIBRARY) -o $(OUT)/examples/in_cpp; \
+	$(OUT)/examples/in_cpp | diff examples/c/two_channels.stdout -; \
+	$(CXX) -std=c++11 $(WARNINGS) $(CFLAGS) -Iinclude -x c++ examples/c/channels.c -x none \
+	    $(LIBRARY) -o $(OUT)/examples/in_cpp; \
 	$(OUT)/examples/in_cpp | diff examples/c/channels.stdout -; \
 	$(CXX) -std=c++11 $(WARNINGS) $(CFLAGS) -Iinclude -x c++ examples/c/demo.c examples/c/trace.c \
 	    -x none $(LIBRARY) -o $(OUT)/examples/in_cpp; \
@@ -366,7 +376,7 @@ VALGRIND = valgrind -q --leak-check=full --errors-for-leak-kinds=definite,possib
     --error-exitcode=9
 check-valgrind: $(TESTS:%=$(OUT)/tests/%) $(EXAMPLES:%=$(OUT)/examples/%)
 	@if command -v valgrind >/dev/null; then set -e; \
-	for it in $(TESTS:%=$(OUT)/tests/%) $(OUT)/examples/two_sockets \
+	for it in $(TESTS:%=$(OUT)/tests/%) $(OUT)/examples/two_sockets $(OUT)/examples/two_channels \
 	    $(OUT)/examples/channels $(OUT)/examples/demo; \
 	do echo "check: valgrind $$it"; $(VALGRIND) $$it >/dev/null; done; \
 	echo "check: helgrind $(OUT)/tests/threads"; \
@@ -416,7 +426,17 @@ check-rust: $(LIBRARY) $(OUT)/tests/trace
 	else echo "skipped: examples/rust, lines of packets in Rust: no cargo (apt install cargo)"; fi
 
 check-browser: $(SHARED)
-	CC='$(CC)' bash scripts/browser.sh $(SHARED) $(OUT)/browser
+	bash scripts/browser.sh $(SHARED) $(OUT)/browser
+
+# Other SCTPs, with a browser's habits, and lost packets.
+check-peers: $(LIBRARY) $(SHARED)
+	CC='$(CC)' bash scripts/check-peers.sh $(SHARED) $(OUT)/peers
+
+# What is typed on a page in one's own browser comes back.
+chat: $(SHARED)
+	@$(AIORTC_PYTHON) -c 'import aiortc' 2>/dev/null || { echo "chat: no aiortc (apt install python3-aiortc)"; exit 1; }
+	@DCSCTP_LIBRARY=$(abspath $(SHARED)) PYTHONPATH=bindings/python PYTHONDONTWRITEBYTECODE=1 \
+	    $(AIORTC_PYTHON) examples/browser/chat.py
 
 # Programs for usrsctp, unedited. OUT/usrsctp gets libusrsctp.so.2 and libusrsctp.a.
 check-usrsctp: $(LIBRARY)
@@ -453,8 +473,8 @@ bench-server-programs: $(OUT)/tests/steering $(RESTARTED)
 
 # (dist and install write the same files)
 .NOTPARALLEL:
-.PHONY: FORCE help demo test prove unproved all no-library examples c-programs reference doc install uninstall dist \
-    deb wheel crate clean check check-header check-symbols check-tests \
+.PHONY: FORCE help demo chat test prove unproved all no-library examples c-programs reference doc install uninstall \
+    dist deb wheel crate clean check check-header check-symbols check-tests \
     check-cpp check-cffi check-examples check-install check-dist check-valgrind check-sanitizers \
-    check-bindings check-webrtc check-rust check-browser check-usrsctp check-janus check-restart check-small-restart fuzz \
+    check-bindings check-webrtc check-rust check-browser check-peers check-usrsctp check-janus check-restart check-small-restart fuzz \
     bench bench-server bench-server-programs

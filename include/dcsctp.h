@@ -81,7 +81,8 @@
  *   buffer that is only written to needn't be initialised.
  *
  * Queries. A call that takes a `const dcsctp_socket` changes nothing. The bytes that
- *   dcsctp_event_view and dcsctp_message_view have shown stay where they are.
+ *   dcsctp_event_view, dcsctp_message_view, dcsctp_channel_view and dcsctp_channel_get_options have
+ *   shown stay where they are.
  *
  * Threads. Make one call at a time on a socket. A query is a call, too, so a lock for readers isn't
  *   enough: use a mutex, or keep the socket on one thread. Calls on different sockets may run at
@@ -109,9 +110,9 @@
  *   an error changes nothing and writes nothing. A compiler warns if you ignore the result of a
  *   call that may return OUT_OF_MEMORY.
  *
- * Sizes. dcsctp_options, dcsctp_metrics and dcsctp_counts begin with `size`: set it to the struct's
- *   sizeof before a call, as dcsctp_options_init does. If the library was built with another header
- *   and its struct has another size, the call returns WRONG_SIZE, and uses no other field.
+ * Sizes. Options, limits, metrics and counts begin with `size`: set it to the struct's sizeof
+ *   before a call, as dcsctp_options_init does. If the library was built with another header and
+ *   its struct has another size, the call returns WRONG_SIZE, and uses no other field.
  *
  * Numbers. Calls and structs use integers, and later versions may add values. Their names are
  *   enumerators: a debugger shows them, and with a cast a compiler warns of a missing case, as in
@@ -242,6 +243,19 @@ DCSCTP_ENUM(dcsctp_error, int32_t) {
 
     /* The snapshot is of a socket with other options: see dcsctp_restore_from_state. */
     DCSCTP_ERROR_OTHER_OPTIONS = -19,
+
+    /* The socket has data channels, and this call is for sockets without them. */
+    DCSCTP_ERROR_HAS_CHANNELS = -20,
+
+    /* There is no such data channel, it has ended, or it isn't open. Or the socket has no data
+     * channels: dcsctp_channel_begin wasn't called. */
+    DCSCTP_ERROR_NO_CHANNEL = -21,
+
+    /* The stream of a negotiated data channel is in use. */
+    DCSCTP_ERROR_STREAM_IN_USE = -22,
+
+    /* The association of the data channels has ended: create another socket. */
+    DCSCTP_ERROR_ENDED = -23,
 };
 
 /* What dcsctp_random_seed returns if the system has no random numbers. No other call returns it. */
@@ -291,6 +305,14 @@ static inline const char *dcsctp_error_text(int32_t result) {
         return "the struct has another size in the library";
     case DCSCTP_ERROR_OTHER_OPTIONS:
         return "the snapshot is of a socket with other options";
+    case DCSCTP_ERROR_HAS_CHANNELS:
+        return "the socket has data channels";
+    case DCSCTP_ERROR_NO_CHANNEL:
+        return "there is no such data channel";
+    case DCSCTP_ERROR_STREAM_IN_USE:
+        return "the stream is in use";
+    case DCSCTP_ERROR_ENDED:
+        return "the association has ended";
     case DCSCTP_ERROR_NO_SEED:
         return "the system has no random numbers";
     default:
@@ -897,6 +919,254 @@ typedef struct dcsctp_counts {
 /* Writes the counts, also after an association has ended. Set `size` first.
  * Errors: WRONG_SIZE, NO_SOCKET. */
 int32_t dcsctp_get_counts(const dcsctp_socket *socket, dcsctp_counts *counts) DCSCTP_CALL;
+
+/* ---- Data channels -------------------------------------------------------------------------- */
+
+/* Data channels (RFC 8831, RFC 8832) over a socket. dcsctp_channel_begin gives a new socket
+ * channels, and the loop has one poll:
+ *
+ *     result = dcsctp_create(&s, &options, seed, now());
+ *     if (result == DCSCTP_OK)
+ *         result = dcsctp_channel_begin(&s, &limits);
+ *     if (result == DCSCTP_OK)
+ *         result = dcsctp_channel_set_role(&s, is_dtls_client);
+ *     if (result == DCSCTP_OK)
+ *         result = dcsctp_connect(&s);                     // at both ends, or at one
+ *     while (result == DCSCTP_OK && now() < stop) {        // DCSCTP_NEVER at first
+ *         while ((result = dcsctp_channel_poll(&s, &event)) == 1)
+ *             switch (event.kind) {
+ *             case DCSCTP_CHANNEL_EVENT_SEND_PACKET:
+ *                 if (dcsctp_channel_view(&s, &bytes, &length) == DCSCTP_OK)
+ *                     send(fd, bytes, length, 0);
+ *                 break;
+ *             case DCSCTP_CHANNEL_EVENT_MESSAGE:
+ *                 if (dcsctp_channel_view(&s, &bytes, &length) == DCSCTP_OK)
+ *                     use(event.channel, event.detail, bytes, length);
+ *                 break;
+ *             case DCSCTP_CHANNEL_EVENT_ENDED:
+ *                 stop = now() + 4000000000;               // 4 s: see THE END
+ *             }
+ *         ..                                               // wait, time and packets, as above
+ *     }
+ *
+ * Take all events before you wait, and before each packet: what the peer must be answered is
+ * answered by dcsctp_channel_poll. A message that isn't taken stays in the receive window.
+ *
+ * The socket serves one association: when that ends, each channel gets its last event, and so does
+ * the socket. Create another one for the next association.
+ *
+ * These calls work as before: dcsctp_connect, dcsctp_shutdown, dcsctp_close, dcsctp_handle_input,
+ * dcsctp_advance_time, dcsctp_poll_timeout, dcsctp_set_max_message_size, dcsctp_state,
+ * dcsctp_has_failed, dcsctp_verification_tag, dcsctp_get_options, dcsctp_get_metrics,
+ * dcsctp_get_counts and dcsctp_destroy. Any other one above returns HAS_CHANNELS, and so do those
+ * of a handover. Of a call below, NO_CHANNEL also means that dcsctp_channel_begin wasn't called.
+ *
+ * A channel is a number that is never 0, and is never given twice on a socket, though its stream
+ * is. So a number that was kept too long is harmless. */
+
+/* What a peer may do. Zero means the default. */
+typedef struct dcsctp_channel_limits {
+    size_t size;             /* sizeof(dcsctp_channel_limits) */
+    size_t max_message_size; /* bytes of a message; a longer one closes its channel: 262,144 */
+    size_t max_text;         /* bytes of a label and a protocol; more are refused: 1,024 */
+    size_t max_channels;     /* with so many streams in use each channel is refused: 1,024 */
+} dcsctp_channel_limits;
+
+/* The default limits: an initialiser in C, an expression in C++. */
+#ifdef __cplusplus
+#define DCSCTP_CHANNEL_LIMITS_INIT dcsctp_channel_limits{sizeof(dcsctp_channel_limits), 0, 0, 0}
+#else
+#define DCSCTP_CHANNEL_LIMITS_INIT { sizeof(dcsctp_channel_limits), 0, 0, 0 }
+#endif
+
+/* Gives a new socket channels: no packet, message or association was on it yet.
+ *
+ * INVALID_OPTIONS: the socket has `checksum_offload`. NOT_CLOSED: it isn't new. HAS_CHANNELS: it
+ * has channels. Errors: WRONG_SIZE, NO_SOCKET, HAS_CHANNELS, FAILED, INVALID_OPTIONS, NOT_CLOSED.
+ * */
+int32_t dcsctp_channel_begin(dcsctp_socket *socket, const dcsctp_channel_limits *limits)
+    DCSCTP_CHECKED_CALL;
+
+/* Sets the role in DTLS: 0 is the server, any other number the client. The client gives even
+ * streams, the server odd ones (RFC 8832, section 6). Channels that were opened before get their
+ * streams now. Set it once, and before dcsctp_connect if you can: until then, what the peer opens
+ * is refused. Errors: NO_SOCKET, NO_CHANNEL, FAILED, OUT_OF_MEMORY. */
+int32_t dcsctp_channel_set_role(dcsctp_socket *socket, int32_t is_dtls_client) DCSCTP_CHECKED_CALL;
+
+/* How long a message of a channel is sent again (RFC 8832, section 5.1). */
+DCSCTP_ENUM(dcsctp_channel_reliability, uint16_t) {
+    DCSCTP_CHANNEL_RELIABLE = 0,        /* until it is acknowledged */
+    DCSCTP_CHANNEL_RETRANSMISSIONS = 1, /* up to `limit` times */
+    DCSCTP_CHANNEL_LIFETIME = 2,        /* for `limit` milliseconds */
+};
+
+/* What a channel is opened with. Begin with DCSCTP_CHANNEL_OPTIONS_INIT. */
+typedef struct dcsctp_channel_options {
+    size_t size;            /* sizeof(dcsctp_channel_options) */
+    const char *label;      /* what it is called: UTF-8, without a zero at the end */
+    size_t label_length;    /* its bytes: at most 65,535 */
+    const char *protocol;   /* a subprotocol by its registered name, as the label */
+    size_t protocol_length; /* its bytes: at most 65,535 */
+    uint32_t limit;         /* of `reliability` */
+    uint16_t priority;      /* 128, 256, 512 or 1,024 (RFC 8831, section 6.4); the greatest first */
+    uint16_t reliability;   /* enum dcsctp_channel_reliability */
+    uint16_t is_unordered;  /* switch: the peer may read messages out of order */
+    uint16_t is_negotiated; /* switch: both ends open it on `stream`, and no OPEN is sent */
+    uint16_t stream;        /* of a negotiated channel */
+    uint16_t reserved;      /* 0; other numbers are an error */
+} dcsctp_channel_options;
+
+/* An ordered, reliable channel of normal priority, without a label: an initialiser in C, an
+ * expression in C++. */
+#ifdef __cplusplus
+#define DCSCTP_CHANNEL_OPTIONS_INIT \
+    dcsctp_channel_options{sizeof(dcsctp_channel_options), "", 0, "", 0, 0, 256, 0, 0, 0, 0, 0}
+#else
+#define DCSCTP_CHANNEL_OPTIONS_INIT \
+    { sizeof(dcsctp_channel_options), "", 0, "", 0, 0, 256, 0, 0, 0, 0, 0 }
+#endif
+
+/* Opens a channel, and writes its number. Before the association or the role is known it waits, and
+ * so while the send buffer is full. Messages can be sent once its state is DCSCTP_CHANNEL_OPEN.
+ * DCSCTP_CHANNEL_EVENT_OPENED says that the peer knows it. If no stream is free,
+ * DCSCTP_CHANNEL_EVENT_CLOSED comes with DCSCTP_CHANNEL_NO_STREAM. A negotiated channel is opened
+ * as soon as it has its stream: open it at both ends before the first message can come.
+ *
+ * INVALID_OPTIONS: `reliability` is above 2, or `reserved` isn't 0. MESSAGE_TOO_LARGE: a text has
+ * more than 65,535 bytes, or the texts and 12 bytes are more than `max_message_size`.
+ * STREAM_IN_USE: the stream of a negotiated channel has a channel. ENDED: the association is over.
+ * OUT_OF_MEMORY: if the texts can't be copied, nothing has changed, and the call may be tried
+ * again.
+ *
+ * Errors: NO_SOCKET, NO_CHANNEL, WRONG_SIZE, INVALID_OPTIONS, MESSAGE_TOO_LARGE, ENDED,
+ * STREAM_IN_USE, FAILED, OUT_OF_MEMORY. */
+int32_t dcsctp_channel_open(dcsctp_socket *socket, const dcsctp_channel_options *options,
+                            uint64_t *channel) DCSCTP_CHECKED_CALL;
+
+/* What a message is. The library doesn't test whether text is UTF-8. */
+DCSCTP_ENUM(dcsctp_channel_message_kind, uint32_t) {
+    DCSCTP_CHANNEL_TEXT = 1,   /* UTF-8 */
+    DCSCTP_CHANNEL_BINARY = 2, /* any bytes */
+};
+
+/* Sends a message on an open channel, which may have no bytes. Its bytes are copied.
+ *
+ * INVALID_SEND_OPTIONS: `kind` is neither TEXT nor BINARY. NO_CHANNEL: the channel isn't open.
+ * MESSAGE_TOO_LARGE, SHUTTING_DOWN and RESOURCE_EXHAUSTION are those of dcsctp_send: after the last
+ * one, try again after DCSCTP_CHANNEL_EVENT_BUFFERED_AMOUNT_LOW.
+ *
+ * Errors: NO_SOCKET, INVALID_SEND_OPTIONS, NO_CHANNEL, MESSAGE_TOO_LARGE, SHUTTING_DOWN,
+ * RESOURCE_EXHAUSTION, FAILED, OUT_OF_MEMORY. */
+int32_t dcsctp_channel_send(dcsctp_socket *socket, uint64_t channel, uint32_t kind,
+                            const uint8_t *bytes, size_t length) DCSCTP_CHECKED_CALL;
+
+/* Closes a channel. What was sent on it goes out first, and what comes on it from now on is
+ * dropped. DCSCTP_CHANNEL_EVENT_CLOSED follows when both ends have reset the stream (RFC 8831,
+ * section 6.7). If there is no such channel, or it is closing, it does nothing. Errors: NO_SOCKET,
+ * NO_CHANNEL (without channels only), FAILED, OUT_OF_MEMORY. */
+int32_t dcsctp_channel_close(dcsctp_socket *socket, uint64_t channel) DCSCTP_CHECKED_CALL;
+
+/* What an event reports, and which fields it uses beside `kind`. */
+DCSCTP_ENUM(dcsctp_channel_event_kind, uint32_t) {
+    DCSCTP_CHANNEL_EVENT_NONE = 0,        /* there is no event */
+    DCSCTP_CHANNEL_EVENT_SEND_PACKET = 1, /* bytes: a packet for the peer, at most `mtu` */
+    DCSCTP_CHANNEL_EVENT_CONNECTED = 2,   /* the association was made, by either end */
+    DCSCTP_CHANNEL_EVENT_OPENED = 3,      /* channel: the peer knows what this end has opened */
+    DCSCTP_CHANNEL_EVENT_INCOMING = 4,    /* channel: opened by the peer; options */
+    DCSCTP_CHANNEL_EVENT_MESSAGE = 5,     /* channel; detail: TEXT or BINARY; bytes, or none */
+    DCSCTP_CHANNEL_EVENT_BUFFERED_AMOUNT_LOW = 6, /* channel: it fell to its low threshold */
+    DCSCTP_CHANNEL_EVENT_CLOSED = 7,      /* channel: its last event; detail: why */
+    DCSCTP_CHANNEL_EVENT_ENDED = 8,       /* the association is over, and all its channels */
+};
+
+/* Why a channel is closed. */
+DCSCTP_ENUM(dcsctp_channel_end, uint32_t) {
+    DCSCTP_CHANNEL_CLOSED_BY_RESETS = 0, /* one end has closed it, or both */
+    DCSCTP_CHANNEL_REFUSED = 1,          /* the same before the peer knew it */
+    DCSCTP_CHANNEL_CANT_BE_RESET = 2,    /* the peer refuses resets: the stream stays in use */
+    DCSCTP_CHANNEL_LOST = 3,             /* the association has ended */
+    DCSCTP_CHANNEL_NO_STREAM = 4,        /* no stream was free */
+};
+
+/* An event. Fields that its kind doesn't use are 0. Later versions may add kinds: ignore them. */
+typedef struct dcsctp_channel_event {
+    uint64_t channel; /* the number of a channel */
+    size_t length;    /* how many bytes there are to copy */
+    uint32_t kind;    /* enum dcsctp_channel_event_kind */
+    uint32_t detail;  /* enum dcsctp_channel_message_kind or dcsctp_channel_end */
+} dcsctp_channel_event;
+
+/* Takes the oldest event, writes it and returns 1. If there is none, it returns 0, and the event is
+ * DCSCTP_CHANNEL_EVENT_NONE, as after an error. Packets come first, and messages before the end
+ * that follows them. Its bytes and options can be used until the next call of dcsctp_channel_poll.
+ * After OUT_OF_MEMORY, here or elsewhere, events that are ready can be taken, and then comes
+ * FAILED. Errors: NO_SOCKET, NO_CHANNEL, FAILED, OUT_OF_MEMORY. */
+int32_t dcsctp_channel_poll(dcsctp_socket *socket, dcsctp_channel_event *event) DCSCTP_CHECKED_CALL;
+
+/* Copies the bytes of the last taken event, a packet or a message, and writes how many there are.
+ * Errors: NO_SOCKET, NO_CHANNEL, BUFFER_TOO_SMALL, NOTHING_TO_COPY. */
+int32_t dcsctp_channel_bytes(const dcsctp_socket *socket, uint8_t *buffer, size_t capacity,
+                             size_t *length) DCSCTP_CHECKED_CALL;
+
+/* Writes where those bytes are, and how many there are. Nothing is copied. They stay there until a
+ * call that takes this socket without `const`. After NOTHING_TO_COPY `bytes` isn't written.
+ * Errors: NO_SOCKET, NO_CHANNEL, NOTHING_TO_COPY. */
+int32_t dcsctp_channel_view(const dcsctp_socket *socket, const uint8_t **bytes, size_t *length)
+    DCSCTP_CHECKED_CALL;
+
+/* Writes what the peer has opened a channel with, if the last taken event is INCOMING. Set `size`
+ * first. Its texts stay where they are until a call that takes this socket without `const`.
+ * `is_negotiated`, `stream` and `reserved` are 0.
+ * Errors: WRONG_SIZE, NO_SOCKET, NO_CHANNEL, NOTHING_TO_COPY. */
+int32_t dcsctp_channel_get_options(const dcsctp_socket *socket, dcsctp_channel_options *options)
+    DCSCTP_CHECKED_CALL;
+
+/* The state of a channel. */
+DCSCTP_ENUM(dcsctp_channel_state_number, int32_t) {
+    DCSCTP_CHANNEL_CONNECTING = 0, /* it waits for the association, the role, or room to send */
+    DCSCTP_CHANNEL_OPEN = 1,       /* messages can be sent */
+    DCSCTP_CHANNEL_CLOSING = 2,    /* one end has closed it */
+    DCSCTP_CHANNEL_CLOSED = 3,     /* there is no such channel, or none any more */
+};
+
+/* Returns the state of a channel: enum dcsctp_channel_state_number. Errors: NO_SOCKET, NO_CHANNEL
+ * (without channels only). */
+int32_t dcsctp_channel_state(const dcsctp_socket *socket, uint64_t channel) DCSCTP_CALL;
+
+/* Writes the stream of a channel. NO_CHANNEL: it has none, also while it is connecting.
+ * Errors: NO_SOCKET, NO_CHANNEL. */
+int32_t dcsctp_channel_stream(const dcsctp_socket *socket, uint64_t channel, uint16_t *stream)
+    DCSCTP_CALL;
+
+/* Writes how many bytes are queued on a channel. NO_CHANNEL: it has no stream.
+ * Errors: NO_SOCKET, NO_CHANNEL. */
+int32_t dcsctp_channel_buffered_amount(const dcsctp_socket *socket, uint64_t channel, size_t *bytes)
+    DCSCTP_CALL;
+
+/* Sets the low threshold of a channel, which is 0 at first:
+ * DCSCTP_CHANNEL_EVENT_BUFFERED_AMOUNT_LOW comes when its queued bytes fall from above the
+ * threshold to it or below. NO_CHANNEL: it has no stream. Errors: NO_SOCKET, NO_CHANNEL, FAILED,
+ * OUT_OF_MEMORY. */
+int32_t dcsctp_channel_set_buffered_amount_low_threshold(dcsctp_socket *socket, uint64_t channel,
+                                                         size_t bytes) DCSCTP_CHECKED_CALL;
+
+/* What was counted of a channel. */
+typedef struct dcsctp_channel_metrics {
+    size_t size;                /* sizeof(dcsctp_channel_metrics) */
+    uint64_t messages_sent;     /* that dcsctp_channel_send accepted */
+    uint64_t bytes_sent;        /* their bytes */
+    uint64_t messages_received; /* that were taken from the receive window */
+    uint64_t bytes_received;    /* their bytes */
+} dcsctp_channel_metrics;
+
+/* Writes the metrics of a channel. Set `size` first. NO_CHANNEL: it has no stream.
+ * Errors: WRONG_SIZE, NO_SOCKET, NO_CHANNEL. */
+int32_t dcsctp_channel_get_metrics(const dcsctp_socket *socket, uint64_t channel,
+                                   dcsctp_channel_metrics *metrics) DCSCTP_CALL;
+
+/* Writes how many streams are in use, those of closing and refused channels, too.
+ * Errors: NO_SOCKET, NO_CHANNEL. */
+int32_t dcsctp_channel_count(const dcsctp_socket *socket, size_t *count) DCSCTP_CALL;
 
 /* ---- Handover to another process ------------------------------------------------------------ */
 

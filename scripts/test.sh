@@ -96,6 +96,7 @@ counted "examples" checks check-examples check-rust
 counted "installed, packed" checks check-install check-dist
 counted "bindings" checks check-bindings check-webrtc
 counted "programs for usrsctp" checks check-usrsctp
+counted "data channels to other SCTPs" checks check-peers
 counted "packages of Debian, Python and Rust" checks deb wheel crate
 
 sed -n 's/^skipped: /skipped: /p' "$logs"/*.log | sort -u

@@ -39,6 +39,22 @@
 //         if (event.kind == dcsctp::event_kind::send_packet)
 //             send(fd, packet.data(), packet.size(), 0);
 //
+// `channels` has data channels in place of messages:
+//     dcsctp::channels channels;
+//     dcsctp::channel chat;
+//     dcsctp::channel_event event;
+//     error = channels.create(dcsctp::options(), now());
+//     error = channels.set_role(is_dtls_client);
+//     error = channels.connect();
+//     error = channels.open({"chat"}, chat);
+//     while ((error = channels.poll(event)) == dcsctp::error::ok && event.kind != dcsctp::channel_event_kind::none)
+//         if (event.kind == dcsctp::channel_event_kind::send_packet)
+//             send(fd, event.bytes.data(), event.bytes.size(), 0);
+//         else if (event.kind == dcsctp::channel_event_kind::opened)
+//             error = channels.send_text(event.channel, "hello");
+//         else if (event.kind == dcsctp::channel_event_kind::message)
+//             use(event.channel, event.is_text, event.bytes);
+//
 // A socket that was not created, was destroyed or moved from is empty: commands return error::no_socket, polls return
 // nothing, and queries return 0 or nothing. Make one call at a time on a socket; a query is a call, too.
 #ifndef DCSCTP_HPP
@@ -91,6 +107,10 @@ enum class [[nodiscard]] error : std::int32_t {
     invalid_send_options = DCSCTP_ERROR_INVALID_SEND_OPTIONS,
     wrong_size = DCSCTP_ERROR_WRONG_SIZE,
     other_options = DCSCTP_ERROR_OTHER_OPTIONS,
+    has_channels = DCSCTP_ERROR_HAS_CHANNELS,
+    no_channel = DCSCTP_ERROR_NO_CHANNEL,
+    stream_in_use = DCSCTP_ERROR_STREAM_IN_USE,
+    ended = DCSCTP_ERROR_ENDED,
     wrong_version = -1001, // the library has another version than dcsctp.h
     no_seed = DCSCTP_ERROR_NO_SEED,
 };
@@ -272,20 +292,11 @@ inline std::optional<seed> random_seed() {
     return is_whole ? std::optional(made) : std::nullopt;
 }
 
-class socket {
+// What `socket` and `channels` have in common.
+class association {
 public:
-    socket() = default;
-    ~socket() { destroy(); }
-    socket(socket &&other) noexcept : it_(std::exchange(other.it_, DCSCTP_SOCKET_INIT)) {}
-    socket &operator=(socket &&other) noexcept {
-        if (this != &other) {
-            destroy();
-            it_ = std::exchange(other.it_, DCSCTP_SOCKET_INIT);
-        }
-        return *this;
-    }
-    socket(const socket &) = delete;
-    socket &operator=(const socket &) = delete;
+    association(const association &) = delete;
+    association &operator=(const association &) = delete;
 
     // Creates a closed socket whose clock is at `now`, with a seed from the system, or with yours, which must be
     // secret and new. One of zeros is refused: error::invalid_options.
@@ -318,6 +329,91 @@ public:
         return nanoseconds(static_cast<nanoseconds::rep>(moment));
     }
 
+    socket_state state() const { return static_cast<socket_state>(dcsctp_state(&it_)); }
+    bool is_empty() const { return state() == socket_state::no_socket; }
+    bool has_failed() const { return dcsctp_has_failed(&it_) == 1; }
+
+    // Our verification tag, which the peer's packets carry; 0 if the socket is closed or empty.
+    std::uint32_t verification_tag() const {
+        std::uint32_t tag = 0;
+        dcsctp_verification_tag(&it_, &tag);
+        return tag;
+    }
+
+    error set_max_message_size(std::size_t bytes) { return done(dcsctp_set_max_message_size(&it_, bytes)); }
+
+    // The options; the defaults for an empty socket.
+    options get_options() const {
+        options read;
+        dcsctp_get_options(&it_, &read);
+        return read;
+    }
+
+    // The metrics; nothing if there is no peer yet.
+    std::optional<dcsctp_metrics> metrics() const {
+        dcsctp_metrics read = dcsctp_metrics();
+        read.size = sizeof read;
+        return dcsctp_get_metrics(&it_, &read) == 1 ? std::optional(read) : std::nullopt;
+    }
+
+    // Counts since the socket was created, also after an association has ended; 0 for an empty socket.
+    dcsctp_counts counts() const {
+        dcsctp_counts read = dcsctp_counts();
+        read.size = sizeof read;
+        dcsctp_get_counts(&it_, &read);
+        return read;
+    }
+
+protected:
+    association() = default;
+    ~association() { destroy(); }
+    association(association &&other) noexcept : it_(std::exchange(other.it_, DCSCTP_SOCKET_INIT)) {}
+    association &operator=(association &&other) noexcept {
+        if (this != &other) {
+            destroy();
+            it_ = std::exchange(other.it_, DCSCTP_SOCKET_INIT);
+        }
+        return *this;
+    }
+
+    // Results above 0 are no errors.
+    static error done(std::int32_t result) { return result < 0 ? static_cast<error>(result) : error::ok; }
+
+    static std::uint64_t number(nanoseconds time) {
+        return time.count() < 0 ? 0 : static_cast<std::uint64_t>(time.count());
+    }
+
+    // Copies so many elements by a call of the library.
+    template <typename T, typename Call>
+    error copy(std::vector<T> &list, std::size_t length, Call call) const {
+        T nowhere{};
+        std::size_t written = 0;
+        list.resize(length);
+        const error result = done(call(&it_, length ? list.data() : &nowhere, length, &written));
+        list.resize(result == error::ok ? written : 0);
+        return result;
+    }
+
+    // The bytes that a view of the library shows.
+    template <typename Call>
+    bytes_view shown(Call call) const {
+        const std::uint8_t *at = nullptr;
+        std::size_t length = 0;
+        return done(call(&it_, &at, &length)) == error::ok ? bytes_view(at, length) : bytes_view();
+    }
+
+    template <typename Call>
+    std::size_t counted(Call call) const {
+        std::size_t count = 0;
+        call(&it_, &count);
+        return count;
+    }
+
+    dcsctp_socket it_ = DCSCTP_SOCKET_INIT;
+};
+
+class socket : public association {
+public:
     // Takes the oldest event. If there is none, `taken` is of kind none.
     bool poll_event(event &taken) {
         bytes_view packet;
@@ -427,41 +523,6 @@ public:
         return done(dcsctp_set_stream_priority(&it_, stream_id, priority));
     }
 
-    socket_state state() const { return static_cast<socket_state>(dcsctp_state(&it_)); }
-    bool is_empty() const { return state() == socket_state::no_socket; }
-    bool has_failed() const { return dcsctp_has_failed(&it_) == 1; }
-
-    // Our verification tag, which the peer's packets carry; 0 if the socket is closed or empty.
-    std::uint32_t verification_tag() const {
-        std::uint32_t tag = 0;
-        dcsctp_verification_tag(&it_, &tag);
-        return tag;
-    }
-
-    error set_max_message_size(std::size_t bytes) { return done(dcsctp_set_max_message_size(&it_, bytes)); }
-
-    // The options; the defaults for an empty socket.
-    options get_options() const {
-        options read;
-        dcsctp_get_options(&it_, &read);
-        return read;
-    }
-
-    // The metrics; nothing if there is no peer yet.
-    std::optional<dcsctp_metrics> metrics() const {
-        dcsctp_metrics read = dcsctp_metrics();
-        read.size = sizeof read;
-        return dcsctp_get_metrics(&it_, &read) == 1 ? std::optional(read) : std::nullopt;
-    }
-
-    // Counts since the socket was created, also after an association has ended; 0 for an empty socket.
-    dcsctp_counts counts() const {
-        dcsctp_counts read = dcsctp_counts();
-        read.size = sizeof read;
-        dcsctp_get_counts(&it_, &read);
-        return read;
-    }
-
     // Why the socket can't be handed over now: the sum of DCSCTP_HANDOVER_.., or 0 if it can.
     std::uint32_t handover_readiness() const {
         std::uint32_t reasons = 0;
@@ -491,13 +552,6 @@ public:
 private:
     static constexpr std::int32_t unwritten = std::numeric_limits<std::int32_t>::max();
 
-    // Results above 0 are no errors.
-    static error done(std::int32_t result) { return result < 0 ? static_cast<error>(result) : error::ok; }
-
-    static std::uint64_t number(nanoseconds time) {
-        return time.count() < 0 ? 0 : static_cast<std::uint64_t>(time.count());
-    }
-
     static dcsctp_send_options in_c(const send_options &how) {
         dcsctp_send_options options = DCSCTP_SEND_INIT;
         options.lifecycle_id = how.lifecycle_id;
@@ -507,34 +561,221 @@ private:
                         (how.max_retransmissions ? DCSCTP_SEND_MAX_RETRANSMISSIONS : 0);
         return options;
     }
+};
 
-    // Copies so many elements by a call of the library.
-    template <typename T, typename Call>
-    error copy(std::vector<T> &list, std::size_t length, Call call) const {
-        T nowhere{};
-        std::size_t written = 0;
-        list.resize(length);
-        const error result = done(call(&it_, length ? list.data() : &nowhere, length, &written));
-        list.resize(result == error::ok ? written : 0);
+// ---- Data channels --------------------------------------------------------------------------------------------------
+
+// A data channel: a number that `channels` never give twice.
+enum class channel : std::uint64_t { none = 0 };
+
+// What a channel is opened with. Texts are UTF-8. A message that was lost is sent again until it is acknowledged, or up
+// to `max_retransmits` times, or for `max_lifetime`: set one of the two at most.
+struct channel_options {
+    std::string_view label = {};
+    std::string_view protocol = {};
+    bool ordered = true;
+    std::optional<std::uint32_t> max_retransmits = {};
+    std::optional<std::chrono::milliseconds> max_lifetime = {};
+    std::uint16_t priority = 256;                 // 128, 256, 512 or 1,024
+    std::optional<std::uint16_t> negotiated = {}; // the stream that both ends open it on
+};
+
+// The fields of dcsctp_channel_limits; 0 means the default.
+struct channel_limits : dcsctp_channel_limits {
+    channel_limits() : dcsctp_channel_limits(DCSCTP_CHANNEL_LIMITS_INIT) {}
+};
+
+enum class channel_event_kind : std::uint32_t {
+    none = DCSCTP_CHANNEL_EVENT_NONE,
+    send_packet = DCSCTP_CHANNEL_EVENT_SEND_PACKET,
+    connected = DCSCTP_CHANNEL_EVENT_CONNECTED,
+    opened = DCSCTP_CHANNEL_EVENT_OPENED,
+    incoming = DCSCTP_CHANNEL_EVENT_INCOMING,
+    message = DCSCTP_CHANNEL_EVENT_MESSAGE,
+    buffered_amount_low = DCSCTP_CHANNEL_EVENT_BUFFERED_AMOUNT_LOW,
+    closed = DCSCTP_CHANNEL_EVENT_CLOSED,
+    ended = DCSCTP_CHANNEL_EVENT_ENDED,
+};
+
+enum class channel_end : std::uint32_t {
+    closed_by_resets = DCSCTP_CHANNEL_CLOSED_BY_RESETS,
+    refused = DCSCTP_CHANNEL_REFUSED,
+    cant_be_reset = DCSCTP_CHANNEL_CANT_BE_RESET,
+    lost = DCSCTP_CHANNEL_LOST,
+    no_stream = DCSCTP_CHANNEL_NO_STREAM,
+};
+
+enum class channel_state : std::int32_t {
+    connecting = DCSCTP_CHANNEL_CONNECTING,
+    open = DCSCTP_CHANNEL_OPEN,
+    closing = DCSCTP_CHANNEL_CLOSING,
+    closed = DCSCTP_CHANNEL_CLOSED,
+};
+
+// What `channels` report. Later versions of the library may add kinds: ignore them.
+struct channel_event {
+    channel_event_kind kind = channel_event_kind::none;
+    dcsctp::channel channel = dcsctp::channel::none; // but for send_packet, connected and ended
+    bool is_text = false;                            // of message
+    channel_end why = channel_end::closed_by_resets; // of closed
+    bytes_view bytes; // of send_packet and message, without a copy: until a call that isn't const
+
+    std::string_view text() const { return text_of(bytes); }
+    const char *name() const {
+        static const char *const names[] = {"none", "send packet", "connected", "channel opened", "incoming channel",
+                                            "channel message", "channel buffered amount low", "channel closed",
+                                            "channels ended"};
+        return kind <= channel_event_kind::ended ? names[static_cast<std::uint32_t>(kind)] : "unknown";
+    }
+};
+
+// Data channels (RFC 8831, RFC 8832), and the socket below them, which serves one association: create others for the
+// next.
+class channels : public association {
+public:
+    // Creates a closed socket with channels, as `socket` is created.
+    error create(const dcsctp_options &how, nanoseconds now, const dcsctp_channel_limits &limits = channel_limits()) {
+        return begun(association::create(how, now), limits);
+    }
+    error create(const dcsctp_options &how, const seed &drawn, nanoseconds now,
+                 const dcsctp_channel_limits &limits = channel_limits()) {
+        return begun(association::create(how, drawn, now), limits);
+    }
+
+    error set_role(bool is_dtls_client) { return done(dcsctp_channel_set_role(&it_, is_dtls_client)); }
+
+    // Opens a channel. error::invalid_options: both limits are set.
+    error open(const channel_options &how, channel &opened) {
+        if (how.max_retransmits && how.max_lifetime)
+            return error::invalid_options;
+        const dcsctp_channel_options options = in_c(how);
+        std::uint64_t number = 0;
+        const error result = done(dcsctp_channel_open(&it_, &options, &number));
+        if (result == error::ok)
+            opened = static_cast<channel>(number);
         return result;
     }
 
-    // The bytes that a view of the library shows.
-    template <typename Call>
-    bytes_view shown(Call call) const {
-        const std::uint8_t *at = nullptr;
-        std::size_t length = 0;
-        return done(call(&it_, &at, &length)) == error::ok ? bytes_view(at, length) : bytes_view();
+    // Sends a message, which may be empty. `text` is UTF-8.
+    error send_text(channel to, std::string_view text) { return sent(to, DCSCTP_CHANNEL_TEXT, text); }
+    error send_binary(channel to, bytes_view bytes) { return sent(to, DCSCTP_CHANNEL_BINARY, bytes); }
+
+    error close_channel(channel it) { return done(dcsctp_channel_close(&it_, number_of(it))); }
+
+    // Takes the oldest event. If there is none, or after an error, it is of kind none. Take all before you wait, and
+    // before each packet.
+    error poll(channel_event &taken) {
+        dcsctp_channel_event it = dcsctp_channel_event();
+        const error result = done(dcsctp_channel_poll(&it_, &it));
+        taken.kind = static_cast<channel_event_kind>(it.kind);
+        taken.channel = static_cast<channel>(it.channel);
+        const bool is_message = taken.kind == channel_event_kind::message;
+        taken.is_text = is_message && it.detail == DCSCTP_CHANNEL_TEXT;
+        taken.why = static_cast<channel_end>(is_message ? 0 : it.detail);
+        taken.bytes = view_bytes();
+        return result;
     }
 
-    template <typename Call>
-    std::size_t counted(Call call) const {
-        std::size_t count = 0;
-        call(&it_, &count);
-        return count;
+    // The bytes of the last taken event, without a copy: until a call that isn't const. It is empty if the event has
+    // none.
+    bytes_view view_bytes() const { return shown(dcsctp_channel_view); }
+
+    // Copies those bytes.
+    error copy_bytes(std::vector<std::uint8_t> &bytes) const {
+        return copy(bytes, view_bytes().size(), dcsctp_channel_bytes);
     }
 
-    dcsctp_socket it_ = DCSCTP_SOCKET_INIT;
+    // What the peer has opened a channel with, if the last taken event is `incoming`. Its texts are there until a call
+    // that isn't const.
+    std::optional<channel_options> incoming_options() const {
+        dcsctp_channel_options read = DCSCTP_CHANNEL_OPTIONS_INIT;
+        if (done(dcsctp_channel_get_options(&it_, &read)) != error::ok)
+            return std::nullopt;
+        channel_options options;
+        options.label = {read.label, read.label_length};
+        options.protocol = {read.protocol, read.protocol_length};
+        options.ordered = !read.is_unordered;
+        options.priority = read.priority;
+        if (read.reliability == DCSCTP_CHANNEL_RETRANSMISSIONS)
+            options.max_retransmits = read.limit;
+        if (read.reliability == DCSCTP_CHANNEL_LIFETIME)
+            options.max_lifetime = std::chrono::milliseconds(read.limit);
+        return options;
+    }
+
+    // The state of a channel. That of a channel of an empty socket is `closed`.
+    channel_state state_of(channel it) const {
+        const std::int32_t state = dcsctp_channel_state(&it_, number_of(it));
+        return state < 0 ? channel_state::closed : static_cast<channel_state>(state);
+    }
+
+    // The stream of a channel; nothing while it is connecting, or when it is closed.
+    std::optional<std::uint16_t> stream_of(channel it) const {
+        std::uint16_t stream = 0;
+        const bool has_one = dcsctp_channel_stream(&it_, number_of(it), &stream) == DCSCTP_OK;
+        return has_one ? std::optional(stream) : std::nullopt;
+    }
+
+    // How many bytes are queued on a channel; 0 without a stream.
+    std::size_t buffered_amount(channel it) const {
+        return counted(
+            [&](auto *at, auto *bytes) { return dcsctp_channel_buffered_amount(at, number_of(it), bytes); });
+    }
+    error set_buffered_amount_low_threshold(channel it, std::size_t bytes) {
+        return done(dcsctp_channel_set_buffered_amount_low_threshold(&it_, number_of(it), bytes));
+    }
+
+    // What was counted of a channel; nothing without a stream.
+    std::optional<dcsctp_channel_metrics> metrics_of(channel it) const {
+        dcsctp_channel_metrics read = dcsctp_channel_metrics();
+        read.size = sizeof read;
+        const bool has_one = dcsctp_channel_get_metrics(&it_, number_of(it), &read) == DCSCTP_OK;
+        return has_one ? std::optional(read) : std::nullopt;
+    }
+
+    // How many streams are in use, those of closing and refused channels, too.
+    std::size_t streams_in_use() const { return counted(dcsctp_channel_count); }
+
+private:
+    static std::uint64_t number_of(channel it) { return static_cast<std::uint64_t>(it); }
+
+    // A new socket gets channels. If it can't, it is destroyed.
+    error begun(error created, const dcsctp_channel_limits &limits) {
+        if (created != error::ok)
+            return created;
+        const error result = done(dcsctp_channel_begin(&it_, &limits));
+        if (result != error::ok)
+            destroy();
+        return result;
+    }
+
+    error sent(channel to, std::uint32_t kind, bytes_view bytes) {
+        return done(dcsctp_channel_send(&it_, number_of(to), kind, bytes.data(), bytes.size()));
+    }
+
+    static dcsctp_channel_options in_c(const channel_options &how) {
+        dcsctp_channel_options options = DCSCTP_CHANNEL_OPTIONS_INIT;
+        if (!how.label.empty())
+            options.label = how.label.data();
+        if (!how.protocol.empty())
+            options.protocol = how.protocol.data();
+        options.label_length = how.label.size();
+        options.protocol_length = how.protocol.size();
+        options.priority = how.priority;
+        options.is_unordered = !how.ordered;
+        options.is_negotiated = how.negotiated.has_value();
+        options.stream = how.negotiated.value_or(0);
+        if (how.max_retransmits) {
+            options.reliability = DCSCTP_CHANNEL_RETRANSMISSIONS;
+            options.limit = *how.max_retransmits;
+        } else if (how.max_lifetime) {
+            constexpr std::chrono::milliseconds::rep most = std::numeric_limits<std::uint32_t>::max();
+            const auto time = how.max_lifetime->count();
+            options.reliability = DCSCTP_CHANNEL_LIFETIME;
+            options.limit = static_cast<std::uint32_t>(time < 0 ? 0 : time > most ? most : time);
+        }
+        return options;
+    }
 };
 
 } // namespace dcsctp

@@ -303,6 +303,314 @@ void snapshot_and_options() {
     EXPECT(pair.b.get_next_message(message) && message.text() == "after");
 }
 
+// ---- Data channels --------------------------------------------------------------------------------------------------
+
+using dcsctp::channel, dcsctp::channel_end, dcsctp::channel_event_kind, dcsctp::channel_state;
+
+static_assert(!std::is_copy_constructible_v<dcsctp::channels> && !std::is_copy_assignable_v<dcsctp::channels>);
+static_assert(std::is_nothrow_move_constructible_v<dcsctp::channels>);
+static_assert(std::is_nothrow_move_assignable_v<dcsctp::channels>);
+static_assert(!std::is_constructible_v<dcsctp::socket, dcsctp::channels>);
+
+// What an end has reported, but for packets and buffered_amount_low.
+struct report {
+    channel_event_kind kind;
+    channel of;
+    channel_end why;
+    bool is_text;
+    std::string bytes, label, protocol;
+};
+
+struct party {
+    dcsctp::channels channels;
+    std::vector<report> reports;
+    dcsctp::channel_options options; // of the last incoming, without texts
+    unsigned low = 0;
+
+    // Takes all. Packets go to the peer from where they lie. Returns how many there were.
+    unsigned take(party &peer) {
+        dcsctp::channel_event event;
+        unsigned packets = 0;
+        while (channels.poll(event) == error::ok && event.kind != channel_event_kind::none) {
+            bytes copied = {9};
+            const bool has_bytes = event.kind == channel_event_kind::send_packet ||
+                                   event.kind == channel_event_kind::message;
+            EXPECT(channels.copy_bytes(copied) == (has_bytes ? error::ok : error::nothing_to_copy));
+            EXPECT(dcsctp::text_of(copied) == event.text());
+            EXPECT(channels.incoming_options().has_value() == (event.kind == channel_event_kind::incoming));
+            if (event.kind == channel_event_kind::send_packet) {
+                EXPECT(peer.channels.handle_input(event.bytes) == error::ok);
+                packets++;
+            } else if (event.kind == channel_event_kind::buffered_amount_low) {
+                low++;
+            } else {
+                report one = {event.kind, event.channel, event.why, event.is_text, std::string(event.text()), {}, {}};
+                if (const auto opened = channels.incoming_options()) {
+                    one.label = opened->label;
+                    one.protocol = opened->protocol;
+                    options = *opened;
+                }
+                reports.push_back(one);
+            }
+        }
+        EXPECT(event.kind == channel_event_kind::none && event.bytes.empty());
+        return packets;
+    }
+
+    // The only report since the last time.
+    report only() {
+        EXPECT(reports.size() == 1);
+        const report one = reports.front();
+        reports.clear();
+        return one;
+    }
+
+    error say(channel to) { return channels.send_text(to, "hello"); }
+};
+
+// Two ends with channels. A is the DTLS client.
+struct parties {
+    party a, b;
+    nanoseconds now = 1h;
+    dcsctp::options how;
+
+    explicit parties(bool follow_rfc, bool is_connected = true,
+                     const dcsctp_channel_limits &limits = dcsctp::channel_limits()) {
+        how.follow_rfc = follow_rfc;
+        EXPECT(a.channels.create(how, now, limits) == error::ok && b.channels.create(how, now) == error::ok);
+        EXPECT(b.channels.set_role(false) == error::ok);
+        if (is_connected) {
+            EXPECT(a.channels.set_role(true) == error::ok && a.channels.connect() == error::ok);
+            settle();
+            EXPECT(a.only().kind == channel_event_kind::connected && b.only().kind == channel_event_kind::connected);
+        }
+    }
+
+    // Lets a second pass, so that all is acknowledged.
+    void settle() {
+        for (int step = 0; step < 10; step++) {
+            while (a.take(b) + b.take(a) > 0)
+                continue;
+            now += 100ms;
+            EXPECT(a.channels.advance_time(now) == error::ok && b.channels.advance_time(now) == error::ok);
+        }
+    }
+
+    // A channel that A opens, at both ends.
+    std::pair<channel, channel> opened(const dcsctp::channel_options &with = {"chat"}) {
+        channel of_a = channel::none;
+        EXPECT(a.channels.open(with, of_a) == error::ok && of_a != channel::none);
+        settle();
+        const report at_a = a.only(), at_b = b.only();
+        EXPECT(at_a.kind == channel_event_kind::opened && at_a.of == of_a);
+        EXPECT(at_b.kind == channel_event_kind::incoming && at_b.of != channel::none && at_b.bytes.empty());
+        EXPECT(at_b.label == with.label && at_b.protocol == with.protocol);
+        return {of_a, at_b.of};
+    }
+};
+
+void channels_without_socket(dcsctp::channels &it) {
+    dcsctp::channel_event event;
+    channel opened = channel(7);
+    bytes copied;
+    const error commands[] = {
+        it.set_role(true),           it.open({"chat"}, opened),  it.send_text(opened, "hello"),
+        it.send_binary(opened, {1}), it.close_channel(opened),   it.set_buffered_amount_low_threshold(opened, 5),
+        it.poll(event),              it.copy_bytes(copied),      it.connect(),
+        it.shutdown(),               it.close(),                 it.handle_input("a packet"),
+        it.advance_time(2h),         it.set_max_message_size(5),
+    };
+    for (error result : commands)
+        EXPECT(result == error::no_socket);
+    EXPECT(opened == channel(7) && event.kind == channel_event_kind::none && it.view_bytes().empty());
+    EXPECT(!it.incoming_options() && !it.stream_of(opened) && !it.metrics_of(opened) && !it.metrics());
+    EXPECT(it.state_of(opened) == channel_state::closed && it.buffered_amount(opened) == 0);
+    EXPECT(it.streams_in_use() == 0 && it.is_empty() && !it.poll_timeout());
+}
+
+void empty_channels() {
+    dcsctp::channels none;
+    channels_without_socket(none);
+    dcsctp::options offload;
+    offload.checksum_offload = 1;
+    EXPECT(none.create(offload, 1h) == error::invalid_options);
+    channels_without_socket(none);
+    EXPECT(none.create(dcsctp::options(), dcsctp::seed{}, 1h) == error::invalid_options);
+    EXPECT(none.create(dcsctp::options(), dcsctp::seed{1}, 1h) == error::ok);
+    EXPECT(none.create(dcsctp::options(), 1h) == error::already_created && !none.is_empty());
+    EXPECT(none.connect() == error::ok);
+    dcsctp::channels other = std::move(none);
+    channels_without_socket(none);
+    none = std::move(other);
+    channels_without_socket(other);
+    EXPECT(none.state() == socket_state::connecting);
+}
+
+void channels_are_opened(bool follow_rfc) {
+    parties pair(follow_rfc);
+    std::uint16_t stream = 0;
+    for (const dcsctp::channel_options &with : {
+             dcsctp::channel_options{},
+             dcsctp::channel_options{"chat", "grüße", false, 0, {}, 128},
+             dcsctp::channel_options{"", "p", true, 4294967295, {}, 1024},
+             dcsctp::channel_options{"label", "", false, {}, 66051ms, 512},
+         }) {
+        const auto [of_a, of_b] = pair.opened(with);
+        const dcsctp::channel_options &there = pair.b.options;
+        EXPECT(there.ordered == with.ordered && there.priority == with.priority && !there.negotiated);
+        EXPECT(there.max_retransmits == with.max_retransmits && there.max_lifetime == with.max_lifetime);
+        // (RFC 8832, section 6)
+        EXPECT(pair.a.channels.stream_of(of_a) == stream && pair.b.channels.stream_of(of_b) == stream);
+        EXPECT(pair.a.channels.state_of(of_a) == channel_state::open);
+        EXPECT(pair.b.channels.state_of(of_b) == channel_state::open);
+        stream = static_cast<std::uint16_t>(stream + 2);
+    }
+    EXPECT(pair.a.channels.streams_in_use() == 4 && pair.b.channels.streams_in_use() == 4);
+}
+
+void channels_carry_messages(bool follow_rfc) {
+    parties pair(follow_rfc);
+    const auto [of_a, of_b] = pair.opened();
+    const std::string texts[] = {"hello", "grüße ∞", "", std::string("a\0b", 3), std::string(70000, 'x')};
+    for (const std::string &text : texts)
+        for (bool is_text : {true, false}) {
+            EXPECT((is_text ? pair.a.channels.send_text(of_a, text) : pair.a.channels.send_binary(of_a, text)) ==
+                   error::ok);
+            pair.settle();
+            const report got = pair.b.only();
+            EXPECT(got.kind == channel_event_kind::message && got.of == of_b);
+            EXPECT(got.is_text == is_text && got.bytes == text);
+        }
+    EXPECT(pair.b.say(of_b) == error::ok);
+    pair.settle();
+    EXPECT(pair.a.only().of == of_a);
+    const auto at_a = pair.a.channels.metrics_of(of_a), at_b = pair.b.channels.metrics_of(of_b);
+    const std::uint64_t size = 2 * (5 + 11 + 0 + 3 + 70000);
+    EXPECT(at_a && at_a->messages_sent == 10 && at_a->bytes_sent == size && at_a->messages_received == 1);
+    EXPECT(at_b && at_b->messages_received == 10 && at_b->bytes_received == size && at_b->bytes_sent == 5);
+}
+
+void channels_are_closed(bool follow_rfc) {
+    parties pair(follow_rfc);
+    channel before = channel::none;
+    for (unsigned who = 1; who < 4; who++) {
+        const auto [of_a, of_b] = pair.opened();
+        EXPECT(of_a != before && pair.a.channels.stream_of(of_a) == std::uint16_t(0));
+        EXPECT(!(who & 1) || pair.a.channels.close_channel(of_a) == error::ok);
+        EXPECT(!(who & 2) || pair.b.channels.close_channel(of_b) == error::ok);
+        EXPECT(pair.a.channels.state_of(of_a) == (who & 1 ? channel_state::closing : channel_state::open));
+        pair.settle();
+        for (auto [it, of] : {std::pair(&pair.a, of_a), std::pair(&pair.b, of_b)}) {
+            const report last = it->only();
+            EXPECT(last.kind == channel_event_kind::closed && last.of == of);
+            EXPECT(last.why == channel_end::closed_by_resets);
+            EXPECT(it->channels.state_of(of) == channel_state::closed && !it->channels.stream_of(of));
+            EXPECT(it->say(of) == error::no_channel && it->channels.close_channel(of) == error::ok);
+            EXPECT(it->channels.streams_in_use() == 0);
+        }
+        before = of_a;
+    }
+}
+
+void channels_are_negotiated(bool follow_rfc) {
+    parties pair(follow_rfc);
+    dcsctp::channel_options agreed;
+    agreed.negotiated = 1000;
+    channel of_a = channel::none, of_b = channel::none, other = channel(7);
+    EXPECT(pair.a.channels.open(agreed, of_a) == error::ok && pair.b.channels.open(agreed, of_b) == error::ok);
+    pair.settle();
+    EXPECT(pair.a.only().kind == channel_event_kind::opened && pair.b.only().of == of_b);
+    EXPECT(pair.a.channels.open(agreed, other) == error::stream_in_use && other == channel(7));
+    EXPECT(pair.b.say(of_b) == error::ok);
+    pair.settle();
+    const report got = pair.a.only();
+    EXPECT(got.of == of_a && got.is_text && got.bytes == "hello" && pair.a.channels.stream_of(of_a) == 1000);
+}
+
+// Before the association and the role a channel waits.
+void channels_wait(bool follow_rfc) {
+    parties pair(follow_rfc, false);
+    dcsctp::channels &it = pair.a.channels;
+    channel early = channel::none;
+    EXPECT(it.open({"early"}, early) == error::ok && it.state_of(early) == channel_state::connecting);
+    EXPECT(pair.a.say(early) == error::no_channel && !it.stream_of(early) && !it.metrics_of(early));
+    EXPECT(it.set_buffered_amount_low_threshold(early, 5) == error::no_channel && it.connect() == error::ok);
+    pair.settle();
+    EXPECT(pair.a.only().kind == channel_event_kind::connected && it.state_of(early) == channel_state::connecting);
+    EXPECT(it.set_role(true) == error::ok && it.state_of(early) == channel_state::open);
+    pair.settle();
+    EXPECT(pair.a.only().of == early);
+}
+
+void channels_are_limited(bool follow_rfc) {
+    dcsctp::channel_limits limits;
+    limits.max_message_size = 4;
+    limits.max_text = 4;
+    limits.max_channels = 1;
+    parties pair(follow_rfc, true, limits);
+    channel of_b = channel::none;
+    for (const char *label : {"chatter", "chat", ""}) {
+        EXPECT(pair.b.channels.open({label}, of_b) == error::ok);
+        pair.settle();
+        const report got = pair.b.only();
+        EXPECT(got.of == of_b);
+        EXPECT(got.kind == (label == std::string("chat") ? channel_event_kind::opened : channel_event_kind::closed));
+        EXPECT(got.kind == channel_event_kind::opened || got.why == channel_end::refused);
+    }
+    const report came = pair.a.only();
+    EXPECT(came.label == "chat");
+    EXPECT(pair.a.channels.set_max_message_size(3) == error::ok);
+    EXPECT(pair.a.channels.send_text(came.of, "long") == error::message_too_large);
+    EXPECT(pair.a.channels.open({"x", "", true, 1, 1ms}, of_b) == error::invalid_options);
+    const std::string text(65536, 'x');
+    EXPECT(pair.b.channels.open({text}, of_b) == error::message_too_large);
+}
+
+void channels_queue(bool follow_rfc) {
+    parties pair(follow_rfc);
+    const auto [of_a, of_b] = pair.opened();
+    const unsigned before = pair.a.low;
+    EXPECT(pair.a.channels.set_buffered_amount_low_threshold(of_a, 8000) == error::ok);
+    error result = error::ok;
+    for (int count = 0; result == error::ok; count++) {
+        EXPECT(count < 1000);
+        result = pair.a.channels.send_binary(of_a, bytes(40000));
+    }
+    EXPECT(result == error::resource_exhaustion && pair.a.channels.buffered_amount(of_a) > 8000);
+    pair.settle();
+    EXPECT(pair.a.low == before + 1 && pair.a.channels.buffered_amount(of_a) == 0);
+}
+
+void channels_end(bool follow_rfc) {
+    for (bool is_abort : {true, false}) {
+        parties pair(follow_rfc);
+        const auto [of_a, of_b] = pair.opened();
+        EXPECT((is_abort ? pair.a.channels.close() : pair.a.channels.shutdown()) == error::ok);
+        pair.settle();
+        for (auto [it, of] : {std::pair(&pair.a, of_a), std::pair(&pair.b, of_b)}) {
+            EXPECT(it->reports.size() == 2 && it->reports[1].kind == channel_event_kind::ended);
+            EXPECT(it->reports[0].of == of && it->reports[0].why == channel_end::lost);
+            channel none = channel::none;
+            EXPECT(it->channels.open({"late"}, none) == error::ended && none == channel::none);
+            EXPECT(it->channels.state() == socket_state::closed);
+        }
+    }
+}
+
+void data_channels() {
+    empty_channels();
+    for (bool follow_rfc : {true, false}) {
+        channels_are_opened(follow_rfc);
+        channels_carry_messages(follow_rfc);
+        channels_are_closed(follow_rfc);
+        channels_are_negotiated(follow_rfc);
+        channels_wait(follow_rfc);
+        channels_are_limited(follow_rfc);
+        channels_queue(follow_rfc);
+        channels_end(follow_rfc);
+    }
+}
+
 // ---- Calls in any order ---------------------------------------------------------------------------------------------
 
 // Numbers without a pattern, the same in each run.
@@ -482,6 +790,7 @@ int main() {
     message_after_an_end(false);
     message_until_the_next();
     snapshot_and_options();
+    data_channels();
     any_order(0);
     any_order(1);
 }

@@ -7,6 +7,7 @@
 
 #include <algorithm>
 #include <iostream>
+#include <map>
 
 using namespace std::chrono_literals;
 using dcsctp::error, dcsctp::event, dcsctp::event_kind, dcsctp::nanoseconds, dcsctp::options;
@@ -207,6 +208,103 @@ void shut_down() {
     say_state("B", pair.b);
 }
 
+// Two ends with data channels. A is the DTLS client.
+struct channel_pair {
+    dcsctp::channels a, b;
+    nanoseconds now = begin;
+    std::map<std::pair<const dcsctp::channels *, dcsctp::channel>, std::string> labels;
+
+    channel_pair() {
+        check(a.create(options(), begin));
+        check(b.create(options(), begin));
+        check(a.set_role(true));
+        check(b.set_role(false));
+    }
+
+    // Opens a channel, and remembers its label.
+    error open(dcsctp::channels &end, const dcsctp::channel_options &how, dcsctp::channel &opened) {
+        const error result = end.open(how, opened);
+        labels[{&end, opened}] = how.label;
+        return result;
+    }
+
+    // Takes all events of an end. Its packets go to the other one. Returns how many there were.
+    int carry(const char *name, dcsctp::channels &from, dcsctp::channels &to) {
+        using kind = dcsctp::channel_event_kind;
+        dcsctp::channel_event it;
+        int packets = 0;
+        for (check(from.poll(it)); it.kind != kind::none; check(from.poll(it))) {
+            if (const auto how = from.incoming_options())
+                labels[{&from, it.channel}] = how->label;
+            const std::string label = " \"" + labels[{&from, it.channel}] + "\"";
+            if (it.kind == kind::send_packet) {
+                check(to.handle_input(it.bytes));
+                packets++;
+            } else if (it.kind == kind::message && it.is_text) {
+                std::cout << name << " has a text on" << label << ": " << it.text() << ".\n";
+            } else if (it.kind == kind::message) {
+                std::cout << name << " has " << it.bytes.size() << " bytes on" << label << "\n";
+            } else {
+                std::cout << name << ": " << it.name() << (it.channel == dcsctp::channel::none ? "" : label);
+                if (it.kind == kind::closed)
+                    std::cout << ", " << static_cast<unsigned>(it.why);
+                std::cout << "\n";
+            }
+        }
+        return packets;
+    }
+
+    // Carries packets both ways until none is left.
+    void settle() {
+        int packets;
+        do {
+            packets = carry("A", a, b);
+            packets += carry("B", b, a);
+        } while (packets > 0);
+    }
+
+    // Lets a second pass: then all is acknowledged.
+    void wait() {
+        settle();
+        now += 1s;
+        check(a.advance_time(now));
+        check(b.advance_time(now));
+        settle();
+    }
+};
+
+void data_channels() {
+    channel_pair pair;
+    dcsctp::channel chat{}, fast{}, of_both{}, another{};
+    dcsctp::channel_options how, agreed;
+    check(pair.open(pair.a, {"chat"}, chat));
+    say("too early", pair.a.send_text(chat, "hello"));
+    check(pair.a.connect());
+    pair.settle();
+    std::cout << "A's has stream " << *pair.a.stream_of(chat) << "\n";
+    check(pair.a.send_text(chat, "hello"));
+    check(pair.a.send_text(chat, ""));
+    check(pair.a.send_binary(chat, {1, 2, 3}));
+    check(pair.a.close_channel(chat));
+    say("too late", pair.a.send_text(chat, "hello"));
+    pair.wait();
+    how.label = "fast";
+    how.ordered = false;
+    how.max_retransmits = 0;
+    how.protocol = "of ours";
+    check(pair.open(pair.b, how, fast));
+    pair.settle();
+    std::cout << "B's has stream " << *pair.b.stream_of(fast) << "\n";
+    agreed.label = "agreed";
+    agreed.negotiated = 8;
+    check(pair.open(pair.a, agreed, of_both));
+    check(pair.open(pair.b, agreed, of_both));
+    say("once more", pair.a.open(agreed, another));
+    check(pair.a.shutdown());
+    pair.wait();
+    say("another", pair.a.open({}, another));
+}
+
 // A call that can't be made is an error, and changes nothing.
 void mistakes() {
     dcsctp::socket none;
@@ -230,7 +328,7 @@ void mistakes() {
     pair.settle();
     say("a close", pair.a.close());
     pair.settle();
-    for (int number = -1; number >= -20; number--)
+    for (int number = -1; number >= -24; number--)
         std::cout << number << ": " << text_of(static_cast<error>(number)) << "\n";
 }
 
@@ -239,7 +337,8 @@ void mistakes() {
 int main() {
     const std::pair<const char *, void (*)()> programs[] = {
         {"connect", connect},     {"send", send},           {"close a channel", close_a_channel},
-        {"hand over", hand_over}, {"shut down", shut_down}, {"mistakes", mistakes},
+        {"hand over", hand_over}, {"shut down", shut_down}, {"data channels", data_channels},
+        {"mistakes", mistakes},
     };
     const char *before = "";
     for (const auto &[name, program] : programs) {

@@ -14,6 +14,8 @@
 // The loop ends at Aborted, or 4 s after Closed: until then the peer may need the last packet of the shutdown again.
 // Wait for Connected before you call Shutdown.
 //
+// Channels have data channels in place of messages.
+//
 // pkg-config finds the library. With the build tag unproved it is the one that was built without proofs. Run it over
 // DTLS, or over another layer that delivers only what the peer has sent. Its license is Apache-2.0.
 package dcsctp
@@ -34,6 +36,11 @@ import (
 // Socket is a socket. Goroutines may share it. Don't copy it: a copy is no socket. If there is none, since it was
 // destroyed, copied, or not made by New, then commands return ErrNoSocket, polls return nothing, and queries return 0.
 type Socket struct {
+	association
+}
+
+// What Socket and Channels have in common.
+type association struct {
 	mutex sync.Mutex
 	c     C.dcsctp_socket
 	own   uintptr // its address, which shows a copy
@@ -47,27 +54,34 @@ var nowhere [1]uint16
 // calls on the socket. The seed is secret and never used twice; if it is nil, the system's generator makes one. Errors:
 // ErrInvalidOptions, also if the seed is all zeros, ErrOutOfMemory, ErrWrongVersion, and those of crypto/rand.
 func New(options Options, seed *[32]byte, now time.Duration) (*Socket, error) {
-	if C.dcsctp_version() & ^C.uint32_t(C.DCSCTP_VERSION_UNPROVED) != C.DCSCTP_VERSION {
-		return nil, ErrWrongVersion
-	}
-	if seed == nil {
-		seed = new([32]byte)
-		if _, err := rand.Read(seed[:]); err != nil {
-			return nil, err
-		}
-	}
 	s := new(Socket)
-	s.own = uintptr(unsafe.Pointer(s))
-	how := options.inC()
-	if err := check(C.dcsctp_create(&s.c, &how, (*C.uint8_t)(&seed[0]), nanoseconds(now))); err != nil {
+	if err := s.create(options, seed, now); err != nil {
 		return nil, err
 	}
 	runtime.SetFinalizer(s, (*Socket).Destroy)
 	return s, nil
 }
 
+func (s *association) create(options Options, seed *[32]byte, now time.Duration) error {
+	if C.dcsctp_version() & ^C.uint32_t(C.DCSCTP_VERSION_UNPROVED) != C.DCSCTP_VERSION {
+		return ErrWrongVersion
+	}
+	if seed == nil {
+		seed = new([32]byte)
+		if _, err := rand.Read(seed[:]); err != nil {
+			return err
+		}
+	}
+	s.own = uintptr(unsafe.Pointer(s))
+	how := options.inC()
+	return check(C.dcsctp_create(&s.c, &how, (*C.uint8_t)(&seed[0]), nanoseconds(now)))
+}
+
 // do makes a call on the socket, one at a time. Without a socket it makes none.
-func (s *Socket) do(call func(at *C.dcsctp_socket) C.int32_t) C.int32_t {
+func (s *association) do(call func(at *C.dcsctp_socket) C.int32_t) C.int32_t {
+	if s == nil {
+		return C.DCSCTP_ERROR_NO_SOCKET
+	}
 	s.mutex.Lock()
 	defer s.mutex.Unlock()
 	if s.own != uintptr(unsafe.Pointer(s)) {
@@ -78,37 +92,37 @@ func (s *Socket) do(call func(at *C.dcsctp_socket) C.int32_t) C.int32_t {
 
 // Destroy frees the socket, whatever it is doing. The peer isn't informed: Shutdown or Close does that. Again it does
 // nothing.
-func (s *Socket) Destroy() {
+func (s *association) Destroy() {
 	s.do(func(at *C.dcsctp_socket) C.int32_t {
 		C.dcsctp_destroy(at)
 		return C.DCSCTP_OK
 	})
 }
 
-// Connect begins an association: Connected follows, or Aborted. If the socket isn't closed, it does nothing.
+// Connect begins an association: Connected follows, or the event of its end. If it isn't closed, it does nothing.
 // Errors: ErrNoSocket, ErrFailed, ErrOutOfMemory.
-func (s *Socket) Connect() error {
+func (s *association) Connect() error {
 	return check(s.do(func(at *C.dcsctp_socket) C.int32_t { return C.dcsctp_connect(at) }))
 }
 
-// Shutdown ends the association in an orderly way: Closed follows, or Aborted. From now on Send fails. Wait for
+// Shutdown ends the association in an orderly way: the event of its end follows. From now on Send fails. Wait for
 // Connected before this call: until the peer has answered the first INIT it sends nothing, and queued messages are
 // lost. Errors: ErrNoSocket, ErrFailed, ErrOutOfMemory.
-func (s *Socket) Shutdown() error {
+func (s *association) Shutdown() error {
 	return check(s.do(func(at *C.dcsctp_socket) C.int32_t { return C.dcsctp_shutdown(at) }))
 }
 
-// Close ends the association at once, by an ABORT: the last event is Closed. Data in flight is lost; what is
+// Close ends the association at once, by an ABORT: the last event is that of its end. Data in flight is lost; what is
 // queued goes out in the next association. Messages that are ready can still be taken; without FollowRFC they are lost.
 // It doesn't free the socket.
 // Errors: ErrNoSocket, ErrFailed, ErrOutOfMemory.
-func (s *Socket) Close() error {
+func (s *association) Close() error {
 	return check(s.do(func(at *C.dcsctp_socket) C.int32_t { return C.dcsctp_close(at) }))
 }
 
 // HandleInput handles a packet from the peer, of any bytes. One that can't be read adds an ErrorEvent. Errors:
 // ErrNoSocket, ErrFailed, ErrOutOfMemory.
-func (s *Socket) HandleInput(packet []byte) error {
+func (s *association) HandleInput(packet []byte) error {
 	return check(s.do(func(at *C.dcsctp_socket) C.int32_t {
 		return C.dcsctp_handle_input(at, first(packet), C.size_t(len(packet)))
 	}))
@@ -116,12 +130,12 @@ func (s *Socket) HandleInput(packet []byte) error {
 
 // AdvanceTime sets the time, and handles expired timers. A moment before the last one does nothing. Errors:
 // ErrNoSocket, ErrFailed, ErrOutOfMemory.
-func (s *Socket) AdvanceTime(now time.Duration) error {
+func (s *association) AdvanceTime(now time.Duration) error {
 	return check(s.do(func(at *C.dcsctp_socket) C.int32_t { return C.dcsctp_advance_time(at, nanoseconds(now)) }))
 }
 
 // PollTimeout returns the next deadline, by which you must call AdvanceTime, and whether there is one.
-func (s *Socket) PollTimeout() (time.Duration, bool) {
+func (s *association) PollTimeout() (time.Duration, bool) {
 	moment := C.uint64_t(C.DCSCTP_NEVER)
 	s.do(func(at *C.dcsctp_socket) C.int32_t { return C.dcsctp_poll_timeout(at, &moment) })
 	return duration(moment), moment <= math.MaxInt64
@@ -317,38 +331,38 @@ func (s *Socket) SetStreamPriority(streamID, priority uint16) error {
 }
 
 // State returns the state, and NoSocket if there is no socket.
-func (s *Socket) State() State {
+func (s *association) State() State {
 	return State(s.do(func(at *C.dcsctp_socket) C.int32_t { return C.dcsctp_state(at) }))
 }
 
 // HasFailed reports whether an allocation has failed, so that the socket can't be used any more.
-func (s *Socket) HasFailed() bool {
+func (s *association) HasFailed() bool {
 	return s.do(func(at *C.dcsctp_socket) C.int32_t { return C.dcsctp_has_failed(at) }) == 1
 }
 
 // VerificationTag returns our verification tag, which the peer's packets carry. If the socket is closed, it is 0.
-func (s *Socket) VerificationTag() uint32 {
+func (s *association) VerificationTag() uint32 {
 	var tag C.uint32_t
 	s.do(func(at *C.dcsctp_socket) C.int32_t { return C.dcsctp_verification_tag(at, &tag) })
 	return uint32(tag)
 }
 
 // SetMaxMessageSize sets MaxMessageSize, for messages sent from now on. Error: ErrNoSocket.
-func (s *Socket) SetMaxMessageSize(bytes uint) error {
+func (s *association) SetMaxMessageSize(bytes uint) error {
 	return check(s.do(func(at *C.dcsctp_socket) C.int32_t {
 		return C.dcsctp_set_max_message_size(at, C.size_t(bytes))
 	}))
 }
 
 // Options returns the options. MaxMessageSize is as it was set last. If there is no socket, they are the defaults.
-func (s *Socket) Options() Options {
+func (s *association) Options() Options {
 	read := defaultOptions()
 	s.do(func(at *C.dcsctp_socket) C.int32_t { return C.dcsctp_get_options(at, &read) })
 	return optionsOf(&read)
 }
 
 // Metrics returns the metrics. If there is no peer yet, they are nil.
-func (s *Socket) Metrics() *Metrics {
+func (s *association) Metrics() *Metrics {
 	read := C.dcsctp_metrics{size: C.sizeof_dcsctp_metrics}
 	if s.do(func(at *C.dcsctp_socket) C.int32_t { return C.dcsctp_get_metrics(at, &read) }) != 1 {
 		return nil
@@ -357,7 +371,7 @@ func (s *Socket) Metrics() *Metrics {
 }
 
 // Counts returns counts since the socket was created, also after an association has ended.
-func (s *Socket) Counts() Counts {
+func (s *association) Counts() Counts {
 	read := C.dcsctp_counts{size: C.sizeof_dcsctp_counts}
 	s.do(func(at *C.dcsctp_socket) C.int32_t { return C.dcsctp_get_counts(at, &read) })
 	return Counts{uint(read.rx_packets_count), uint(read.tx_packets_count), uint(read.tx_messages_count)}

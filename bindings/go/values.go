@@ -32,6 +32,10 @@ const (
 	ErrInvalidSendOptions Error = C.DCSCTP_ERROR_INVALID_SEND_OPTIONS
 	ErrWrongSize          Error = C.DCSCTP_ERROR_WRONG_SIZE
 	ErrOtherOptions       Error = C.DCSCTP_ERROR_OTHER_OPTIONS
+	ErrHasChannels        Error = C.DCSCTP_ERROR_HAS_CHANNELS
+	ErrNoChannel          Error = C.DCSCTP_ERROR_NO_CHANNEL
+	ErrStreamInUse        Error = C.DCSCTP_ERROR_STREAM_IN_USE
+	ErrEnded              Error = C.DCSCTP_ERROR_ENDED
 	ErrWrongVersion       Error = -1001 // the library has another version than dcsctp.h
 )
 
@@ -231,8 +235,8 @@ type SendOptions struct {
 	MaxRetransmissions *uint16
 }
 
-// Limit makes a limit of SendOptions.
-func Limit[T time.Duration | uint16](it T) *T {
+// Limit makes a limit of SendOptions or ChannelOptions, or a stream of the latter.
+func Limit[T time.Duration | uint16 | uint32](it T) *T {
 	return &it
 }
 

@@ -26,6 +26,20 @@ Each packet, time or command may add events and messages, and move the deadline.
 the next packet: messages that are left when another association begins are lost. After `Closed` continue for 4 s, since
 the peer may need the last packet again; dcsctp.h says more.
 
+`Channels` has data channels in place of messages:
+
+    with dcsctp.Channels(now=time.monotonic_ns(), is_dtls_client=True) as channels:
+        channels.connect()
+        chat = channels.open("chat")
+        ..
+            for event in channels.events():
+                if isinstance(event, dcsctp.SendPacket):
+                    udp.send(event.packet)
+                elif isinstance(event, dcsctp.ChannelOpened):
+                    event.channel.send("hello")                 # text; bytes are sent as such
+                elif isinstance(event, dcsctp.ChannelMessage):
+                    use(event.channel.label, event.data)        # str or bytes
+
 A moment is a number of nanoseconds by a clock that never goes back, and a time is in nanoseconds, too. A call that
 fails raises an `Error`, and unless it says more, nothing has changed. Threads may share a socket: each call has a lock.
 Run it over DTLS, or over another layer that delivers only what the peer has sent.
@@ -210,6 +224,34 @@ class OtherOptions(Error):
 
     number = -19
     text = "the snapshot is of a socket with other options"
+
+
+class HasChannels(Error):
+    """The socket has data channels. No method of `Socket` or `Channels` raises it."""
+
+    number = -20
+    text = "the socket has data channels"
+
+
+class NoChannel(Error):
+    """There is no such data channel, it has ended, or it isn't open."""
+
+    number = -21
+    text = "there is no such data channel"
+
+
+class StreamInUse(Error):
+    """The stream of a negotiated data channel is in use."""
+
+    number = -22
+    text = "the stream is in use"
+
+
+class Ended(Error):
+    """The association of the data channels has ended: make other `Channels`."""
+
+    number = -23
+    text = "the association has ended"
 
 
 _ERRORS: Dict[int, Type[Error]] = {it.number: it for it in Error.__subclasses__()}
@@ -397,6 +439,80 @@ class LifecycleEnd(Event):
     name = "message ended"
 
 
+class ChannelEnd(enum.IntEnum):
+    """Why a channel is closed."""
+
+    CLOSED_BY_RESETS = 0
+    """One end has closed it, or both."""
+    REFUSED = 1
+    """The same before the peer knew it."""
+    CANT_BE_RESET = 2
+    """The peer refuses resets: the stream stays in use."""
+    LOST = 3
+    """The association has ended."""
+    NO_STREAM = 4
+    """No stream was free."""
+
+
+class ChannelEvent(Event):
+    """What `Channels` report, beside `SendPacket` and `Connected`."""
+
+
+@dataclasses.dataclass(frozen=True)
+class ChannelOpened(ChannelEvent):
+    """The peer knows a channel that this end has opened."""
+
+    channel: Channel
+    kind = 3
+    name = "channel opened"
+
+
+@dataclasses.dataclass(frozen=True)
+class ChannelIncoming(ChannelEvent):
+    """The peer has opened a channel."""
+
+    channel: Channel
+    kind = 4
+    name = "incoming channel"
+
+
+@dataclasses.dataclass(frozen=True)
+class ChannelMessage(ChannelEvent):
+    """A message, which may be empty. Text is a `str`, in which U+FFFD replaces what isn't UTF-8."""
+
+    channel: Channel
+    data: Union[str, bytes]
+    kind = 5
+    name = "channel message"
+
+
+@dataclasses.dataclass(frozen=True)
+class ChannelBufferedAmountLow(ChannelEvent):
+    """The queued bytes of a channel have fallen to its threshold."""
+
+    channel: Channel
+    kind = 6
+    name = "channel buffered amount low"
+
+
+@dataclasses.dataclass(frozen=True)
+class ChannelClosed(ChannelEvent):
+    """The last event of a channel. `reason` is a `ChannelEnd`, or a number that a later version adds."""
+
+    channel: Channel
+    reason: int
+    kind = 7
+    name = "channel closed"
+
+
+@dataclasses.dataclass(frozen=True)
+class ChannelsEnded(ChannelEvent):
+    """The association is over, and so are all its channels. Continue the loop for 4 s, as the page says."""
+
+    kind = 8
+    name = "channels ended"
+
+
 @dataclasses.dataclass(frozen=True)
 class UnknownEvent(Event):
     """A kind that a later version of the library may have. Ignore it."""
@@ -483,6 +599,39 @@ class SendOptions:
 
 
 _SENT_PLAINLY = SendOptions()
+
+
+@dataclasses.dataclass
+class ChannelLimits:
+    """What a peer may do. `max_message_size`: a longer message closes its channel. `max_text`: bytes of a label and a
+    protocol; more are refused. `max_channels`: with so many streams in use each channel is refused."""
+
+    max_message_size: int = 262_144
+    max_text: int = 1024
+    max_channels: int = 1024
+
+
+class ChannelState(enum.IntEnum):
+    """The state of a channel."""
+
+    CONNECTING = 0
+    """It waits for the association, the role, or room to send."""
+    OPEN = 1
+    """Messages can be sent."""
+    CLOSING = 2
+    """One end has closed it."""
+    CLOSED = 3
+    """There is no such channel, or none any more."""
+
+
+@dataclasses.dataclass(frozen=True)
+class ChannelMetrics:
+    """What was counted of a channel."""
+
+    messages_sent: int
+    bytes_sent: int
+    messages_received: int
+    bytes_received: int
 
 
 class State(enum.IntEnum):
@@ -669,6 +818,51 @@ class _Counts(ctypes.Structure):
     ]
 
 
+class _ChannelLimits(ctypes.Structure):
+    _fields_ = [
+        ("size", ctypes.c_size_t),
+        ("max_message_size", ctypes.c_size_t),
+        ("max_text", ctypes.c_size_t),
+        ("max_channels", ctypes.c_size_t),
+    ]
+
+
+class _ChannelOptions(ctypes.Structure):
+    _fields_ = [
+        ("size", ctypes.c_size_t),
+        ("label", ctypes.c_void_p),  # (it has no zero at its end)
+        ("label_length", ctypes.c_size_t),
+        ("protocol", ctypes.c_void_p),
+        ("protocol_length", ctypes.c_size_t),
+        ("limit", ctypes.c_uint32),
+        ("priority", ctypes.c_uint16),
+        ("reliability", ctypes.c_uint16),
+        ("is_unordered", ctypes.c_uint16),
+        ("is_negotiated", ctypes.c_uint16),
+        ("stream", ctypes.c_uint16),
+        ("reserved", ctypes.c_uint16),
+    ]
+
+
+class _ChannelEvent(ctypes.Structure):
+    _fields_ = [
+        ("channel", ctypes.c_uint64),
+        ("length", ctypes.c_size_t),
+        ("kind", ctypes.c_uint32),
+        ("detail", ctypes.c_uint32),
+    ]
+
+
+class _ChannelMetrics(ctypes.Structure):
+    _fields_ = [
+        ("size", ctypes.c_size_t),
+        ("messages_sent", ctypes.c_uint64),
+        ("bytes_sent", ctypes.c_uint64),
+        ("messages_received", ctypes.c_uint64),
+        ("bytes_received", ctypes.c_uint64),
+    ]
+
+
 _BYTES = ctypes.c_char_p  # const uint8_t *, which points into the bytes of Python
 _SIZE = ctypes.c_size_t
 _SIZE_TO = ctypes.POINTER(ctypes.c_size_t)
@@ -720,6 +914,21 @@ _CALLS = {
     "dcsctp_get_options": [_AT, ctypes.POINTER(_Options)],
     "dcsctp_get_metrics": [_AT, ctypes.POINTER(_Metrics)],
     "dcsctp_get_counts": [_AT, ctypes.POINTER(_Counts)],
+    "dcsctp_channel_begin": [_AT, ctypes.POINTER(_ChannelLimits)],
+    "dcsctp_channel_set_role": [_AT, ctypes.c_int32],
+    "dcsctp_channel_open": [_AT, ctypes.POINTER(_ChannelOptions), ctypes.POINTER(ctypes.c_uint64)],
+    "dcsctp_channel_send": [_AT, ctypes.c_uint64, ctypes.c_uint32, _BYTES, _SIZE],
+    "dcsctp_channel_close": [_AT, ctypes.c_uint64],
+    "dcsctp_channel_poll": [_AT, ctypes.POINTER(_ChannelEvent)],
+    "dcsctp_channel_bytes": [_AT, _BUFFER, _SIZE, _SIZE_TO],
+    "dcsctp_channel_view": [_AT, _VIEW_TO, _SIZE_TO],
+    "dcsctp_channel_get_options": [_AT, ctypes.POINTER(_ChannelOptions)],
+    "dcsctp_channel_state": [_AT, ctypes.c_uint64],
+    "dcsctp_channel_stream": [_AT, ctypes.c_uint64, _U16_TO],
+    "dcsctp_channel_buffered_amount": [_AT, ctypes.c_uint64, _SIZE_TO],
+    "dcsctp_channel_set_buffered_amount_low_threshold": [_AT, ctypes.c_uint64, _SIZE],
+    "dcsctp_channel_get_metrics": [_AT, ctypes.c_uint64, ctypes.POINTER(_ChannelMetrics)],
+    "dcsctp_channel_count": [_AT, _SIZE_TO],
     "dcsctp_get_handover_readiness": [_AT, ctypes.POINTER(ctypes.c_uint32)],
     "dcsctp_get_handover_state_and_close": [_AT],
     "dcsctp_handover_bytes": [_AT, _BUFFER, _SIZE, _SIZE_TO],
@@ -851,12 +1060,8 @@ def _stream(stream_id: int) -> int:
     return _checked("stream_id", stream_id, ctypes.c_uint16)
 
 
-class Socket:
-    """A socket. Leaving its `with` destroys it without informing the peer: `shutdown` or `close` does that. It can't be
-    copied. A destroyed socket raises `NoSocket`.
-
-    It begins closed, with its clock at `now`. The seed has 32 bytes, is secret and never used twice: without one the
-    system's generator makes it. Raises `InvalidOptions`, also if the seed is all zeros, and `OutOfMemory`."""
+class _Association:
+    """What `Socket` and `Channels` have in common."""
 
     def __init__(self, options: Optional[Options] = None, seed: Optional[bytes] = None, now: int = 0) -> None:
         self._socket = _Socket()
@@ -918,22 +1123,22 @@ class Socket:
     # Commands
 
     def connect(self) -> None:
-        """Begins an association: `Connected` follows, or `Aborted`. If the socket isn't closed, it does nothing. Raises
-        `NoSocket`, `Failed` and `OutOfMemory`."""
+        """Begins an association: `Connected` follows, or the event of its end. If it isn't closed, it does nothing.
+        Raises `NoSocket`, `Failed` and `OutOfMemory`."""
         self._do(_library.dcsctp_connect)
 
     def shutdown(self) -> None:
         """Wait for `Connected` before this call: until the peer has answered the first INIT it sends nothing, and
         what is queued goes out in the next association.
 
-        It ends the association in an orderly way: `Closed` follows, or `Aborted`. From now on `send` fails. Raises
+        It ends the association in an orderly way: the event of its end follows. From now on `send` fails. Raises
         `NoSocket`, `Failed` and `OutOfMemory`."""
         self._do(_library.dcsctp_shutdown)
 
     def close(self) -> None:
-        """Ends the association at once, by an ABORT: the last event is `Closed`. Data in flight is lost; what is
-        queued goes out in the next association. Messages that are ready can still be taken; without `follow_rfc` they are
-        lost. Raises `NoSocket`, `Failed` and `OutOfMemory`."""
+        """Ends the association at once, by an ABORT: the last event is that of its end. Data in flight is lost; what
+        is queued goes out in the next association. Messages that are ready can still be taken; without `follow_rfc`
+        they are lost. Raises `NoSocket`, `Failed` and `OutOfMemory`."""
         self._do(_library.dcsctp_close)
 
     # Packets and time
@@ -953,6 +1158,54 @@ class Socket:
         """The next deadline, by which you must call `advance_time`. `None` if there is none. Raises `NoSocket`."""
         moment = self._number(_library.dcsctp_poll_timeout, ctypes.c_uint64())
         return None if moment == NEVER else moment
+
+    # Queries
+
+    def state(self) -> State:
+        """The state. Raises `NoSocket`."""
+        return State(self._do(_library.dcsctp_state))
+
+    def has_failed(self) -> bool:
+        """Whether an allocation has failed, so that the socket can't be used any more. Raises `NoSocket`."""
+        return self._do(_library.dcsctp_has_failed) == 1
+
+    def verification_tag(self) -> int:
+        """Our verification tag, which the peer's packets carry; 0 if the socket is closed. Raises `NoSocket`."""
+        return self._number(_library.dcsctp_verification_tag, ctypes.c_uint32())
+
+    def set_max_message_size(self, size: int) -> None:
+        """Sets `max_message_size`, for messages sent from now on. Raises `NoSocket`."""
+        self._do(_library.dcsctp_set_max_message_size, _checked("size", size, ctypes.c_size_t))
+
+    def options(self) -> Options:
+        """The options. `max_message_size` is as it was set last. Raises `NoSocket`."""
+        read = _Options(size=ctypes.sizeof(_Options))
+        self._do(_library.dcsctp_get_options, read)
+        return Options(**{it.name: type(it.default)(getattr(read, it.name)) for it in dataclasses.fields(Options)})
+
+    def metrics(self) -> Optional[Metrics]:
+        """The metrics. `None` if there is no peer yet. Raises `NoSocket`."""
+        read = _Metrics(size=ctypes.sizeof(_Metrics))
+        if self._do(_library.dcsctp_get_metrics, read) != 1:
+            return None
+        values = {it.name: getattr(read, it.name) for it in dataclasses.fields(Metrics)}
+        for name in ("uses_message_interleaving", "uses_zero_checksum"):
+            values[name] = bool(values[name])
+        return Metrics(**values)
+
+    def counts(self) -> Counts:
+        """Counts since the socket was created, also after an association has ended. Raises `NoSocket`."""
+        read = _Counts(size=ctypes.sizeof(_Counts))
+        self._do(_library.dcsctp_get_counts, read)
+        return Counts(read.rx_packets_count, read.tx_packets_count, read.tx_messages_count)
+
+
+class Socket(_Association):
+    """A socket. Leaving its `with` destroys it without informing the peer: `shutdown` or `close` does that. It can't be
+    copied. A destroyed socket raises `NoSocket`.
+
+    It begins closed, with its clock at `now`. The seed has 32 bytes, is secret and never used twice: without one the
+    system's generator makes it. Raises `InvalidOptions`, also if the seed is all zeros, and `OutOfMemory`."""
 
     # Events and messages
 
@@ -1078,46 +1331,6 @@ class Socket:
         priority = _checked("priority", priority, ctypes.c_uint16)
         self._do(_library.dcsctp_set_stream_priority, _stream(stream_id), priority)
 
-    # Queries
-
-    def state(self) -> State:
-        """The state. Raises `NoSocket`."""
-        return State(self._do(_library.dcsctp_state))
-
-    def has_failed(self) -> bool:
-        """Whether an allocation has failed, so that the socket can't be used any more. Raises `NoSocket`."""
-        return self._do(_library.dcsctp_has_failed) == 1
-
-    def verification_tag(self) -> int:
-        """Our verification tag, which the peer's packets carry; 0 if the socket is closed. Raises `NoSocket`."""
-        return self._number(_library.dcsctp_verification_tag, ctypes.c_uint32())
-
-    def set_max_message_size(self, size: int) -> None:
-        """Sets `max_message_size`, for messages sent from now on. Raises `NoSocket`."""
-        self._do(_library.dcsctp_set_max_message_size, _checked("size", size, ctypes.c_size_t))
-
-    def options(self) -> Options:
-        """The options. `max_message_size` is as it was set last. Raises `NoSocket`."""
-        read = _Options(size=ctypes.sizeof(_Options))
-        self._do(_library.dcsctp_get_options, read)
-        return Options(**{it.name: type(it.default)(getattr(read, it.name)) for it in dataclasses.fields(Options)})
-
-    def metrics(self) -> Optional[Metrics]:
-        """The metrics. `None` if there is no peer yet. Raises `NoSocket`."""
-        read = _Metrics(size=ctypes.sizeof(_Metrics))
-        if self._do(_library.dcsctp_get_metrics, read) != 1:
-            return None
-        values = {it.name: getattr(read, it.name) for it in dataclasses.fields(Metrics)}
-        for name in ("uses_message_interleaving", "uses_zero_checksum"):
-            values[name] = bool(values[name])
-        return Metrics(**values)
-
-    def counts(self) -> Counts:
-        """Counts since the socket was created, also after an association has ended. Raises `NoSocket`."""
-        read = _Counts(size=ctypes.sizeof(_Counts))
-        self._do(_library.dcsctp_get_counts, read)
-        return Counts(read.rx_packets_count, read.tx_packets_count, read.tx_messages_count)
-
     # Handover to another process
 
     def handover_readiness(self) -> Handover:
@@ -1152,3 +1365,228 @@ class Socket:
         Raises `NoSocket`, `NotClosed`, `InvalidSnapshot`, `OtherOptions`, `Failed` and `OutOfMemory`."""
         whole = _whole(snapshot)
         self._do(_library.dcsctp_restore_from_state, whole, len(whole))
+
+
+# ---- Data channels --------------------------------------------------------------------------------------------------
+
+_TEXT, _BINARY = 1, 2
+_RETRANSMISSIONS, _LIFETIME = 1, 2
+_OF_CHANNELS = {it.kind: it for it in (ChannelOpened, ChannelIncoming, ChannelBufferedAmountLow)}
+
+
+class Channel:
+    """A data channel, which `Channels.open` or a `ChannelIncoming` gave. All events name it by this object.
+
+    What it was opened with are its fields `label`, `protocol`, `ordered`, `max_retransmits`, `max_lifetime`, `priority`
+    and `negotiated`. `number` is never given twice by its `Channels`."""
+
+    def __init__(
+        self,
+        channels: Channels,
+        number: int,
+        *,
+        label: str = "",
+        protocol: str = "",
+        ordered: bool = True,
+        max_retransmits: Optional[int] = None,
+        max_lifetime: Optional[int] = None,
+        priority: int = 256,
+        negotiated: Optional[int] = None,
+    ) -> None:
+        self._channels = channels
+        self._threshold = 0
+        self.number = number
+        self.label, self.protocol = label, protocol
+        self.ordered, self.max_retransmits, self.max_lifetime = ordered, max_retransmits, max_lifetime
+        self.priority, self.negotiated = priority, negotiated
+
+    def __repr__(self) -> str:
+        return f"<Channel {self.number}: {self.label!r}>"
+
+    def send(self, data: Union[str, Bytes]) -> None:
+        """Sends a message, which may be empty: text if it is a `str`. Its bytes are copied. The state must be `OPEN`.
+
+        Raises `NoSocket`, `NoChannel`, `MessageTooLarge`, `ShuttingDown`, `ResourceExhaustion` (try again after
+        `ChannelBufferedAmountLow`), `Failed` and `OutOfMemory`."""
+        kind = _TEXT if isinstance(data, str) else _BINARY
+        whole = data.encode() if isinstance(data, str) else _whole(data)
+        self._channels._do(_library.dcsctp_channel_send, self.number, kind, whole, len(whole))
+
+    def close(self) -> None:
+        """Closes the channel. What was sent goes out first, and what comes from now on is dropped. `ChannelClosed`
+        follows when both ends have reset the stream. Again it does nothing. Raises `NoSocket`, `Failed` and
+        `OutOfMemory`."""
+        self._channels._do(_library.dcsctp_channel_close, self.number)
+
+    @property
+    def state(self) -> ChannelState:
+        """The state. Raises `NoSocket`."""
+        return ChannelState(self._channels._do(_library.dcsctp_channel_state, self.number))
+
+    @property
+    def stream(self) -> Optional[int]:
+        """The stream; `None` while the channel is connecting, or when it is closed. Raises `NoSocket`."""
+        try:
+            return self._channels._number(_library.dcsctp_channel_stream, ctypes.c_uint16(), self.number)
+        except NoChannel:
+            return None
+
+    @property
+    def buffered_amount(self) -> int:
+        """How many bytes are queued; 0 without a stream. Raises `NoSocket`."""
+        try:
+            return self._channels._number(_library.dcsctp_channel_buffered_amount, ctypes.c_size_t(), self.number)
+        except NoChannel:
+            return 0
+
+    @property
+    def buffered_amount_low_threshold(self) -> int:
+        """`ChannelBufferedAmountLow` comes when the queued bytes fall from above it to it or below. It can be set once
+        there is a stream: else that raises `NoChannel`; also `NoSocket`, `Failed` and `OutOfMemory`."""
+        return self._threshold
+
+    @buffered_amount_low_threshold.setter
+    def buffered_amount_low_threshold(self, size: int) -> None:
+        size = _checked("size", size, ctypes.c_size_t)
+        self._channels._do(_library.dcsctp_channel_set_buffered_amount_low_threshold, self.number, size)
+        self._threshold = size
+
+    def metrics(self) -> ChannelMetrics:
+        """What was counted. Raises `NoSocket`, and `NoChannel` without a stream."""
+        read = _ChannelMetrics(size=ctypes.sizeof(_ChannelMetrics))
+        self._channels._do(_library.dcsctp_channel_get_metrics, self.number, read)
+        return ChannelMetrics(*(getattr(read, it.name) for it in dataclasses.fields(ChannelMetrics)))
+
+
+class Channels(_Association):
+    """Data channels (RFC 8831, RFC 8832), and the socket below them, which serves one association: make others for the
+    next one. `Socket` says what the first parameters are, and what a `with` does.
+
+    `is_dtls_client` is the role in DTLS. If it isn't known yet, call `set_role` later. Raises `InvalidOptions`, also if
+    the options have `checksum_offload`, and `OutOfMemory`."""
+
+    def __init__(
+        self,
+        options: Optional[Options] = None,
+        seed: Optional[bytes] = None,
+        now: int = 0,
+        *,
+        is_dtls_client: Optional[bool] = None,
+        limits: Optional[ChannelLimits] = None,
+    ) -> None:
+        self._known: Dict[int, Channel] = {}
+        super().__init__(options, seed, now)
+        self._do(_library.dcsctp_channel_begin, _filled(_ChannelLimits, limits or ChannelLimits()))
+        if is_dtls_client is not None:
+            self.set_role(is_dtls_client)
+
+    def set_role(self, is_dtls_client: bool) -> None:
+        """Sets the role in DTLS: the client gives even streams, the server odd ones. Channels that were opened before
+        get theirs now. Set it once, and before `connect` if you can: until then, what the peer opens is refused. Raises
+        `NoSocket`, `Failed` and `OutOfMemory`."""
+        self._do(_library.dcsctp_channel_set_role, bool(is_dtls_client))
+
+    def open(
+        self,
+        label: str = "",
+        *,
+        ordered: bool = True,
+        max_retransmits: Optional[int] = None,
+        max_lifetime: Optional[int] = None,
+        protocol: str = "",
+        negotiated: Optional[int] = None,
+        priority: int = 256,
+    ) -> Channel:
+        """Opens a channel. A message that was lost is sent again: until it is acknowledged, or up to
+        `max_retransmits` times, or for `max_lifetime` milliseconds. `priority` is 128, 256, 512 or 1,024, and the
+        greatest is sent first. `negotiated` is the stream that both ends open it on; then no OPEN is sent.
+
+        Messages can be sent once its state is `OPEN`: at once, unless the association, the role or room to send is
+        missing. `ChannelOpened` says that the peer knows it. Raises `ValueError` for both limits; `NoSocket`,
+        `MessageTooLarge` (a label or a protocol), `StreamInUse`, `Ended`, `Failed` and `OutOfMemory`. After the last it
+        may be tried again if `has_failed` is false."""
+        if max_retransmits is not None and max_lifetime is not None:
+            raise ValueError("a channel has max_retransmits or max_lifetime, not both")
+        kept = label.encode(), protocol.encode()
+        how = _ChannelOptions(size=ctypes.sizeof(_ChannelOptions))
+        how.label, how.protocol = (ctypes.cast(it, ctypes.c_void_p).value for it in kept)
+        how.label_length, how.protocol_length = (len(it) for it in kept)
+        if max_retransmits is not None:
+            how.reliability, how.limit = _RETRANSMISSIONS, _checked("max_retransmits", max_retransmits, ctypes.c_uint32)
+        elif max_lifetime is not None:
+            how.reliability, how.limit = _LIFETIME, _checked("max_lifetime", max_lifetime, ctypes.c_uint32)
+        how.priority = _checked("priority", priority, ctypes.c_uint16)
+        how.is_unordered, how.is_negotiated = not ordered, negotiated is not None
+        how.stream = _checked("negotiated", negotiated or 0, ctypes.c_uint16)
+        with self._lock:
+            number = self._number(_library.dcsctp_channel_open, ctypes.c_uint64(), how)
+            channel = self._known[number] = Channel(
+                self,
+                number,
+                label=label,
+                protocol=protocol,
+                ordered=bool(ordered),
+                max_retransmits=max_retransmits,
+                max_lifetime=max_lifetime,
+                priority=priority,
+                negotiated=negotiated,
+            )
+        return channel
+
+    # Events
+
+    def poll_event(self) -> Optional[Event]:
+        """Takes the oldest event: a `SendPacket`, `Connected` or a `ChannelEvent`. `None` if there is none. Take all
+        before you wait, and before each packet. Raises `NoSocket`, `Failed` and `OutOfMemory`."""
+        event = _ChannelEvent()
+        with self._lock:
+            if self._do(_library.dcsctp_channel_poll, event) != 1:
+                return None
+            if event.kind == SendPacket.kind:
+                return SendPacket(self._shown(_library.dcsctp_channel_view))
+            if event.kind == Connected.kind:
+                return Connected()
+            if event.kind == ChannelsEnded.kind:
+                return ChannelsEnded()
+            channel = self._channel_of(event)
+            if event.kind == ChannelMessage.kind:
+                data = self._shown(_library.dcsctp_channel_view)
+                return ChannelMessage(channel, data.decode("utf-8", "replace") if event.detail == _TEXT else data)
+            if event.kind == ChannelClosed.kind:
+                known = event.detail in ChannelEnd._value2member_map_
+                return ChannelClosed(channel, ChannelEnd(event.detail) if known else event.detail)
+        return _OF_CHANNELS[event.kind](channel) if event.kind in _OF_CHANNELS else UnknownEvent(event.kind)
+
+    def _channel_of(self, event: _ChannelEvent) -> Channel:
+        """The channel of an event. A new one is remembered until its last event."""
+        if event.kind == ChannelIncoming.kind:
+            self._known[event.channel] = self._incoming(event.channel)
+        channel = self._known.get(event.channel) or Channel(self, event.channel)
+        if event.kind == ChannelClosed.kind:
+            self._known.pop(event.channel, None)
+        return channel
+
+    def _incoming(self, number: int) -> Channel:
+        how = _ChannelOptions(size=ctypes.sizeof(_ChannelOptions))
+        self._do(_library.dcsctp_channel_get_options, how)
+        texts = (how.label, how.label_length), (how.protocol, how.protocol_length)
+        label, protocol = (ctypes.string_at(at, length).decode("utf-8", "replace") for at, length in texts)
+        return Channel(
+            self,
+            number,
+            label=label,
+            protocol=protocol,
+            ordered=how.is_unordered == 0,
+            max_retransmits=how.limit if how.reliability == _RETRANSMISSIONS else None,
+            max_lifetime=how.limit if how.reliability == _LIFETIME else None,
+            priority=how.priority,
+        )
+
+    def events(self) -> Iterator[Event]:
+        """Takes all events, one at a time."""
+        while (event := self.poll_event()) is not None:
+            yield event
+
+    def streams_in_use(self) -> int:
+        """How many streams are in use, those of closing and refused channels, too. Raises `NoSocket`."""
+        return self._number(_library.dcsctp_channel_count, ctypes.c_size_t())

@@ -34,6 +34,7 @@ TYPES = {
     "int32_t *": ctypes.POINTER(ctypes.c_int32),
     "uint8_t *": ctypes.POINTER(ctypes.c_uint8),
     "const uint8_t *": ctypes.c_char_p,
+    "const char *": ctypes.c_void_p,
     "const uint8_t * *": ctypes.POINTER(ctypes.POINTER(ctypes.c_uint8)),
 }
 STRUCTS = {
@@ -45,6 +46,10 @@ STRUCTS = {
     "dcsctp_outgoing_message": dcsctp._OutgoingMessage,
     "dcsctp_metrics": dcsctp._Metrics,
     "dcsctp_counts": dcsctp._Counts,
+    "dcsctp_channel_limits": dcsctp._ChannelLimits,
+    "dcsctp_channel_options": dcsctp._ChannelOptions,
+    "dcsctp_channel_event": dcsctp._ChannelEvent,
+    "dcsctp_channel_metrics": dcsctp._ChannelMetrics,
 }
 
 
@@ -171,15 +176,29 @@ class Header(unittest.TestCase):
         for prefix, kind, count in rows:
             self.assertEqual(numbers(prefix), {it.name: it.value for it in kind}, prefix)
             self.assertEqual(len(kind), count, prefix)
+        self.assert_channel_numbers()
         self.assertEqual(numbers("SEND_"), {"UNORDERED": 1, "LIFETIME": 2, "MAX_RETRANSMISSIONS": 4})
         errors = {pascal(name): number for name, number in numbers("ERROR_").items()}
         self.assertEqual(errors, {it.__name__: it.number for it in dcsctp.Error.__subclasses__()})
-        self.assertEqual(len(errors), 19)
+        self.assertEqual(len(errors), 23)
+
+    def assert_channel_numbers(self):
+        found = numbers("CHANNEL_")
+        kinds = (dcsctp.SendPacket, dcsctp.Connected, *dcsctp.ChannelEvent.__subclasses__())
+        events = {re.sub("^Channels?", "", it.__name__): it.kind for it in kinds}
+        there = {pascal(it[6:]): number for it, number in found.items() if it.startswith("EVENT_")}
+        self.assertEqual({**events, "None": 0}, there)
+        others = {it: number for it, number in found.items() if not it.startswith("EVENT_")}
+        here = {it.name: it.value for it in (*dcsctp.ChannelEnd, *dcsctp.ChannelState)}
+        here.update(TEXT=dcsctp._TEXT, BINARY=dcsctp._BINARY)
+        here.update(RELIABLE=0, RETRANSMISSIONS=dcsctp._RETRANSMISSIONS, LIFETIME=dcsctp._LIFETIME)
+        self.assertEqual(others, here)
 
     def test_events_are_those_of_the_header(self):
         events = {pascal(name): number for name, number in numbers("EVENT_").items() if name != "NONE"}
         events["ErrorEvent"] = events.pop("Error")
-        kinds = [it for it in dcsctp.Event.__subclasses__() if it is not dcsctp.UnknownEvent]
+        others = (dcsctp.UnknownEvent, dcsctp.ChannelEvent)
+        kinds = [it for it in dcsctp.Event.__subclasses__() if it not in others]
         self.assertEqual(events, {it.__name__: it.kind for it in kinds})
         text = HEADER.read_text(encoding="utf-8")
         names = dict(re.findall(r'case DCSCTP_EVENT_(\w+):\s+return "([^"]*)"', text))
@@ -245,8 +264,23 @@ class Misuse(unittest.TestCase):
                 getattr(socket, name)(*arguments)
         self.assertRaises(dcsctp.NoSocket, list, socket.events())
         others = {"events", "messages", "destroy"}
-        methods = {it for it in vars(dcsctp.Socket) if not it.startswith("_")}
+        methods = {it for it in dir(dcsctp.Socket) if not it.startswith("_")}
         self.assertEqual(methods, set(CALLS) | others, "each method is in the table")
+
+    def test_destroyed_channels_raise_no_socket(self):
+        with dcsctp.Channels(is_dtls_client=True) as channels:
+            channel = channels.open("chat")
+        calls = {**CALLS, "set_role": (True,), "open": ("more",), "streams_in_use": ()}
+        methods = {it for it in dir(dcsctp.Channels) if not it.startswith("_")} - {"events", "destroy"}
+        for name in methods:
+            with self.assertRaises(dcsctp.NoSocket, msg=name):
+                getattr(channels, name)(*calls[name])
+        of_channel = {"send": ("hello",), "close": (), "metrics": ()}
+        for name in {it for it in vars(dcsctp.Channel) if not it.startswith("_")} - {"buffered_amount_low_threshold"}:
+            with self.assertRaises(dcsctp.NoSocket, msg=name):
+                getattr(channel, name)(*of_channel[name])
+        with self.assertRaises(dcsctp.NoSocket):
+            channel.buffered_amount_low_threshold = 5
 
     def test_socket_is_not_copied(self):
         with dcsctp.Socket() as socket:
@@ -484,6 +518,259 @@ class Ends(unittest.TestCase):
         same.send(1, 51, b"after")
         settle(same, b)
         self.assertEqual(b.get_next_message(), dcsctp.Message(1, 51, b"after"))
+
+
+class DataChannels(unittest.TestCase):
+    """Two ends with data channels, with and without `follow_rfc`. A is the DTLS client."""
+
+    def setUp(self):
+        self.follow_rfc = True
+
+    def create(self, limits=None):
+        options = dcsctp.Options(follow_rfc=self.follow_rfc)
+        self.now, self.seen = 0, {"a": [], "b": []}
+        self.a, self.b = (
+            dcsctp.Channels(options, is_dtls_client=it, limits=limits if it else None) for it in (True, False)
+        )
+        self.addCleanup(self.a.destroy)
+        self.addCleanup(self.b.destroy)
+
+    def connect(self, limits=None):
+        self.create(limits)
+        self.a.connect()
+        self.settle()
+        self.assertEqual(self.take("a"), [dcsctp.Connected()])
+        self.assertEqual(self.take("b"), [dcsctp.Connected()])
+
+    def settle(self, seconds=1):
+        """Lets time pass, so that all is acknowledged."""
+        for _ in range(10 * seconds):
+            while self.carry("a", self.a, self.b) + self.carry("b", self.b, self.a) > 0:
+                pass
+            self.now += 100_000_000
+            self.a.advance_time(self.now)
+            self.b.advance_time(self.now)
+
+    def carry(self, name, source, target):
+        packets = 0
+        for event in source.events():
+            if isinstance(event, dcsctp.SendPacket):
+                target.handle_input(event.packet)
+                packets += 1
+            elif not isinstance(event, dcsctp.ChannelBufferedAmountLow):
+                self.seen[name].append(event)
+        return packets
+
+    def take(self, name):
+        """What an end has reported since the last time."""
+        seen, self.seen[name] = self.seen[name], []
+        return seen
+
+    def opened(self, **how):
+        """A channel that A opens, at both ends."""
+        of_a = self.a.open("chat", **how)
+        self.settle()
+        self.assertEqual(self.take("a"), [dcsctp.ChannelOpened(of_a)])
+        (event,) = self.take("b")
+        self.assertIsInstance(event, dcsctp.ChannelIncoming)
+        return of_a, event.channel
+
+    def each(self, test):
+        for follow_rfc in (True, False):
+            with self.subTest(follow_rfc=follow_rfc):
+                self.follow_rfc = follow_rfc
+                test()
+
+    def test_channel_is_at_the_peer_as_it_was_opened(self):
+        rows = [
+            {},
+            {"ordered": False, "max_retransmits": 0, "protocol": "grüße", "priority": 128},
+            {"max_retransmits": 2**32 - 1, "priority": 1024},
+            {"ordered": False, "max_lifetime": 66051},
+        ]
+
+        def test():
+            self.connect()
+            for index, how in enumerate(rows):
+                for channel in self.opened(**how):
+                    expected = {**dict(ordered=True, max_retransmits=None, max_lifetime=None), **how}
+                    expected = {"label": "chat", "protocol": "", "priority": 256, "negotiated": None, **expected}
+                    self.assertEqual({it: getattr(channel, it) for it in expected}, expected)
+                    self.assertEqual(channel.state, dcsctp.ChannelState.OPEN)
+                    self.assertEqual(channel.stream, 2 * index)  # RFC 8832, section 6
+            self.assertEqual(self.a.streams_in_use(), len(rows))
+
+        self.each(test)
+
+    def test_text_is_str_and_bytes_are_bytes(self):
+        def test():
+            self.connect()
+            for source, target in ((0, 1), (1, 0)):
+                pair = self.opened()
+                sent = ["hello", "grüße ∞ 𝔸", "", b"", b"a\0b", bytearray(b"\xff"), memoryview(b"x" * 70000)]
+                for data in sent:
+                    pair[source].send(data)
+                self.settle()
+                expected = [it if isinstance(it, str) else bytes(it) for it in sent]
+                got = self.take("ba"[source])
+                self.assertEqual(got, [dcsctp.ChannelMessage(pair[target], it) for it in expected])
+                self.assertEqual([type(it.data) for it in got], [type(it) for it in expected])
+                size = sum(len(it.encode() if isinstance(it, str) else it) for it in expected)
+                self.assertEqual(pair[source].metrics(), dcsctp.ChannelMetrics(7, size, 0, 0))
+                self.assertEqual(pair[target].metrics(), dcsctp.ChannelMetrics(0, 0, 7, size))
+
+        self.each(test)
+
+    def test_either_end_closes_and_the_stream_is_used_again(self):
+        def test():
+            self.connect()
+            numbers = set()
+            for closing, other in ((0, 1), (1, 0), (0, 0)):
+                pair = self.opened()
+                self.assertEqual(pair[0].stream, 0)
+                pair[closing].send("last")
+                pair[closing].close()
+                pair[other].close()
+                self.assertEqual(pair[closing].state, dcsctp.ChannelState.CLOSING)
+                self.settle()
+                for name, channel in zip("ab", pair):
+                    ended = dcsctp.ChannelClosed(channel, dcsctp.ChannelEnd.CLOSED_BY_RESETS)
+                    self.assertEqual([it for it in self.take(name) if isinstance(it, dcsctp.ChannelClosed)], [ended])
+                    self.assertEqual((channel.state, channel.stream), (dcsctp.ChannelState.CLOSED, None))
+                    self.assertEqual(channel.buffered_amount, 0)
+                    self.assertRaises(dcsctp.NoChannel, channel.send, "late")
+                    self.assertRaises(dcsctp.NoChannel, channel.metrics)
+                    channel.close()
+                numbers.add(pair[0].number)
+            self.assertEqual(len(numbers), 3)
+            self.assertEqual((self.a.streams_in_use(), self.b.streams_in_use()), (0, 0))
+
+        self.each(test)
+
+    def test_negotiated_channel_needs_no_open(self):
+        def test():
+            self.connect()
+            before = self.a.counts().tx_packets_count
+            of_a, of_b = (it.open("agreed", negotiated=1000) for it in (self.a, self.b))
+            self.settle()
+            self.assertEqual(self.take("a"), [dcsctp.ChannelOpened(of_a)])
+            self.assertEqual(self.take("b"), [dcsctp.ChannelOpened(of_b)])
+            self.assertEqual(self.a.counts().tx_packets_count, before)
+            self.assertEqual((of_a.stream, of_a.negotiated), (1000, 1000))
+            of_b.send(b"hello")
+            self.settle()
+            self.assertEqual(self.take("a"), [dcsctp.ChannelMessage(of_a, b"hello")])
+            with self.assertRaises(dcsctp.StreamInUse):
+                self.a.open("other", negotiated=1000)
+
+        self.each(test)
+
+    def test_channel_waits_for_the_association_and_the_role(self):
+        def test():
+            self.create()
+            early = dcsctp.Channels(dcsctp.Options(follow_rfc=self.follow_rfc))
+            self.addCleanup(early.destroy)
+            self.a = early
+            channel = early.open("early")
+            self.assertEqual((channel.state, channel.stream), (dcsctp.ChannelState.CONNECTING, None))
+            self.assertRaises(dcsctp.NoChannel, channel.send, "hello")
+            with self.assertRaises(dcsctp.NoChannel):
+                channel.buffered_amount_low_threshold = 5
+            self.assertEqual(channel.buffered_amount_low_threshold, 0)
+            early.connect()
+            self.settle()
+            self.assertEqual(channel.state, dcsctp.ChannelState.CONNECTING)
+            early.set_role(True)
+            self.assertEqual((channel.state, channel.stream), (dcsctp.ChannelState.OPEN, 0))
+            self.settle()
+            self.assertEqual(self.take("a"), [dcsctp.Connected(), dcsctp.ChannelOpened(channel)])
+
+        self.each(test)
+
+    def test_queued_bytes_fall_to_their_threshold(self):
+        def test():
+            self.connect()
+            of_a, _ = self.opened()
+            of_a.buffered_amount_low_threshold = 8000
+            self.assertEqual(of_a.buffered_amount_low_threshold, 8000)
+            for _ in range(20):
+                of_a.send(bytes(4000))
+            self.assertGreater(of_a.buffered_amount, 8000)
+            low = 0
+            while (event := self.a.poll_event()) is not None:
+                low += event == dcsctp.ChannelBufferedAmountLow(of_a)
+                if isinstance(event, dcsctp.SendPacket):
+                    self.b.handle_input(event.packet)
+                for answer in self.b.events():
+                    if isinstance(answer, dcsctp.SendPacket):
+                        self.a.handle_input(answer.packet)
+            self.assertEqual((low, of_a.buffered_amount), (1, 0))
+
+        self.each(test)
+
+    def test_refused_calls_change_nothing(self):
+        def test():
+            self.assertRaises(dcsctp.InvalidOptions, dcsctp.Channels, dcsctp.Options(checksum_offload=True))
+            self.connect()
+            of_a, of_b = self.opened()
+            self.a.set_max_message_size(4)
+            self.assertRaises(dcsctp.MessageTooLarge, of_a.send, "hello")
+            self.a.set_max_message_size(262_144)
+            self.assertRaises(dcsctp.MessageTooLarge, self.a.open, "x" * 65536)
+            self.assertRaises(ValueError, self.a.open, max_retransmits=1, max_lifetime=1)
+            for how in ({"max_retransmits": -1}, {"max_lifetime": 2**32}, {"priority": 65536}, {"negotiated": 65536}):
+                self.assertRaises(ValueError, self.a.open, **how)
+            self.assertRaises(TypeError, of_a.send, 5)
+            self.assertRaises(AttributeError, self.a.open, 5)
+            self.settle()
+            self.assertEqual((self.take("a"), self.take("b"), self.a.streams_in_use()), ([], [], 1))
+            with self.assertRaises(dcsctp.ResourceExhaustion):
+                while True:
+                    of_b.send(bytes(200_000))
+
+        self.each(test)
+
+    def test_peer_is_limited(self):
+        def test():
+            self.connect(dcsctp.ChannelLimits(max_message_size=5, max_text=3, max_channels=1))
+            refused = self.b.open("four")
+            self.settle()
+            self.assertEqual(self.take("b"), [dcsctp.ChannelClosed(refused, dcsctp.ChannelEnd.REFUSED)])
+            short = self.b.open("abc")
+            self.settle()
+            (event,) = self.take("a")
+            more = self.b.open("")
+            self.settle()
+            closed = dcsctp.ChannelClosed(more, dcsctp.ChannelEnd.REFUSED)
+            self.assertEqual(self.take("b"), [dcsctp.ChannelOpened(short), closed])
+            short.send("abcdef")
+            self.settle(2)
+            self.assertEqual(self.take("a"), [dcsctp.ChannelClosed(event.channel, dcsctp.ChannelEnd.CLOSED_BY_RESETS)])
+
+        self.each(test)
+
+    def test_end_of_the_association_ends_each_channel_once(self):
+        def test():
+            for end in ("close", "shutdown"):
+                self.connect()
+                pair = self.opened()
+                getattr(self.a, end)()
+                self.settle(2)
+                for name, channel in zip("ab", pair):
+                    lost = dcsctp.ChannelClosed(channel, dcsctp.ChannelEnd.LOST)
+                    self.assertEqual(self.take(name), [lost, dcsctp.ChannelsEnded()])
+                    self.assertEqual(channel.state, dcsctp.ChannelState.CLOSED)
+                self.assertRaises(dcsctp.Ended, self.a.open)
+                self.assertEqual(self.a.state(), dcsctp.State.CLOSED)
+
+        self.each(test)
+
+    def test_text_that_is_no_utf_8_is_replaced(self):
+        self.connect()
+        of_a, of_b = self.opened()
+        self.a._do(dcsctp._library.dcsctp_channel_send, of_a.number, dcsctp._TEXT, b"a\xffb", 3)
+        self.settle()
+        self.assertEqual(self.take("b"), [dcsctp.ChannelMessage(of_b, "a\ufffdb")])
 
 
 class Values(unittest.TestCase):

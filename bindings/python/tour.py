@@ -166,6 +166,77 @@ def shut_down():
         say_state("B", pair.b)
 
 
+class Channels:
+    """Two ends with data channels. A is the DTLS client."""
+
+    def __init__(self):
+        self.now = BEGIN
+        self.a, self.b = (dcsctp.Channels(now=BEGIN, is_dtls_client=it) for it in (True, False))
+
+    def __enter__(self):
+        return self
+
+    def __exit__(self, *_):
+        self.a.destroy()
+        self.b.destroy()
+
+    def settle(self):
+        """Carries packets both ways until none is left."""
+        while self.carry("A", self.a, self.b) + self.carry("B", self.b, self.a) > 0:
+            pass
+
+    def wait(self):
+        """Lets a second pass: then all is acknowledged."""
+        self.settle()
+        self.now += SECOND
+        self.a.advance_time(self.now)
+        self.b.advance_time(self.now)
+        self.settle()
+
+    @staticmethod
+    def carry(name, source, target):
+        """Takes all events of an end. Its packets go to the other one. Returns how many there were."""
+        packets = 0
+        for event in source.events():
+            if isinstance(event, dcsctp.SendPacket):
+                target.handle_input(event.packet)
+                packets += 1
+            elif isinstance(event, dcsctp.ChannelMessage) and isinstance(event.data, str):
+                print(f'{name} has a text on "{event.channel.label}": {event.data}.')
+            elif isinstance(event, dcsctp.ChannelMessage):
+                print(f'{name} has {len(event.data)} bytes on "{event.channel.label}"')
+            elif isinstance(event, dcsctp.ChannelClosed):
+                print(f'{name}: {event.name} "{event.channel.label}", {int(event.reason)}')
+            elif isinstance(event, (dcsctp.Connected, dcsctp.ChannelsEnded)):
+                print(f"{name}: {event.name}")
+            else:
+                print(f'{name}: {event.name} "{event.channel.label}"')
+        return packets
+
+
+def data_channels():
+    with Channels() as pair:
+        chat = pair.a.open("chat")
+        print("too early:", said(chat.send, "hello"))
+        pair.a.connect()
+        pair.settle()
+        print("A's has stream", chat.stream)
+        for data in ("hello", "", bytes([1, 2, 3])):
+            chat.send(data)
+        chat.close()
+        print("too late:", said(chat.send, "hello"))
+        pair.wait()
+        fast = pair.b.open("fast", ordered=False, max_retransmits=0, protocol="of ours")
+        pair.settle()
+        print("B's has stream", fast.stream)
+        for end in (pair.a, pair.b):
+            end.open("agreed", negotiated=8)
+        print("once more:", said(lambda: pair.a.open("agreed", negotiated=8)))
+        pair.a.shutdown()
+        pair.wait()
+        print("another:", said(pair.a.open))
+
+
 def mistakes():
     """A call that can't be made is an error, and changes nothing."""
     print("an mtu of 31:", said(dcsctp.Socket, dcsctp.Options(mtu=31)))
@@ -183,11 +254,11 @@ def mistakes():
         pair.settle()
         print("a close:", said(pair.a.close))
         pair.settle()
-    for number in range(-1, -21, -1):
+    for number in range(-1, -25, -1):
         print(f"{number}: {dcsctp.error_of(number)}")
 
 
 if __name__ == "__main__":
-    for index, program in enumerate((connect, send, close_a_channel, hand_over, shut_down, mistakes)):
+    for index, program in enumerate((connect, send, close_a_channel, hand_over, shut_down, data_channels, mistakes)):
         print("\n" * (index > 0) + program.__name__.replace("_", " "))
         program()

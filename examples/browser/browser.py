@@ -1,13 +1,12 @@
 #!/usr/bin/env python3
-"""A page in headless Chromium has data channels to this program, whose SCTP is the C library.
+"""A page in headless Chromium has data channels to this program, by the C library.
 
-    browser.py CHANNELS SCREENSHOT [--pcap FILE] [PAGE]      run by scripts/browser.sh, which makes CHANNELS
+    browser.py SCREENSHOT [--pcap FILE] [PAGE]      run by scripts/browser.sh
 
-ICE and DTLS are aiortc's. Its own SCTP is replaced by `Transport` below. The page, index.html, sends
-what comes back, and closes and opens channels. It shows what it did, and reports it here in the end.
-The program exits with 0 only if the page and it saw all that they should. FILE gets the packets of
-SCTP, without DTLS, and Wireshark opens it. With PAGE it serves that file in place of index.html, and
-judges nothing.
+The page, index.html, sends what comes back, and closes and opens channels. It shows what it did, and
+reports it here in the end. The program exits with 0 only if the page and it saw all that they should.
+FILE gets the packets of SCTP, without DTLS, and Wireshark opens it. With PAGE it serves that file in
+place of index.html, and judges nothing.
 """
 
 import argparse
@@ -15,18 +14,11 @@ import asyncio
 import os
 import sys
 
-import aiortc.rtcpeerconnection
-from aiortc import RTCConfiguration, RTCPeerConnection, RTCSessionDescription
-from aiortc.rtcsctptransport import RTCSctpCapabilities
-
 import chromium
 import dcsctp
+import transport
 
 FOLDER = os.path.dirname(os.path.abspath(__file__))
-
-# Numbers of dcsctp.h.
-CONNECTED, CLOSED, ABORTED, ERROR = 2, 3, 5, 6
-PEERS = {0: "unknown", 2: "dcSCTP in C++"}
 
 # What the page must do, and what the program must see. The page is the DTLS server, so its
 # streams are odd.
@@ -42,95 +34,25 @@ has it closed by the program
 is offered a channel
 has the association ended""".split("\n")
 SEEN = """\
-connected; the peer is dcSCTP in C++
-stream 1 is opened by the page: "first", type 0x00, reliability 0
-stream 1 is closed: 3 texts of 29 bytes and 19 messages of 1310976 bytes came
-stream 1 is opened by the page: "again", type 0x81, reliability 3
-stream 1 is closed: 2 texts of 24 bytes and 0 messages of 0 bytes came
-stream 1 is opened by the page: "third", type 0x00, reliability 0
+connected; the peer is DCSCTP_CC
+stream 1 is opened by the page: "first", ordered, retransmissions None
+stream 1 is closed, CLOSED_BY_RESETS: 3 texts of 29 bytes and 19 messages of 1310976 bytes came
+stream 1 is opened by the page: "again", unordered, retransmissions 3
+stream 1 is closed, CLOSED_BY_RESETS: 2 texts of 24 bytes and 0 messages of 0 bytes came
+stream 1 is opened by the page: "third", ordered, retransmissions None
 stream 0 is open
-stream 0 is closed: 1 texts of 6 bytes and 0 messages of 0 bytes came
-stream 1 is closed: 2 texts of 23 bytes and 0 messages of 0 bytes came
-closed""".split("\n")
-
-
-# ---- SCTP over DTLS -----------------------------------------------------------------------------
-
-
-class Transport:
-    """What RTCPeerConnection uses of aiortc's RTCSctpTransport, over the C library."""
-
-    port = 5000
-    _outbound_streams_count = 65535
-
-    def __init__(self, transport, library, program, pcap):
-        self.transport, self.library, self.program, self.pcap = transport, library, program, pcap
-        self.end = self.timer = self.sender = None
-        self.packets = asyncio.Queue()
-
-    def on(self, event):
-        return lambda function: function
-
-    def setTransport(self, transport):
-        self.transport = transport
-
-    @staticmethod
-    def getCapabilities():
-        return RTCSctpCapabilities(maxMessageSize=262144)
-
-    async def start(self, capabilities, port):
-        if self.end:
-            return
-        is_client = self.transport._role == "client"
-        self.end = dcsctp.End(self.library, self.program, is_client, port)
-        if self.pcap:
-            self.end.record(self.pcap)
-        self.program.begin(self)
-        self.sender = asyncio.ensure_future(self.send_packets())
-        self.transport._register_data_receiver(self)
-        self.end.connect()
-        self.turn()
-
-    async def stop(self):
-        if self.end:
-            self.transport._unregister_data_receiver(self)
-            self.timer.cancel()
-            self.sender.cancel()
-            self.end.destroy()
-            self.end = None
-
-    async def send_packets(self):
-        while True:
-            await self.transport._send_data(await self.packets.get())
-
-    async def _handle_data(self, packet):
-        self.turn(packet)
-
-    def turn(self, packet=b""):
-        """One round of the loop: what has come, and a timer for the next deadline."""
-        try:
-            deadline = self.end.run(packet)
-        except Exception as failure:
-            self.program.fail(failure)
-            raise
-        if self.timer:
-            self.timer.cancel()
-        self.timer = asyncio.get_event_loop().call_at(deadline / 1e9, self.turn)
-
-
-# ---- The program --------------------------------------------------------------------------------
+stream 0 is closed, CLOSED_BY_RESETS: 1 texts of 6 bytes and 0 messages of 0 bytes came
+stream 1 is closed, LOST: 2 texts of 23 bytes and 0 messages of 0 bytes came
+ended""".split("\n")
 
 
 class Program:
     """Sends back what comes, and does what a text asks for."""
 
     def __init__(self):
-        self.seen, self.counts, self.ours = [], {}, set()
-        self.transport = self.end = None
+        self.seen, self.streams, self.counts, self.ours = [], {}, {}, set()
+        self.channels = None
         self.failures = []
-
-    def begin(self, transport):
-        self.transport, self.end = transport, transport.end
 
     def fail(self, failure):
         print("program: failed:", repr(failure))
@@ -140,50 +62,45 @@ class Program:
         print("program:", text)
         self.seen.append(text)
 
-    # Called by `end`:
+    def note(self, channel):
+        self.streams[channel], self.counts[channel] = channel.stream, [0, 0, 0, 0]
+        return self.streams[channel]
 
-    def send_packet(self, packet):
-        self.transport.packets.put_nowait(packet)
+    def connected(self):
+        self.report(f"connected; the peer is {dcsctp.Peer(self.channels.metrics().peer_implementation).name}")
 
-    def opened(self, id, by_peer, label, kind, reliability):
-        self.counts[id] = [0, 0, 0, 0]
-        if by_peer:
-            how = f'"{label}", type {kind:#04x}, reliability {reliability}'
-            self.report(f"stream {id} is opened by the page: {how}")
-        else:
-            self.report(f"stream {id} is open")
-            self.end.send(id, True, b"hello from the program")
+    def incoming(self, channel):
+        how = f"{'ordered' if channel.ordered else 'unordered'}, retransmissions {channel.max_retransmits}"
+        self.report(f'stream {self.note(channel)} is opened by the page: "{channel.label}", {how}')
 
-    def message(self, id, is_text, data):
-        at = 0 if is_text else 2
-        self.counts[id][at] += 1
-        self.counts[id][at + 1] += len(data)
-        if is_text and data == b"close, please":
-            self.end.close(id)
-        elif is_text and data == b"open, please":
-            self.ours.add(self.end.open("from the program"))
-        elif is_text and data == b"end, please":
-            self.end.abort()
-        elif id not in self.ours:
+    def opened(self, channel):
+        self.report(f"stream {self.note(channel)} is open")
+        channel.send("hello from the program")
+
+    def message(self, channel, data):
+        at = 0 if isinstance(data, str) else 2
+        self.counts[channel][at] += 1
+        self.counts[channel][at + 1] += len(data.encode() if at == 0 else data)
+        if data == "close, please":
+            channel.close()
+        elif data == "open, please":
+            self.ours.add(self.channels.open("from the program"))
+        elif data == "end, please":
+            self.channels.close()
+        elif channel not in self.ours:
             # (a page that sends more at once would need to wait: docs/guide/channels.md)
-            self.end.send(id, is_text, data)
+            channel.send(data)
 
-    def closed(self, id):
-        texts, length, messages, size = self.counts.pop(id)
+    def low(self, channel):
+        pass
+
+    def closed(self, channel, reason):
+        texts, length, messages, size = self.counts.pop(channel)
         came = f"{texts} texts of {length} bytes and {messages} messages of {size} bytes came"
-        self.report(f"stream {id} is closed: {came}")
+        self.report(f"stream {self.streams[channel]} is closed, {reason.name}: {came}")
 
-    def event(self, kind):
-        if kind == CONNECTED:
-            peer = self.end.peer()
-            self.report(f"connected; the peer is {PEERS.get(peer, peer)}")
-        elif kind == CLOSED:
-            self.report("closed")
-        elif kind in (ABORTED, ERROR):
-            self.fail("aborted" if kind == ABORTED else "error")
-
-
-# ---- What both did -------------------------------------------------------------------------------
+    def ended(self):
+        self.report("ended")
 
 
 def judge(program, steps):
@@ -198,21 +115,10 @@ def judge(program, steps):
     return wrong + [f"failed: {failure}" for failure in program.failures]
 
 
-async def main(channels, screenshot, page, pcap):
+async def main(screenshot, page, pcap):
     """Runs the page of the example and judges it, or runs another one."""
-    if pcap:
-        open(pcap, "wb").close()  # fails now if it can't be written
-    library, program = dcsctp.load(os.path.abspath(channels)), Program()
-    aiortc.rtcpeerconnection.RTCSctpTransport = lambda transport: Transport(
-        transport, library, program, pcap
-    )
-    peer = RTCPeerConnection(RTCConfiguration(iceServers=[]))
-
-    async def answer(offer):
-        await peer.setRemoteDescription(RTCSessionDescription(**offer))
-        await peer.setLocalDescription(await peer.createAnswer())
-        return {"type": peer.localDescription.type, "sdp": peer.localDescription.sdp}
-
+    program = Program()
+    peer, answer = transport.make_peer(program, transport.Pcap(pcap) if pcap else None)
     try:
         steps = await chromium.show(page or os.path.join(FOLDER, "index.html"), screenshot, answer=answer)
     finally:
@@ -227,7 +133,6 @@ async def main(channels, screenshot, page, pcap):
 if __name__ == "__main__":
     parser = argparse.ArgumentParser()
     parser.add_argument("--pcap")
-    parser.add_argument("channels")
     parser.add_argument("screenshot")
     parser.add_argument("page", nargs="?")
     sys.exit(asyncio.run(main(**vars(parser.parse_intermixed_args()))))

@@ -1,12 +1,13 @@
 /*
- * Sends a file between two processes, over UDP on loopback.
+ * Sends a file between two processes, by a data channel over UDP on loopback.
  *
  *     file_transfer [--loss N] [--pcap PCAP] [FILE]
  *
  * Without FILE it is 10 MB. Of a thousand packets N are lost, in both directions. The parent sends,
- * and shuts the association down once all is delivered; the child receives. In the end the parent
- * compares what the child has received. PCAP gets all packets that the parent sends, also those
- * that are lost then, and all that it receives. Wireshark opens it.
+ * closes the channel, and shuts the association down once that is closed: then all has arrived. The
+ * child receives. In the end the parent compares what the child has received. PCAP gets all packets
+ * that the parent sends, also those that are lost then, and all that it receives. Wireshark opens
+ * it.
  */
 #define _GNU_SOURCE
 #include "trace.h"
@@ -25,7 +26,7 @@
 #include <time.h>
 #include <unistd.h>
 
-enum { CHUNK = 65536, WAITING = 8 * CHUNK, STREAM = 1, BINARY = 53, LAST = 1 };
+enum { CHUNK = 65536, WAITING = 8 * CHUNK };
 
 /* One end: a socket, the UDP socket below it, and what has happened. */
 struct end {
@@ -35,7 +36,8 @@ struct end {
     FILE *out;              /* where messages go */
     FILE *pcap;             /* where packets go, or NULL */
     uint64_t packets, lost; /* packets that were sent, and those that were lost on purpose */
-    int connected, delivered, closed, aborted;
+    int opened, closed, ended;
+    uint32_t why; /* it was closed: enum dcsctp_channel_end */
 };
 
 static void fail(const char *what) {
@@ -62,6 +64,7 @@ static uint64_t now(void) {
 /* ---- One end -------------------------------------------------------------------------------- */
 
 static void create(struct end *end, int fd, long loss, FILE *out) {
+    const dcsctp_channel_limits limits = DCSCTP_CHANNEL_LIMITS_INIT;
     dcsctp_options options;
     uint8_t seed[32];
     memset(end, 0, sizeof *end);
@@ -73,6 +76,8 @@ static void create(struct end *end, int fd, long loss, FILE *out) {
     srandom((unsigned)seed[0] << 8 | seed[1]);
     dcsctp_options_init(&options);
     check("create", dcsctp_create(&end->socket, &options, seed, now()));
+    check("begin", dcsctp_channel_begin(&end->socket, &limits));
+    check("role", dcsctp_channel_set_role(&end->socket, out == NULL));
 }
 
 /* Writes a packet to the file for Wireshark, if there is one, with the time of day. */
@@ -87,10 +92,7 @@ static void record(const struct end *end, const uint8_t *packet, size_t length) 
 }
 
 /* Sends a packet, or loses it. What the system doesn't send is lost, too. */
-static void send_packet(struct end *end) {
-    uint8_t packet[1500];
-    size_t length;
-    check("event_bytes", dcsctp_event_bytes(&end->socket, packet, sizeof packet, &length));
+static void send_packet(struct end *end, const uint8_t *packet, size_t length) {
     end->packets++;
     record(end, packet, length);
     if (random() % 1000 < end->loss)
@@ -99,54 +101,32 @@ static void send_packet(struct end *end) {
         fail("send");
 }
 
-static void print_text(struct end *end, const dcsctp_event *event) {
-    char text[200];
-    size_t length;
-    if (dcsctp_event_bytes(&end->socket, (uint8_t *)text, sizeof text, &length) != DCSCTP_OK)
-        length = 0;
-    fprintf(stderr, "file_transfer: error kind %u: %.*s\n", (unsigned)event->error_kind,
-            (int)length, text);
-}
-
-static void handle_event(struct end *end, const dcsctp_event *event) {
-    switch (event->kind) {
-    case DCSCTP_EVENT_SEND_PACKET:
-        send_packet(end);
-        break;
-    case DCSCTP_EVENT_CONNECTED:
-        end->connected = 1;
-        break;
-    case DCSCTP_EVENT_CLOSED:
-        end->closed = 1;
-        break;
-    case DCSCTP_EVENT_ABORTED:
-        end->aborted = 1;
-        print_text(end, event);
-        break;
-    case DCSCTP_EVENT_ERROR:
-        print_text(end, event);
-        break;
-    case DCSCTP_EVENT_LIFECYCLE_DELIVERED:
-        end->delivered = event->lifecycle_id == LAST;
-        break;
-    default:
-        break;
-    }
-}
-
-/* Takes all events and messages. It follows each call that may add some. */
+/* Takes all events. It follows each call that may add some. */
 static void drain(struct end *end) {
-    static uint8_t bytes[CHUNK];
-    dcsctp_event event;
-    dcsctp_message message;
+    dcsctp_channel_event event;
+    const uint8_t *bytes;
     size_t length;
-    while (dcsctp_poll_event(&end->socket, &event) == 1)
-        handle_event(end, &event);
-    while (dcsctp_get_next_message(&end->socket, &message) == 1) {
-        check("message_bytes", dcsctp_message_bytes(&end->socket, bytes, sizeof bytes, &length));
-        if (fwrite(bytes, 1, length, end->out) != length)
-            fail("write");
-    }
+    while (check("poll", dcsctp_channel_poll(&end->socket, &event)) == 1)
+        switch (event.kind) {
+        case DCSCTP_CHANNEL_EVENT_SEND_PACKET:
+            check("view", dcsctp_channel_view(&end->socket, &bytes, &length));
+            send_packet(end, bytes, length);
+            break;
+        case DCSCTP_CHANNEL_EVENT_OPENED:
+            end->opened = 1;
+            break;
+        case DCSCTP_CHANNEL_EVENT_MESSAGE:
+            check("view", dcsctp_channel_view(&end->socket, &bytes, &length));
+            if (fwrite(bytes, 1, length, end->out) != length)
+                fail("write");
+            break;
+        case DCSCTP_CHANNEL_EVENT_CLOSED:
+            end->closed = 1;
+            end->why = event.detail;
+            break;
+        case DCSCTP_CHANNEL_EVENT_ENDED:
+            end->ended = 1;
+        }
 }
 
 /* How many milliseconds poll may wait: until the deadline, and no longer than `longest`. */
@@ -182,29 +162,31 @@ static void turn(struct end *end, int longest) {
 static int receive_file(int fd, long loss, FILE *out, pid_t parent) {
     static struct end end;
     create(&end, fd, loss, out);
-    while (!end.closed && !end.aborted && getppid() == parent)
+    while (!end.ended && getppid() == parent)
         turn(&end, 1000);
     dcsctp_destroy(&end.socket);
-    return fclose(out) != 0 || !end.closed;
+    return fclose(out) != 0 || !end.closed || end.why != DCSCTP_CHANNEL_CLOSED_BY_RESETS;
 }
 
 /* ---- Sending -------------------------------------------------------------------------------- */
 
-static size_t waiting(struct end *end) {
-    size_t bytes;
-    check("buffered_amount", dcsctp_buffered_amount(&end->socket, STREAM, &bytes));
+/* How many bytes of the channel are queued; none once it is closed. */
+static size_t waiting(struct end *end, uint64_t channel) {
+    size_t bytes = 0;
+    if (!end->closed)
+        check("buffered_amount", dcsctp_channel_buffered_amount(&end->socket, channel, &bytes));
     return bytes;
 }
 
-/* Sends the next part of the file, by a message. Its last one has a name. */
-static void send_chunk(struct end *end, FILE *in, long length, long left) {
+/* Sends the next part of the file, by a message. The channel is closed after the last one. */
+static void send_chunk(struct end *end, uint64_t channel, FILE *in, long length, long left) {
     static uint8_t bytes[CHUNK];
-    dcsctp_send_options how = DCSCTP_SEND_INIT;
     if (fread(bytes, 1, (size_t)length, in) != (size_t)length)
         fail("read");
+    check("send", dcsctp_channel_send(&end->socket, channel, DCSCTP_CHANNEL_BINARY, bytes,
+                                      (size_t)length));
     if (length == left)
-        how.lifecycle_id = LAST;
-    check("send", dcsctp_send(&end->socket, STREAM, BINARY, bytes, (size_t)length, &how));
+        check("close", dcsctp_channel_close(&end->socket, channel));
     drain(end);
 }
 
@@ -217,21 +199,26 @@ static void print_progress(struct end *end, double sent, double size, double sec
             size / 1e6, seconds, metrics.cwnd_bytes, (double)metrics.srtt / 1e6);
 }
 
-/* Sends a file until the peer has acknowledged it. */
+/* Sends a file until its channel is closed. */
 static void send_all(struct end *end, FILE *in, long size) {
     const uint64_t begin = now();
+    dcsctp_channel_options options = DCSCTP_CHANNEL_OPTIONS_INIT;
+    uint64_t channel;
     long sent = 0, printed = 0;
+    options.label = "file";
+    options.label_length = 4;
+    check("open", dcsctp_channel_open(&end->socket, &options, &channel));
     check("connect", dcsctp_connect(&end->socket));
     drain(end);
-    while (!end->delivered && !end->aborted) {
-        while (end->connected && sent < size && waiting(end) < WAITING) {
+    while (!end->closed) {
+        while (end->opened && !end->closed && sent < size && waiting(end, channel) < WAITING) {
             long length = size - sent < CHUNK ? size - sent : CHUNK;
-            send_chunk(end, in, length, size - sent);
+            send_chunk(end, channel, in, length, size - sent);
             sent += length;
         }
         turn(end, 1000);
-        long done = sent - (long)waiting(end);
-        if (done / (size / 4 + 1) > printed / (size / 4 + 1) || end->delivered)
+        long done = end->opened ? sent - (long)waiting(end, channel) : 0;
+        if (done / (size / 4 + 1) > printed / (size / 4 + 1) || end->closed)
             print_progress(end, (double)done, (double)size, (double)(now() - begin) / 1e9);
         printed = done;
     }
@@ -256,7 +243,7 @@ static int send_file(int fd, long loss, FILE *pcap, FILE *in, long size, pid_t p
         turn(&end, 20);
     if (gone < 0)
         fail("waitpid");
-    int failed = !end.closed || end.aborted || status != 0;
+    int failed = !end.ended || end.why != DCSCTP_CHANNEL_CLOSED_BY_RESETS || status != 0;
     dcsctp_destroy(&end.socket);
     return failed;
 }

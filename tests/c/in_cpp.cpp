@@ -23,6 +23,10 @@ static_assert(std::is_same<decltype(DCSCTP_SOCKET_INIT), dcsctp_socket>::value, 
 static_assert(std::is_same<decltype(DCSCTP_SEND_INIT), dcsctp_send_options>::value,
               "an expression");
 static_assert(std::is_trivial<dcsctp_socket>::value, "two words");
+static_assert(std::is_same<decltype(DCSCTP_CHANNEL_LIMITS_INIT), dcsctp_channel_limits>::value,
+              "an expression");
+static_assert(std::is_same<decltype(DCSCTP_CHANNEL_OPTIONS_INIT), dcsctp_channel_options>::value,
+              "an expression");
 
 dcsctp_socket in_static = DCSCTP_SOCKET_INIT;
 

@@ -40,6 +40,10 @@ static void errors(void) {
         {DCSCTP_ERROR_INVALID_SEND_OPTIONS, -17, "the message can't be sent with these options"},
         {DCSCTP_ERROR_WRONG_SIZE, -18, "the struct has another size in the library"},
         {DCSCTP_ERROR_OTHER_OPTIONS, -19, "the snapshot is of a socket with other options"},
+        {DCSCTP_ERROR_HAS_CHANNELS, -20, "the socket has data channels"},
+        {DCSCTP_ERROR_NO_CHANNEL, -21, "there is no such data channel"},
+        {DCSCTP_ERROR_STREAM_IN_USE, -22, "the stream is in use"},
+        {DCSCTP_ERROR_ENDED, -23, "the association has ended"},
     };
     for (size_t i = 0; i < COUNT(rows); i++) {
         EQUAL(rows[i].text, rows[i].name, rows[i].number);
@@ -106,6 +110,29 @@ static void others(void) {
         {DCSCTP_PEER_DCSCTP_CC, 2, "in C++"},
         {DCSCTP_PEER_USRSCTP, 3, "usrsctp"},
         {DCSCTP_PEER_OTHER, 4, "other"},
+        {DCSCTP_CHANNEL_RELIABLE, 0, "reliable"},
+        {DCSCTP_CHANNEL_RETRANSMISSIONS, 1, "retransmissions"},
+        {DCSCTP_CHANNEL_LIFETIME, 2, "lifetime"},
+        {DCSCTP_CHANNEL_TEXT, 1, "text"},
+        {DCSCTP_CHANNEL_BINARY, 2, "binary"},
+        {DCSCTP_CHANNEL_EVENT_NONE, 0, "none"},
+        {DCSCTP_CHANNEL_EVENT_SEND_PACKET, 1, "send packet"},
+        {DCSCTP_CHANNEL_EVENT_CONNECTED, 2, "connected"},
+        {DCSCTP_CHANNEL_EVENT_OPENED, 3, "opened"},
+        {DCSCTP_CHANNEL_EVENT_INCOMING, 4, "incoming"},
+        {DCSCTP_CHANNEL_EVENT_MESSAGE, 5, "message"},
+        {DCSCTP_CHANNEL_EVENT_BUFFERED_AMOUNT_LOW, 6, "buffered amount low"},
+        {DCSCTP_CHANNEL_EVENT_CLOSED, 7, "closed"},
+        {DCSCTP_CHANNEL_EVENT_ENDED, 8, "ended"},
+        {DCSCTP_CHANNEL_CLOSED_BY_RESETS, 0, "by resets"},
+        {DCSCTP_CHANNEL_REFUSED, 1, "refused"},
+        {DCSCTP_CHANNEL_CANT_BE_RESET, 2, "can't be reset"},
+        {DCSCTP_CHANNEL_LOST, 3, "lost"},
+        {DCSCTP_CHANNEL_NO_STREAM, 4, "no stream"},
+        {DCSCTP_CHANNEL_CONNECTING, 0, "connecting"},
+        {DCSCTP_CHANNEL_OPEN, 1, "open"},
+        {DCSCTP_CHANNEL_CLOSING, 2, "closing"},
+        {DCSCTP_CHANNEL_CLOSED, 3, "closed"},
     };
     for (size_t i = 0; i < COUNT(rows); i++)
         EQUAL(rows[i].text, rows[i].name, rows[i].number);

@@ -1,6 +1,6 @@
-/* An exchange with each of its allocations refused in turn. The call that needs it returns
- * DCSCTP_ERROR_OUT_OF_MEMORY, and the rest is as dcsctp.h says. In the end all memory is freed. Then
- * a message that is far too long: it needs no memory for its bytes. */
+/* An exchange with each of its allocations refused in turn, and one with data channels. The call that
+ * needs it returns DCSCTP_ERROR_OUT_OF_MEMORY, and the rest is as dcsctp.h says. In the end all
+ * memory is freed. Then a message that is far too long: it needs no memory for its bytes. */
 #define _GNU_SOURCE
 #include "pair.h"
 #include "refusing.h"
@@ -94,13 +94,14 @@ static struct end a, b, a_again;
 
 /* Where a call without memory may be tried again, it is, and has to succeed. Where it may not, or
  * another error comes, the exchange ends. */
-#define TRY(end, call, again)                                                                    \
+#define TRY(end, call, again) TRY_WITH(end, call, again, check_failed)
+#define TRY_WITH(end, call, again, check)                                                        \
     do {                                                                                         \
         int32_t result_ = (call);                                                                \
         if (result_ == DCSCTP_ERROR_OUT_OF_MEMORY) {                                             \
             tellings++;                                                                          \
             if (dcsctp_has_failed(&(end)->socket) == 1) {                                        \
-                check_failed(end);                                                               \
+                check(end);                                                                      \
                 return 0;                                                                        \
             }                                                                                    \
             EQUAL(#call " may be tried again", again, 1);                                        \
@@ -203,6 +204,154 @@ static int exchange(const dcsctp_options *options) {
     return whole;
 }
 
+/* ---- The same with channels ----------------------------------------------------------------- */
+
+/* Commands and inputs return DCSCTP_ERROR_FAILED. Queries answer, and what is ready can be taken. */
+static void check_failed_channels(struct end *end) {
+    dcsctp_socket *socket = &end->socket;
+    const dcsctp_channel_options how = DCSCTP_CHANNEL_OPTIONS_INIT;
+    const uint8_t bytes[12] = {0};
+    dcsctp_channel_metrics metrics = {sizeof metrics, 0, 0, 0, 0};
+    dcsctp_channel_event event;
+    uint64_t channel, moment;
+    uint32_t tag;
+    uint16_t stream;
+    size_t size;
+    int32_t taken;
+    const int32_t commands[] = {
+        dcsctp_connect(socket),
+        dcsctp_shutdown(socket),
+        dcsctp_close(socket),
+        dcsctp_handle_input(socket, bytes, sizeof bytes),
+        dcsctp_advance_time(socket, DCSCTP_NEVER - 1),
+        dcsctp_channel_set_role(socket, 1),
+        dcsctp_channel_open(socket, &how, &channel),
+        dcsctp_channel_send(socket, 1, DCSCTP_CHANNEL_BINARY, bytes, 10),
+        dcsctp_channel_close(socket, 1),
+        dcsctp_channel_set_buffered_amount_low_threshold(socket, 1, 5),
+    };
+    for (size_t i = 0; i < sizeof commands / sizeof commands[0]; i++)
+        EQUAL("a command", commands[i], DCSCTP_ERROR_FAILED);
+    const long before = allocations;
+    EQUAL("has_failed", dcsctp_has_failed(socket), 1);
+    EQUAL("state", dcsctp_state(socket) >= DCSCTP_STATE_CLOSED, 1);
+    EQUAL("tag", dcsctp_verification_tag(socket, &tag), DCSCTP_OK);
+    EQUAL("deadline", dcsctp_poll_timeout(socket, &moment), DCSCTP_OK);
+    EQUAL("state", dcsctp_channel_state(socket, 1) >= DCSCTP_CHANNEL_CONNECTING, 1);
+    EQUAL("stream", dcsctp_channel_stream(socket, 1, &stream) <= 0, 1);
+    EQUAL("amount", dcsctp_channel_buffered_amount(socket, 1, &size) <= 0, 1);
+    EQUAL("metrics", dcsctp_channel_get_metrics(socket, 1, &metrics) <= 0, 1);
+    EQUAL("count", dcsctp_channel_count(socket, &size), DCSCTP_OK);
+    while ((taken = dcsctp_channel_poll(socket, &event)) == 1)
+        EQUAL("an event", event.kind != DCSCTP_CHANNEL_EVENT_NONE, 1);
+    EQUAL("all are taken", taken, DCSCTP_ERROR_FAILED);
+    EQUAL("none of these allocates", allocations, before);
+}
+
+/* A number of the peer's channel at each end, and how many messages came and channels closed. */
+static uint64_t incoming[2];
+static size_t came, closed;
+
+/* Takes all that an end has, and hands its packets to the other end. */
+static int deliver_channels(struct end *from, struct end *to, size_t *packets) {
+    dcsctp_channel_event event;
+    const uint8_t *bytes;
+    size_t length;
+    for (;;) {
+        const int32_t taken = dcsctp_channel_poll(&from->socket, &event);
+        if (taken == DCSCTP_ERROR_OUT_OF_MEMORY) {
+            tellings++;
+            check_failed_channels(from);
+            return 0;
+        }
+        if (taken == 0)
+            return 1;
+        EQUAL("taken", taken, 1);
+        came += event.kind == DCSCTP_CHANNEL_EVENT_MESSAGE;
+        closed += event.kind == DCSCTP_CHANNEL_EVENT_CLOSED;
+        if (event.kind == DCSCTP_CHANNEL_EVENT_INCOMING)
+            incoming[from == &b] = event.channel;
+        if (event.kind == DCSCTP_CHANNEL_EVENT_SEND_PACKET) {
+            EQUAL("a view", dcsctp_channel_view(&from->socket, &bytes, &length), DCSCTP_OK);
+            TRY_WITH(to, dcsctp_handle_input(&to->socket, bytes, length), 0, check_failed_channels);
+            ++*packets;
+        }
+    }
+}
+
+#define TRY_HERE(end, call, again) TRY_WITH(end, call, again, check_failed_channels)
+
+static int exchange_channels(uint64_t now) {
+    size_t packets;
+    do {
+        packets = 0;
+        if (!deliver_channels(&a, &b, &packets) || !deliver_channels(&b, &a, &packets))
+            return 0;
+    } while (packets > 0);
+    TRY_HERE(&a, dcsctp_advance_time(&a.socket, now), 0);
+    TRY_HERE(&b, dcsctp_advance_time(&b.socket, now), 0);
+    return 1;
+}
+
+/* Both ends open a channel before they connect, and send on it. Then one of them closes each. */
+static int channels_part(const dcsctp_options *options) {
+    static const uint8_t zeros[40000];
+    const dcsctp_channel_limits limits = DCSCTP_CHANNEL_LIMITS_INIT;
+    dcsctp_channel_options how = DCSCTP_CHANNEL_OPTIONS_INIT;
+    uint64_t of_a = 0, of_b = 0;
+    how.label = "label";
+    how.label_length = 5;
+    how.protocol = "protocol";
+    how.protocol_length = 8;
+    TRY(&a, create(&a, options, 1, BEGIN), 1);
+    TRY(&b, create(&b, options, 2, BEGIN), 1);
+    EQUAL("begin", dcsctp_channel_begin(&a.socket, &limits), DCSCTP_OK);
+    EQUAL("begin", dcsctp_channel_begin(&b.socket, &limits), DCSCTP_OK);
+    TRY_HERE(&a, dcsctp_channel_set_role(&a.socket, 1), 0);
+    TRY_HERE(&b, dcsctp_channel_set_role(&b.socket, 0), 0);
+    TRY_HERE(&a, dcsctp_channel_open(&a.socket, &how, &of_a), 1);
+    TRY_HERE(&b, dcsctp_channel_open(&b.socket, &how, &of_b), 1);
+    TRY_HERE(&a, dcsctp_connect(&a.socket), 0);
+    TRY_HERE(&b, dcsctp_connect(&b.socket), 0);
+    if (!exchange_channels(BEGIN + SECONDS))
+        return 0;
+    EQUAL("incoming", incoming[0] != 0 && incoming[1] != 0, 1);
+    TRY_HERE(&a, dcsctp_channel_send(&a.socket, of_a, DCSCTP_CHANNEL_BINARY, zeros, 40000), 0);
+    TRY_HERE(&a, dcsctp_channel_send(&a.socket, of_a, DCSCTP_CHANNEL_TEXT, zeros, 0), 0);
+    TRY_HERE(&b, dcsctp_channel_send(&b.socket, incoming[1], DCSCTP_CHANNEL_TEXT, zeros, 9), 0);
+    if (!exchange_channels(BEGIN + 2 * SECONDS) || !exchange_channels(BEGIN + 3 * SECONDS))
+        return 0;
+    EQUAL("messages", came, 3);
+    TRY_HERE(&a, dcsctp_channel_close(&a.socket, of_a), 0);
+    TRY_HERE(&a, dcsctp_channel_close(&a.socket, incoming[0]), 0);
+    for (uint64_t i = 4; i < 8; i++)
+        if (!exchange_channels(BEGIN + i * SECONDS))
+            return 0;
+    EQUAL("closed", closed, 4);
+    TRY_HERE(&a, dcsctp_channel_open(&a.socket, &how, &of_a), 1);
+    if (!exchange_channels(BEGIN + 8 * SECONDS))
+        return 0;
+    TRY_HERE(&b, dcsctp_shutdown(&b.socket), 0);
+    if (!exchange_channels(BEGIN + 9 * SECONDS))
+        return 0;
+    EQUAL("all are closed", closed, 6);
+    return 1;
+}
+
+/* Returns whether it came to its end. All memory is given back. */
+static int channels(const dcsctp_options *options) {
+    memset(&a, 0, sizeof a);
+    memset(&b, 0, sizeof b);
+    memset(incoming, 0, sizeof incoming);
+    came = closed = 0;
+    allocations = tellings = 0;
+    const int whole = channels_part(options);
+    dcsctp_destroy(&a.socket);
+    dcsctp_destroy(&b.socket);
+    EQUAL("all memory is given back", blocks, 0);
+    return whole;
+}
+
 /* ---- A message that is far too long --------------------------------------------------------- */
 
 static void send_of(const char *name, const void *bytes, size_t length, int32_t expected) {
@@ -261,25 +410,32 @@ static void far_too_long(const dcsctp_options *options) {
     munmap(bytes, length);
 }
 
-int main(void) {
-    dcsctp_options options;
+/* Refuses each allocation of an exchange in turn. */
+static void refuse_each(const char *name, int (*exchange_of)(const dcsctp_options *),
+                        const dcsctp_options *options) {
     long all, retried = 0, untold = 0;
-    dcsctp_options_init(&options);
-    options.enable_handover_with_outstanding_data = 1;
-    EQUAL("none is refused", exchange(&options), 1);
+    EQUAL("none is refused", exchange_of(options), 1);
     EQUAL("none is told", tellings, 0);
     all = allocations;
     EQUAL("there are some", all > 0, 1);
     for (long i = 1; i <= all; i++) {
         refused = i;
-        int whole = exchange(&options);
+        int whole = exchange_of(options);
         EQUAL("it is told once, or nothing needs it", tellings == 1 || (tellings == 0 && whole), 1);
         retried += whole && tellings;
         untold += !tellings;
     }
     refused = 0;
-    far_too_long(&options);
-    printf("refusals: %ld in turn; %ld calls were tried again, and %ld did without\n", all, retried,
+    printf("%s: %ld in turn; %ld calls were tried again, and %ld did without\n", name, all, retried,
            untold);
+}
+
+int main(void) {
+    dcsctp_options options;
+    dcsctp_options_init(&options);
+    options.enable_handover_with_outstanding_data = 1;
+    refuse_each("refusals", exchange, &options);
+    refuse_each("refusals with channels", channels, &options);
+    far_too_long(&options);
     return 0;
 }

@@ -39,6 +39,32 @@ static void results(dcsctp_socket *socket, const dcsctp_options *options, uint8_
     dcsctp_destroy(socket);
 }
 
+static void channel_results(dcsctp_socket *socket, uint8_t *bytes, const uint8_t **view,
+                            size_t *length, dcsctp_channel_metrics *metrics) {
+    const dcsctp_channel_limits limits = DCSCTP_CHANNEL_LIMITS_INIT;
+    dcsctp_channel_options options = DCSCTP_CHANNEL_OPTIONS_INIT;
+    dcsctp_channel_event event;
+    uint64_t channel;
+    uint16_t stream;
+    dcsctp_channel_begin(socket, &limits);                          /* warned */
+    dcsctp_channel_begin(NULL, NULL);                               /* warned */
+    dcsctp_channel_set_role(socket, 1);                             /* warned */
+    dcsctp_channel_open(socket, &options, &channel);                /* warned */
+    dcsctp_channel_send(socket, 1, 1, bytes, 5);                    /* warned */
+    dcsctp_channel_close(socket, 1);                                /* warned */
+    dcsctp_channel_poll(socket, &event);                            /* warned */
+    dcsctp_channel_bytes(socket, bytes, 5, length);                 /* warned */
+    dcsctp_channel_view(socket, view, length);                      /* warned */
+    dcsctp_channel_get_options(socket, &options);                   /* warned */
+    dcsctp_channel_set_buffered_amount_low_threshold(socket, 1, 5); /* warned */
+    dcsctp_channel_count(NULL, length);                             /* warned */
+    dcsctp_channel_state(socket, 1);
+    dcsctp_channel_stream(socket, 1, &stream);
+    dcsctp_channel_buffered_amount(socket, 1, length);
+    dcsctp_channel_get_metrics(socket, 1, metrics);
+    dcsctp_channel_count(socket, length);
+}
+
 static int cases(dcsctp_socket *socket, int32_t result, const dcsctp_event *event,
                  const dcsctp_metrics *metrics) {
     switch ((enum dcsctp_error)result) {                            /* warned */
@@ -69,5 +95,5 @@ static int cases(dcsctp_socket *socket, int32_t result, const dcsctp_event *even
 }
 
 int main(void) {
-    return (void *)results == (void *)cases;
+    return (void *)results == (void *)cases || (void *)channel_results == (void *)cases;
 }

@@ -242,6 +242,110 @@ func shutDown() {
 	sayState("B", p.b)
 }
 
+// channelPair is two ends with data channels. A is the DTLS client.
+type channelPair struct {
+	a, b *dcsctp.Channels
+	now  time.Duration
+}
+
+func newChannelPair() *channelPair {
+	var ends [2]*dcsctp.Channels
+	for index := range ends {
+		channels, err := dcsctp.NewChannels(dcsctp.DefaultOptions(), dcsctp.ChannelLimits{}, nil, begin)
+		must(err)
+		must(channels.SetRole(index == 0))
+		ends[index] = channels
+	}
+	return &channelPair{ends[0], ends[1], begin}
+}
+
+// carryChannels takes all events of an end. Its packets go to the other one. It returns how many there were.
+func carryChannels(name string, from, to *dcsctp.Channels) (packets int) {
+	from.Events()(func(event dcsctp.Event) bool {
+		switch it := event.(type) {
+		case dcsctp.SendPacket:
+			must(to.HandleInput(it.Packet))
+			packets++
+		case dcsctp.ChannelMessage:
+			if it.IsText {
+				fmt.Printf("%s has a text on %q: %s.\n", name, it.Channel.Label(), it.Data)
+			} else {
+				fmt.Printf("%s has %d bytes on %q\n", name, len(it.Data), it.Channel.Label())
+			}
+		case dcsctp.ChannelOpened:
+			fmt.Printf("%s: %s %q\n", name, it.Name(), it.Channel.Label())
+		case dcsctp.ChannelIncoming:
+			fmt.Printf("%s: %s %q\n", name, it.Name(), it.Channel.Label())
+		case dcsctp.ChannelBufferedAmountLow:
+			fmt.Printf("%s: %s %q\n", name, it.Name(), it.Channel.Label())
+		case dcsctp.ChannelClosed:
+			fmt.Printf("%s: %s %q, %d\n", name, it.Name(), it.Channel.Label(), it.Reason)
+		default:
+			fmt.Printf("%s: %s\n", name, event.Name())
+		}
+		return true
+	})
+	return packets
+}
+
+// settle carries packets both ways until none is left.
+func (p *channelPair) settle() {
+	for carryChannels("A", p.a, p.b)+carryChannels("B", p.b, p.a) > 0 {
+	}
+}
+
+// wait lets a second pass: then all is acknowledged.
+func (p *channelPair) wait() {
+	p.settle()
+	p.now += time.Second
+	must(p.a.AdvanceTime(p.now))
+	must(p.b.AdvanceTime(p.now))
+	p.settle()
+}
+
+// open returns a channel.
+func open(end *dcsctp.Channels, options dcsctp.ChannelOptions) *dcsctp.Channel {
+	channel, err := end.Open(options)
+	must(err)
+	return channel
+}
+
+func sayStream(name string, channel *dcsctp.Channel) {
+	stream, _ := channel.Stream()
+	fmt.Printf("%s's has stream %d\n", name, stream)
+}
+
+func dataChannels() {
+	p := newChannelPair()
+	defer p.a.Destroy()
+	defer p.b.Destroy()
+	chat := open(p.a, dcsctp.ChannelOptions{Label: "chat"})
+	fmt.Println("too early:", said(chat.SendText("hello")))
+	must(p.a.Connect())
+	p.settle()
+	sayStream("A", chat)
+	must(chat.SendText("hello"))
+	must(chat.SendText(""))
+	must(chat.Send([]byte{1, 2, 3}))
+	must(chat.Close())
+	fmt.Println("too late:", said(chat.SendText("hello")))
+	p.wait()
+	fast := open(p.b, dcsctp.ChannelOptions{
+		Label: "fast", Unordered: true, MaxRetransmits: dcsctp.Limit(uint32(0)), Protocol: "of ours",
+	})
+	p.settle()
+	sayStream("B", fast)
+	agreed := dcsctp.ChannelOptions{Label: "agreed", Negotiated: dcsctp.Limit(uint16(8))}
+	open(p.a, agreed)
+	open(p.b, agreed)
+	_, err := p.a.Open(agreed)
+	fmt.Println("once more:", said(err))
+	must(p.a.Shutdown())
+	p.wait()
+	_, err = p.a.Open(dcsctp.ChannelOptions{})
+	fmt.Println("another:", said(err))
+}
+
 // mistakes: a call that can't be made is an error, and changes nothing.
 func mistakes() {
 	narrow, limits := dcsctp.DefaultOptions(), dcsctp.DefaultOptions()
@@ -268,7 +372,7 @@ func mistakes() {
 	p.settle()
 	fmt.Println("a close:", said(p.a.Close()))
 	p.settle()
-	for number := -1; number >= -20; number-- {
+	for number := -1; number >= -24; number-- {
 		fmt.Printf("%d: %s\n", number, dcsctp.Error(number))
 	}
 }
@@ -279,7 +383,7 @@ func main() {
 		run  func()
 	}{
 		{"connect", connect}, {"send", send}, {"close a channel", closeAChannel},
-		{"hand over", handOver}, {"shut down", shutDown}, {"mistakes", mistakes},
+		{"hand over", handOver}, {"shut down", shutDown}, {"data channels", dataChannels}, {"mistakes", mistakes},
 	}
 	for index, program := range programs {
 		if index > 0 {

@@ -1,4 +1,4 @@
--- What an export does: a call on the session of a handle, whose status is returned as a number.
+-- What an export does: a call on what a handle has, whose status is returned as a number.
 use Rattle.std.specs.Prelude.{◌≡◌, ◌+◌, ◌*◌, ℕ, ℤ, ◌⊎◌, Bool, true, false, List, Option, Some, None, Ok, Err}
 use Rattle.dcsctp_session.specs.declared.session.Session.{Session}
 use Rattle.dcsctp_session.specs.declared.status.Status.{Status}
@@ -10,18 +10,43 @@ use Rattle.dcsctp_session.specs.Calls.{Creates, EventTaken, MessageTaken}
 use Rattle.dcsctp_session.specs.Options.{ShowsDefault, has_options_size}
 use Rattle.dcsctp_session.specs.Records.{plain_record, no_message}
 use Rattle.dcsctp_session.specs.Status.{status_number, taken_status}
+use Rattle.dcsctp_channel_session.specs.declared.held.Held.{Held}
+use Rattle.dcsctp_channel_session.specs.declared.held.Held.TheVariants as helds
+use Rattle.dcsctp_channel_session.specs.declared.session.ChannelSession.{ChannelSession}
 
--- The call takes place on the session, if there is one. Else nothing changes.
-abbrev pub Exported : (Session → Status → Session → Type 0) → Option Session → ℤ → Option Session → Type 0
-Exported Call None result new = (result ≡ status_number statuses.NoSocket) × (new ≡ None)
-Exported Call (Some old) result new =
-    (status : Status) × (session : Session) × Call old status session × (result ≡ status_number status) × (new ≡ Some session)
+-- The one call takes place on a session, and the other on one with channels. Without either nothing changes.
+abbrev pub Exported : (Session → Status → Session → Type 0) → (ChannelSession → Status → ChannelSession → Type 0) → Option Held → ℤ → Option Held → Type 0
+Exported Plain Channelled None result new = (result ≡ status_number statuses.NoSocket) × (new ≡ None)
+Exported Plain Channelled (Some (helds.Socket old)) result new =
+    (status : Status) × (session : Session) × Plain old status session × (result ≡ status_number status) × (new ≡ Some (helds.Socket session))
+Exported Plain Channelled (Some (helds.Channels old)) result new =
+    (status : Status) × (session : ChannelSession) × Channelled old status session × (result ≡ status_number status) × (new ≡ Some (helds.Channels session))
 
--- The same of a call that writes to a place of the caller's: before, and after.
-abbrev pub Written : {T : Type 0} → (Session → T → Status → T → Session → Type 0) → Option Session → T → ℤ → T → Option Session → Type 0
-Written Call None before result after new = (result ≡ status_number statuses.NoSocket) × (after ≡ before) × (new ≡ None)
-Written Call (Some old) before result after new =
-    (status : Status) × (session : Session) × Call old before status after session × (result ≡ status_number status) × (new ≡ Some session)
+-- The same of calls that write to a place of the caller's: before, and after.
+abbrev pub Written : {T : Type 0} → (Session → T → Status → T → Session → Type 0) → (ChannelSession → T → Status → T → ChannelSession → Type 0)
+    → Option Held → T → ℤ → T → Option Held → Type 0
+Written Plain Channelled None before result after new = (result ≡ status_number statuses.NoSocket) × (after ≡ before) × (new ≡ None)
+Written Plain Channelled (Some (helds.Socket old)) before result after new =
+    (status : Status) × (session : Session) × Plain old before status after session × (result ≡ status_number status) × (new ≡ Some (helds.Socket session))
+Written Plain Channelled (Some (helds.Channels old)) before result after new =
+    (status : Status) × (session : ChannelSession) × Channelled old before status after session × (result ≡ status_number status) × (new ≡ Some (helds.Channels session))
+
+-- ---- calls that are refused
+
+-- This is returned, and nothing changes.
+abbrev pub Refuses : {S : Type 0} → Status → S → Status → S → Type 0
+Refuses refusal old status new = (status ≡ refusal) × (new ≡ old)
+
+-- The same of a call that would write.
+abbrev pub WritesNothing : {S T : Type 0} → Status → S → T → Status → T → S → Type 0
+WritesNothing refusal old before status after new = (status ≡ refusal) × (after ≡ before) × (new ≡ old)
+
+-- The call takes place on a session. One with channels refuses what is below them.
+abbrev pub Below : (Session → Status → Session → Type 0) → Option Held → ℤ → Option Held → Type 0
+Below Plain held result new = Exported Plain (Refuses statuses.HasChannels) held result new
+
+abbrev pub WrittenBelow : {T : Type 0} → (Session → T → Status → T → Session → Type 0) → Option Held → T → ℤ → T → Option Held → Type 0
+WrittenBelow Plain held before result after new = Written Plain (WritesNothing statuses.HasChannels) held before result after new
 
 -- a version as one number
 abbrev pub version_number : ℕ → ℕ → ℕ → ℕ
@@ -38,10 +63,10 @@ abbrev pub DefaultGiven : OptionsRecord → ℤ → OptionsRecord → Type 0
 DefaultGiven before result after = DefaultIf (has_options_size before) before result after
 
 -- A handle without a session is given one, unless it can't be made. One with a session keeps it.
-abbrev pub CreatedIn : OptionsRecord → List ℕ → ℕ → Option Session → ℤ → Option Session → Type 0
-CreatedIn numbers seed moment (Some session) result new = (result ≡ status_number statuses.AlreadyCreated) × (new ≡ Some session)
+abbrev pub CreatedIn : OptionsRecord → List ℕ → ℕ → Option Held → ℤ → Option Held → Type 0
+CreatedIn numbers seed moment (Some held) result new = (result ≡ status_number statuses.AlreadyCreated) × (new ≡ Some held)
 CreatedIn numbers seed moment None result new =
-    ((session : Session) × Creates numbers seed moment (Ok session) × (result ≡ status_number statuses.Done) × (new ≡ Some session))
+    ((session : Session) × Creates numbers seed moment (Ok session) × (result ≡ status_number statuses.Done) × (new ≡ Some (helds.Socket session)))
     ⊎ ((status : Status) × Creates numbers seed moment (Err status) × (result ≡ status_number status) × (new ≡ None))
 
 -- ---- what is taken

@@ -1,2 +1,3 @@
+pub mod Channels
 pub mod Exports
 pub mod Queries

@@ -1,12 +1,14 @@
--- What a query does: it reads the session of a handle, and its status is returned as a number. Each
--- contract says besides that the handle stays as it is.
-use Rattle.std.specs.Prelude.{◌≡◌, ℕ, ℤ, pos, Bool, true, false, List, Option, Some, None}
+-- What a query does: it reads what a handle has, and its status is returned as a number. Each contract says besides that the
+-- handle stays as it is.
+use Rattle.std.specs.Prelude.{◌≡◌, ℕ, ℤ, min, pos, Bool, true, false, List, Option, Some, None}
 use denote.RawPtr.{Ptr}
 use Rattle.std.specs.Global.{Vec}
 use Rattle.dcsctp_api.specs.spec.Handover.{readiness_of}
+use Rattle.dcsctp_api.specs.spec.endpoint.Endpoint.{own_tag}
+use Rattle.dcsctp_api.specs.spec.endpoint.TimeTurns.{next_moment}
 use Rattle.dcsctp_api.specs.spec.queues.Incoming.{AreInOrder}
 use Rattle.dcsctp_api.specs.spec.queues.SendQueue.{IsWellFormed}
-use Rattle.dcsctp_api.specs.Calls.{socket_state_of, stream_shown}
+use Rattle.dcsctp_api.specs.Calls.{UserView, socket_state_of, stream_shown}
 use Rattle.dcsctp_api.specs.Messages.{incoming_streams}
 use Rattle.dcsctp_session.specs.declared.session.Session.{Session}
 use Rattle.dcsctp_session.specs.declared.status.Status.{Status}
@@ -17,33 +19,70 @@ use Rattle.dcsctp_session.specs.declared.records.CountsRecord.{CountsRecord}
 use Rattle.dcsctp_session.specs.Calls.{MetricsShown, CountsShown}
 use Rattle.dcsctp_session.specs.Copying.{CopiesTaken, ShowsPlace}
 use Rattle.dcsctp_session.specs.Handover.{CopiesSnapshot}
-use Rattle.dcsctp_session.specs.Options.{ShowsOptions, has_options_size}
+use Rattle.dcsctp_session.specs.Options.{ShowsOptions, has_options_size, never}
 use Rattle.dcsctp_session.specs.Records.{has_metrics_size, has_counts_size}
 use Rattle.dcsctp_session.specs.Status.{status_number, state_number, taken_status}
 use Rattle.dcsctp_session.specs.Views.{view}
+use Rattle.dcsctp_channel_session.specs.Views.{channels_view, channels_deadline}
+use Rattle.dcsctp_channel_session.specs.declared.held.Held.{Held}
+use Rattle.dcsctp_channel_session.specs.declared.held.Held.TheVariants as helds
+use Rattle.dcsctp_channel_session.specs.declared.session.ChannelSession.{ChannelSession}
 use Rattle.dcsctp_c.specs.Exports.{taken_or}
 
--- The query is made of the session, if there is one, and may write to a place of the caller's: before, and after.
-abbrev pub Asked : {T : Type 0} → (Session → T → Status → T → Type 0) → Option Session → T → ℤ → T → Type 0
-Asked Query None before result after = (result ≡ status_number statuses.NoSocket) × (after ≡ before)
-Asked Query (Some session) before result after = (status : Status) × Query session before status after × (result ≡ status_number status)
+-- The one query is made of a session, and the other of one with channels. It may write to a place of the caller's: before, and
+-- after.
+abbrev pub Asked : {T : Type 0} → (Session → T → Status → T → Type 0) → (ChannelSession → T → Status → T → Type 0) → Option Held → T → ℤ → T → Type 0
+Asked Plain Channelled None before result after = (result ≡ status_number statuses.NoSocket) × (after ≡ before)
+Asked Plain Channelled (Some (helds.Socket session)) before result after = (status : Status) × Plain session before status after × (result ≡ status_number status)
+Asked Plain Channelled (Some (helds.Channels session)) before result after =
+    (status : Status) × Channelled session before status after × (result ≡ status_number status)
 
 -- The same where the place is a record: one that hasn't the size of the library's is refused, and nothing is written.
-abbrev pub AskedIf : {T : Type 0} → Bool → (Session → T → Status → T → Type 0) → Option Session → T → ℤ → T → Type 0
-AskedIf false Query held before result after = (result ≡ status_number statuses.WrongSize) × (after ≡ before)
-AskedIf true Query held before result after = Asked Query held before result after
+abbrev pub AskedIf : {T : Type 0} → Bool → (Session → T → Status → T → Type 0) → (ChannelSession → T → Status → T → Type 0)
+    → Option Held → T → ℤ → T → Type 0
+AskedIf false Plain Channelled held before result after = (result ≡ status_number statuses.WrongSize) × (after ≡ before)
+AskedIf true Plain Channelled held before result after = Asked Plain Channelled held before result after
+
+-- This is returned, and nothing is written.
+abbrev pub TellsNothing : {S T : Type 0} → Status → S → T → Status → T → Type 0
+TellsNothing refusal session before status after = (status ≡ refusal) × (after ≡ before)
+
+-- The query is made of a session. One with channels refuses what is below them.
+abbrev pub AskedBelow : {T : Type 0} → (Session → T → Status → T → Type 0) → Option Held → T → ℤ → T → Type 0
+AskedBelow Plain held before result after = Asked Plain (TellsNothing statuses.HasChannels) held before result after
 
 -- ---- what is written
 
 -- What is said of the session is written.
-abbrev pub WritesAnswer : {T : Type 0} → (Session → T → Type 0) → Session → T → Status → T → Type 0
+abbrev pub WritesAnswer : {S T : Type 0} → (S → T → Type 0) → S → T → Status → T → Type 0
 WritesAnswer Says session before status after = Says session after × (status ≡ statuses.Done)
+
+-- what the socket is to its user, whether it has channels or not
+abbrev pub socket_below : ChannelSession → UserView
+socket_below session = (channels_view session).below
+
+-- What is said of the socket is written, whether it has channels or not.
+abbrev pub AskedOf : {T : Type 0} → (UserView → T → Type 0) → Option Held → T → ℤ → T → Type 0
+AskedOf Says held before result after =
+    Asked (WritesAnswer (λ session told. Says (view session) told)) (WritesAnswer (λ session told. Says (socket_below session) told)) held before result after
+
+abbrev pub TagAsked : Option Held → ℕ → ℤ → ℕ → Type 0
+TagAsked = AskedOf (λ shown told. told ≡ own_tag shown.endpoint.core)
+
+-- when the next call is due
+abbrev pub DeadlineAsked : Option Held → ℕ → ℤ → ℕ → Type 0
+DeadlineAsked =
+    Asked (WritesAnswer (λ session told. told ≡ min (next_moment (view session).endpoint) never)) (WritesAnswer (λ session told. told ≡ min (channels_deadline (channels_view session)) never))
 
 abbrev pub WritesOptions : Session → OptionsRecord → Status → OptionsRecord → Type 0
 WritesOptions = WritesAnswer (λ session told. ShowsOptions told (view session).endpoint.options session.checksum_offload)
 
-abbrev pub OptionsGiven : Option Session → OptionsRecord → ℤ → OptionsRecord → Type 0
-OptionsGiven held before result after = AskedIf (has_options_size before) WritesOptions held before result after
+-- a socket with channels makes its checksums
+abbrev pub ChannelsWriteOptions : ChannelSession → OptionsRecord → Status → OptionsRecord → Type 0
+ChannelsWriteOptions = WritesAnswer (λ session told. ShowsOptions told (socket_below session).endpoint.options false)
+
+abbrev pub OptionsGiven : Option Held → OptionsRecord → ℤ → OptionsRecord → Type 0
+OptionsGiven held before result after = AskedIf (has_options_size before) WritesOptions ChannelsWriteOptions held before result after
 
 -- the payload bytes that wait on a stream; each stream is in the queue once
 abbrev pub AmountIs : ℕ → Session → ℕ → Type 0
@@ -53,20 +92,26 @@ AmountIs stream session told = (told ≡ (stream_shown (view session) stream).am
 abbrev pub ReadinessIs : Session → ℕ → Type 0
 ReadinessIs session told = (told ≡ readiness_of (view session).endpoint) × AreInOrder (incoming_streams (view session).endpoint)
 
--- The metrics are written, if there are any.
-abbrev pub TellsMetrics : Session → MetricsRecord → Status → MetricsRecord → Type 0
-TellsMetrics session before status after =
-    (metrics : Option MetricsRecord) × MetricsShown session metrics × (status ≡ taken_status metrics) × (after ≡ taken_or before metrics)
+-- The metrics of the socket are written, if there are any.
+abbrev pub TellsMetrics : {S : Type 0} → (S → UserView) → S → MetricsRecord → Status → MetricsRecord → Type 0
+TellsMetrics shown session before status after =
+    (metrics : Option MetricsRecord) × MetricsShown (shown session) metrics × (status ≡ taken_status metrics) × (after ≡ taken_or before metrics)
 
-abbrev pub MetricsGiven : Option Session → MetricsRecord → ℤ → MetricsRecord → Type 0
-MetricsGiven held before result after = AskedIf (has_metrics_size before) TellsMetrics held before result after
+abbrev pub MetricsAsked : Option Held → MetricsRecord → ℤ → MetricsRecord → Type 0
+MetricsAsked = Asked (TellsMetrics view) (TellsMetrics socket_below)
+
+abbrev pub MetricsGiven : Option Held → MetricsRecord → ℤ → MetricsRecord → Type 0
+MetricsGiven held before result after = AskedIf (has_metrics_size before) (TellsMetrics view) (TellsMetrics socket_below) held before result after
 
 -- The counts are written.
-abbrev pub TellsCounts : Session → CountsRecord → Status → CountsRecord → Type 0
-TellsCounts = WritesAnswer CountsShown
+abbrev pub TellsCounts : {S : Type 0} → (S → UserView) → S → CountsRecord → Status → CountsRecord → Type 0
+TellsCounts shown = WritesAnswer (λ session told. CountsShown (shown session) told)
 
-abbrev pub CountsGiven : Option Session → CountsRecord → ℤ → CountsRecord → Type 0
-CountsGiven held before result after = AskedIf (has_counts_size before) TellsCounts held before result after
+abbrev pub CountsAsked : Option Held → CountsRecord → ℤ → CountsRecord → Type 0
+CountsAsked = Asked (TellsCounts view) (TellsCounts socket_below)
+
+abbrev pub CountsGiven : Option Held → CountsRecord → ℤ → CountsRecord → Type 0
+CountsGiven held before result after = AskedIf (has_counts_size before) (TellsCounts view) (TellsCounts socket_below) held before result after
 
 -- ---- what is copied or shown
 
@@ -79,7 +124,7 @@ abbrev pub buffer_of : List ℕ → ℕ → Buffer
 buffer_of numbers told = record { numbers = numbers; told = told }
 
 -- What the session has is copied to the buffer.
-abbrev pub CopiesFrom : (Session → Option (List ℕ)) → Session → Buffer → Status → Buffer → Type 0
+abbrev pub CopiesFrom : {S : Type 0} → (S → Option (List ℕ)) → S → Buffer → Status → Buffer → Type 0
 CopiesFrom numbers_in session before status after = CopiesTaken (numbers_in session) before.numbers status after.numbers after.told
 
 -- The same of the bytes of a snapshot.
@@ -96,20 +141,22 @@ abbrev pub output_place : Ptr → ℕ → OutputPlace
 output_place at told = record { at = at; told = told }
 
 -- Where the session has bytes is written.
-abbrev pub ShowsFrom : (Session → Option (Vec ℕ)) → Session → OutputPlace → Status → OutputPlace → Type 0
+abbrev pub ShowsFrom : {S : Type 0} → (S → Option (Vec ℕ)) → S → OutputPlace → Status → OutputPlace → Type 0
 ShowsFrom bytes_of session before status after = ShowsPlace (bytes_of session) before.at status after.at after.told
 
 -- ---- what is returned by number
 
-abbrev pub ReturnsState : Option Session → ℤ → Type 0
+abbrev pub ReturnsState : Option Held → ℤ → Type 0
 ReturnsState None result = result ≡ status_number statuses.NoSocket
-ReturnsState (Some session) result = result ≡ state_number (socket_state_of (view session).endpoint.core)
+ReturnsState (Some (helds.Socket session)) result = result ≡ state_number (socket_state_of (view session).endpoint.core)
+ReturnsState (Some (helds.Channels session)) result = result ≡ state_number (socket_state_of (socket_below session).endpoint.core)
 
 abbrev pub failed_number : Bool → ℤ
 failed_number false = pos 0
 failed_number true = pos 1
 
 -- 1 is returned if an allocation failed in an earlier call, and else 0.
-abbrev pub ReturnsFailed : Option Session → ℤ → Type 0
+abbrev pub ReturnsFailed : Option Held → ℤ → Type 0
 ReturnsFailed None result = result ≡ status_number statuses.NoSocket
-ReturnsFailed (Some session) result = result ≡ failed_number (view session).failed
+ReturnsFailed (Some (helds.Socket session)) result = result ≡ failed_number (view session).failed
+ReturnsFailed (Some (helds.Channels session)) result = result ≡ failed_number (channels_view session).layer.failed

@@ -2,6 +2,7 @@
 
 ghost use Rattle.std.specs.Prelude.{◌≡◌};
 ghost use Rattle.dcsctp_session.specs.Status.{state_number, status_number, taken_status};
+ghost use Rattle.dcsctp_c.specs.Channels.{found_status};
 ghost use Rattle.dcsctp_c.specs.Exports.{taken_or};
 
 use dcsctp_session::{SocketState, Status};
@@ -19,6 +20,20 @@ pub(crate) fn take<T: Copy>(taken: Option<T>, otherwise: T, place: &mut T) -> i3
         Some(told) => {
             *place = told;
             Status::Taken.number()
+        }
+    }
+}
+
+// Writes what was found; if nothing was, this status is returned.
+pub(crate) fn put<T: Copy>(found: Option<T>, missing: Status, place: &mut T) -> i32
+    ensures result { result ≡ status_number (found_status missing found) }
+    ensures place { place.new ≡ taken_or place.old found }
+{
+    match found {
+        None => missing.number(),
+        Some(told) => {
+            *place = told;
+            Status::Done.number()
         }
     }
 }

@@ -2,21 +2,25 @@
 
 ghost use Rattle.dcsctp_session.specs.Handover.{HandedOver, Restored};
 ghost use Rattle.std.specs.Prelude.{◌≡◌};
-ghost use Rattle.dcsctp_c.specs.Exports.{Exported};
-ghost use Rattle.dcsctp_c.specs.Queries.{Asked, CopiesSnapshotFrom, buffer_of};
+ghost use Rattle.dcsctp_c.specs.Exports.{Below};
+ghost use Rattle.dcsctp_c.specs.Queries.{AskedBelow, CopiesSnapshotFrom, buffer_of};
 
+use dcsctp_channel_session::Held;
 use dcsctp_handle::Handle;
 use dcsctp_session::Status;
 
 /// Takes the socket's snapshot, and ends the association here.
 #[unsafe(no_mangle)]
 pub extern "C" fn dcsctp_get_handover_state_and_close(handle: &mut Handle) -> i32
-    ensures { Exported HandedOver handle.old.slot.value result handle.new.slot.value }
+    ensures { Below HandedOver handle.old.slot.value result handle.new.slot.value }
 {
     if !handle.is_open() {
         return Status::NoSocket.number();
     }
-    handle.slot.session().hand_over().number()
+    match handle.slot.held() {
+        Held::Socket(session) => session.hand_over().number(),
+        Held::Channels(_) => Status::HasChannels.number(),
+    }
 }
 
 /// Copies the bytes of the snapshot that was taken last, and their seal.
@@ -26,27 +30,29 @@ pub extern "C" fn dcsctp_handover_bytes(
     buffer: &mut [u8],
     length: &mut usize,
 ) -> i32
-    ensures answer { Asked CopiesSnapshotFrom handle.old.slot.value
+    ensures answer { AskedBelow CopiesSnapshotFrom handle.old.slot.value
         (buffer_of buffer.old length.old) result (buffer_of buffer.new length.new) }
     ensures same { handle.new ≡ handle.old }
 {
     if !handle.is_open() {
         return Status::NoSocket.number();
     }
-    handle
-        .slot
-        .session()
-        .snapshot_bytes(buffer, length)
-        .number()
+    match handle.slot.held() {
+        Held::Socket(session) => session.snapshot_bytes(buffer, length).number(),
+        Held::Channels(_) => Status::HasChannels.number(),
+    }
 }
 
 /// Restores a closed socket from a snapshot in bytes.
 #[unsafe(no_mangle)]
 pub extern "C" fn dcsctp_restore_from_state(handle: &mut Handle, bytes: &[u8]) -> i32
-    ensures { Exported (Restored bytes.now) handle.old.slot.value result handle.new.slot.value }
+    ensures { Below (Restored bytes.now) handle.old.slot.value result handle.new.slot.value }
 {
     if !handle.is_open() {
         return Status::NoSocket.number();
     }
-    handle.slot.session().restore(bytes).number()
+    match handle.slot.held() {
+        Held::Socket(session) => session.restore(bytes).number(),
+        Held::Channels(_) => Status::HasChannels.number(),
+    }
 }

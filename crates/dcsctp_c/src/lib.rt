@@ -3,6 +3,7 @@
 
 mod answers;
 mod association;
+mod channels;
 mod handover;
 mod lifetime;
 mod queries;

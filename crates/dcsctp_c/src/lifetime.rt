@@ -3,6 +3,7 @@
 ghost use Rattle.std.specs.Prelude.{◌≡◌, None};
 ghost use Rattle.dcsctp_c.specs.Exports.{DefaultGiven, CreatedIn};
 
+use dcsctp_channel_session::Held;
 use dcsctp_handle::Handle;
 use dcsctp_session::{OptionsRecord, Session, Status};
 use std::alloc::Global;
@@ -38,7 +39,7 @@ pub extern "C" fn dcsctp_create(
         Ok(session) => session,
         Err(status) => return status.number(),
     };
-    match Handle::of(alloc, session) {
+    match Handle::of(alloc, Held::Socket(session)) {
         Ok(made) => {
             *handle = made;
             Status::Done.number()

@@ -1,15 +1,13 @@
 //! Queries. Each leaves its handle as it was, the two words too, so the header takes the socket as `const`.
 
-ghost use Rattle.std.specs.Prelude.{◌≡◌, min, length};
-ghost use Rattle.dcsctp_api.specs.spec.endpoint.Endpoint.{own_tag};
-ghost use Rattle.dcsctp_api.specs.spec.endpoint.TimeTurns.{next_moment};
+ghost use Rattle.std.specs.Prelude.{◌≡◌, length};
 ghost use Rattle.dcsctp_api.specs.Calls.{stream_shown};
 ghost use Rattle.dcsctp_api.specs.Messages.{ready_messages};
-ghost use Rattle.dcsctp_session.specs.Options.{never};
 ghost use Rattle.dcsctp_session.specs.Views.{view};
-ghost use Rattle.dcsctp_c.specs.Queries.{Asked, WritesAnswer, AmountIs, ReadinessIs, WritesOptions, OptionsGiven, TellsMetrics, MetricsGiven, TellsCounts, CountsGiven, ReturnsState, ReturnsFailed};
+ghost use Rattle.dcsctp_c.specs.Queries.{Asked, AskedBelow, WritesAnswer, TagAsked, DeadlineAsked, AmountIs, ReadinessIs, WritesOptions, ChannelsWriteOptions, OptionsGiven, MetricsAsked, MetricsGiven, CountsAsked, CountsGiven, ReturnsState, ReturnsFailed};
 
 use crate::answers::{state_number, take};
+use dcsctp_channel_session::Held;
 use dcsctp_handle::Handle;
 use dcsctp_session::{CountsRecord, MetricsRecord, OptionsRecord, Status};
 
@@ -22,7 +20,11 @@ pub extern "C" fn dcsctp_state(handle: &mut Handle) -> i32
     if !handle.is_open() {
         return Status::NoSocket.number();
     }
-    state_number(handle.slot.session().state())
+    let state = match handle.slot.held() {
+        Held::Socket(session) => session.state(),
+        Held::Channels(channels) => channels.state(),
+    };
+    state_number(state)
 }
 
 /// Did an allocation fail in an earlier call?
@@ -34,53 +36,64 @@ pub extern "C" fn dcsctp_has_failed(handle: &mut Handle) -> i32
     if !handle.is_open() {
         return Status::NoSocket.number();
     }
-    if handle.slot.session().has_failed() {
-        1
-    } else {
-        0
-    }
+    let has_failed = match handle.slot.held() {
+        Held::Socket(session) => session.has_failed(),
+        Held::Channels(channels) => channels.has_failed(),
+    };
+    if has_failed { 1 } else { 0 }
 }
 
 /// Our own verification tag; 0 in the closed state.
 #[unsafe(no_mangle)]
 pub extern "C" fn dcsctp_verification_tag(handle: &mut Handle, tag: &mut u32) -> i32
-    ensures answer { Asked
-        (WritesAnswer (λ session told. told ≡ own_tag (view session).endpoint.core))
-        handle.old.slot.value tag.old result tag.new }
+    ensures answer { TagAsked handle.old.slot.value tag.old result tag.new }
     ensures same { handle.new ≡ handle.old }
 {
     if !handle.is_open() {
         return Status::NoSocket.number();
     }
-    *tag = handle.slot.session().verification_tag();
+    *tag = match handle.slot.held() {
+        Held::Socket(session) => session.verification_tag(),
+        Held::Channels(channels) => channels.verification_tag(),
+    };
     Status::Done.number()
 }
 
 /// The socket's next deadline.
 #[unsafe(no_mangle)]
 pub extern "C" fn dcsctp_poll_timeout(handle: &mut Handle, moment: &mut u64) -> i32
-    ensures answer { Asked
-        (WritesAnswer (λ session told. told ≡ min (next_moment (view session).endpoint) never))
-        handle.old.slot.value moment.old result moment.new }
+    ensures answer { DeadlineAsked handle.old.slot.value moment.old result moment.new }
     ensures same { handle.new ≡ handle.old }
 {
     if !handle.is_open() {
         return Status::NoSocket.number();
     }
-    *moment = handle.slot.session().poll_timeout();
+    *moment = match handle.slot.held() {
+        Held::Socket(session) => session.poll_timeout(),
+        Held::Channels(channels) => channels.poll_timeout(),
+    };
     Status::Done.number()
 }
 
 // Writes the options of the socket, whatever the size that the record says.
 fn write_options(handle: &mut Handle, options: &mut OptionsRecord) -> i32
-    ensures answer { Asked WritesOptions handle.old.slot.value options.old result options.new }
+    ensures answer { Asked WritesOptions ChannelsWriteOptions handle.old.slot.value options.old
+        result options.new }
     ensures same { handle.new ≡ handle.old }
 {
     if !handle.is_open() {
         return Status::NoSocket.number();
     }
-    *options = handle.slot.session().options();
-    Status::Done.number()
+    match handle.slot.held() {
+        Held::Socket(session) => {
+            *options = session.options();
+            Status::Done.number()
+        }
+        Held::Channels(channels) => {
+            *options = channels.options();
+            Status::Done.number()
+        }
+    }
 }
 
 /// The options of the socket, if the record has the size of the library's.
@@ -102,14 +115,17 @@ pub extern "C" fn dcsctp_buffered_amount(
     stream_id: u16,
     bytes: &mut usize,
 ) -> i32
-    ensures answer { Asked (WritesAnswer (AmountIs stream_id)) handle.old.slot.value bytes.old
+    ensures answer { AskedBelow (WritesAnswer (AmountIs stream_id)) handle.old.slot.value bytes.old
         result bytes.new }
     ensures same { handle.new ≡ handle.old }
 {
     if !handle.is_open() {
         return Status::NoSocket.number();
     }
-    *bytes = handle.slot.session().buffered_amount(stream_id);
+    let Held::Socket(session) = handle.slot.held() else {
+        return Status::HasChannels.number();
+    };
+    *bytes = session.buffered_amount(stream_id);
     Status::Done.number()
 }
 
@@ -120,7 +136,7 @@ pub extern "C" fn dcsctp_buffered_amount_low_threshold(
     stream_id: u16,
     bytes: &mut usize,
 ) -> i32
-    ensures answer { Asked
+    ensures answer { AskedBelow
         (WritesAnswer (λ session told. told ≡ (stream_shown (view session) stream_id).threshold))
         handle.old.slot.value bytes.old result bytes.new }
     ensures same { handle.new ≡ handle.old }
@@ -128,10 +144,10 @@ pub extern "C" fn dcsctp_buffered_amount_low_threshold(
     if !handle.is_open() {
         return Status::NoSocket.number();
     }
-    *bytes = handle
-        .slot
-        .session()
-        .buffered_amount_low_threshold(stream_id);
+    let Held::Socket(session) = handle.slot.held() else {
+        return Status::HasChannels.number();
+    };
+    *bytes = session.buffered_amount_low_threshold(stream_id);
     Status::Done.number()
 }
 
@@ -142,7 +158,7 @@ pub extern "C" fn dcsctp_get_stream_priority(
     stream_id: u16,
     priority: &mut u16,
 ) -> i32
-    ensures answer { Asked
+    ensures answer { AskedBelow
         (WritesAnswer (λ session told. told ≡ (stream_shown (view session) stream_id).priority))
         handle.old.slot.value priority.old result priority.new }
     ensures same { handle.new ≡ handle.old }
@@ -150,14 +166,17 @@ pub extern "C" fn dcsctp_get_stream_priority(
     if !handle.is_open() {
         return Status::NoSocket.number();
     }
-    *priority = handle.slot.session().stream_priority(stream_id);
+    let Held::Socket(session) = handle.slot.held() else {
+        return Status::HasChannels.number();
+    };
+    *priority = session.stream_priority(stream_id);
     Status::Done.number()
 }
 
 /// How many messages are ready to be taken.
 #[unsafe(no_mangle)]
 pub extern "C" fn dcsctp_messages_ready_count(handle: &mut Handle, count: &mut usize) -> i32
-    ensures answer { Asked
+    ensures answer { AskedBelow
         (WritesAnswer (λ session told. told ≡ length (ready_messages (view session).endpoint)))
         handle.old.slot.value count.old result count.new }
     ensures same { handle.new ≡ handle.old }
@@ -165,19 +184,26 @@ pub extern "C" fn dcsctp_messages_ready_count(handle: &mut Handle, count: &mut u
     if !handle.is_open() {
         return Status::NoSocket.number();
     }
-    *count = handle.slot.session().messages_ready_count();
+    let Held::Socket(session) = handle.slot.held() else {
+        return Status::HasChannels.number();
+    };
+    *count = session.messages_ready_count();
     Status::Done.number()
 }
 
 // Writes the metrics, where the peer is known, whatever the size that the record says.
 fn write_metrics(handle: &mut Handle, metrics: &mut MetricsRecord) -> i32
-    ensures answer { Asked TellsMetrics handle.old.slot.value metrics.old result metrics.new }
+    ensures answer { MetricsAsked handle.old.slot.value metrics.old result metrics.new }
     ensures same { handle.new ≡ handle.old }
 {
     if !handle.is_open() {
         return Status::NoSocket.number();
     }
-    take(handle.slot.session().metrics(), *metrics, metrics)
+    let found = match handle.slot.held() {
+        Held::Socket(session) => session.metrics(),
+        Held::Channels(channels) => channels.metrics(),
+    };
+    take(found, *metrics, metrics)
 }
 
 /// The metrics, where the peer is known, if the record has the size of the library's.
@@ -194,13 +220,16 @@ pub extern "C" fn dcsctp_get_metrics(handle: &mut Handle, metrics: &mut MetricsR
 
 // Writes the counts, whatever the size that the record says.
 fn write_counts(handle: &mut Handle, counts: &mut CountsRecord) -> i32
-    ensures answer { Asked TellsCounts handle.old.slot.value counts.old result counts.new }
+    ensures answer { CountsAsked handle.old.slot.value counts.old result counts.new }
     ensures same { handle.new ≡ handle.old }
 {
     if !handle.is_open() {
         return Status::NoSocket.number();
     }
-    *counts = handle.slot.session().counts();
+    *counts = match handle.slot.held() {
+        Held::Socket(session) => session.counts(),
+        Held::Channels(channels) => channels.counts(),
+    };
     Status::Done.number()
 }
 
@@ -219,13 +248,16 @@ pub extern "C" fn dcsctp_get_counts(handle: &mut Handle, counts: &mut CountsReco
 /// Why the socket can't be handed over now.
 #[unsafe(no_mangle)]
 pub extern "C" fn dcsctp_get_handover_readiness(handle: &mut Handle, reasons: &mut u32) -> i32
-    ensures answer { Asked (WritesAnswer ReadinessIs) handle.old.slot.value reasons.old result
+    ensures answer { AskedBelow (WritesAnswer ReadinessIs) handle.old.slot.value reasons.old result
         reasons.new }
     ensures same { handle.new ≡ handle.old }
 {
     if !handle.is_open() {
         return Status::NoSocket.number();
     }
-    *reasons = handle.slot.session().handover_readiness();
+    let Held::Socket(session) = handle.slot.held() else {
+        return Status::HasChannels.number();
+    };
+    *reasons = session.handover_readiness();
     Status::Done.number()
 }

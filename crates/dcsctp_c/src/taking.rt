@@ -2,27 +2,27 @@
 
 ghost use Rattle.std.specs.Prelude.{◌≡◌};
 ghost use Rattle.dcsctp_session.specs.Views.{bytes_in, packet_in_event, streams_in_event, payload_in, message_in};
-ghost use Rattle.dcsctp_c.specs.Exports.{Written, WritesEvent, WritesMessage};
-ghost use Rattle.dcsctp_c.specs.Queries.{Asked, CopiesFrom, buffer_of, ShowsFrom, output_place};
+ghost use Rattle.dcsctp_c.specs.Exports.{WrittenBelow, WritesEvent, WritesMessage};
+ghost use Rattle.dcsctp_c.specs.Queries.{AskedBelow, CopiesFrom, buffer_of, ShowsFrom, output_place};
 
 use crate::answers::take;
+use dcsctp_channel_session::Held;
 use dcsctp_handle::Handle;
 use dcsctp_session::{EventRecord, MessageRecord, Status};
 
 /// Takes the event that was added first.
 #[unsafe(no_mangle)]
 pub extern "C" fn dcsctp_poll_event(handle: &mut Handle, event: &mut EventRecord) -> i32
-    ensures { Written WritesEvent handle.old.slot.value event.old result event.new
+    ensures { WrittenBelow WritesEvent handle.old.slot.value event.old result event.new
         handle.new.slot.value }
 {
     if !handle.is_open() {
         return Status::NoSocket.number();
     }
-    take(
-        handle.slot.session().poll_event(),
-        EventRecord::none(),
-        event,
-    )
+    match handle.slot.held() {
+        Held::Socket(session) => take(session.poll_event(), EventRecord::none(), event),
+        Held::Channels(_) => Status::HasChannels.number(),
+    }
 }
 
 /// Copies the packet or the text of the event that was taken last.
@@ -32,7 +32,7 @@ pub extern "C" fn dcsctp_event_bytes(
     buffer: &mut [u8],
     length: &mut usize,
 ) -> i32
-    ensures answer { Asked (CopiesFrom (λ session. bytes_in session.taken.event))
+    ensures answer { AskedBelow (CopiesFrom (λ session. bytes_in session.taken.event))
         handle.old.slot.value
         (buffer_of buffer.old length.old) result (buffer_of buffer.new length.new) }
     ensures same { handle.new ≡ handle.old }
@@ -40,7 +40,10 @@ pub extern "C" fn dcsctp_event_bytes(
     if !handle.is_open() {
         return Status::NoSocket.number();
     }
-    handle.slot.session().event_bytes(buffer, length).number()
+    match handle.slot.held() {
+        Held::Socket(session) => session.event_bytes(buffer, length).number(),
+        Held::Channels(_) => Status::HasChannels.number(),
+    }
 }
 
 /// Shows where the packet of the event lies that was taken last.
@@ -50,7 +53,7 @@ pub extern "C" fn dcsctp_event_view(
     bytes: &mut *const u8,
     length: &mut usize,
 ) -> i32
-    ensures answer { Asked (ShowsFrom (λ session. packet_in_event session.taken.event))
+    ensures answer { AskedBelow (ShowsFrom (λ session. packet_in_event session.taken.event))
         handle.old.slot.value
         (output_place bytes.old length.old) result (output_place bytes.new length.new) }
     ensures same { handle.new ≡ handle.old }
@@ -58,7 +61,10 @@ pub extern "C" fn dcsctp_event_view(
     if !handle.is_open() {
         return Status::NoSocket.number();
     }
-    handle.slot.session().event_view(bytes, length).number()
+    match handle.slot.held() {
+        Held::Socket(session) => session.event_view(bytes, length).number(),
+        Held::Channels(_) => Status::HasChannels.number(),
+    }
 }
 
 /// Copies the streams of the event that was taken last.
@@ -68,7 +74,7 @@ pub extern "C" fn dcsctp_event_streams(
     buffer: &mut [u16],
     count: &mut usize,
 ) -> i32
-    ensures answer { Asked (CopiesFrom (λ session. streams_in_event session.taken.event))
+    ensures answer { AskedBelow (CopiesFrom (λ session. streams_in_event session.taken.event))
         handle.old.slot.value
         (buffer_of buffer.old count.old) result (buffer_of buffer.new count.new) }
     ensures same { handle.new ≡ handle.old }
@@ -76,23 +82,25 @@ pub extern "C" fn dcsctp_event_streams(
     if !handle.is_open() {
         return Status::NoSocket.number();
     }
-    handle.slot.session().event_streams(buffer, count).number()
+    match handle.slot.held() {
+        Held::Socket(session) => session.event_streams(buffer, count).number(),
+        Held::Channels(_) => Status::HasChannels.number(),
+    }
 }
 
 /// Takes the message that became ready first.
 #[unsafe(no_mangle)]
 pub extern "C" fn dcsctp_get_next_message(handle: &mut Handle, message: &mut MessageRecord) -> i32
-    ensures { Written WritesMessage handle.old.slot.value message.old result message.new
+    ensures { WrittenBelow WritesMessage handle.old.slot.value message.old result message.new
         handle.new.slot.value }
 {
     if !handle.is_open() {
         return Status::NoSocket.number();
     }
-    take(
-        handle.slot.session().get_next_message(),
-        MessageRecord::none(),
-        message,
-    )
+    match handle.slot.held() {
+        Held::Socket(session) => take(session.get_next_message(), MessageRecord::none(), message),
+        Held::Channels(_) => Status::HasChannels.number(),
+    }
 }
 
 /// Copies the payload of the message that was taken last.
@@ -102,7 +110,7 @@ pub extern "C" fn dcsctp_message_bytes(
     buffer: &mut [u8],
     length: &mut usize,
 ) -> i32
-    ensures answer { Asked (CopiesFrom (λ session. payload_in session.taken.message))
+    ensures answer { AskedBelow (CopiesFrom (λ session. payload_in session.taken.message))
         handle.old.slot.value
         (buffer_of buffer.old length.old) result (buffer_of buffer.new length.new) }
     ensures same { handle.new ≡ handle.old }
@@ -110,7 +118,10 @@ pub extern "C" fn dcsctp_message_bytes(
     if !handle.is_open() {
         return Status::NoSocket.number();
     }
-    handle.slot.session().message_bytes(buffer, length).number()
+    match handle.slot.held() {
+        Held::Socket(session) => session.message_bytes(buffer, length).number(),
+        Held::Channels(_) => Status::HasChannels.number(),
+    }
 }
 
 /// Shows where the payload of the message lies that was taken last.
@@ -120,7 +131,7 @@ pub extern "C" fn dcsctp_message_view(
     bytes: &mut *const u8,
     length: &mut usize,
 ) -> i32
-    ensures answer { Asked (ShowsFrom (λ session. message_in session.taken.message))
+    ensures answer { AskedBelow (ShowsFrom (λ session. message_in session.taken.message))
         handle.old.slot.value
         (output_place bytes.old length.old) result (output_place bytes.new length.new) }
     ensures same { handle.new ≡ handle.old }
@@ -128,5 +139,8 @@ pub extern "C" fn dcsctp_message_view(
     if !handle.is_open() {
         return Status::NoSocket.number();
     }
-    handle.slot.session().message_view(bytes, length).number()
+    match handle.slot.held() {
+        Held::Socket(session) => session.message_view(bytes, length).number(),
+        Held::Channels(_) => Status::HasChannels.number(),
+    }
 }

@@ -13,7 +13,7 @@ use denote.Param.{layout}
 use Rattle.std_heap.specs.contracts.Global as heap
 use Rattle.std_heap.specs.contracts.GlobalAllocator.TheImpl.{ghosts}
 use Rattle.std_heap.proofs.Global.TheLaws.{the_row_laws}
-use Rattle.dcsctp_session.specs.contracts.session.Session as session
+use Rattle.dcsctp_channel_session.specs.contracts.held.Held as content
 use Rattle.dcsctp_handle.specs.contracts.words.Words as words
 
 abbrev pub Heap : RattleType
@@ -26,7 +26,7 @@ pub typed : {M : Type 1} {𝓤 : Ura M} (𝓛 : Logic 𝓤) (a : Heap.Denot) (vs
 typed 𝓛 = (the_row_laws.lawful 𝓛).typed
 
 abbrev pub Apart : RattleType
-Apart = words.the_row session.the_row Heap ghosts
+Apart = words.the_row content.the_row Heap ghosts
 
 pub the_some : {X : Type 0} (o : Option X) → IsSome o → (x : X) × (o ≡ Some x)
 the_some None is = absurd (true≢false (sym is))

@@ -3,14 +3,14 @@ use base.Fml.{Fml}
 use denote.Follow.{follows}
 use denote.Ref.{MutBor}
 use Rattle.std.specs.Prelude.{Some}
-use Rattle.dcsctp_session.specs.contracts.session.Session as session
+use Rattle.dcsctp_channel_session.specs.contracts.held.Held as content
 use Rattle.dcsctp_handle.specs.declared.slot.Slot.{Slot}
 use Rattle.dcsctp_handle.specs.contracts.slot.Slot as slot
 
 -- the slot with this session; its pointer stays
-abbrev pub with_value : Slot → session.the_row.Denot → Slot
+abbrev pub with_value : Slot → content.the_row.Denot → Slot
 with_value s held = record { ptr = s.ptr; alloc = s.alloc; value = Some held }
 
 -- Once the loan ends, the slot has the session that was left there.
-abbrev pub slot_follows : MutBor Slot → MutBor session.the_row.Denot → Fml
-slot_follows s held = follows slot.the_row session.the_row s.ghost_name held.ghost_name (with_value s.now)
+abbrev pub slot_follows : MutBor Slot → MutBor content.the_row.Denot → Fml
+slot_follows s held = follows slot.the_row content.the_row s.ghost_name held.ghost_name (with_value s.now)

@@ -7,15 +7,15 @@ use Rattle.std.specs.Coded.{coded_option}
 use Rattle.std.specs.Global.{Global}
 use Rattle.std.specs.Prelude.{Option, Some, None}
 use Rattle.std_heap.specs.contracts.GlobalAllocator.TheImpl.{ghosts}
-use Rattle.dcsctp_session.specs.contracts.session.Session as session
+use Rattle.dcsctp_channel_session.specs.contracts.held.Held as content
 
-abbrev pub MaybeSession : Type 0
-MaybeSession = Option session.the_row.Denot
+abbrev pub MaybeHeld : Type 0
+MaybeHeld = Option content.the_row.Denot
 
-abbrev pub memory_behind : Global → Ptr → MaybeSession → Fml
+abbrev pub memory_behind : Global → Ptr → MaybeHeld → Fml
 memory_behind alloc at None = ftrue
-memory_behind alloc at (Some held) = box_owns (ghosts.dealloc_token alloc) session.the_row at held
+memory_behind alloc at (Some held) = box_owns (ghosts.dealloc_token alloc) content.the_row at held
 
 -- how the logic stores a slot's value
-abbrev pub slot_code : Coded MaybeSession
-slot_code = coded_option session.the_row.coded
+abbrev pub slot_code : Coded MaybeHeld
+slot_code = coded_option content.the_row.coded

@@ -4,7 +4,7 @@ ghost use Rattle.std.specs.Prelude.{◌≡◌, ◌↔◌, true, Some, None, IsSo
 
 use crate::slot::Slot;
 use crate::words::Words;
-use dcsctp_session::Session;
+use dcsctp_channel_session::Held;
 use std::alloc::{AllocFailed, Global};
 
 // The mark of a handle that has a session: a word that memory rarely holds by chance.
@@ -33,18 +33,18 @@ impl Handle {
     }
 
     /// A handle of a session. `Err`: an allocation failed; the session comes back.
-    pub fn of(alloc: Global, session: Session) -> Result<Handle, AllocFailed<Session>>
-        ensures { IfOk result (λ handle. handle.slot.value ≡ Some session) }
+    pub fn of(alloc: Global, held: Held) -> Result<Handle, AllocFailed<Held>>
+        ensures { IfOk result (λ handle. handle.slot.value ≡ Some held) }
     {
-        Ok(Handle::of_box(Box::new(alloc, session)?))
+        Ok(Handle::of_box(Box::new(alloc, held)?))
     }
 
     /// A handle of a session in a box.
-    pub fn of_box(session: Box<Session>) -> Handle
-        ensures { result.slot.value ≡ Some session.value }
+    pub fn of_box(held: Box<Held>) -> Handle
+        ensures { result.slot.value ≡ Some held.value }
     {
         Handle {
-            slot: Slot::of_words(Words::of(session)),
+            slot: Slot::of_words(Words::of(held)),
             mark: OPEN,
         }
     }

@@ -1,20 +1,19 @@
-//! The session of a slot, where it lies.
+//! What a slot has, where it lies.
 
 ghost use Rattle.std.specs.Prelude.{◌≡◌, Some, IsSome};
 ghost use types.Logic.{sem};
 ghost use Rattle.dcsctp_handle.specs.Lending.{slot_follows};
 
 use crate::slot::Slot;
-use dcsctp_session::Session;
+use dcsctp_channel_session::Held;
 
 impl Slot {
-    /// Its session. The slot itself is only read, so that its two words stay as they are whatever is done to the
-    /// session.
-    pub fn session(&mut self) -> &mut Session
+    /// What it has. The slot itself is only read, so that its two words stay as they are whatever is done to that.
+    pub fn held(&mut self) -> &mut Held
         requires { IsSome self.old.value }
         ensures* writes_back { sem 𝓛 (slot_follows self.entry result) }
         ensures value { self.old.value ≡ Some result.now }
     {
-        unsafe { &mut *(self.ptr as *mut Session) }
+        unsafe { &mut *(self.ptr as *mut Held) }
     }
 }

@@ -4,11 +4,11 @@
 //! hand.
 
 ghost use Rattle.std.specs.Prelude.{◌≡◌, Option, Some, None, IsSome};
-ghost use Rattle.dcsctp_session.specs.declared.session.Session.{Session};
+ghost use Rattle.dcsctp_channel_session.specs.declared.held.Held.{Held};
 ghost use Rattle.dcsctp_handle.specs.SlotMemory.{memory_behind, slot_code};
 
 use crate::words::Words;
-use dcsctp_session::Session;
+use dcsctp_channel_session::Held;
 use std::alloc::Global;
 use std::marker::Model;
 
@@ -17,7 +17,7 @@ use std::marker::Model;
 pub struct Slot {
     pub(crate) ptr: *mut u8,
     alloc: Global,
-    pub ghost value: { Option Session } by { slot_code },
+    pub ghost value: { Option Held } by { slot_code },
 }
 
 impl Model for Slot {
@@ -34,7 +34,7 @@ impl Slot {
         }
     }
 
-    pub(crate) fn of_words(words: Words<Session, Global>) -> Slot
+    pub(crate) fn of_words(words: Words<Held, Global>) -> Slot
         ensures { result.value ≡ Some words.value }
     {
         let Words { ptr, alloc } = words;
@@ -44,13 +44,13 @@ impl Slot {
         }
     }
 
-    pub(crate) fn into_words(self) -> Words<Session, Global>
+    pub(crate) fn into_words(self) -> Words<Held, Global>
         requires { IsSome self.value }
         ensures { self.value ≡ Some result.value }
     {
         let Slot { ptr, alloc } = self;
         Words {
-            ptr: ptr as *mut Session,
+            ptr: ptr as *mut Held,
             alloc,
         }
     }

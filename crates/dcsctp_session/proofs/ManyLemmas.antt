@@ -52,6 +52,10 @@ fits statuses.OtherOptions = refl
 fits statuses.NotClosed = refl
 fits statuses.InvalidSendOptions = refl
 fits statuses.WrongSize = refl
+fits statuses.HasChannels = refl
+fits statuses.NoChannel = refl
+fits statuses.StreamInUse = refl
+fits statuses.Ended = refl
 
 -- One more number is written.
 set_taken : (results : List ℤ) (place : ℕ) (x : ℤ) (rest : List ℤ) → place < length results

@@ -176,12 +176,12 @@ abbrev pub SaysShown : Option Metrics → Option MetricsRecord → Type 0
 SaysShown None told = told ≡ None
 SaysShown (Some metrics) told = (numbers : MetricsRecord) × SaysMetrics numbers metrics × (told ≡ Some numbers)
 
-abbrev pub MetricsShown : Session → Option MetricsRecord → Type 0
-MetricsShown session told = (metrics : Option Metrics) × ShowsMetrics (view session).endpoint metrics × SaysShown metrics told
+abbrev pub MetricsShown : UserView → Option MetricsRecord → Type 0
+MetricsShown shown told = (metrics : Option Metrics) × ShowsMetrics shown.endpoint metrics × SaysShown metrics told
 
 -- The record says what was counted over the socket's life.
-pub record CountsShown (session : Session) (told : CountsRecord) : Type 0 where
+pub record CountsShown (shown : UserView) (told : CountsRecord) : Type 0 where
   pub size : told.size ≡ counts_size
-  pub received : told.rx_packets_count ≡ (view session).endpoint.counts.packets_received
-  pub sent : told.tx_packets_count ≡ (view session).endpoint.counts.packets_sent
-  pub queued : told.tx_messages_count ≡ (view session).endpoint.counts.messages_queued
+  pub received : told.rx_packets_count ≡ shown.endpoint.counts.packets_received
+  pub sent : told.tx_packets_count ≡ shown.endpoint.counts.packets_sent
+  pub queued : told.tx_messages_count ≡ shown.endpoint.counts.messages_queued

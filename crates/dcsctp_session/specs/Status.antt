@@ -43,6 +43,10 @@ status_number statuses.NotClosed = negsuc 15
 status_number statuses.InvalidSendOptions = negsuc 16
 status_number statuses.WrongSize = negsuc 17
 status_number statuses.OtherOptions = negsuc 18
+status_number statuses.HasChannels = negsuc 19
+status_number statuses.NoChannel = negsuc 20
+status_number statuses.StreamInUse = negsuc 21
+status_number statuses.Ended = negsuc 22
 
 abbrev pub state_number : SocketState → ℤ
 state_number states.Closed = pos 0

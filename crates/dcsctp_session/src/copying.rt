@@ -8,8 +8,8 @@ use crate::status::Status;
 use dcsctp_socket::StreamId;
 use std::alloc::{AllocError, Global};
 
-// Copies bytes to the front of a buffer, and says how many there are.
-pub(crate) fn copy_bytes(bytes: &[u8], buffer: &mut [u8], length: &mut usize) -> Status
+/// Copies bytes to the front of a buffer, and says how many there are.
+pub fn copy_bytes(bytes: &[u8], buffer: &mut [u8], length: &mut usize) -> Status
     ensures { Copies bytes.now buffer.old result buffer.new length.new }
 {
     *length = bytes.len();
@@ -35,8 +35,8 @@ pub(crate) fn copy_streams(ids: &[StreamId], buffer: &mut [u16], count: &mut usi
     Status::Done
 }
 
-// Says where bytes lie, and how many there are.
-pub(crate) fn show_place(found: &Vec<u8>, bytes: &mut *const u8, length: &mut usize) -> Status
+/// Says where bytes lie, and how many there are.
+pub fn show_place(found: &Vec<u8>, bytes: &mut *const u8, length: &mut usize) -> Status
     ensures { ShowsPlace (Some found.now) bytes.old result bytes.new length.new }
 {
     *bytes = found.as_ptr();

@@ -15,10 +15,11 @@ mod session;
 mod status;
 mod taking;
 
-pub use dcsctp_socket::SocketState;
+pub use copying::{copy_bytes, show_place};
+pub use dcsctp_socket::{Socket, SocketState};
 pub use laws::packets_are_read_as_checked;
 pub use many::OutgoingRecord;
 pub use options::{OptionsRecord, SendOptionsRecord};
 pub use records::{CountsRecord, EventRecord, MessageRecord, MetricsRecord};
-pub use session::{Session, Taken};
+pub use session::{Session, Taken, moment};
 pub use status::Status;

@@ -59,8 +59,8 @@ impl Drop for Session {
     }
 }
 
-// The moment of so many nanoseconds.
-fn moment(nanos: u64) -> SocketTime
+/// The moment of so many nanoseconds.
+pub fn moment(nanos: u64) -> SocketTime
     ensures { result ≡ nanos }
 {
     SocketTime::zero() + Duration::from_nanos(nanos)
@@ -117,6 +117,19 @@ impl Session {
             },
             checksum_offload,
         })
+    }
+
+    /// Its socket. What was taken from it is dropped.
+    pub fn into_socket(self) -> Socket<ChaCha20Rng>
+        ensures { result ≡ self.socket }
+    {
+        let Session {
+            alloc: _,
+            socket,
+            taken: _,
+            checksum_offload: _,
+        } = self;
+        socket
     }
 
     /// Begins an association.

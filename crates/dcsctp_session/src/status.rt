@@ -71,6 +71,18 @@ pub enum Status {
 
     /// The snapshot is of a socket with other options.
     OtherOptions,
+
+    /// The socket has data channels, and the call is below them.
+    HasChannels,
+
+    /// There is no such channel, none any more, or it has no stream.
+    NoChannel,
+
+    /// The stream that was agreed on is in use.
+    StreamInUse,
+
+    /// The association has ended, and so have its channels.
+    Ended,
 }
 
 impl Status {
@@ -100,11 +112,15 @@ impl Status {
             Status::InvalidSendOptions => -17,
             Status::WrongSize => -18,
             Status::OtherOptions => -19,
+            Status::HasChannels => -20,
+            Status::NoChannel => -21,
+            Status::StreamInUse => -22,
+            Status::Ended => -23,
         }
     }
 
-    // What a call returns that the socket couldn't do.
-    pub(crate) fn of_fault(fault: SocketFault) -> Status
+    /// What a call returns that the socket couldn't do.
+    pub fn of_fault(fault: SocketFault) -> Status
         ensures { result ≡ fault_status fault }
     {
         match fault {
@@ -113,8 +129,8 @@ impl Status {
         }
     }
 
-    // What a call returns that can't be refused.
-    pub(crate) fn of_call(outcome: Result<(), SocketFault>) -> Status
+    /// What a call returns that can't be refused.
+    pub fn of_call(outcome: Result<(), SocketFault>) -> Status
         ensures { result ≡ done_status outcome }
     {
         match outcome {
@@ -123,8 +139,8 @@ impl Status {
         }
     }
 
-    // Why a message is refused.
-    pub(crate) fn of_send_error(error: SendError) -> Status
+    /// Why a message is refused.
+    pub fn of_send_error(error: SendError) -> Status
         ensures { result ≡ send_error_status error }
     {
         match error {

@@ -1,7 +1,7 @@
 //! Taking events, messages and metrics from a session, and copying what they hold.
 
 ghost use Rattle.dcsctp_socket.specs.SocketView.{user_view_of};
-ghost use Rattle.dcsctp_session.specs.Views.{words_ahead, bytes_in, packet_in_event, streams_in_event, payload_in, message_in};
+ghost use Rattle.dcsctp_session.specs.Views.{view, words_ahead, bytes_in, packet_in_event, streams_in_event, payload_in, message_in};
 ghost use Rattle.dcsctp_session.specs.Calls.{PollsBy, EventTaken, MessageTaken, MetricsShown, CountsShown};
 ghost use Rattle.dcsctp_session.specs.Copying.{CopiesTaken, ShowsPlace};
 
@@ -29,6 +29,9 @@ impl Session {
     pub fn poll_event(&mut self) -> Option<EventRecord>
         ensures { EventTaken self.old result self.new }
     {
+        if let Some(SocketEvent::SendPacket(packet)) = self.taken.event.take() {
+            self.socket.take_back(packet);
+        }
         self.taken.event = next_event(&mut self.socket, self.checksum_offload);
         let event = self.taken.event.as_ref()?;
         Some(EventRecord::of(event))
@@ -131,14 +134,14 @@ impl Session {
 
     /// What the socket has counted in its life.
     pub fn counts(&self) -> CountsRecord
-        ensures { CountsShown self.now result }
+        ensures { CountsShown (view self.now) result }
     {
         CountsRecord::of(&self.socket.get_counts())
     }
 
     /// The metrics; none where the peer isn't known.
     pub fn metrics(&self) -> Option<MetricsRecord>
-        ensures { MetricsShown self.now result }
+        ensures { MetricsShown (view self.now) result }
     {
         let metrics = self.socket.get_metrics()?;
         Some(MetricsRecord::of(&metrics))

@@ -2,9 +2,10 @@
 //! of them. They print `bindings/expected.txt`, as those of the other languages do.
 
 use dcsctp_socket::{
-    random_seed, Error, Event, HandoverReadiness, Options, OutgoingMessage, SendOptions, Socket,
-    State,
+    random_seed, Channel, ChannelEvent, ChannelLimits, ChannelOptions, Channels, Error, Event,
+    HandoverReadiness, Options, OutgoingMessage, Reliability, SendOptions, Socket, State,
 };
+use std::collections::BTreeMap;
 use std::time::Duration;
 
 type Outcome = Result<(), Box<dyn std::error::Error>>;
@@ -200,6 +201,108 @@ fn shut_down() -> Outcome {
     Ok(())
 }
 
+/// Two ends with data channels. A is the DTLS client.
+struct ChannelPair {
+    ends: [Channels; 2],
+    labels: BTreeMap<(usize, Channel), String>,
+    now: Duration,
+}
+
+impl ChannelPair {
+    fn new() -> Result<ChannelPair, Box<dyn std::error::Error>> {
+        let (options, limits) = (Options::default(), ChannelLimits::default());
+        let mut ends = [
+            Channels::new(&options, &limits, &random_seed()?, BEGIN)?,
+            Channels::new(&options, &limits, &random_seed()?, BEGIN)?,
+        ];
+        ends[0].set_role(true)?;
+        ends[1].set_role(false)?;
+        Ok(ChannelPair { ends, labels: BTreeMap::new(), now: BEGIN })
+    }
+
+    /// Opens a channel, and remembers its label.
+    fn open(&mut self, end: usize, options: &ChannelOptions) -> Result<Channel, Error> {
+        let channel = self.ends[end].open(options)?;
+        self.labels.insert((end, channel), options.label.clone());
+        Ok(channel)
+    }
+
+    /// Takes all events of an end. Its packets go to the other one. Returns how many there were.
+    fn carry(&mut self, end: usize) -> Result<usize, Error> {
+        let (name, mut packets) = (["A", "B"][end], 0);
+        while let Some(event) = self.ends[end].poll_event()? {
+            if let ChannelEvent::Incoming(channel, options) = &event {
+                self.labels.insert((end, *channel), options.label.clone());
+            }
+            let said = event.name();
+            let label = |channel: &Channel| &self.labels[&(end, *channel)];
+            match &event {
+                ChannelEvent::SendPacket(packet) => {
+                    self.ends[1 - end].handle_input(packet)?;
+                    packets += 1;
+                }
+                ChannelEvent::Text(it, text) => {
+                    println!("{name} has a text on {:?}: {text}.", label(it));
+                }
+                ChannelEvent::Binary(it, bytes) => {
+                    println!("{name} has {} bytes on {:?}", bytes.len(), label(it));
+                }
+                ChannelEvent::Closed(it, why) => {
+                    println!("{name}: {said} {:?}, {}", label(it), why.number());
+                }
+                ChannelEvent::Opened(it)
+                | ChannelEvent::Incoming(it, _)
+                | ChannelEvent::BufferedAmountLow(it) => println!("{name}: {said} {:?}", label(it)),
+                _ => println!("{name}: {said}"),
+            }
+        }
+        Ok(packets)
+    }
+
+    /// Carries packets both ways until none is left.
+    fn settle(&mut self) -> Result<(), Error> {
+        while self.carry(0)? + self.carry(1)? > 0 {}
+        Ok(())
+    }
+
+    /// Lets a second pass: then all is acknowledged.
+    fn wait(&mut self) -> Result<(), Error> {
+        self.settle()?;
+        self.now += Duration::from_secs(1);
+        for end in &mut self.ends {
+            end.advance_time(self.now)?;
+        }
+        self.settle()
+    }
+}
+
+fn data_channels() -> Outcome {
+    let mut pair = ChannelPair::new()?;
+    let chat = pair.open(0, &ChannelOptions::new("chat"))?;
+    println!("too early: {}", said(pair.ends[0].send_text(chat, "hello")));
+    pair.ends[0].connect()?;
+    pair.settle()?;
+    println!("A's has stream {}", pair.ends[0].stream_of(chat).ok_or(Error::NoChannel)?);
+    pair.ends[0].send_text(chat, "hello")?;
+    pair.ends[0].send_text(chat, "")?;
+    pair.ends[0].send_binary(chat, &[1, 2, 3])?;
+    pair.ends[0].close_channel(chat)?;
+    println!("too late: {}", said(pair.ends[0].send_text(chat, "hello")));
+    pair.wait()?;
+    let fast = ChannelOptions::new("fast").protocol("of ours").unordered();
+    let fast = pair.open(1, &fast.reliability(Reliability::Retransmissions(0)))?;
+    pair.settle()?;
+    println!("B's has stream {}", pair.ends[1].stream_of(fast).ok_or(Error::NoChannel)?);
+    let agreed = ChannelOptions::new("agreed").negotiated(8);
+    pair.open(0, &agreed)?;
+    pair.open(1, &agreed)?;
+    println!("once more: {}", said(pair.open(0, &agreed).map(drop)));
+    pair.ends[0].shutdown()?;
+    pair.wait()?;
+    println!("another: {}", said(pair.open(0, &ChannelOptions::default()).map(drop)));
+    Ok(())
+}
+
 /// A call that can't be made is an error, and changes nothing.
 fn mistakes() -> Outcome {
     let options = Options { mtu: 31, ..Default::default() };
@@ -219,19 +322,20 @@ fn mistakes() -> Outcome {
     pair.settle()?;
     println!("a close: {}", said(pair.a.close()));
     pair.settle()?;
-    for number in 1..=20 {
+    for number in 1..=24 {
         println!("-{number}: {}", Error::of(-number));
     }
     Ok(())
 }
 
 fn main() -> Outcome {
-    let programs: [(&str, Program); 6] = [
+    let programs: [(&str, Program); 7] = [
         ("connect", connect),
         ("send", send),
         ("close a channel", close_a_channel),
         ("hand over", hand_over),
         ("shut down", shut_down),
+        ("data channels", data_channels),
         ("mistakes", mistakes),
     ];
     for (index, (name, program)) in programs.into_iter().enumerate() {

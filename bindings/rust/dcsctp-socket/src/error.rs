@@ -47,6 +47,14 @@ pub enum Error {
     WrongSize,
     /// The snapshot is of a socket with other options: `Socket::restore_from_state` lists those that must be the same.
     OtherOptions,
+    /// The socket has data channels. No method returns it.
+    HasChannels,
+    /// There is no such data channel, it has ended, or it isn't open.
+    NoChannel,
+    /// The stream of a negotiated data channel is in use.
+    StreamInUse,
+    /// The association of the data channels has ended: make other `Channels`.
+    Ended,
     /// The library has another version than these crates.
     WrongVersion,
     /// A number that a later version of the library may add.
@@ -76,6 +84,10 @@ impl Error {
             sys::DCSCTP_ERROR_INVALID_SEND_OPTIONS => Error::InvalidSendOptions,
             sys::DCSCTP_ERROR_WRONG_SIZE => Error::WrongSize,
             sys::DCSCTP_ERROR_OTHER_OPTIONS => Error::OtherOptions,
+            sys::DCSCTP_ERROR_HAS_CHANNELS => Error::HasChannels,
+            sys::DCSCTP_ERROR_NO_CHANNEL => Error::NoChannel,
+            sys::DCSCTP_ERROR_STREAM_IN_USE => Error::StreamInUse,
+            sys::DCSCTP_ERROR_ENDED => Error::Ended,
             other => Error::Unknown(other),
         }
     }
@@ -111,6 +123,10 @@ impl fmt::Display for Error {
             Error::InvalidSendOptions => "the message can't be sent with these options",
             Error::WrongSize => "the struct has another size in the library",
             Error::OtherOptions => "the snapshot is of a socket with other options",
+            Error::HasChannels => "the socket has data channels",
+            Error::NoChannel => "there is no such data channel",
+            Error::StreamInUse => "the stream is in use",
+            Error::Ended => "the association has ended",
             Error::WrongVersion => "the library has another version",
             Error::Unknown(_) => "unknown",
         })

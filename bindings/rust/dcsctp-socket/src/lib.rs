@@ -43,6 +43,8 @@
 //! The loop ends at `Event::Aborted`, or 4 s after `Event::Closed`: until then the peer may need the last packet of the
 //! shutdown again. Wait for `Event::Connected` before you call `shutdown`.
 //!
+//! `Channels` have data channels in place of messages.
+//!
 //! # Safety and memory
 //!
 //! No method panics, and none needs `unsafe`. If the library can't allocate, a call returns `Error::OutOfMemory`.
@@ -51,6 +53,8 @@
 //! Run it over DTLS, or over another layer that delivers only what the peer has sent. The library is proved, unless
 //! `version().is_proved` is false; this crate is tested. `docs/guide/c.md` of the repository says what is proved.
 
+mod channel;
+mod channels;
 mod error;
 mod event;
 mod message;
@@ -60,6 +64,11 @@ mod socket;
 pub mod trace;
 mod version;
 
+pub use channel::{
+    Channel, ChannelEnd, ChannelEvent, ChannelLimits, ChannelMetrics, ChannelOptions, ChannelState,
+    Reliability,
+};
+pub use channels::Channels;
 pub use error::Error;
 pub use event::{ErrorKind, Event};
 pub use message::{Message, OutgoingMessage, SendOptions};

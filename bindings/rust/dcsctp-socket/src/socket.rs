@@ -29,7 +29,7 @@ use std::{ptr, slice};
 /// ```
 // It has no `Sync`: a query is a call, too, and there is one call at a time.
 #[derive(Debug)]
-pub struct Socket(sys::dcsctp_socket);
+pub struct Socket(pub(crate) sys::dcsctp_socket);
 
 // SAFETY: the library has no state outside of its sockets, and none is tied to a thread.
 unsafe impl Send for Socket {}
@@ -392,7 +392,7 @@ impl Socket {
 }
 
 /// A copy of the bytes that a call of the library shows.
-fn shown(show: impl FnOnce(*mut *const u8, *mut usize) -> i32) -> Vec<u8> {
+pub(crate) fn shown(show: impl FnOnce(*mut *const u8, *mut usize) -> i32) -> Vec<u8> {
     let (mut at, mut length) = (ptr::null(), 0);
     if show(&mut at, &mut length) != sys::DCSCTP_OK || length == 0 {
         return Vec::new();

@@ -5,7 +5,7 @@
 #![no_std]
 #![allow(non_camel_case_types, missing_docs)]
 
-use core::ffi::c_void;
+use core::ffi::{c_char, c_void};
 
 pub const DCSCTP_VERSION_MAJOR: u32 = 0;
 pub const DCSCTP_VERSION_MINOR: u32 = 1;
@@ -36,6 +36,10 @@ pub const DCSCTP_ERROR_NOT_CLOSED: i32 = -16;
 pub const DCSCTP_ERROR_INVALID_SEND_OPTIONS: i32 = -17;
 pub const DCSCTP_ERROR_WRONG_SIZE: i32 = -18;
 pub const DCSCTP_ERROR_OTHER_OPTIONS: i32 = -19;
+pub const DCSCTP_ERROR_HAS_CHANNELS: i32 = -20;
+pub const DCSCTP_ERROR_NO_CHANNEL: i32 = -21;
+pub const DCSCTP_ERROR_STREAM_IN_USE: i32 = -22;
+pub const DCSCTP_ERROR_ENDED: i32 = -23;
 pub const DCSCTP_ERROR_NO_SEED: i32 = -1002;
 
 // ---- Sockets and options ----------------------------------------------------------------------
@@ -178,7 +182,7 @@ pub struct dcsctp_outgoing_message {
     pub reserved: u16,
 }
 
-// ---- Queries and handover ---------------------------------------------------------------------
+// ---- Queries, data channels and handover ------------------------------------------------------
 
 pub const DCSCTP_STATE_CLOSED: i32 = 0;
 pub const DCSCTP_STATE_CONNECTING: i32 = 1;
@@ -220,6 +224,94 @@ pub struct dcsctp_counts {
     pub rx_packets_count: usize,
     pub tx_packets_count: usize,
     pub tx_messages_count: usize,
+}
+
+pub const DCSCTP_CHANNEL_RELIABLE: u16 = 0;
+pub const DCSCTP_CHANNEL_RETRANSMISSIONS: u16 = 1;
+pub const DCSCTP_CHANNEL_LIFETIME: u16 = 2;
+
+pub const DCSCTP_CHANNEL_TEXT: u32 = 1;
+pub const DCSCTP_CHANNEL_BINARY: u32 = 2;
+
+pub const DCSCTP_CHANNEL_EVENT_NONE: u32 = 0;
+pub const DCSCTP_CHANNEL_EVENT_SEND_PACKET: u32 = 1;
+pub const DCSCTP_CHANNEL_EVENT_CONNECTED: u32 = 2;
+pub const DCSCTP_CHANNEL_EVENT_OPENED: u32 = 3;
+pub const DCSCTP_CHANNEL_EVENT_INCOMING: u32 = 4;
+pub const DCSCTP_CHANNEL_EVENT_MESSAGE: u32 = 5;
+pub const DCSCTP_CHANNEL_EVENT_BUFFERED_AMOUNT_LOW: u32 = 6;
+pub const DCSCTP_CHANNEL_EVENT_CLOSED: u32 = 7;
+pub const DCSCTP_CHANNEL_EVENT_ENDED: u32 = 8;
+
+pub const DCSCTP_CHANNEL_CLOSED_BY_RESETS: u32 = 0;
+pub const DCSCTP_CHANNEL_REFUSED: u32 = 1;
+pub const DCSCTP_CHANNEL_CANT_BE_RESET: u32 = 2;
+pub const DCSCTP_CHANNEL_LOST: u32 = 3;
+pub const DCSCTP_CHANNEL_NO_STREAM: u32 = 4;
+
+pub const DCSCTP_CHANNEL_CONNECTING: i32 = 0;
+pub const DCSCTP_CHANNEL_OPEN: i32 = 1;
+pub const DCSCTP_CHANNEL_CLOSING: i32 = 2;
+pub const DCSCTP_CHANNEL_CLOSED: i32 = 3;
+
+#[repr(C)]
+#[derive(Clone, Copy, Debug, Default, PartialEq, Eq)]
+pub struct dcsctp_channel_limits {
+    pub size: usize,
+    pub max_message_size: usize,
+    pub max_text: usize,
+    pub max_channels: usize,
+}
+
+#[repr(C)]
+#[derive(Clone, Copy, Debug)]
+pub struct dcsctp_channel_options {
+    pub size: usize,
+    pub label: *const c_char,
+    pub label_length: usize,
+    pub protocol: *const c_char,
+    pub protocol_length: usize,
+    pub limit: u32,
+    pub priority: u16,
+    pub reliability: u16,
+    pub is_unordered: u16,
+    pub is_negotiated: u16,
+    pub stream: u16,
+    pub reserved: u16,
+}
+
+pub const DCSCTP_CHANNEL_OPTIONS_INIT: dcsctp_channel_options = dcsctp_channel_options {
+    size: size_of::<dcsctp_channel_options>(),
+    label: c"".as_ptr(),
+    label_length: 0,
+    protocol: c"".as_ptr(),
+    protocol_length: 0,
+    limit: 0,
+    priority: 256,
+    reliability: DCSCTP_CHANNEL_RELIABLE,
+    is_unordered: 0,
+    is_negotiated: 0,
+    stream: 0,
+    reserved: 0,
+};
+
+#[repr(C)]
+#[derive(Clone, Copy, Debug, Default, PartialEq, Eq)]
+pub struct dcsctp_channel_event {
+    pub channel: u64,
+    pub length: usize,
+    pub kind: u32,
+    pub detail: u32,
+}
+
+#[repr(C)]
+#[derive(Clone, Copy, Debug, Default, PartialEq, Eq)]
+pub struct dcsctp_channel_metrics {
+    pub size: usize,
+    pub messages_sent: u64,
+    pub bytes_sent: u64,
+    pub messages_received: u64,
+    pub bytes_received: u64,
 }
 
 pub const DCSCTP_HANDOVER_WRONG_CONNECTION_STATE: u32 = 1;
@@ -285,6 +377,31 @@ extern "C" {
     pub fn dcsctp_get_options(socket: *const dcsctp_socket, options: *mut dcsctp_options) -> i32;
     pub fn dcsctp_get_metrics(socket: *const dcsctp_socket, metrics: *mut dcsctp_metrics) -> i32;
     pub fn dcsctp_get_counts(socket: *const dcsctp_socket, counts: *mut dcsctp_counts) -> i32;
+    pub fn dcsctp_channel_begin(socket: *mut dcsctp_socket, limits: *const dcsctp_channel_limits)
+        -> i32;
+    pub fn dcsctp_channel_set_role(socket: *mut dcsctp_socket, is_dtls_client: i32) -> i32;
+    pub fn dcsctp_channel_open(socket: *mut dcsctp_socket, options: *const dcsctp_channel_options,
+                               channel: *mut u64) -> i32;
+    pub fn dcsctp_channel_send(socket: *mut dcsctp_socket, channel: u64, kind: u32,
+                               bytes: *const u8, length: usize) -> i32;
+    pub fn dcsctp_channel_close(socket: *mut dcsctp_socket, channel: u64) -> i32;
+    pub fn dcsctp_channel_poll(socket: *mut dcsctp_socket, event: *mut dcsctp_channel_event) -> i32;
+    pub fn dcsctp_channel_bytes(socket: *const dcsctp_socket, buffer: *mut u8, capacity: usize,
+                                length: *mut usize) -> i32;
+    pub fn dcsctp_channel_view(socket: *const dcsctp_socket, bytes: *mut *const u8,
+                               length: *mut usize) -> i32;
+    pub fn dcsctp_channel_get_options(socket: *const dcsctp_socket,
+                                      options: *mut dcsctp_channel_options) -> i32;
+    pub fn dcsctp_channel_state(socket: *const dcsctp_socket, channel: u64) -> i32;
+    pub fn dcsctp_channel_stream(socket: *const dcsctp_socket, channel: u64, stream: *mut u16)
+        -> i32;
+    pub fn dcsctp_channel_buffered_amount(socket: *const dcsctp_socket, channel: u64,
+                                          bytes: *mut usize) -> i32;
+    pub fn dcsctp_channel_set_buffered_amount_low_threshold(socket: *mut dcsctp_socket,
+                                                            channel: u64, bytes: usize) -> i32;
+    pub fn dcsctp_channel_get_metrics(socket: *const dcsctp_socket, channel: u64,
+                                      metrics: *mut dcsctp_channel_metrics) -> i32;
+    pub fn dcsctp_channel_count(socket: *const dcsctp_socket, count: *mut usize) -> i32;
     pub fn dcsctp_get_handover_readiness(socket: *const dcsctp_socket, reasons: *mut u32) -> i32;
     pub fn dcsctp_get_handover_state_and_close(socket: *mut dcsctp_socket) -> i32;
     pub fn dcsctp_handover_bytes(socket: *const dcsctp_socket, buffer: *mut u8, capacity: usize,

@@ -10,13 +10,15 @@ use std::process::{Command, Output};
 const SOURCE: &str = include_str!("../src/lib.rs");
 
 /// Macros of the header that are no numbers.
-const NO_NUMBERS: [&str; 6] = [
+const NO_NUMBERS: [&str; 8] = [
     "DCSCTP_H",
     "DCSCTP_HAS_GETRANDOM",
     "DCSCTP_CALL",
     "DCSCTP_CHECKED_CALL",
     "DCSCTP_SOCKET_INIT",
     "DCSCTP_SEND_INIT",
+    "DCSCTP_CHANNEL_LIMITS_INIT",
+    "DCSCTP_CHANNEL_OPTIONS_INIT",
 ];
 
 macro_rules! numbers {
@@ -48,7 +50,8 @@ fn numbers_here() -> BTreeMap<String, u64> {
         DCSCTP_ERROR_RESOURCE_EXHAUSTION DCSCTP_ERROR_SHUTTING_DOWN DCSCTP_ERROR_NOT_CONNECTED
         DCSCTP_ERROR_NOT_SUPPORTED DCSCTP_ERROR_NOT_READY DCSCTP_ERROR_INVALID_SNAPSHOT
         DCSCTP_ERROR_NOT_CLOSED DCSCTP_ERROR_INVALID_SEND_OPTIONS DCSCTP_ERROR_WRONG_SIZE
-        DCSCTP_ERROR_OTHER_OPTIONS DCSCTP_ERROR_NO_SEED
+        DCSCTP_ERROR_OTHER_OPTIONS DCSCTP_ERROR_HAS_CHANNELS DCSCTP_ERROR_NO_CHANNEL
+        DCSCTP_ERROR_STREAM_IN_USE DCSCTP_ERROR_ENDED DCSCTP_ERROR_NO_SEED
         DCSCTP_EVENT_NONE DCSCTP_EVENT_SEND_PACKET DCSCTP_EVENT_CONNECTED DCSCTP_EVENT_CLOSED
         DCSCTP_EVENT_CONNECTION_RESTARTED DCSCTP_EVENT_ABORTED DCSCTP_EVENT_ERROR
         DCSCTP_EVENT_BUFFERED_AMOUNT_LOW DCSCTP_EVENT_TOTAL_BUFFERED_AMOUNT_LOW
@@ -65,6 +68,15 @@ fn numbers_here() -> BTreeMap<String, u64> {
         DCSCTP_STATE_SHUTTING_DOWN
         DCSCTP_PEER_UNKNOWN DCSCTP_PEER_DCSCTP_RS DCSCTP_PEER_DCSCTP_CC DCSCTP_PEER_USRSCTP
         DCSCTP_PEER_OTHER
+        DCSCTP_CHANNEL_RELIABLE DCSCTP_CHANNEL_RETRANSMISSIONS DCSCTP_CHANNEL_LIFETIME
+        DCSCTP_CHANNEL_TEXT DCSCTP_CHANNEL_BINARY
+        DCSCTP_CHANNEL_EVENT_NONE DCSCTP_CHANNEL_EVENT_SEND_PACKET DCSCTP_CHANNEL_EVENT_CONNECTED
+        DCSCTP_CHANNEL_EVENT_OPENED DCSCTP_CHANNEL_EVENT_INCOMING DCSCTP_CHANNEL_EVENT_MESSAGE
+        DCSCTP_CHANNEL_EVENT_BUFFERED_AMOUNT_LOW DCSCTP_CHANNEL_EVENT_CLOSED
+        DCSCTP_CHANNEL_EVENT_ENDED
+        DCSCTP_CHANNEL_CLOSED_BY_RESETS DCSCTP_CHANNEL_REFUSED DCSCTP_CHANNEL_CANT_BE_RESET
+        DCSCTP_CHANNEL_LOST DCSCTP_CHANNEL_NO_STREAM
+        DCSCTP_CHANNEL_CONNECTING DCSCTP_CHANNEL_OPEN DCSCTP_CHANNEL_CLOSING DCSCTP_CHANNEL_CLOSED
         DCSCTP_HANDOVER_WRONG_CONNECTION_STATE DCSCTP_HANDOVER_SEND_QUEUE_NOT_EMPTY
         DCSCTP_HANDOVER_PENDING_STREAM_RESET_REQUEST
         DCSCTP_HANDOVER_DATA_TRACKER_TSN_BLOCKS_PENDING DCSCTP_HANDOVER_PENDING_STREAM_RESET
@@ -102,6 +114,15 @@ fn layout_here() -> BTreeMap<String, (usize, usize)> {
             negotiated_maximum_incoming_streams negotiated_maximum_outgoing_streams reserved
         }
         dcsctp_counts { size rx_packets_count tx_packets_count tx_messages_count }
+        dcsctp_channel_limits { size max_message_size max_text max_channels }
+        dcsctp_channel_options {
+            size label label_length protocol protocol_length limit priority reliability
+            is_unordered is_negotiated stream reserved
+        }
+        dcsctp_channel_event { channel length kind detail }
+        dcsctp_channel_metrics {
+            size messages_sent bytes_sent messages_received bytes_received
+        }
     }
 }
 
@@ -158,6 +179,7 @@ fn in_c(kind: &str) -> String {
     match kind {
         "usize" => "size_t".into(),
         "c_void" => "void".into(),
+        "c_char" => "char".into(),
         "i32" | "u8" | "u16" | "u32" | "u64" => {
             format!("{}int{}_t", &kind[..1].replace('i', ""), &kind[1..])
         }

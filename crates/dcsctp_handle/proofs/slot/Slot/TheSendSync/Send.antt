@@ -10,14 +10,14 @@ use Rattle.std.proofs.Crossing.{Box-send}
 use Rattle.std_alloc.proofs.SendSync.{quiet}
 use Rattle.std_heap.proofs.Global.TheSendSync as heap
 use Rattle.std_heap.specs.declared.Global.{Global}
-use Rattle.dcsctp_session.specs.contracts.session.Session as session
-use Rattle.dcsctp_session.proofs.session.Session.TheSendSync.{the_send}
+use Rattle.dcsctp_channel_session.specs.contracts.held.Held as content
+use Rattle.dcsctp_channel_session.proofs.held.Held.TheSendSync.{the_send}
 use Rattle.dcsctp_handle.specs.SlotMemory.{memory_behind}
 use Rattle.dcsctp_handle.specs.contracts.slot.Slot.{the_row, the_type}
 
-inside : (a : Global) (p : Ptr) (o : Option session.the_row.Denot) → Keyless (memory_behind a p o)
+inside : (a : Global) (p : Ptr) (o : Option content.the_row.Denot) → Keyless (memory_behind a p o)
 inside a p None = tt
-inside a p (Some x) = ((Box-send session.the_row the_send).owned (record { ptr = p; alloc = a; value = x }) []).1
+inside a p (Some x) = ((Box-send content.the_row the_send).owned (record { ptr = p; alloc = a; value = x }) []).1
 
 all : AllSend (fields the_type)
 all = (search sendable, (heap.the_field_send, tt))

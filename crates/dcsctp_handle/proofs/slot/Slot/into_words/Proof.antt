@@ -16,7 +16,7 @@ use denote.Steps.{nothing, heard}
 use denote.Triple.Walked.{says, Stays, stay_dropped, walk_of, ends_at, Goes-dropped}
 use Rattle.core.proofs.atomic.Steps.{Ptr-Good}
 use Rattle.std.proofs.raw_atomic.Walks.{proved_at}
-use Rattle.dcsctp_session.specs.contracts.session.Session as session
+use Rattle.dcsctp_channel_session.specs.contracts.held.Held as content
 use Rattle.dcsctp_handle.specs.SlotMemory.{memory_behind}
 use Rattle.dcsctp_handle.proofs.TwoWords.{two, Pair, reads, fits}
 use Rattle.dcsctp_handle.proofs.SlotRows.{Heap, word, typed, the_some}
@@ -40,7 +40,7 @@ into_words_spec 𝓤 𝓛 𝓜 𝓡 wired =
     qed 𝓛 ((‵ ftrue ⊛ ‵ (fsep (slot.the_row.own_val s vs) ftrue)) ∷ raw (fact 𝓤 (IsSome s.value)) ∷ []) ∵
     move ! (1 ∷ []) $ heard ! _ (λ full. let there = the_some s.value full in
     split ! $ drop ! $ fsplit ! $ fsplit ! $
-    rewrite ! 1 (λ (o : Option session.the_row.Denot). ‵ (memory_behind s.alloc s.ptr o)) there.1 refl $
+    rewrite ! 1 (λ (o : Option content.the_row.Denot). ‵ (memory_behind s.alloc s.ptr o)) there.1 refl $
     rewrite ! 0 (λ (us : List Val). ‵ (P.own_val (s.ptr, (s.alloc, tt)) us)) at.1 refl $ fjoin ! $ keep ! (0 ∷ []) $
     regoal ! (λ (us : List Val). prop (WpFn 𝓤 𝓛.H 𝓣.C 𝓣.Λ code.function (us ++ []) post)) at.1 refl $
     enter ! _ _ _ _ _ $ alloc_all ! (λ l. pass_all ! refl (fit, tt) $

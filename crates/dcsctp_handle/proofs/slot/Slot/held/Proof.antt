@@ -1,4 +1,4 @@
--- `session` lends the session behind the pointer, and the slot follows it. The two words are only read.
+-- `held` lends the session behind the pointer, and the slot follows it. The two words are only read.
 use Rattle.std.proofs.Common.{◌≡◌, ◌∙◌, List, [], ◌∷◌, ◌++◌, Option, Some, None, IsSome, refl, sym, ap}
 use Prim.Native.Nat.{ℕ}
 use seplogic.Ra.Ura.{Ura}
@@ -33,22 +33,22 @@ use Rattle.core.proofs.cell.Inside.{Good}
 use Rattle.std.proofs.raw_atomic.Walks.{proved}
 use Rattle.std.specs.Box.Ownership.{box_owns}
 use Rattle.std_heap.specs.contracts.GlobalAllocator.TheImpl.{ghosts}
-use Rattle.dcsctp_session.specs.contracts.session.Session as session
+use Rattle.dcsctp_channel_session.specs.contracts.held.Held as content
 use Rattle.dcsctp_handle.specs.SlotMemory.{memory_behind}
 use Rattle.dcsctp_handle.specs.Lending.{with_value}
 use Rattle.dcsctp_handle.proofs.TwoWords.{two, closes}
 use Rattle.dcsctp_handle.proofs.TwoWords as words
 use Rattle.dcsctp_handle.proofs.SlotRows.{Heap, word, typed, the_some}
 use Rattle.dcsctp_handle.specs.contracts.slot.Slot as slot
-use Rattle.dcsctp_handle.specs.contracts.slot.Slot.session as f
-use Rattle.dcsctp_handle.proofs.slot.Slot.session.Statement.{statement}
-use Rattle.dcsctp_handle.proofs.slot.Slot.session.Code as code
+use Rattle.dcsctp_handle.specs.contracts.slot.Slot.held as f
+use Rattle.dcsctp_handle.proofs.slot.Slot.held.Statement.{statement}
+use Rattle.dcsctp_handle.proofs.slot.Slot.held.Code as code
 
 abbrev B : RattleType
 B = slot.the_row
 
 abbrev R : RattleType
-R = session.the_row
+R = content.the_row
 
 abbrev stayed : Stays f.ended.signature.params f.ended.kept
 stayed = (stay_dropped (mut_ref_to (0 ∷ []) tt (plain (λ _. B))) no, tt)
@@ -61,7 +61,7 @@ module _ {M : Type 1} {𝓤 : Ura M} (𝓛 : Logic 𝓤) (rb ro : ℕ) (s : slot
   abbrev Rest : Fml
   Rest = fsep (token s b o) (fsep (Heap.own_val s.alloc (h ∷ [])) (cell_at full_share B.mir (two (vptr b o) h ∷ []) rb ro))
 
-  back : s.ptr ≡ block_ptr b o → (w : session.the_row.Denot) → ent 𝓤 (sep 𝓤 (sem 𝓛 ((mem R).own_at w b o)) (sem 𝓛 Rest)) (sem 𝓛 ((mem B).own_at (with_value s w) rb ro))
+  back : s.ptr ≡ block_ptr b o → (w : content.the_row.Denot) → ent 𝓤 (sep 𝓤 (sem 𝓛 ((mem R).own_at w b o)) (sem 𝓛 Rest)) (sem 𝓛 ((mem B).own_at (with_value s w) rb ro))
   unfolding part_of
   back at w =
       qed 𝓛 (‵ (part_at R full_share w b o) ∷ ‵ Rest ∷ []) ∵ move ! (1 ∷ []) $ fsplit3 ! $ move ! (3 ∷ 0 ∷ []) $ fjoin ! $
@@ -70,8 +70,8 @@ module _ {M : Type 1} {𝓤 : Ura M} (𝓛 : Logic 𝓤) (rb ro : ℕ) (s : slot
       closes Heap word (typed 𝓛) ! s.ptr s.alloc h $ fjoin ! $ move ! (1 ∷ 0 ∷ []) $ fjoin ! $
       fpack ! (List Val) (λ us. fsep (cell_at full_share B.mir us rb ro) (B.own_val (with_value s w) us)) (two (ptr_val s.ptr) h ∷ []) $ done !
 
-pub session_spec : {M : Type 1} → statement M
-session_spec 𝓤 𝓛 𝓜 𝓡 wired =
+pub held_spec : {M : Type 1} → statement M
+held_spec 𝓤 𝓛 𝓜 𝓡 wired =
     let c = f.clauses 𝓛 𝓜.mem 𝓡.returns in let 𝓣 = tables 𝓤 𝓛.H 𝓜 𝓡 𝓡.env in
     proved 𝓛 f.ended stayed c 𝓜 𝓡 (Goes-spent_ref 𝓛 1 (0 ∷ []) tt (plain (λ _. B)), tt) f.Key.name code.function (code.unfolded 𝓤 𝓛.H 𝓜 𝓡 wired)
     (λ κs. (mut_vals, tt)) (λ κs. (mut_Tells (named 0) κs.0 B, tt)) (λ κs qs bounds a gh are.
@@ -85,7 +85,7 @@ session_spec 𝓤 𝓛 𝓜 𝓡 wired =
     move ! (1 ∷ []) $ fsplit ! $ fsplit3 ! $ drop ! $ move ! (3 ∷ []) $ split ! $ move ! (2 ∷ 3 ∷ 0 ∷ []) $
     opens ! tt B {h = s} rb ro (λ vs. move ! (1 ∷ []) $ fsplit ! $ words.opens Heap word (typed 𝓛) ! s.ptr s.alloc vs (λ h is good.
     rewrite ! 2 (λ (us : List Val). ‵ (cell_at full_share B.mir us rb ro)) is refl $
-    rewrite ! 1 (λ (held : Option session.the_row.Denot). ‵ (memory_behind s.alloc s.ptr held)) there.1 refl $ move ! (1 ∷ []) $
+    rewrite ! 1 (λ (held : Option content.the_row.Denot). ‵ (memory_behind s.alloc s.ptr held)) there.1 refl $ move ! (1 ∷ []) $
     in_a_block ! s.ptr (λ p. box_owns (ghosts.dealloc_token s.alloc) R p x) (fst∗ 𝓤 (never 𝓤) (sem 𝓛 (ghosts.dealloc_token s.alloc (bare (layout R)) null_ptr))) (λ b o at. fsplit ! $
     rewrite ! 3 (λ (p : Ptr). ‵ (cell_at full_share B.mir (two (ptr_val p) h ∷ []) rb ro)) at refl $
     first ! $ blocks ! $

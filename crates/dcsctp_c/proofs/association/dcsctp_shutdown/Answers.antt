@@ -1,0 +1,9 @@
+use Rattle.std.proofs.Common.{rules}
+use Rattle.dcsctp_c.proofs.ExportLemmas.{plain_goes, channelled_goes}
+use Rattle.dcsctp_c.proofs.association.dcsctp_shutdown.Goals as goal
+
+pub returns-in-Socket : goal.returns-in-Socket
+returns-in-Socket c = plain_goes _ _ c.held.ensures.value c.in-Socket.is c.shutdown.ensures (search rules)
+
+pub returns-in-Channels : goal.returns-in-Channels
+returns-in-Channels c = channelled_goes _ _ c.held.ensures.value c.in-Channels.is c.shutdown-in-Channels.ensures (search rules)

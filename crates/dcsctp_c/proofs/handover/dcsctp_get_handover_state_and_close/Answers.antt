@@ -1,0 +1,9 @@
+use Rattle.std.proofs.Common.{rules}
+use Rattle.dcsctp_c.proofs.ExportLemmas.{below_goes, below_refuses}
+use Rattle.dcsctp_c.proofs.handover.dcsctp_get_handover_state_and_close.Goals as goal
+
+pub returns-in-Socket : goal.returns-in-Socket
+returns-in-Socket c = below_goes _ c.held.ensures.value c.in-Socket.is c.hand_over.ensures (search rules)
+
+pub returns-in-Channels : goal.returns-in-Channels
+returns-in-Channels c = below_refuses _ c.held.ensures.value c.in-Channels.is (search rules)

@@ -1,0 +1,10 @@
+use Rattle.std.proofs.Common.{rules, refl, ap, ◌∙◌}
+use Rattle.dcsctp_c.specs.Exports.{taken_or}
+use Rattle.dcsctp_c.proofs.ExportLemmas.{below_writes, below_writes_nothing}
+use Rattle.dcsctp_c.proofs.taking.dcsctp_poll_event.Goals as goal
+
+pub returns-in-Socket : goal.returns-in-Socket
+returns-in-Socket c = below_writes _ c.held.ensures.value c.in-Socket.is (c.poll_event.result, c.poll_event.ensures, refl, c.take.ensures.place ∙ ap (λ none. taken_or none c.poll_event.result) c.none.ensures) (search rules)
+
+pub returns-in-Channels : goal.returns-in-Channels
+returns-in-Channels c = below_writes_nothing _ _ c.held.ensures.value c.in-Channels.is (search rules)

@@ -1,0 +1,6 @@
+pub mod Begin
+pub mod Calls
+pub mod Options
+pub mod Records
+pub mod Taking
+pub mod Views
