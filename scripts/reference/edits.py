@@ -1,11 +1,13 @@
 """The wrong bodies: what each changes, what refuses it, and over which sources it was tried."""
 import dataclasses
 import hashlib
+import re
 
 from reference import tree
 
-# The crates that each of these folders of attacks is tried on, as in scripts/attack.sh: this one and all below it.
+# The edits of these folders change definitions. This is the highest crate that may refuse one.
 HIGHEST = {'definitions': 'dcsctp_theorem_association', 'delivery': 'dcsctp_delivery_shown'}
+TRIED = 'attacks/tried'
 
 
 @dataclasses.dataclass
@@ -67,52 +69,52 @@ def faults_of(edit: Edit) -> list[str]:
     return found or ([] if changes_something else [f'{edit.path}:1: it changes nothing'])
 
 
-class Record:
-    """What attacks/tried and attacks/passed say of the attacks, over the sources of HEAD."""
+# ---- which sources an edit is tried over
 
-    def __init__(self) -> None:
-        folders = [f'crates/{name}/{part}' for name in tree.crates() for part in ('proofs', 'specs', 'src')]
-        self.sums: dict[str, list[str]] = {}
-        for line in tree.git('ls-tree', 'HEAD', *folders).splitlines():
-            self.sums.setdefault(tree.crate_of(line.split('\t')[1]), []).append(line)
-        self.blobs = self.blobs_at('HEAD')
-        self.tried = dict(line.split() for line in self.said('attacks/tried').splitlines())
-        self.passed = self.said('attacks/passed')
-        self.passed_blobs = self.blobs_at(self.passed) if self.passed else {}
-        self.commits_since = tree.git('rev-list', '--count', f'{self.passed}..HEAD').strip() if self.passed else ''
+def below(crate: str) -> list[str]:
+    """The crates below this one, lowest first."""
+    found: list[str] = []
+    for name in tree.crates()[crate][1]:
+        if name in tree.crates() and name not in found:
+            found += [it for it in [*below(name), name] if it not in found]
+    return found
 
-    @staticmethod
-    def said(path: str) -> str:
-        return tree.text_of(path).strip() if path in tree.files() else ''
 
-    @staticmethod
-    def blobs_at(commit: str) -> dict[str, str]:
-        lines = tree.git('ls-tree', '-r', commit, 'attacks').splitlines()
-        return {path: head.split()[2] for head, _, path in (line.partition('\t') for line in lines)}
+def crate_of_law(function: str) -> str | None:
+    """The crate of the law with this name."""
+    return next((tree.crate_of(path) for path in tree.matching(r'crates/\w+/src/(\w+/)*\w+\.rt')
+                 if re.search(rf'^pub fn {function}\b', tree.text_of(path), re.M)), None)
 
-    @staticmethod
-    def below(folder: str) -> list[str]:
-        todo, seen = [HIGHEST.get(folder, folder)], set()
-        while todo:
-            name = todo.pop()
-            if name in tree.crates() and name not in seen:
-                seen.add(name)
-                todo += tree.crates()[name][1]
-        return sorted(seen)
 
-    def status_of(self, edit: Edit) -> str:
-        """In a few words: when it was tried."""
-        if edit.is_tried_always:
-            return 'tried at each run of the gate'
-        if edit.path not in self.blobs:
-            return 'not known: this is no checkout of its commit'
-        lines = [line for name in self.below(edit.folder) for line in self.sums.get(name, [])]
-        total = hashlib.sha256('\n'.join([self.blobs[edit.path], *lines, '']).encode()).hexdigest()[:16]
-        last = self.tried.get(edit.anchor)
-        if last == total:
-            return 'refused over the present sources'
-        if last:
-            return 'not tried over the present sources; refused over earlier ones (attacks/tried)'
-        if self.passed_blobs.get(edit.path) == self.blobs[edit.path]:
-            return 'not tried over the present sources; it was there when the attacks passed last (attacks/passed)'
-        return 'not tried over the present sources, and no earlier try of this text is recorded'
+def crates_of(edit: Edit) -> list[str]:
+    """The crates that are checked, lowest first: from the lowest one that it changes to the one that refuses it."""
+    if edit.folder not in HIGHEST:
+        return [edit.folder]
+    edited = {tree.crate_of(file) for file, _, _ in edit.changes}
+    said = re.search(r'dcsctp_\w+', edit.refused_by)
+    top = said[0] if said else crate_of_law(edit.refused_by.split(':')[0]) or HIGHEST[edit.folder]
+    return [it for it in [*below(top), top] if edited & {it, *below(it)}]
+
+
+def sum_of(edit: Edit) -> str:
+    """The sum of the edit and of the sources of these crates."""
+    crates = '|'.join(crates_of(edit))
+    total = hashlib.sha256()
+    for path in [edit.path, *tree.matching(rf'crates/(?:{crates})/(?:src|specs|proofs)/.*')]:
+        total.update(path.encode() + b'\0' + tree.text_of(path).encode() + b'\0')
+    return total.hexdigest()[:16]
+
+
+def tried() -> dict[str, str]:
+    """What attacks/tried has: of each edit that was refused, the sum then."""
+    path = tree.TOP / TRIED
+    return dict(line.split() for line in path.read_text(encoding='utf-8').splitlines()) if path.exists() else {}
+
+
+def status_of(edit: Edit, last: dict[str, str]) -> str:
+    """In a few words: when it was tried."""
+    if edit.is_tried_always:
+        return 'tried at each run of the gate'
+    if edit.anchor not in last:
+        return 'no try is recorded'
+    return f'refused over {"the present" if last[edit.anchor] == sum_of(edit) else "earlier"} sources'

@@ -145,7 +145,8 @@ class Model:
 
     def refusing_function(self, name: str, edit: edits.Edit) -> Item | None:
         """The function of this name, perhaps without its type or after its module, that is nearest to what the edit changes."""
-        below = set(edits.Record.below(edit.folder))
+        highest = edits.HIGHEST.get(edit.folder, edit.folder)
+        below = {*edits.below(highest), highest}
         module, _, last = name.rpartition('::')
         same = [item for item in self.by_last_name.get(last, []) if tree.crate_of(item.path) in below
                 and (not module or item.name == name or module in item.path.split('/')[-1])]

@@ -27,8 +27,7 @@ INDEX = '''<h2>How to read it</h2>
 <h2>Crates, lowest first</h2>
 '''
 ATTACKS = '''{first} Those in <code>must-fail</code> are tried at each run of the gate. Those in <code>attacks</code> are tried by
-<code>scripts/attack.sh</code> before a change of their crate lands. <code>attacks/tried</code> records over which sources each
-was refused. <code>attacks/passed</code> names the commit{passed} at which all of that time had been refused. Of {count} now:'''
+<code>scripts/attack.py</code>. <code>attacks/tried</code> records over which sources each was refused. Of {count} now:'''
 SECTIONS = '<tr><th>Section</th><th>Code and laws</th><th>Definitions</th><th>Cases, tests and computed examples</th></tr>'
 
 
@@ -47,7 +46,7 @@ class Writer:
     def __init__(self, model: Model, mentions: dict[str, list[tuple[str, int]]]) -> None:
         self.model = model
         self.mentions = mentions  # where a document names an edit
-        self.record = edits.Record()
+        self.tried = edits.tried()
         # Functions that no page shows: a link leads to their file.
         self.hidden = {item.href for item in model.of_kind('function')
                        if item.page == 'inside' and not item.clauses and item.href not in model.refusals}
@@ -183,9 +182,8 @@ class Writer:
         def folder_of(edit: edits.Edit) -> str:
             return edit.path.rpartition('/')[0]
         every = sorted(self.model.edits, key=lambda edit: (not edit.is_tried_always, edit.path))
-        counts = collections.Counter(map(self.record.status_of, every)).most_common()
-        passed = f', {self.record.passed}, {self.record.commits_since} commits ago,' if self.record.commits_since else ''
-        first = ATTACKS.format(first=PAGES['wrong-bodies'][1], passed=passed, count=len(every))
+        counts = collections.Counter(edits.status_of(it, self.tried) for it in every).most_common()
+        first = ATTACKS.format(first=PAGES['wrong-bodies'][1], count=len(every))
         said = ''.join(f'<li>{count}: {escape(status)}</li>' for status, count in counts)
         body = grouped(every, folder_of, lambda folder: f'<h2 id="{folder}">{folder}</h2>\n', self.edit)
         return page(PAGES['wrong-bodies'][0], first, f'<ul>{said}</ul>{body}')
@@ -194,7 +192,7 @@ class Writer:
         named = ', '.join(source(path, line) for path, line in self.mentions.get(edit.name, []))
         refused = f'<p>Refused by {self.refused_by(edit)}.</p>' if edit.refused_by else ''
         return section(edit.anchor, f'{escape(edit.name)} {source(edit.path, 1)}', refused, self.changes(edit),
-                       small(self.record.status_of(edit)), small(named and f'named in {named}'))
+                       small(edits.status_of(edit, self.tried)), small(named and f'named in {named}'))
 
     def refused_by(self, edit: edits.Edit) -> str:
         """What refuses an edit, with links to the clause, to functions, and to files of computed examples."""
