@@ -13,7 +13,7 @@ use Rattle.dcsctp_spec_lemmas.specs.spec.queues.SendQueue.{queue_stream}
 use Rattle.dcsctp_spec_lemmas.specs.types.queues.SendStreams as send_streams
 use Rattle.dcsctp_spec_lemmas.specs.types.Setting.{Setting}
 use Rattle.dcsctp_spec_lemmas.specs.spec.endpoint.SettingOutcomes.{endpoint_with}
-use Rattle.dcsctp_spec_lemmas.specs.spec.endpoint.CallTurns.{Transition, HandleInput, CutInput, after_all, words_of, pairs_of, events_of}
+use Rattle.dcsctp_spec_lemmas.specs.spec.endpoint.CallTurns.{Transition, HandleInput, FirstOfCall, after_all, words_of, pairs_of, events_of}
 use Rattle.dcsctp_spec_lemmas.specs.spec.endpoint.UserTurns.{UserTurns}
 use Rattle.dcsctp_api.specs.declared.errors.SocketFault.{SocketFault}
 use Rattle.dcsctp_api.specs.declared.errors.SocketFault.TheVariants.{OutOfMemory, Failed}
@@ -38,10 +38,10 @@ abbrev pub user_event : Ports → Event Emission → Event (List ℕ)
 user_event ports event = event_map (emission_bytes ports) event
 
 -- The words are what the generator gives next, and this is left of it.
-abbrev pub Drawn : Stream → List Word → Stream → Type 0
-Drawn old [] new = new ≡ old
-Drawn old (U32 word ∷ words) new = (word ≡ (next_u32 old).0) × Drawn (next_u32 old).1 words new
-Drawn old (U64 word ∷ words) new = (word ≡ (next_u64 old).0) × Drawn (next_u64 old).1 words new
+abbrev pub DrawsWords : Stream → List Word → Stream → Type 0
+DrawsWords old [] new = new ≡ old
+DrawsWords old (U32 word ∷ words) new = (word ≡ (next_u32 old).0) × DrawsWords (next_u32 old).1 words new
+DrawsWords old (U64 word ∷ words) new = (word ≡ (next_u64 old).0) × DrawsWords (next_u64 old).1 words new
 
 -- ---- what a call leaves
 
@@ -53,7 +53,7 @@ pub record Follows (old : UserView) (turns : List Transition) (new : UserView) :
   pub events : new.events ≡ old.events ++ map (user_event (ports_of old.endpoint.options)) (events_of turns)
   pub words : new.words ≡ words_of turns
   pub pairs : new.pairs ≡ pairs_of turns
-  pub drawn : Drawn old.generator (words_of turns) new.generator
+  pub drawn : DrawsWords old.generator (words_of turns) new.generator
 
 -- The call was made: such is its answer, and such are its turns.
 pub record MakesCall {A : Type 0} (IsAnswer : A → Type 0) (AreTurns : List Transition → Type 0) (old : UserView) (answer : A) (new : UserView) : Type 0 where
@@ -114,7 +114,7 @@ UserCallsWhole call IsAnswer old result new = Calls IsAnswer (UserTurns old.endp
 -- ---- the calls
 
 abbrev pub HandlesInput : UserView → List ℕ → Result (Unit {0}) SocketFault → UserView → Type 0
-HandlesInput old packet result new = Calls NoAnswer (HandleInput old.endpoint packet) (RanOutOfMemory (CutInput old.endpoint packet)) old result new
+HandlesInput old packet result new = Calls NoAnswer (HandleInput old.endpoint packet) (RanOutOfMemory (FirstOfCall old.endpoint packet)) old result new
 
 abbrev pub Connects : UserView → Result (Unit {0}) SocketFault → UserView → Type 0
 Connects old result new = UserCallsWhole connect_call NoAnswer old result new
@@ -126,15 +126,15 @@ abbrev pub ShutsDown : UserView → Result (Unit {0}) SocketFault → UserView �
 ShutsDown old result new = UserCalls shutdown_call NoAnswer old result new
 
 -- does the user's shutdown change anything?
-abbrev pub takes_shutdown_in : OpenPhase → Bool
-takes_shutdown_in established = true
-takes_shutdown_in phase = false
+abbrev pub takes_shutdown_by_phase : OpenPhase → Bool
+takes_shutdown_by_phase established = true
+takes_shutdown_by_phase phase = false
 
 abbrev pub takes_shutdown : Core → Bool
 takes_shutdown closed = false
 takes_shutdown (cookie_wait my) = true
 takes_shutdown (cookie_echoed my held cookie) = true
-takes_shutdown (open_in phase my held) = takes_shutdown_in phase
+takes_shutdown (open_in phase my held) = takes_shutdown_by_phase phase
 
 -- what a socket is to its user once this is set; no word is drawn
 abbrev pub with_setting : Setting → UserView → UserView

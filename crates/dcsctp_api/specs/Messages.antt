@@ -8,7 +8,7 @@ use Rattle.dcsctp_spec_lemmas.specs.spec.queues.Transfer.{Transfer}
 use Rattle.dcsctp_spec_lemmas.specs.spec.queues.IncomingStreams.{StreamModel}
 use Rattle.dcsctp_spec_lemmas.specs.spec.endpoint.Endpoint.{Endpoint}
 use Rattle.dcsctp_spec_lemmas.specs.spec.endpoint.Outcome.{Outcome}
-use Rattle.dcsctp_spec_lemmas.specs.spec.endpoint.DataOutcomes.{ready_where, TakeTurn}
+use Rattle.dcsctp_spec_lemmas.specs.spec.endpoint.DataOutcomes.{ready_or_left, TakeTurn}
 use Rattle.dcsctp_spec_lemmas.specs.spec.endpoint.MessageOutcomes.{MessageRefusal, empty_payload, message_too_large, shutting_down, resource_exhaustion, message_refusal, sending_of, RefusedMessage, refused_from}
 use Rattle.dcsctp_api.specs.declared.errors.BatchSendError.{BatchSendError}
 use Rattle.dcsctp_api.specs.declared.errors.SendError.{SendError}
@@ -26,24 +26,24 @@ refusal_of ResourceExhaustion = resource_exhaustion
 refusal_of ShuttingDown = shutting_down
 
 -- why the message was refused, by the result
-abbrev pub refusal_in : Result (Unit {0}) SendError → Option MessageRefusal
-refusal_in (Ok done) = None
-refusal_in (Err error) = Some (refusal_of error)
+abbrev pub refusal_of_answer : Result (Unit {0}) SendError → Option MessageRefusal
+refusal_of_answer (Ok done) = None
+refusal_of_answer (Err error) = Some (refusal_of error)
 
 -- the messages that such a list names
-abbrev pub refused_in : List (ℕ × SendError) → List RefusedMessage
-refused_in errors = map (λ error. record { place = error.0; refusal = refusal_of error.1 }) errors
+abbrev pub refused_messages : List (ℕ × SendError) → List RefusedMessage
+refused_messages errors = map (λ error. record { place = error.0; refusal = refusal_of error.1 }) errors
 
 -- No message is refused, or the error names all that are.
 abbrev pub IsBatchAnswer : List RefusedMessage → Result (Unit {0}) BatchSendError → Type 0
 IsBatchAnswer refused (Ok done) = refused ≡ []
-IsBatchAnswer refused (Err error) = (refused_in error.0.items ≡ refused) × (refused ≡ [] → ⊥)
+IsBatchAnswer refused (Err error) = (refused_messages error.0.items ≡ refused) × (refused ≡ [] → ⊥)
 
 -- ---- send and send_many
 
 -- What `send` returns: whether the message is refused, and why.
 abbrev pub IsSendAnswer : Endpoint → MessageContent → Result (Unit {0}) SendError → Type 0
-IsSendAnswer e message answer = refusal_in answer ≡ message_refusal e message.stream (length message.payload)
+IsSendAnswer e message answer = refusal_of_answer answer ≡ message_refusal e message.stream (length message.payload)
 
 -- What `send_many` returns: which of the messages are refused, and why.
 abbrev pub IsSendManyAnswer : Endpoint → List MessageContent → SendOptions → Result (Unit {0}) BatchSendError → Type 0
@@ -59,7 +59,7 @@ SendsMany messages options old result new = UserCalls (send_many_call messages o
 
 -- the messages that can be taken, in order
 abbrev pub ready_messages : Endpoint → List MessageContent
-ready_messages e = ready_where e.left e.queues.transfer
+ready_messages e = ready_or_left e.left e.queues.transfer
 
 abbrev pub transfer_streams : Option Transfer → List (ℕ × StreamModel)
 transfer_streams None = []

@@ -4,7 +4,7 @@ use Rattle.std.specs.Int.{div_ceil}
 use Rattle.std.specs.Duration.{as_nanos}
 use Rattle.dcsctp_spec_lemmas.specs.types.declared.association.Held.{Held}
 use Rattle.dcsctp_spec_lemmas.specs.types.declared.capabilities.Capabilities.{Capabilities}
-use Rattle.dcsctp_spec_lemmas.specs.spec.endpoint.Endpoint.{Endpoint, Counts, held_in}
+use Rattle.dcsctp_spec_lemmas.specs.spec.endpoint.Endpoint.{Endpoint, Counts, held_by_core}
 use Rattle.dcsctp_spec_lemmas.specs.spec.queues.Items.{unacknowledged_items}
 use Rattle.dcsctp_spec_lemmas.specs.spec.queues.Retransmission.{RetransmissionState, window_left}
 use Rattle.dcsctp_spec_lemmas.specs.spec.queues.SendQueue.{SendQueueState}
@@ -66,4 +66,4 @@ ShowsKnownMetrics e (Some held) None metrics = metrics ≡ None
 ShowsKnownMetrics e None transfer metrics = metrics ≡ None
 
 abbrev pub ShowsMetrics : Endpoint → Option Metrics → Type 0
-ShowsMetrics e metrics = ShowsKnownMetrics e (held_in e.core) e.queues.transfer metrics
+ShowsMetrics e metrics = ShowsKnownMetrics e (held_by_core e.core) e.queues.transfer metrics

@@ -14,13 +14,13 @@ reset_refusal_of NotConnected = not_connected
 reset_refusal_of NotSupported = not_supported
 
 -- why the streams weren't reset, by the result
-abbrev pub reset_refusal_in : Result (Unit {0}) ResetStreamsError → Option ResetRefusal
-reset_refusal_in (Ok done) = None
-reset_refusal_in (Err error) = Some (reset_refusal_of error)
+abbrev pub reset_refusal_of_answer : Result (Unit {0}) ResetStreamsError → Option ResetRefusal
+reset_refusal_of_answer (Ok done) = None
+reset_refusal_of_answer (Err error) = Some (reset_refusal_of error)
 
 -- What is returned: whether the call is refused, and why.
 abbrev pub IsResetAnswer : Endpoint → Result (Unit {0}) ResetStreamsError → Type 0
-IsResetAnswer e answer = reset_refusal_in answer ≡ reset_refusal e
+IsResetAnswer e answer = reset_refusal_of_answer answer ≡ reset_refusal e
 
 abbrev pub ResetsOwn : List ℕ → UserView → Result (Result (Unit {0}) ResetStreamsError) SocketFault → UserView → Type 0
 ResetsOwn ids old result new = UserCalls (reset_call ids) (IsResetAnswer old.endpoint) old result new

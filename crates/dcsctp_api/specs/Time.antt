@@ -1,6 +1,6 @@
 -- What `advance_time` does to a socket.
 use Rattle.std.specs.Prelude.{◌≡◌, ℕ, Result, IsOk, []}
-use Rattle.dcsctp_spec_lemmas.specs.spec.endpoint.Turn.{clock_at}
+use Rattle.dcsctp_spec_lemmas.specs.spec.endpoint.Turn.{with_clock}
 use Rattle.dcsctp_spec_lemmas.specs.types.Schedule.{advance_call}
 use Rattle.dcsctp_api.specs.declared.errors.SocketFault.{SocketFault}
 use Rattle.dcsctp_api.specs.Calls.{UserView, NoAnswer, UserCalls}
@@ -12,4 +12,4 @@ AdvancesClock old moment result new = UserCalls (advance_call moment) NoAnswer o
 -- The call succeeds, and only moves the clock.
 pub record OnlyMovesClock (old : UserView) (moment : ℕ) (result : Result (Unit {0}) SocketFault) (new : UserView) : Type 0 where
   pub succeeds : IsOk result
-  pub only : new ≡ record old { endpoint = clock_at moment old.endpoint; words = []; pairs = [] }
+  pub only : new ≡ record old { endpoint = with_clock moment old.endpoint; words = []; pairs = [] }

@@ -4,7 +4,7 @@
 
 ghost use Rattle.std.specs.Prelude.{◌≡◌, ◌+◌, ◌≤◌, length};
 ghost use Rattle.std.specs.Duration.{as_nanos};
-ghost use Rattle.dcsctp_spec_lemmas.specs.spec.Cookie.{u64_at, cookie_fields, cut, is_stale};
+ghost use Rattle.dcsctp_spec_lemmas.specs.spec.Cookie.{u64_at, cookie_fields, cookie_moment, is_stale};
 ghost use Rattle.dcsctp_spec_lemmas.specs.types.Offer.{capabilities_offered};
 ghost use Rattle.dcsctp_api.specs.Cookie.{cookie_of};
 
@@ -73,17 +73,17 @@ pub struct StateCookie {
 
 impl StateCookie {
     ghost use Rattle.std.specs.Prelude.{MatchResult, IfOk, Ok, Err};
-    ghost use Rattle.dcsctp_spec_lemmas.specs.spec.Cookie.{cookie_bytes, cookie_at};
+    ghost use Rattle.dcsctp_spec_lemmas.specs.spec.Cookie.{cookie_bytes, cookie_of_bytes};
 
     /// Reads a cookie. Allocates nothing.
     ///
     /// The first fault decides: `Invalid state cookie size` unless there are 56 bytes. Then
     /// `Invalid state cookie magic` unless they begin with the magic. Then
     /// `Invalid verification tag in state cookie` if a tag is 0.
-    #[tactic(auto, unfolding(crate::specs::Cookie::cookie_at))]
+    #[tactic(auto, unfolding(crate::specs::Cookie::cookie_of_bytes))]
     pub fn from_bytes(bytes: &[u8]) -> Result<StateCookie, &'static str>
-        ensures { MatchResult result (λ cookie. cookie_at bytes.now ≡ Ok (cookie_of cookie))
-            (λ text. cookie_at bytes.now ≡ Err text.now) }
+        ensures { MatchResult result (λ cookie. cookie_of_bytes bytes.now ≡ Ok (cookie_of cookie))
+            (λ text. cookie_of_bytes bytes.now ≡ Err text.now) }
     {
         if bytes.len() != COOKIE_SIZE {
             return Err("Invalid state cookie size");
@@ -100,7 +100,7 @@ impl StateCookie {
 
     /// A moment as a cookie has it: in nanoseconds, at most `u64::MAX`. Allocates nothing.
     pub fn moment_at(now: SocketTime) -> u64
-        ensures { result ≡ cut now }
+        ensures { result ≡ cookie_moment now }
     {
         now.as_nanos().min(u128::from(u64::MAX)) as u64
     }

@@ -18,11 +18,11 @@ use Rattle.dcsctp_channel_session.specs.declared.held.Held.TheVariants as helds
 use Rattle.dcsctp_channel_session.specs.declared.options.LimitsRecord.{LimitsRecord}
 use Rattle.dcsctp_channel_session.specs.declared.session.ChannelSession.{ChannelSession}
 use Rattle.dcsctp_c.specs.Channels.{OnChannels, WrittenOnChannels, ChannelsBegun}
-use Rattle.dcsctp_c.specs.Exports.{Exported, Below, WrittenBelow, CreatedIn}
+use Rattle.dcsctp_c.specs.Exports.{CallsSession, Below, WrittenBelow, CreatesOnce}
 
 -- by a handle that is left as it was, since an allocation failed
 pub not_created : (numbers : OptionsRecord) (seed : List ℕ) (moment : ℕ) (made : Session) (held : Option Held) (result : ℤ)
-    → Creates numbers seed moment (Ok made) → (IsSome held → ⊥) → result ≡ status_number statuses.OutOfMemory → CreatedIn numbers seed moment held result held
+    → Creates numbers seed moment (Ok made) → (IsSome held → ⊥) → result ≡ status_number statuses.OutOfMemory → CreatesOnce numbers seed moment held result held
 not_created numbers seed moment made None result creates closed is = inr (statuses.OutOfMemory, inr (inr (inr (refl, creates.sized))), is, refl)
 not_created numbers seed moment made (Some already) result creates closed is = absurd (closed refl)
 
@@ -30,12 +30,12 @@ not_created numbers seed moment made (Some already) result creates closed is = a
 
 pub plain_goes : (Plain : Session → Status → Session → Type 0) (Channelled : ChannelSession → Status → ChannelSession → Type 0)
     {held : Option Held} {here : Held} {old new : Session} {status : Status} {result : ℤ}
-    → held ≡ Some here → here ≡ helds.Socket old → Plain old status new → result ≡ status_number status → Exported Plain Channelled held result (Some (helds.Socket new))
+    → held ≡ Some here → here ≡ helds.Socket old → Plain old status new → result ≡ status_number status → CallsSession Plain Channelled held result (Some (helds.Socket new))
 plain_goes Plain Channelled {new = new} {status = status} is there goes told = rw is (rw there (status, new, goes, told, refl))
 
 pub channelled_goes : (Plain : Session → Status → Session → Type 0) (Channelled : ChannelSession → Status → ChannelSession → Type 0)
     {held : Option Held} {here : Held} {old new : ChannelSession} {status : Status} {result : ℤ}
-    → held ≡ Some here → here ≡ helds.Channels old → Channelled old status new → result ≡ status_number status → Exported Plain Channelled held result (Some (helds.Channels new))
+    → held ≡ Some here → here ≡ helds.Channels old → Channelled old status new → result ≡ status_number status → CallsSession Plain Channelled held result (Some (helds.Channels new))
 channelled_goes Plain Channelled {new = new} {status = status} is there goes told = rw is (rw there (status, new, goes, told, refl))
 
 -- ---- calls below channels

@@ -14,8 +14,8 @@ use Rattle.dcsctp_channel_session.specs.declared.records.ChannelEventRecord.{Cha
 use Rattle.dcsctp_channel_session.specs.declared.records.ShownOptions.{ShownOptions}
 use Rattle.dcsctp_channel_session.specs.declared.records.TrafficRecord.{TrafficRecord}
 use Rattle.dcsctp_channel_session.specs.declared.session.ChannelSession.{ChannelSession}
-use Rattle.dcsctp_c.specs.Exports.{Exported, Written, Refuses, WritesNothing, taken_or}
-use Rattle.dcsctp_c.specs.Queries.{Asked, AskedIf, TellsNothing, WritesAnswer, Buffer, CopiesFrom, OutputPlace, ShowsFrom}
+use Rattle.dcsctp_c.specs.Exports.{CallsSession, CallsAndWrites, Refuses, WritesNothing, taken_or}
+use Rattle.dcsctp_c.specs.Queries.{QueriesSession, QueriesIfSized, TellsNothing, WritesAnswer, Buffer, CopiesFrom, OutputPlace, ShowsFrom}
 
 -- ---- calls
 
@@ -26,10 +26,10 @@ ChannelsBegun limits (Some old) result new = (status : Status) × (held : Held) 
 
 -- The call takes place on a session with channels.
 abbrev pub OnChannels : (ChannelSession → Status → ChannelSession → Type 0) → Option Held → ℤ → Option Held → Type 0
-OnChannels Call held result new = Exported (Refuses statuses.NoChannel) Call held result new
+OnChannels Call held result new = CallsSession (Refuses statuses.NoChannel) Call held result new
 
 abbrev pub WrittenOnChannels : {T : Type 0} → (ChannelSession → T → Status → T → ChannelSession → Type 0) → Option Held → T → ℤ → T → Option Held → Type 0
-WrittenOnChannels Call held before result after new = Written (WritesNothing statuses.NoChannel) Call held before result after new
+WrittenOnChannels Call held before result after new = CallsAndWrites (WritesNothing statuses.NoChannel) Call held before result after new
 
 -- The next event is taken, and written.
 abbrev pub WritesPolled : ChannelSession → ChannelEventRecord → Status → ChannelEventRecord → ChannelSession → Type 0
@@ -38,7 +38,7 @@ WritesPolled old before status after new = EventPolled old status after new
 -- ---- queries
 
 abbrev pub AskedOfChannels : {T : Type 0} → (ChannelSession → T → Status → T → Type 0) → Option Held → T → ℤ → T → Type 0
-AskedOfChannels Query held before result after = Asked (TellsNothing statuses.NoChannel) Query held before result after
+AskedOfChannels Query held before result after = QueriesSession (TellsNothing statuses.NoChannel) Query held before result after
 
 abbrev pub EventCopied : Option Held → Buffer → ℤ → Buffer → Type 0
 EventCopied = AskedOfChannels (CopiesFrom (λ session. items_in (memory_in session.event)))
@@ -63,7 +63,7 @@ options_taken session = options_in session.event
 
 abbrev pub OpeningGiven : Option Held → ShownOptions → ℤ → ShownOptions → Type 0
 OpeningGiven held before result after =
-    AskedIf (has_shown_size before) (TellsNothing statuses.NoChannel) (TellsFound statuses.NothingToCopy options_taken) held before result after
+    QueriesIfSized (has_shown_size before) (TellsNothing statuses.NoChannel) (TellsFound statuses.NothingToCopy options_taken) held before result after
 
 abbrev pub stream_numbered : ℕ → ChannelSession → Option ℕ
 stream_numbered channel session = stream_of_named (channels_view session).layer (name_of channel)
@@ -76,7 +76,7 @@ traffic_numbered channel session = option_map traffic_record (traffic_named (cha
 
 abbrev pub TrafficGiven : ℕ → Option Held → TrafficRecord → ℤ → TrafficRecord → Type 0
 TrafficGiven channel held before result after =
-    AskedIf (has_traffic_size before) (TellsNothing statuses.NoChannel) (TellsFound statuses.NoChannel (traffic_numbered channel)) held before result after
+    QueriesIfSized (has_traffic_size before) (TellsNothing statuses.NoChannel) (TellsFound statuses.NoChannel (traffic_numbered channel)) held before result after
 
 abbrev pub StreamsCounted : Option Held → ℕ → ℤ → ℕ → Type 0
 StreamsCounted = AskedOfChannels (WritesAnswer (λ session told. told ≡ length (channels_view session).layer.streams))

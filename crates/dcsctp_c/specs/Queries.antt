@@ -16,8 +16,8 @@ use Rattle.dcsctp_session.specs.declared.status.Status.TheVariants as statuses
 use Rattle.dcsctp_session.specs.declared.options.OptionsRecord.{OptionsRecord}
 use Rattle.dcsctp_session.specs.declared.records.MetricsRecord.{MetricsRecord}
 use Rattle.dcsctp_session.specs.declared.records.CountsRecord.{CountsRecord}
-use Rattle.dcsctp_session.specs.Calls.{MetricsShown, CountsShown}
-use Rattle.dcsctp_session.specs.Copying.{CopiesTaken, ShowsPlace}
+use Rattle.dcsctp_session.specs.Calls.{ShowsMetricsRecord, ShowsCountsRecord}
+use Rattle.dcsctp_session.specs.Copying.{CopiesIfTaken, ShowsPlace}
 use Rattle.dcsctp_session.specs.Handover.{CopiesSnapshot}
 use Rattle.dcsctp_session.specs.Options.{ShowsOptions, has_options_size, never}
 use Rattle.dcsctp_session.specs.Records.{has_metrics_size, has_counts_size}
@@ -31,17 +31,17 @@ use Rattle.dcsctp_c.specs.Exports.{taken_or}
 
 -- The one query is made of a session, and the other of one with channels. It may write to a place of the caller's: before, and
 -- after.
-abbrev pub Asked : {T : Type 0} → (Session → T → Status → T → Type 0) → (ChannelSession → T → Status → T → Type 0) → Option Held → T → ℤ → T → Type 0
-Asked Plain Channelled None before result after = (result ≡ status_number statuses.NoSocket) × (after ≡ before)
-Asked Plain Channelled (Some (helds.Socket session)) before result after = (status : Status) × Plain session before status after × (result ≡ status_number status)
-Asked Plain Channelled (Some (helds.Channels session)) before result after =
+abbrev pub QueriesSession : {T : Type 0} → (Session → T → Status → T → Type 0) → (ChannelSession → T → Status → T → Type 0) → Option Held → T → ℤ → T → Type 0
+QueriesSession Plain Channelled None before result after = (result ≡ status_number statuses.NoSocket) × (after ≡ before)
+QueriesSession Plain Channelled (Some (helds.Socket session)) before result after = (status : Status) × Plain session before status after × (result ≡ status_number status)
+QueriesSession Plain Channelled (Some (helds.Channels session)) before result after =
     (status : Status) × Channelled session before status after × (result ≡ status_number status)
 
 -- The same where the place is a record: one that hasn't the size of the library's is refused, and nothing is written.
-abbrev pub AskedIf : {T : Type 0} → Bool → (Session → T → Status → T → Type 0) → (ChannelSession → T → Status → T → Type 0)
+abbrev pub QueriesIfSized : {T : Type 0} → Bool → (Session → T → Status → T → Type 0) → (ChannelSession → T → Status → T → Type 0)
     → Option Held → T → ℤ → T → Type 0
-AskedIf false Plain Channelled held before result after = (result ≡ status_number statuses.WrongSize) × (after ≡ before)
-AskedIf true Plain Channelled held before result after = Asked Plain Channelled held before result after
+QueriesIfSized false Plain Channelled held before result after = (result ≡ status_number statuses.WrongSize) × (after ≡ before)
+QueriesIfSized true Plain Channelled held before result after = QueriesSession Plain Channelled held before result after
 
 -- This is returned, and nothing is written.
 abbrev pub TellsNothing : {S T : Type 0} → Status → S → T → Status → T → Type 0
@@ -49,7 +49,7 @@ TellsNothing refusal session before status after = (status ≡ refusal) × (afte
 
 -- The query is made of a session. One with channels refuses what is below them.
 abbrev pub AskedBelow : {T : Type 0} → (Session → T → Status → T → Type 0) → Option Held → T → ℤ → T → Type 0
-AskedBelow Plain held before result after = Asked Plain (TellsNothing statuses.HasChannels) held before result after
+AskedBelow Plain held before result after = QueriesSession Plain (TellsNothing statuses.HasChannels) held before result after
 
 -- ---- what is written
 
@@ -64,7 +64,7 @@ socket_below session = (channels_view session).below
 -- What is said of the socket is written, whether it has channels or not.
 abbrev pub AskedOf : {T : Type 0} → (UserView → T → Type 0) → Option Held → T → ℤ → T → Type 0
 AskedOf Says held before result after =
-    Asked (WritesAnswer (λ session told. Says (view session) told)) (WritesAnswer (λ session told. Says (socket_below session) told)) held before result after
+    QueriesSession (WritesAnswer (λ session told. Says (view session) told)) (WritesAnswer (λ session told. Says (socket_below session) told)) held before result after
 
 abbrev pub TagAsked : Option Held → ℕ → ℤ → ℕ → Type 0
 TagAsked = AskedOf (λ shown told. told ≡ own_tag shown.endpoint.core)
@@ -72,7 +72,7 @@ TagAsked = AskedOf (λ shown told. told ≡ own_tag shown.endpoint.core)
 -- when the next call is due
 abbrev pub DeadlineAsked : Option Held → ℕ → ℤ → ℕ → Type 0
 DeadlineAsked =
-    Asked (WritesAnswer (λ session told. told ≡ min (next_moment (view session).endpoint) never)) (WritesAnswer (λ session told. told ≡ min (channels_deadline (channels_view session)) never))
+    QueriesSession (WritesAnswer (λ session told. told ≡ min (next_moment (view session).endpoint) never)) (WritesAnswer (λ session told. told ≡ min (channels_deadline (channels_view session)) never))
 
 abbrev pub WritesOptions : Session → OptionsRecord → Status → OptionsRecord → Type 0
 WritesOptions = WritesAnswer (λ session told. ShowsOptions told (view session).endpoint.options session.checksum_offload)
@@ -81,8 +81,8 @@ WritesOptions = WritesAnswer (λ session told. ShowsOptions told (view session).
 abbrev pub ChannelsWriteOptions : ChannelSession → OptionsRecord → Status → OptionsRecord → Type 0
 ChannelsWriteOptions = WritesAnswer (λ session told. ShowsOptions told (socket_below session).endpoint.options false)
 
-abbrev pub OptionsGiven : Option Held → OptionsRecord → ℤ → OptionsRecord → Type 0
-OptionsGiven held before result after = AskedIf (has_options_size before) WritesOptions ChannelsWriteOptions held before result after
+abbrev pub GivesOptions : Option Held → OptionsRecord → ℤ → OptionsRecord → Type 0
+GivesOptions held before result after = QueriesIfSized (has_options_size before) WritesOptions ChannelsWriteOptions held before result after
 
 -- the payload bytes that wait on a stream; each stream is in the queue once
 abbrev pub AmountIs : ℕ → Session → ℕ → Type 0
@@ -93,25 +93,25 @@ abbrev pub ReadinessIs : Session → ℕ → Type 0
 ReadinessIs session told = (told ≡ readiness_of (view session).endpoint) × AreInOrder (incoming_streams (view session).endpoint)
 
 -- The metrics of the socket are written, if there are any.
-abbrev pub TellsMetrics : {S : Type 0} → (S → UserView) → S → MetricsRecord → Status → MetricsRecord → Type 0
-TellsMetrics shown session before status after =
-    (metrics : Option MetricsRecord) × MetricsShown (shown session) metrics × (status ≡ taken_status metrics) × (after ≡ taken_or before metrics)
+abbrev pub WritesMetrics : {S : Type 0} → (S → UserView) → S → MetricsRecord → Status → MetricsRecord → Type 0
+WritesMetrics shown session before status after =
+    (metrics : Option MetricsRecord) × ShowsMetricsRecord (shown session) metrics × (status ≡ taken_status metrics) × (after ≡ taken_or before metrics)
 
 abbrev pub MetricsAsked : Option Held → MetricsRecord → ℤ → MetricsRecord → Type 0
-MetricsAsked = Asked (TellsMetrics view) (TellsMetrics socket_below)
+MetricsAsked = QueriesSession (WritesMetrics view) (WritesMetrics socket_below)
 
-abbrev pub MetricsGiven : Option Held → MetricsRecord → ℤ → MetricsRecord → Type 0
-MetricsGiven held before result after = AskedIf (has_metrics_size before) (TellsMetrics view) (TellsMetrics socket_below) held before result after
+abbrev pub GivesMetrics : Option Held → MetricsRecord → ℤ → MetricsRecord → Type 0
+GivesMetrics held before result after = QueriesIfSized (has_metrics_size before) (WritesMetrics view) (WritesMetrics socket_below) held before result after
 
 -- The counts are written.
-abbrev pub TellsCounts : {S : Type 0} → (S → UserView) → S → CountsRecord → Status → CountsRecord → Type 0
-TellsCounts shown = WritesAnswer (λ session told. CountsShown (shown session) told)
+abbrev pub WritesCounts : {S : Type 0} → (S → UserView) → S → CountsRecord → Status → CountsRecord → Type 0
+WritesCounts shown = WritesAnswer (λ session told. ShowsCountsRecord (shown session) told)
 
 abbrev pub CountsAsked : Option Held → CountsRecord → ℤ → CountsRecord → Type 0
-CountsAsked = Asked (TellsCounts view) (TellsCounts socket_below)
+CountsAsked = QueriesSession (WritesCounts view) (WritesCounts socket_below)
 
-abbrev pub CountsGiven : Option Held → CountsRecord → ℤ → CountsRecord → Type 0
-CountsGiven held before result after = AskedIf (has_counts_size before) (TellsCounts view) (TellsCounts socket_below) held before result after
+abbrev pub GivesCounts : Option Held → CountsRecord → ℤ → CountsRecord → Type 0
+GivesCounts held before result after = QueriesIfSized (has_counts_size before) (WritesCounts view) (WritesCounts socket_below) held before result after
 
 -- ---- what is copied or shown
 
@@ -125,7 +125,7 @@ buffer_of numbers told = record { numbers = numbers; told = told }
 
 -- What the session has is copied to the buffer.
 abbrev pub CopiesFrom : {S : Type 0} → (S → Option (List ℕ)) → S → Buffer → Status → Buffer → Type 0
-CopiesFrom numbers_in session before status after = CopiesTaken (numbers_in session) before.numbers status after.numbers after.told
+CopiesFrom numbers_in session before status after = CopiesIfTaken (numbers_in session) before.numbers status after.numbers after.told
 
 -- The same of the bytes of a snapshot.
 abbrev pub CopiesSnapshotFrom : Session → Buffer → Status → Buffer → Type 0

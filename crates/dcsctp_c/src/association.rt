@@ -2,10 +2,10 @@
 
 ghost use Rattle.std.specs.Prelude.{◌≡◌, map};
 ghost use Rattle.dcsctp_api.specs.types.Setting.{stream_priority, stream_low_threshold};
-ghost use Rattle.dcsctp_session.specs.Calls.{ConnectsSession, ShutDown, Closed, InputHandled, Advanced, SettingMade, SizeLimited, MessageSent, StreamsReset};
-ghost use Rattle.dcsctp_session.specs.Many.{ManySent};
+ghost use Rattle.dcsctp_session.specs.Calls.{ConnectsSession, ShutDown, ClosesSession, HandlesPacket, AdvancesSession, MakesSetting, LimitsSize, SendsOneMessage, StreamsReset};
+ghost use Rattle.dcsctp_session.specs.Many.{SendsManyRecords};
 ghost use Rattle.dcsctp_channel_session.specs.Calls.{ChannelsConnect, ChannelsShutDown, ChannelsAbort, ChannelsHandle, ChannelsAdvance, ChannelsLimit};
-ghost use Rattle.dcsctp_c.specs.Exports.{Exported, Below, WrittenBelow};
+ghost use Rattle.dcsctp_c.specs.Exports.{CallsSession, Below, WrittenBelow};
 
 use dcsctp_channel_session::Held;
 use dcsctp_handle::Handle;
@@ -14,7 +14,7 @@ use dcsctp_session::{OutgoingRecord, SendOptionsRecord, Status};
 /// Begins an association.
 #[unsafe(no_mangle)]
 pub extern "C" fn dcsctp_connect(handle: &mut Handle) -> i32
-    ensures { Exported ConnectsSession ChannelsConnect handle.old.slot.value result
+    ensures { CallsSession ConnectsSession ChannelsConnect handle.old.slot.value result
         handle.new.slot.value }
 {
     if !handle.is_open() {
@@ -29,7 +29,7 @@ pub extern "C" fn dcsctp_connect(handle: &mut Handle) -> i32
 /// Shuts the association down.
 #[unsafe(no_mangle)]
 pub extern "C" fn dcsctp_shutdown(handle: &mut Handle) -> i32
-    ensures { Exported ShutDown ChannelsShutDown handle.old.slot.value result
+    ensures { CallsSession ShutDown ChannelsShutDown handle.old.slot.value result
         handle.new.slot.value }
 {
     if !handle.is_open() {
@@ -44,7 +44,7 @@ pub extern "C" fn dcsctp_shutdown(handle: &mut Handle) -> i32
 /// Ends the association at once.
 #[unsafe(no_mangle)]
 pub extern "C" fn dcsctp_close(handle: &mut Handle) -> i32
-    ensures { Exported Closed ChannelsAbort handle.old.slot.value result handle.new.slot.value }
+    ensures { CallsSession ClosesSession ChannelsAbort handle.old.slot.value result handle.new.slot.value }
 {
     if !handle.is_open() {
         return Status::NoSocket.number();
@@ -58,7 +58,7 @@ pub extern "C" fn dcsctp_close(handle: &mut Handle) -> i32
 /// Handles a packet from the peer.
 #[unsafe(no_mangle)]
 pub extern "C" fn dcsctp_handle_input(handle: &mut Handle, packet: &[u8]) -> i32
-    ensures { Exported (InputHandled packet.now) (ChannelsHandle packet.now)
+    ensures { CallsSession (HandlesPacket packet.now) (ChannelsHandle packet.now)
         handle.old.slot.value result handle.new.slot.value }
 {
     if !handle.is_open() {
@@ -73,7 +73,7 @@ pub extern "C" fn dcsctp_handle_input(handle: &mut Handle, packet: &[u8]) -> i32
 /// Sets the clock, and handles what is due.
 #[unsafe(no_mangle)]
 pub extern "C" fn dcsctp_advance_time(handle: &mut Handle, now: u64) -> i32
-    ensures { Exported (Advanced now) (ChannelsAdvance now) handle.old.slot.value result
+    ensures { CallsSession (AdvancesSession now) (ChannelsAdvance now) handle.old.slot.value result
         handle.new.slot.value }
 {
     if !handle.is_open() {
@@ -95,7 +95,7 @@ pub extern "C" fn dcsctp_send(
     options: &SendOptionsRecord,
 ) -> i32
     ensures { Below
-        (MessageSent (record { stream = stream_id; ppid = ppid; payload = payload.now })
+        (SendsOneMessage (record { stream = stream_id; ppid = ppid; payload = payload.now })
         options.now) handle.old.slot.value result handle.new.slot.value }
 {
     if !handle.is_open() {
@@ -115,7 +115,7 @@ pub extern "C" fn dcsctp_send_many(
     options: &SendOptionsRecord,
     results: &mut [i32],
 ) -> i32
-    ensures { WrittenBelow (ManySent messages.now options.now) handle.old.slot.value
+    ensures { WrittenBelow (SendsManyRecords messages.now options.now) handle.old.slot.value
         results.old result results.new handle.new.slot.value }
 {
     if !handle.is_open() {
@@ -149,7 +149,7 @@ pub extern "C" fn dcsctp_set_stream_priority(
     stream_id: u16,
     priority: u16,
 ) -> i32
-    ensures { Below (SettingMade (stream_priority stream_id priority)) handle.old.slot.value
+    ensures { Below (MakesSetting (stream_priority stream_id priority)) handle.old.slot.value
         result handle.new.slot.value }
 {
     if !handle.is_open() {
@@ -168,7 +168,7 @@ pub extern "C" fn dcsctp_set_buffered_amount_low_threshold(
     stream_id: u16,
     bytes: usize,
 ) -> i32
-    ensures { Below (SettingMade (stream_low_threshold stream_id bytes)) handle.old.slot.value
+    ensures { Below (MakesSetting (stream_low_threshold stream_id bytes)) handle.old.slot.value
         result handle.new.slot.value }
 {
     if !handle.is_open() {
@@ -185,7 +185,7 @@ pub extern "C" fn dcsctp_set_buffered_amount_low_threshold(
 /// Sets how many bytes a message may have from now on.
 #[unsafe(no_mangle)]
 pub extern "C" fn dcsctp_set_max_message_size(handle: &mut Handle, bytes: usize) -> i32
-    ensures { Exported (SizeLimited bytes) (ChannelsLimit bytes) handle.old.slot.value result
+    ensures { CallsSession (LimitsSize bytes) (ChannelsLimit bytes) handle.old.slot.value result
         handle.new.slot.value }
 {
     if !handle.is_open() {

@@ -1,6 +1,6 @@
 //! Handing a socket over to another process.
 
-ghost use Rattle.dcsctp_session.specs.Handover.{HandedOver, Restored};
+ghost use Rattle.dcsctp_session.specs.Handover.{HandsOverSession, RestoresSession};
 ghost use Rattle.std.specs.Prelude.{◌≡◌};
 ghost use Rattle.dcsctp_c.specs.Exports.{Below};
 ghost use Rattle.dcsctp_c.specs.Queries.{AskedBelow, CopiesSnapshotFrom, buffer_of};
@@ -12,7 +12,7 @@ use dcsctp_session::Status;
 /// Takes the socket's snapshot, and ends the association here.
 #[unsafe(no_mangle)]
 pub extern "C" fn dcsctp_get_handover_state_and_close(handle: &mut Handle) -> i32
-    ensures { Below HandedOver handle.old.slot.value result handle.new.slot.value }
+    ensures { Below HandsOverSession handle.old.slot.value result handle.new.slot.value }
 {
     if !handle.is_open() {
         return Status::NoSocket.number();
@@ -46,7 +46,7 @@ pub extern "C" fn dcsctp_handover_bytes(
 /// Restores a closed socket from a snapshot in bytes.
 #[unsafe(no_mangle)]
 pub extern "C" fn dcsctp_restore_from_state(handle: &mut Handle, bytes: &[u8]) -> i32
-    ensures { Below (Restored bytes.now) handle.old.slot.value result handle.new.slot.value }
+    ensures { Below (RestoresSession bytes.now) handle.old.slot.value result handle.new.slot.value }
 {
     if !handle.is_open() {
         return Status::NoSocket.number();

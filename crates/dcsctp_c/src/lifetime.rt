@@ -1,7 +1,7 @@
 //! Making a socket, and letting it go.
 
 ghost use Rattle.std.specs.Prelude.{◌≡◌, None};
-ghost use Rattle.dcsctp_c.specs.Exports.{DefaultGiven, CreatedIn};
+ghost use Rattle.dcsctp_c.specs.Exports.{GivesDefault, CreatesOnce};
 
 use dcsctp_channel_session::Held;
 use dcsctp_handle::Handle;
@@ -11,7 +11,7 @@ use std::alloc::Global;
 /// Writes the default options, if the record has the size of the library's.
 #[unsafe(no_mangle)]
 pub extern "C" fn dcsctp_get_default_options(options: &mut OptionsRecord) -> i32
-    ensures { DefaultGiven options.old result options.new }
+    ensures { GivesDefault options.old result options.new }
 {
     if !options.is_sized() {
         return Status::WrongSize.number();
@@ -29,7 +29,7 @@ pub extern "C" fn dcsctp_create(
     seed: &[u8; 32],
     now: u64,
 ) -> i32
-    ensures { CreatedIn options.now seed.now now handle.old.slot.value result
+    ensures { CreatesOnce options.now seed.now now handle.old.slot.value result
         handle.new.slot.value }
 {
     if handle.is_open() {

@@ -4,7 +4,7 @@ ghost use Rattle.std.specs.Prelude.{◌≡◌, length};
 ghost use Rattle.dcsctp_api.specs.Calls.{stream_shown};
 ghost use Rattle.dcsctp_api.specs.Messages.{ready_messages};
 ghost use Rattle.dcsctp_session.specs.Views.{view};
-ghost use Rattle.dcsctp_c.specs.Queries.{Asked, AskedBelow, WritesAnswer, TagAsked, DeadlineAsked, AmountIs, ReadinessIs, WritesOptions, ChannelsWriteOptions, OptionsGiven, MetricsAsked, MetricsGiven, CountsAsked, CountsGiven, ReturnsState, ReturnsFailed};
+ghost use Rattle.dcsctp_c.specs.Queries.{QueriesSession, AskedBelow, WritesAnswer, TagAsked, DeadlineAsked, AmountIs, ReadinessIs, WritesOptions, ChannelsWriteOptions, GivesOptions, MetricsAsked, GivesMetrics, CountsAsked, GivesCounts, ReturnsState, ReturnsFailed};
 
 use crate::answers::{state_number, take};
 use dcsctp_channel_session::Held;
@@ -77,7 +77,7 @@ pub extern "C" fn dcsctp_poll_timeout(handle: &mut Handle, moment: &mut u64) -> 
 
 // Writes the options of the socket, whatever the size that the record says.
 fn write_options(handle: &mut Handle, options: &mut OptionsRecord) -> i32
-    ensures answer { Asked WritesOptions ChannelsWriteOptions handle.old.slot.value options.old
+    ensures answer { QueriesSession WritesOptions ChannelsWriteOptions handle.old.slot.value options.old
         result options.new }
     ensures same { handle.new ≡ handle.old }
 {
@@ -99,7 +99,7 @@ fn write_options(handle: &mut Handle, options: &mut OptionsRecord) -> i32
 /// The options of the socket, if the record has the size of the library's.
 #[unsafe(no_mangle)]
 pub extern "C" fn dcsctp_get_options(handle: &mut Handle, options: &mut OptionsRecord) -> i32
-    ensures answer { OptionsGiven handle.old.slot.value options.old result options.new }
+    ensures answer { GivesOptions handle.old.slot.value options.old result options.new }
     ensures same { handle.new ≡ handle.old }
 {
     if !options.is_sized() {
@@ -209,7 +209,7 @@ fn write_metrics(handle: &mut Handle, metrics: &mut MetricsRecord) -> i32
 /// The metrics, where the peer is known, if the record has the size of the library's.
 #[unsafe(no_mangle)]
 pub extern "C" fn dcsctp_get_metrics(handle: &mut Handle, metrics: &mut MetricsRecord) -> i32
-    ensures answer { MetricsGiven handle.old.slot.value metrics.old result metrics.new }
+    ensures answer { GivesMetrics handle.old.slot.value metrics.old result metrics.new }
     ensures same { handle.new ≡ handle.old }
 {
     if !metrics.is_sized() {
@@ -236,7 +236,7 @@ fn write_counts(handle: &mut Handle, counts: &mut CountsRecord) -> i32
 /// What the socket has counted in its life, if the record has the size of the library's.
 #[unsafe(no_mangle)]
 pub extern "C" fn dcsctp_get_counts(handle: &mut Handle, counts: &mut CountsRecord) -> i32
-    ensures answer { CountsGiven handle.old.slot.value counts.old result counts.new }
+    ensures answer { GivesCounts handle.old.slot.value counts.old result counts.new }
     ensures same { handle.new ≡ handle.old }
 {
     if !counts.is_sized() {

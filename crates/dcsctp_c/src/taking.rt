@@ -1,7 +1,7 @@
 //! Taking events and messages, and copying or showing what they hold.
 
 ghost use Rattle.std.specs.Prelude.{◌≡◌};
-ghost use Rattle.dcsctp_session.specs.Views.{bytes_in, packet_in_event, streams_in_event, payload_in, message_in};
+ghost use Rattle.dcsctp_session.specs.Views.{bytes_of_polled, packet_in_event, streams_in_event, payload_of_taken, message_of_taken};
 ghost use Rattle.dcsctp_c.specs.Exports.{WrittenBelow, WritesEvent, WritesMessage};
 ghost use Rattle.dcsctp_c.specs.Queries.{AskedBelow, CopiesFrom, buffer_of, ShowsFrom, output_place};
 
@@ -32,7 +32,7 @@ pub extern "C" fn dcsctp_event_bytes(
     buffer: &mut [u8],
     length: &mut usize,
 ) -> i32
-    ensures answer { AskedBelow (CopiesFrom (λ session. bytes_in session.taken.event))
+    ensures answer { AskedBelow (CopiesFrom (λ session. bytes_of_polled session.taken.event))
         handle.old.slot.value
         (buffer_of buffer.old length.old) result (buffer_of buffer.new length.new) }
     ensures same { handle.new ≡ handle.old }
@@ -110,7 +110,7 @@ pub extern "C" fn dcsctp_message_bytes(
     buffer: &mut [u8],
     length: &mut usize,
 ) -> i32
-    ensures answer { AskedBelow (CopiesFrom (λ session. payload_in session.taken.message))
+    ensures answer { AskedBelow (CopiesFrom (λ session. payload_of_taken session.taken.message))
         handle.old.slot.value
         (buffer_of buffer.old length.old) result (buffer_of buffer.new length.new) }
     ensures same { handle.new ≡ handle.old }
@@ -131,7 +131,7 @@ pub extern "C" fn dcsctp_message_view(
     bytes: &mut *const u8,
     length: &mut usize,
 ) -> i32
-    ensures answer { AskedBelow (ShowsFrom (λ session. message_in session.taken.message))
+    ensures answer { AskedBelow (ShowsFrom (λ session. message_of_taken session.taken.message))
         handle.old.slot.value
         (output_place bytes.old length.old) result (output_place bytes.new length.new) }
     ensures same { handle.new ≡ handle.old }

@@ -4,7 +4,7 @@ use Rattle.dcsctp_api.specs.declared.errors.SocketFault.{SocketFault}
 use Rattle.dcsctp_api.specs.declared.errors.SocketFault.TheVariants.{OutOfMemory, Failed}
 use Rattle.dcsctp_api.specs.Calls.{UserView, HandlesInput, Connects, ClosesSocket, ShutsDown}
 use Rattle.dcsctp_api.specs.Time.{AdvancesClock}
-use Rattle.dcsctp_channel_calls.specs.View.{LayerView, ChannelsView, gathered}
+use Rattle.dcsctp_channel_calls.specs.View.{LayerView, ChannelsView, view_with_events}
 
 -- ---- a call, by its result
 
@@ -52,7 +52,7 @@ Answers Answered old (Err Failed) new = HadFailed old new
 pub record OnlySocket (Makes : UserView → Type 0) (old new : ChannelsView) : Type 0 where
   pub below : UserView
   pub makes : Makes below
-  pub is : new ≡ gathered (record old { below = below })
+  pub is : new ≡ view_with_events (record old { below = below })
 
 -- the same socket, and what this makes of the layer
 abbrev pub on_layer : (LayerView → LayerView) → ChannelsView → ChannelsView

@@ -5,9 +5,9 @@ use Rattle.std.specs.Map.{keys_of}
 use Rattle.dcsctp_api.specs.spec.endpoint.Event.{Event, connected, closed, connection_restarted, aborted, buffered_amount_low, streams_reset_failed, streams_reset_performed, incoming_stream_reset}
 use Rattle.dcsctp_channel_messages.specs.channel_spec.declared.types.ChannelEnd.TheVariants.{Lost}
 use Rattle.dcsctp_channel_calls.specs.declared.channel.HeldStream.{HeldStream}
-use Rattle.dcsctp_channel_calls.specs.View.{WaitingChannel, ChannelNotice, of_channel, LayerView, ChannelsView, held_at, association_made, amount_low, association_over}
+use Rattle.dcsctp_channel_calls.specs.View.{WaitingChannel, ChannelNotice, of_channel, LayerView, ChannelsView, held_stream_numbered, association_made, amount_low, association_over}
 use Rattle.dcsctp_channel_calls.specs.Calls.{on_layer, SocketCloses}
-use Rattle.dcsctp_channel_calls.specs.Sending.{row_where}
+use Rattle.dcsctp_channel_calls.specs.Sending.{row_taken_if_held}
 use Rattle.dcsctp_channel_calls.specs.Opening.{BeginsWaiting}
 
 -- ---- rows on several streams
@@ -15,7 +15,7 @@ use Rattle.dcsctp_channel_calls.specs.Opening.{BeginsWaiting}
 -- the same row on each of these streams that is in use
 abbrev pub rows_taken : List ℕ → SlotInput → LayerView → LayerView
 rows_taken [] input layer = layer
-rows_taken (number ∷ numbers) input layer = rows_taken numbers input (row_where (held_at layer number) number input layer)
+rows_taken (number ∷ numbers) input layer = rows_taken numbers input (row_taken_if_held (held_stream_numbered layer number) number input layer)
 
 -- an empty list means all streams
 abbrev pub reset_numbers : List ℕ → LayerView → List ℕ
@@ -58,7 +58,7 @@ abbrev pub streams_reset : List ℕ → LayerView → LayerView
 streams_reset numbers layer = rows_taken (reset_numbers numbers layer) peer_resets layer
 
 abbrev pub amount_reported : ℕ → LayerView → LayerView
-amount_reported number layer = with_notices (low_notices (held_at layer number)) layer
+amount_reported number layer = with_notices (low_notices (held_stream_numbered layer number)) layer
 
 abbrev pub HandlesEvent : Event (List ℕ) → ChannelsView → ChannelsView → Type 0
 HandlesEvent connected old new = BeginsWaiting (on_layer connection_made old) new
@@ -72,6 +72,6 @@ HandlesEvent (buffered_amount_low number) old new = new ≡ on_layer (amount_rep
 HandlesEvent event old new = new ≡ old
 
 -- After the association's end nothing is handled: what comes is of another association.
-abbrev pub HandlesEventWhere : Bool → Event (List ℕ) → ChannelsView → ChannelsView → Type 0
-HandlesEventWhere true event old new = new ≡ old
-HandlesEventWhere false event old new = HandlesEvent event old new
+abbrev pub HandlesEventUnlessEnded : Bool → Event (List ℕ) → ChannelsView → ChannelsView → Type 0
+HandlesEventUnlessEnded true event old new = new ≡ old
+HandlesEventUnlessEnded false event old new = HandlesEvent event old new

@@ -11,7 +11,7 @@ use Rattle.dcsctp_channel_messages.specs.channel_spec.declared.types.OwnReset.{O
 use Rattle.dcsctp_channel_messages.specs.channel_spec.declared.types.OwnReset.TheVariants.{NotAsked, Asked, Performed, GivenUp}
 use Rattle.dcsctp_channel_messages.specs.channel_spec.declared.types.StreamUse.{StreamUse}
 use Rattle.dcsctp_channel_calls.specs.declared.channel.HeldStream.{HeldStream}
-use Rattle.dcsctp_channel_calls.specs.View.{WaitingChannel, LayerView, ChannelsView, held_at, row_taken, unacknowledged_below}
+use Rattle.dcsctp_channel_calls.specs.View.{WaitingChannel, LayerView, ChannelsView, held_stream_numbered, row_taken, unacknowledged_below}
 use Rattle.dcsctp_channel_calls.specs.Opening.{may_begin, BeginsWaiting}
 use Rattle.dcsctp_channel_calls.specs.Arrivals.{ack_is_due, SendsAck}
 
@@ -79,8 +79,8 @@ pub record NoAckIsDue (view : ChannelsView) : Type 0 where
 
 -- A reset that was put off, then an ACK, then the channels that wait.
 pub data DoesLate (old new : ChannelsView) : Type 0 where
-  a_reset : (number : ℕ) (held : HeldStream) → held_at old.layer number ≡ Some held → reset_is_due old number held ≡ true → ResetsStream number held old new → DoesLate old new
-  an_ack : (number : ℕ) (held : HeldStream) → NoResetIsDue old → held_at old.layer number ≡ Some held → ack_is_due old held ≡ true → SendsAck number held old new → DoesLate old new
+  a_reset : (number : ℕ) (held : HeldStream) → held_stream_numbered old.layer number ≡ Some held → reset_is_due old number held ≡ true → ResetsStream number held old new → DoesLate old new
+  an_ack : (number : ℕ) (held : HeldStream) → NoResetIsDue old → held_stream_numbered old.layer number ≡ Some held → ack_is_due old held ≡ true → SendsAck number held old new → DoesLate old new
   waiting_begin : NoResetIsDue old → NoAckIsDue old → may_begin_now old.layer ≡ true → BeginsWaiting old new → DoesLate old new
 
 -- Nothing was put off that can be done now.

@@ -21,6 +21,6 @@ notice_of (Closed id why) = of_channel (ended id.0 why)
 notice_of Ended = association_over
 
 -- what a poll returns
-abbrev pub notices_in : Result (Option ChannelEvent) SocketFault → Result (Option ChannelNotice) SocketFault
-notices_in (Ok event) = Ok (option_map notice_of event)
-notices_in (Err fault) = Err fault
+abbrev pub polled_notice : Result (Option ChannelEvent) SocketFault → Result (Option ChannelNotice) SocketFault
+polled_notice (Ok event) = Ok (option_map notice_of event)
+polled_notice (Err fault) = Err fault

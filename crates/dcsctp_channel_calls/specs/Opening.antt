@@ -10,10 +10,10 @@ use Rattle.dcsctp_channel_messages.specs.channel_spec.declared.types.Role.{Role}
 use Rattle.dcsctp_channel_messages.specs.channel_spec.Streams.{is_own}
 use Rattle.dcsctp_channel_messages.specs.channel_spec.Slots.{Opening, ended, opens, agrees}
 use Rattle.dcsctp_channel_messages.specs.declared.control.ControlError.{ControlError}
-use Rattle.dcsctp_channel_messages.specs.Format.{Control, open_message, open_bytes, control_at}
+use Rattle.dcsctp_channel_messages.specs.Format.{Control, open_message, open_bytes, control_of_bytes}
 use Rattle.dcsctp_channel_calls.specs.declared.channel.ChannelError.{ChannelError}
 use Rattle.dcsctp_channel_calls.specs.declared.channel.ChannelId.{ChannelId}
-use Rattle.dcsctp_channel_calls.specs.View.{WaitingChannel, of_channel, LayerView, ChannelsView, held_at, row_taken, stream_count}
+use Rattle.dcsctp_channel_calls.specs.View.{WaitingChannel, of_channel, LayerView, ChannelsView, held_stream_numbered, row_taken, stream_count}
 use Rattle.dcsctp_channel_calls.specs.declared.channel.ChannelError.TheVariants as errors
 use Rattle.dcsctp_channel_calls.specs.Calls.{on_layer}
 use Rattle.dcsctp_channel_calls.specs.Sending.{plainly, control_message}
@@ -24,12 +24,12 @@ use Rattle.dcsctp_channel_calls.specs.Sending.{plainly, control_message}
 pub record IsFreeStream (role : Role) (view : ChannelsView) (number : ℕ) : Type 0 where
   pub own : is_own role number ≡ true
   pub there : number < stream_count view.below
-  pub is_free : held_at view.layer number ≡ None
+  pub is_free : held_stream_numbered view.layer number ≡ None
 
 -- the stream that a channel gets, if there is one: the one that was agreed on, or the least that is free
 abbrev pub GetsStream : Role → ChannelsView → Option ℕ → Option ℕ → Type 0
-GetsStream role view (Some agreed) None = (agreed < stream_count view.below → held_at view.layer agreed ≢ None)
-GetsStream role view (Some agreed) (Some number) = (number ≡ agreed) × (agreed < stream_count view.below) × (held_at view.layer agreed ≡ None)
+GetsStream role view (Some agreed) None = (agreed < stream_count view.below → held_stream_numbered view.layer agreed ≢ None)
+GetsStream role view (Some agreed) (Some number) = (number ≡ agreed) × (agreed < stream_count view.below) × (held_stream_numbered view.layer agreed ≡ None)
 GetsStream role view None None = (other : ℕ) → IsFreeStream role view other → ⊥
 GetsStream role view None (Some number) = IsFreeStream role view number × ((other : ℕ) → other < number → IsFreeStream role view other → ⊥)
 
@@ -50,12 +50,12 @@ opening_in_result (Ok (open_message opening)) = opening
 opening_in_result other = record { label = []; protocol = []; delivery = record { ordered = true; reliability = Reliable; priority = 256 } }
 
 abbrev pub opening_said : List ℕ → Opening
-opening_said payload = opening_in_result (control_at payload)
+opening_said payload = opening_in_result (control_of_bytes payload)
 
 -- The channel has its stream, once its OPEN is sent. If the socket refuses that, it waits on.
-abbrev pub opened_by : Result (Unit {0}) SendError → ℕ → WaitingChannel → UserView → LayerView → ChannelsView
-opened_by (Ok done) number waits below layer = record { below = below; layer = row_taken number waits.delivery (opens waits.name (opening_said waits.payload)) layer }
-opened_by (Err refusal) number waits below layer = record { below = below; layer = record layer { has_room = false } }
+abbrev pub view_after_open : Result (Unit {0}) SendError → ℕ → WaitingChannel → UserView → LayerView → ChannelsView
+view_after_open (Ok done) number waits below layer = record { below = below; layer = row_taken number waits.delivery (opens waits.name (opening_said waits.payload)) layer }
+view_after_open (Err refusal) number waits below layer = record { below = below; layer = record layer { has_room = false } }
 
 abbrev pub is_taken : Result (Unit {0}) SendError → Bool
 is_taken (Ok done) = true
@@ -69,7 +69,7 @@ pub record SendsOpen (number : ℕ) (waits : WaitingChannel) (begun : Bool) (old
   pub below : UserView
   pub sends : SendsMessage (control_message number waits.payload) plainly prepared (Ok answer) below
   pub begins : begun ≡ is_taken answer
-  pub is : new ≡ opened_by answer number waits below old.layer
+  pub is : new ≡ view_after_open answer number waits below old.layer
 
 pub record Agrees (number : ℕ) (waits : WaitingChannel) (old new : ChannelsView) : Type 0 where
   pub prepared : UserView
@@ -133,7 +133,7 @@ is_too_long below opening =
 
 abbrev pub is_in_use : Option ℕ → LayerView → Bool
 is_in_use None layer = false
-is_in_use (Some number) layer = is_some (held_at layer number)
+is_in_use (Some number) layer = is_some (held_stream_numbered layer number)
 
 -- the first of these reasons
 abbrev pub open_refusal : Opening → Option ℕ → ChannelsView → Option ChannelError
@@ -148,10 +148,10 @@ abbrev pub named_next : Opening → Option ℕ → LayerView → LayerView
 named_next opening negotiated layer =
     record layer { named = layer.named + 1; waiting = layer.waiting ++ record { name = layer.named; payload = open_bytes opening; delivery = opening.delivery; negotiated = negotiated } ∷ [] }
 
-abbrev pub OpensBy : Opening → Option ℕ → Option ChannelError → Result ChannelId ChannelError → ChannelsView → ChannelsView → Type 0
-OpensBy opening negotiated None (Ok id) old new = (id.0 ≡ old.layer.named) × BeginsWaiting (on_layer (named_next opening negotiated) old) new
-OpensBy opening negotiated (Some refusal) (Err error) old new = (error ≡ refusal) × (new ≡ old)
-OpensBy opening negotiated refusal answer old new = ⊥
+abbrev pub OpensOrRefuses : Opening → Option ℕ → Option ChannelError → Result ChannelId ChannelError → ChannelsView → ChannelsView → Type 0
+OpensOrRefuses opening negotiated None (Ok id) old new = (id.0 ≡ old.layer.named) × BeginsWaiting (on_layer (named_next opening negotiated) old) new
+OpensOrRefuses opening negotiated (Some refusal) (Err error) old new = (error ≡ refusal) × (new ≡ old)
+OpensOrRefuses opening negotiated refusal answer old new = ⊥
 
 abbrev pub OpensChannel : Opening → Option ℕ → Result ChannelId ChannelError → ChannelsView → ChannelsView → Type 0
-OpensChannel opening negotiated answer old new = OpensBy opening negotiated (open_refusal opening negotiated old) answer old new
+OpensChannel opening negotiated answer old new = OpensOrRefuses opening negotiated (open_refusal opening negotiated old) answer old new

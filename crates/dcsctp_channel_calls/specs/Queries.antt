@@ -5,7 +5,7 @@ use Rattle.dcsctp_channel_calls.specs.declared.channel.ChannelState.{ChannelStat
 use Rattle.dcsctp_channel_calls.specs.declared.channel.ChannelState.TheVariants as states
 use Rattle.dcsctp_channel_calls.specs.declared.channel.ChannelTraffic.{ChannelTraffic}
 use Rattle.dcsctp_channel_calls.specs.declared.channel.HeldStream.{HeldStream}
-use Rattle.dcsctp_channel_calls.specs.View.{WaitingChannel, LayerView, held_at}
+use Rattle.dcsctp_channel_calls.specs.View.{WaitingChannel, LayerView, held_stream_numbered}
 use Rattle.dcsctp_channel_calls.specs.Sending.{stream_of_name}
 
 abbrev pub is_waiting : ℕ → List WaitingChannel → Bool
@@ -17,17 +17,17 @@ abbrev pub state_without : Bool → ChannelState
 state_without true = states.Connecting
 state_without false = states.Closed
 
-abbrev pub state_where : Bool → ChannelState
-state_where true = states.Closing
-state_where false = states.Open
+abbrev pub closing_or_open : Bool → ChannelState
+closing_or_open true = states.Closing
+closing_or_open false = states.Open
 
 abbrev pub state_held : Option HeldStream → ChannelState
 state_held None = states.Closed
-state_held (Some held) = state_where held.stream.closing
+state_held (Some held) = closing_or_open held.stream.closing
 
 abbrev pub state_on : Option ℕ → ℕ → LayerView → ChannelState
 state_on None name layer = state_without (is_waiting name layer.waiting)
-state_on (Some number) name layer = state_held (held_at layer number)
+state_on (Some number) name layer = state_held (held_stream_numbered layer number)
 
 abbrev pub channel_state : LayerView → ℕ → ChannelState
 channel_state layer name = state_on (stream_of_name layer name) name layer
@@ -46,4 +46,4 @@ traffic_held (Some held) = Some held.traffic
 
 abbrev pub traffic_on : Option ℕ → LayerView → Option ChannelTraffic
 traffic_on None layer = None
-traffic_on (Some number) layer = traffic_held (held_at layer number)
+traffic_on (Some number) layer = traffic_held (held_stream_numbered layer number)

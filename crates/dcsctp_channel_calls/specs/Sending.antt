@@ -15,7 +15,7 @@ use Rattle.dcsctp_channel_messages.specs.channel_spec.Contents.{ChannelContent, 
 use Rattle.dcsctp_channel_messages.specs.channel_spec.Slots.{ended, SlotInput, is_closed}
 use Rattle.dcsctp_channel_calls.specs.declared.channel.ChannelError.{ChannelError}
 use Rattle.dcsctp_channel_calls.specs.declared.channel.HeldStream.{HeldStream}
-use Rattle.dcsctp_channel_calls.specs.View.{WaitingChannel, ChannelNotice, of_channel, LayerView, ChannelsView, entry_at, entry_put, most_counted, held_at, row_taken}
+use Rattle.dcsctp_channel_calls.specs.View.{WaitingChannel, ChannelNotice, of_channel, LayerView, ChannelsView, entry_numbered, entry_put, most_counted, held_stream_numbered, row_taken}
 use Rattle.dcsctp_channel_calls.specs.declared.channel.ChannelError.TheVariants as errors
 
 -- ---- how messages go out
@@ -51,19 +51,19 @@ control_message number payload = record { stream = number; ppid = control_ppid; 
 -- ---- a message is sent
 
 abbrev pub stream_of_name : LayerView → ℕ → Option ℕ
-stream_of_name layer name = entry_at name layer.names
+stream_of_name layer name = entry_numbered name layer.names
 
-abbrev pub open_where : Bool → ℕ → HeldStream → Option (ℕ × HeldStream)
-open_where true number held = None
-open_where false number held = Some (number, held)
+abbrev pub stream_unless_closing : Bool → ℕ → HeldStream → Option (ℕ × HeldStream)
+stream_unless_closing true number held = None
+stream_unless_closing false number held = Some (number, held)
 
 abbrev pub open_held : ℕ → Option HeldStream → Option (ℕ × HeldStream)
 open_held number None = None
-open_held number (Some held) = open_where held.stream.closing number held
+open_held number (Some held) = stream_unless_closing held.stream.closing number held
 
 abbrev pub open_on : Option ℕ → LayerView → Option (ℕ × HeldStream)
 open_on None layer = None
-open_on (Some number) layer = open_held number (held_at layer number)
+open_on (Some number) layer = open_held number (held_stream_numbered layer number)
 
 -- the stream of a channel that is open
 abbrev pub open_stream : LayerView → ℕ → Option (ℕ × HeldStream)
@@ -73,9 +73,9 @@ abbrev pub counts_sent : ℕ → HeldStream → HeldStream
 counts_sent bytes held =
     record held { traffic = record held.traffic { messages_sent = most_counted (held.traffic.messages_sent + 1); bytes_sent = most_counted (held.traffic.bytes_sent + bytes) } }
 
-abbrev pub sent_by : Result (Unit {0}) SendError → ℕ → ℕ → HeldStream → UserView → LayerView → ChannelsView
-sent_by (Ok done) number bytes held below layer = record { below = below; layer = record layer { streams = entry_put number (counts_sent bytes held) layer.streams } }
-sent_by (Err refusal) number bytes held below layer = record { below = below; layer = layer }
+abbrev pub view_after_send : Result (Unit {0}) SendError → ℕ → ℕ → HeldStream → UserView → LayerView → ChannelsView
+view_after_send (Ok done) number bytes held below layer = record { below = below; layer = record layer { streams = entry_put number (counts_sent bytes held) layer.streams } }
+view_after_send (Err refusal) number bytes held below layer = record { below = below; layer = layer }
 
 abbrev pub refusal_as : Result (Unit {0}) SendError → Result (Unit {0}) ChannelError
 refusal_as (Ok done) = Ok done
@@ -89,14 +89,14 @@ pub record SendsOn (number : ℕ) (held : HeldStream) (content : ChannelContent)
   pub below : UserView
   pub sends : SendsMessage (record { stream = number; ppid = content_ppid content; payload = payload_of content }) how old.below (Ok taken) below
   pub answer_is : answer ≡ refusal_as taken
-  pub is : new ≡ sent_by taken number (length content.bytes) held below old.layer
+  pub is : new ≡ view_after_send taken number (length content.bytes) held below old.layer
 
-abbrev pub SendsBy : Option (ℕ × HeldStream) → ChannelContent → Result (Unit {0}) ChannelError → ChannelsView → ChannelsView → Type 0
-SendsBy None content answer old new = (answer ≡ Err errors.NotOpen) × (new ≡ old)
-SendsBy (Some found) content answer old new = SendsOn found.0 found.1 content answer old new
+abbrev pub SendsIfOpen : Option (ℕ × HeldStream) → ChannelContent → Result (Unit {0}) ChannelError → ChannelsView → ChannelsView → Type 0
+SendsIfOpen None content answer old new = (answer ≡ Err errors.NotOpen) × (new ≡ old)
+SendsIfOpen (Some found) content answer old new = SendsOn found.0 found.1 content answer old new
 
 abbrev pub SendsContent : ℕ → ChannelContent → Result (Unit {0}) ChannelError → ChannelsView → ChannelsView → Type 0
-SendsContent name content answer old new = SendsBy (open_stream old.layer name) content answer old new
+SendsContent name content answer old new = SendsIfOpen (open_stream old.layer name) content answer old new
 
 -- ---- close
 
@@ -108,17 +108,17 @@ abbrev pub ends_waiting : ℕ → List WaitingChannel → List ChannelNotice
 ends_waiting name [] = []
 ends_waiting name (waits ∷ rest) = if waits.name == name then of_channel (ended name Closed) ∷ [] else ends_waiting name rest
 
-abbrev pub row_where : Option HeldStream → ℕ → SlotInput → LayerView → LayerView
-row_where None number input layer = layer
-row_where (Some held) number input layer = row_taken number held.delivery input layer
+abbrev pub row_taken_if_held : Option HeldStream → ℕ → SlotInput → LayerView → LayerView
+row_taken_if_held None number input layer = layer
+row_taken_if_held (Some held) number input layer = row_taken number held.delivery input layer
 
 -- the row of a close on the channel's stream; one that waits has its end
-abbrev pub closed_at : Option ℕ → ℕ → LayerView → LayerView
-closed_at (Some number) name layer = row_where (held_at layer number) number is_closed layer
-closed_at None name layer = record layer { waiting = without_waiting name layer.waiting; notices = layer.notices ++ ends_waiting name layer.waiting }
+abbrev pub layer_after_close : Option ℕ → ℕ → LayerView → LayerView
+layer_after_close (Some number) name layer = row_taken_if_held (held_stream_numbered layer number) number is_closed layer
+layer_after_close None name layer = record layer { waiting = without_waiting name layer.waiting; notices = layer.notices ++ ends_waiting name layer.waiting }
 
 abbrev pub channel_closed : ℕ → LayerView → LayerView
-channel_closed name layer = closed_at (stream_of_name layer name) name layer
+channel_closed name layer = layer_after_close (stream_of_name layer name) name layer
 
 -- ---- the threshold of a channel
 
@@ -127,9 +127,9 @@ pub record SetsThreshold (number bytes : ℕ) (old new : ChannelsView) : Type 0 
   pub sets : Sets (stream_low_threshold number bytes) old.below (Ok tt) below
   pub is : new ≡ record old { below = below }
 
-abbrev pub SetsThresholdWhere : Option ℕ → ℕ → Result (Unit {0}) ChannelError → ChannelsView → ChannelsView → Type 0
-SetsThresholdWhere None bytes answer old new = (answer ≡ Err errors.NotOpen) × (new ≡ old)
-SetsThresholdWhere (Some number) bytes answer old new = (answer ≡ Ok tt) × SetsThreshold number bytes old new
+abbrev pub SetsThresholdIfOpen : Option ℕ → ℕ → Result (Unit {0}) ChannelError → ChannelsView → ChannelsView → Type 0
+SetsThresholdIfOpen None bytes answer old new = (answer ≡ Err errors.NotOpen) × (new ≡ old)
+SetsThresholdIfOpen (Some number) bytes answer old new = (answer ≡ Ok tt) × SetsThreshold number bytes old new
 
 abbrev pub SetsChannelThreshold : ℕ → ℕ → Result (Unit {0}) ChannelError → ChannelsView → ChannelsView → Type 0
-SetsChannelThreshold name bytes answer old new = SetsThresholdWhere (stream_of_name old.layer name) bytes answer old new
+SetsChannelThreshold name bytes answer old new = SetsThresholdIfOpen (stream_of_name old.layer name) bytes answer old new

@@ -4,7 +4,7 @@ use Rattle.std.specs.BTreeMap.{insert_entry, is_at}
 use Rattle.std.specs.Map.{lookup, remove_entry}
 use Rattle.std.specs.Ordering.{nat_cmp}
 use Rattle.dcsctp_api.specs.spec.endpoint.Event.{Event, sent}
-use Rattle.dcsctp_api.specs.spec.endpoint.Endpoint.{held_in}
+use Rattle.dcsctp_api.specs.spec.endpoint.Endpoint.{held_by_core}
 use Rattle.dcsctp_api.specs.spec.queues.SendQueue.{SendQueueState}
 use Rattle.dcsctp_api.specs.spec.queues.Transfer.{Transfer}
 use Rattle.dcsctp_api.specs.types.declared.association.Held.{Held}
@@ -16,7 +16,7 @@ use Rattle.dcsctp_channel_messages.specs.channel_spec.declared.types.OwnReset.{O
 use Rattle.dcsctp_channel_messages.specs.channel_spec.declared.types.OwnReset.TheVariants.{NotAsked, Asked, Performed, GivenUp}
 use Rattle.dcsctp_channel_messages.specs.channel_spec.declared.types.Role.{Role}
 use Rattle.dcsctp_channel_messages.specs.channel_spec.declared.types.StreamUse.{StreamUse}
-use Rattle.dcsctp_channel_messages.specs.channel_spec.Slots.{StreamSlot, free, used, name_in, Report, SlotOutcome, SlotInput, hears_open, hears_message}
+use Rattle.dcsctp_channel_messages.specs.channel_spec.Slots.{StreamSlot, free, used, name_of_slot, Report, SlotOutcome, SlotInput, hears_open, hears_message}
 use Rattle.dcsctp_channel_messages.specs.channel_spec.Table.{outcome_of}
 use Rattle.dcsctp_channel_calls.specs.declared.channel.ChannelTraffic.{ChannelTraffic}
 use Rattle.dcsctp_channel_calls.specs.declared.channel.HeldStream.{HeldStream}
@@ -34,7 +34,7 @@ pub record WaitingChannel : Type 0 where
   pub negotiated : Option ℕ
 
 -- an event of the socket, and how many messages had become ready before it
-pub record ToldEvent : Type 0 where
+pub record ReportedEvent : Type 0 where
   pub after : ℕ
   pub event : Event (List ℕ)
 
@@ -66,7 +66,7 @@ pub record LayerView : Type 0 where
   pub waiting : List WaitingChannel
   -- how many channels were named
   pub named : ℕ
-  pub told : List ToldEvent
+  pub told : List ReportedEvent
   -- how many messages were taken
   pub taken : ℕ
   pub packets : List (List ℕ)
@@ -78,8 +78,8 @@ pub record ChannelsView : Type 0 where
 
 -- ---- streams
 
-abbrev pub entry_at : {A : Type 0} → ℕ → List (ℕ × A) → Option A
-entry_at number entries = lookup (is_at (nat_cmp number)) entries
+abbrev pub entry_numbered : {A : Type 0} → ℕ → List (ℕ × A) → Option A
+entry_numbered number entries = lookup (is_at (nat_cmp number)) entries
 
 abbrev pub entry_put : {A : Type 0} → ℕ → A → List (ℕ × A) → List (ℕ × A)
 entry_put number value entries = insert_entry nat_cmp entries number value
@@ -87,15 +87,15 @@ entry_put number value entries = insert_entry nat_cmp entries number value
 abbrev pub without_entry : {A : Type 0} → ℕ → List (ℕ × A) → List (ℕ × A)
 without_entry number entries = remove_entry (is_at (nat_cmp number)) entries
 
-abbrev pub held_at : LayerView → ℕ → Option HeldStream
-held_at layer number = entry_at number layer.streams
+abbrev pub held_stream_numbered : LayerView → ℕ → Option HeldStream
+held_stream_numbered layer number = entry_numbered number layer.streams
 
 abbrev pub slot_of : Option HeldStream → StreamSlot
 slot_of None = free
 slot_of (Some held) = used held.stream
 
-abbrev pub slot_at : LayerView → ℕ → StreamSlot
-slot_at layer number = slot_of (held_at layer number)
+abbrev pub slot_numbered : LayerView → ℕ → StreamSlot
+slot_numbered layer number = slot_of (held_stream_numbered layer number)
 
 -- ---- a row of the table
 
@@ -126,9 +126,9 @@ abbrev pub gives_again : SlotInput → StreamUse → Bool
 gives_again (hears_open accepted name opening) stream = may_reopen stream
 gives_again input stream = false
 
-abbrev pub held_where : Bool → ℕ → Delivery → HeldStream → StreamUse → HeldStream
-held_where true moment delivery held stream = held_from moment delivery stream
-held_where false moment delivery held stream = went_on moment held stream
+abbrev pub held_or_begun : Bool → ℕ → Delivery → HeldStream → StreamUse → HeldStream
+held_or_begun true moment delivery held stream = held_from moment delivery stream
+held_or_begun false moment delivery held stream = went_on moment held stream
 
 abbrev pub most_counted : ℕ → ℕ
 most_counted count = min count (2 ^ 64 - 1)
@@ -144,7 +144,7 @@ counted_with input held = held
 
 abbrev pub held_after : ℕ → Delivery → SlotInput → Option HeldStream → StreamUse → HeldStream
 held_after moment delivery input None stream = held_from moment delivery stream
-held_after moment delivery input (Some held) stream = held_where (gives_again input held.stream) moment delivery (counted_with input held) stream
+held_after moment delivery input (Some held) stream = held_or_begun (gives_again input held.stream) moment delivery (counted_with input held) stream
 
 abbrev pub streams_with : ℕ → Option HeldStream → StreamSlot → (StreamUse → HeldStream) → List (ℕ × HeldStream) → List (ℕ × HeldStream)
 streams_with number None free held streams = streams
@@ -162,65 +162,65 @@ names_with number (Some old) (Some new) names = if old == new then names else en
 abbrev pub taken_as : ℕ → Delivery → SlotInput → SlotOutcome → LayerView → LayerView
 taken_as number delivery input outcome layer =
     record layer {
-      streams = streams_with number (held_at layer number) outcome.after (held_after layer.moment delivery input (held_at layer number)) layer.streams;
-      names = names_with number (name_in (slot_at layer number)) (name_in outcome.after) layer.names;
+      streams = streams_with number (held_stream_numbered layer number) outcome.after (held_after layer.moment delivery input (held_stream_numbered layer number)) layer.streams;
+      names = names_with number (name_of_slot (slot_numbered layer number)) (name_of_slot outcome.after) layer.names;
       notices = layer.notices ++ map of_channel outcome.reports;
     }
 
 abbrev pub row_taken : ℕ → Delivery → SlotInput → LayerView → LayerView
-row_taken number delivery input layer = taken_as number delivery input (outcome_of input (slot_at layer number)) layer
+row_taken number delivery input layer = taken_as number delivery input (outcome_of input (slot_numbered layer number)) layer
 
 -- ---- the socket's events
 
-abbrev pub packet_told : Event (List ℕ) → List (List ℕ)
-packet_told (sent packet) = packet ∷ []
-packet_told event = []
+abbrev pub packet_of_layer_event : Event (List ℕ) → List (List ℕ)
+packet_of_layer_event (sent packet) = packet ∷ []
+packet_of_layer_event event = []
 
-abbrev pub packets_told : List (Event (List ℕ)) → List (List ℕ)
-packets_told [] = []
-packets_told (event ∷ events) = packet_told event ++ packets_told events
+abbrev pub packets_of_layer_events : List (Event (List ℕ)) → List (List ℕ)
+packets_of_layer_events [] = []
+packets_of_layer_events (event ∷ events) = packet_of_layer_event event ++ packets_of_layer_events events
 
-abbrev pub told_of_event : ℕ → Event (List ℕ) → List ToldEvent
-told_of_event after (sent packet) = []
-told_of_event after event = record { after = after; event = event } ∷ []
+abbrev pub reports_of_event : ℕ → Event (List ℕ) → List ReportedEvent
+reports_of_event after (sent packet) = []
+reports_of_event after event = record { after = after; event = event } ∷ []
 
 -- Each other event waits until the messages that were ready before it are taken.
-abbrev pub told_in : ℕ → List (Event (List ℕ)) → List ToldEvent
-told_in after [] = []
-told_in after (event ∷ events) = told_of_event after event ++ told_in after events
+abbrev pub reported_events : ℕ → List (Event (List ℕ)) → List ReportedEvent
+reported_events after [] = []
+reported_events after (event ∷ events) = reports_of_event after event ++ reported_events after events
 
 abbrev pub ready_below : UserView → ℕ
 ready_below below = length (ready_messages below.endpoint)
 
-abbrev pub layer_told : List (Event (List ℕ)) → ℕ → LayerView → LayerView
-layer_told events ready layer =
-    record layer { packets = layer.packets ++ packets_told events; told = layer.told ++ told_in (layer.taken + ready) events }
+abbrev pub layer_after_events : List (Event (List ℕ)) → ℕ → LayerView → LayerView
+layer_after_events events ready layer =
+    record layer { packets = layer.packets ++ packets_of_layer_events events; told = layer.told ++ reported_events (layer.taken + ready) events }
 
 -- all events of the socket are taken over
-abbrev pub gathered : ChannelsView → ChannelsView
-gathered view =
-    record { below = record view.below { events = [] }; layer = layer_told view.below.events (ready_below view.below) view.layer }
+abbrev pub view_with_events : ChannelsView → ChannelsView
+view_with_events view =
+    record { below = record view.below { events = [] }; layer = layer_after_events view.below.events (ready_below view.below) view.layer }
 
 -- ---- which streams there are
 
 -- none while the peer isn't known
-abbrev pub streams_where : Option Held → Option Transfer → ℕ
-streams_where (Some held) (Some transfer) = min held.capabilities.negotiated_maximum_outgoing_streams held.capabilities.negotiated_maximum_incoming_streams
-streams_where held transfer = 0
+abbrev pub streams_if_connected : Option Held → Option Transfer → ℕ
+streams_if_connected (Some held) (Some transfer) = min held.capabilities.negotiated_maximum_outgoing_streams held.capabilities.negotiated_maximum_incoming_streams
+streams_if_connected held transfer = 0
 
 -- how many streams go both ways
 abbrev pub stream_count : UserView → ℕ
-stream_count below = streams_where (held_in below.endpoint.core) below.endpoint.queues.transfer
+stream_count below = streams_if_connected (held_by_core below.endpoint.core) below.endpoint.queues.transfer
 
 -- Do both ends have this stream? Where the association has ended, what came before was on streams that both had.
 abbrev pub has_stream : UserView → ℕ → Bool
 has_stream below number = stream_count below == 0 || nat_lt number (stream_count below)
 
 -- how many chunks aren't acknowledged
-abbrev pub unacknowledged_where : ℕ → SendQueueState → Option Held → Option Transfer → Option ℕ
-unacknowledged_where mtu queue (Some held) (Some transfer) = Some (unacknowledged_data mtu queue transfer.retransmission)
-unacknowledged_where mtu queue held transfer = None
+abbrev pub unacknowledged_if_connected : ℕ → SendQueueState → Option Held → Option Transfer → Option ℕ
+unacknowledged_if_connected mtu queue (Some held) (Some transfer) = Some (unacknowledged_data mtu queue transfer.retransmission)
+unacknowledged_if_connected mtu queue held transfer = None
 
 abbrev pub unacknowledged_below : UserView → Option ℕ
 unacknowledged_below below =
-    unacknowledged_where below.endpoint.options.mtu below.endpoint.queues.queue (held_in below.endpoint.core) below.endpoint.queues.transfer
+    unacknowledged_if_connected below.endpoint.options.mtu below.endpoint.queues.queue (held_by_core below.endpoint.core) below.endpoint.queues.transfer

@@ -7,15 +7,15 @@ use Rattle.dcsctp_channel_calls.specs.api.declared.errors.SendError.{SendError}
 use Rattle.dcsctp_channel_calls.specs.messages.channel_spec.declared.types.ChannelEnd.TheVariants.{NoStream}
 use Rattle.dcsctp_channel_calls.specs.messages.channel_spec.declared.types.Delivery.{Delivery}
 use Rattle.dcsctp_channel_calls.specs.messages.channel_spec.declared.types.Role.{Role}
-use Rattle.dcsctp_channel_calls.specs.messages.channel_spec.Slots.{Opening, StreamSlot, free, name_in, ended, SlotInput, opens, agrees}
+use Rattle.dcsctp_channel_calls.specs.messages.channel_spec.Slots.{Opening, StreamSlot, free, name_of_slot, ended, SlotInput, opens, agrees}
 use Rattle.dcsctp_channel_calls.specs.messages.channel_spec.Table.{outcome_of}
 use Rattle.dcsctp_channel_calls.specs.messages.channel_spec.Laws.{given_name, Speaks, EachSpeaksInTurn}
 use Rattle.dcsctp_channel_calls.specs.declared.channel.HeldStream.{HeldStream}
-use Rattle.dcsctp_channel_calls.specs.View.{WaitingChannel, of_channel, LayerView, ChannelsView, entry_at, slot_of, slot_at, row_taken, taken_as, gathered}
+use Rattle.dcsctp_channel_calls.specs.View.{WaitingChannel, of_channel, LayerView, ChannelsView, entry_numbered, slot_of, slot_numbered, row_taken, taken_as, view_with_events}
 use Rattle.dcsctp_channel_calls.specs.Calls.{OnlySocket, on_layer}
 use Rattle.dcsctp_channel_calls.specs.Queries.{is_waiting}
-use Rattle.dcsctp_channel_calls.specs.Sending.{row_where}
-use Rattle.dcsctp_channel_calls.specs.Opening.{GetsStream, BeginsOn, BeginsInTurn, none_waits, begins, waits_on, BeginsWhereKnown, BeginsWaiting, may_begin, opened_by, opening_said, is_taken, channels_waiting, without_stream}
+use Rattle.dcsctp_channel_calls.specs.Sending.{row_taken_if_held}
+use Rattle.dcsctp_channel_calls.specs.Opening.{GetsStream, BeginsOn, BeginsInTurn, none_waits, begins, waits_on, BeginsWhereKnown, BeginsWaiting, may_begin, view_after_open, opening_said, is_taken, channels_waiting, without_stream}
 use Rattle.dcsctp_channel_laws.specs.Lives.{IsInOrder, IsOrderly, is_placed, Life, lasting, gone, life_where, life_in, Hears, TellsLives}
 use Rattle.dcsctp_channel_laws.proofs.Rows.{accepts, no_names}
 use Rattle.dcsctp_channel_laws.proofs.Places.{IsFresh}
@@ -38,24 +38,24 @@ tells_to before old between new is tells = subst (λ (v : ChannelsView). TellsLi
 
 pub only_tells : (Makes : UserView → Type 0) (old new : ChannelsView) → OnlySocket Makes old new → Keeps old.layer new.layer
 only_tells Makes old new only a =
-    tells_to (life_in old.layer) old.layer (gathered (record old { below = only.below })) new only.is (tells_nothing old.layer (gathered (record old { below = only.below })).layer refl (λ n. refl) a)
+    tells_to (life_in old.layer) old.layer (view_with_events (record old { below = only.below })) new only.is (tells_nothing old.layer (view_with_events (record old { below = only.below })).layer refl (λ n. refl) a)
 
-pub gathers_tell : (view : ChannelsView) → Keeps view.layer (gathered view).layer
-gathers_tell view a = tells_nothing view.layer (gathered view).layer refl (λ n. refl) a
+pub gathers_tell : (view : ChannelsView) → Keeps view.layer (view_with_events view).layer
+gathers_tell view a = tells_nothing view.layer (view_with_events view).layer refl (λ n. refl) a
 
 -- ---- rows
 
 -- an input that gives the stream to no channel that waited
 abbrev pub GivesNone : SlotInput → Type 0
-GivesNone input = (slot : StreamSlot) → given_name input slot ≡ name_in slot
+GivesNone input = (slot : StreamSlot) → given_name input slot ≡ name_of_slot slot
 
 pub row_tells : EachSpeaksInTurn → (number : ℕ) (delivery : Delivery) (input : SlotInput) (layer : LayerView) → accepts input ≡ false → GivesNone input → Keeps layer (row_taken number delivery input layer)
 row_tells law number delivery input layer not gives a =
-    quiet_row_tells number delivery input (outcome_of input (slot_at layer number)) layer a (name_in (slot_at layer number)) (life_in layer) (given_own number layer a)
-    (subst (λ (g : Option ℕ). Speaks g (outcome_of input (slot_at layer number)).reports (name_in (outcome_of input (slot_at layer number)).after)) (gives (slot_at layer number)) (law input (slot_at layer number)))
-    (no_names input (slot_at layer number) not)
+    quiet_row_tells number delivery input (outcome_of input (slot_numbered layer number)) layer a (name_of_slot (slot_numbered layer number)) (life_in layer) (given_own number layer a)
+    (subst (λ (g : Option ℕ). Speaks g (outcome_of input (slot_numbered layer number)).reports (name_of_slot (outcome_of input (slot_numbered layer number)).after)) (gives (slot_numbered layer number)) (law input (slot_numbered layer number)))
+    (no_names input (slot_numbered layer number) not)
 
-pub row_where_tells : EachSpeaksInTurn → (held : Option HeldStream) (number : ℕ) (input : SlotInput) (layer : LayerView) → accepts input ≡ false → GivesNone input → Keeps layer (row_where held number input layer)
+pub row_where_tells : EachSpeaksInTurn → (held : Option HeldStream) (number : ℕ) (input : SlotInput) (layer : LayerView) → accepts input ≡ false → GivesNone input → Keeps layer (row_taken_if_held held number input layer)
 row_where_tells law None number input layer not gives a = same_tells layer a
 row_where_tells law (Some held) number input layer not gives a = row_tells law number held.delivery input layer not gives a
 
@@ -66,14 +66,14 @@ abbrev pub life_with : List WaitingChannel → LayerView → ℕ → Life
 life_with waiting layer n = life_where (is_placed layer.names waiting n) (nat_lt n layer.named)
 
 -- one that waited first is given a stream
-given_first : (waits : WaitingChannel) (rest : List WaitingChannel) (number : ℕ) (layer : LayerView) → IsInOrder layer.streams layer.names (waits ∷ rest) layer.named → slot_at layer number ≡ free
+given_first : (waits : WaitingChannel) (rest : List WaitingChannel) (number : ℕ) (layer : LayerView) → IsInOrder layer.streams layer.names (waits ∷ rest) layer.named → slot_numbered layer number ≡ free
     → IsGiven (Some waits.name) number (channels_waiting rest layer) (life_with (waits ∷ rest) layer)
 given_first waits rest number layer a is_free =
     record {
-      from = λ n had. let none : name_in (slot_at layer number) ≡ None = ap name_in is_free in absurd cc;
+      from = λ n had. let none : name_of_slot (slot_numbered layer number) ≡ None = ap name_of_slot is_free in absurd cc;
       is_free = λ n same. let named : waits.name ≡ n = cc in inr (subst (λ (m : ℕ). IsFresh (channels_waiting rest layer) layer.named m) named fresh);
       lasts = λ n same. let named : waits.name ≡ n = cc in lives_waiting layer.names (waits ∷ rest) n (nat_lt n layer.named) (head_waits waits rest n named);
-      others = λ n not. ap (λ (b : Bool). life_where (b || is_some (entry_at n layer.names)) (nat_lt n layer.named)) (past_head waits rest n (λ (s : waits.name ≡ n). not (ap Some s)));
+      others = λ n not. ap (λ (b : Bool). life_where (b || is_some (entry_numbered n layer.names)) (nat_lt n layer.named)) (past_head waits rest n (λ (s : waits.name ≡ n). not (ap Some s)));
     }
   where
     waits_first : is_waiting waits.name (waits ∷ rest) ≡ true
@@ -86,14 +86,14 @@ given_first waits rest number layer a is_free =
 abbrev TellsFirst : WaitingChannel → List WaitingChannel → LayerView → LayerView → Type 0
 TellsFirst waits rest layer new = TellsLives (life_with (waits ∷ rest) layer) (channels_waiting rest layer) [] new
 
-agrees_tells : (waits : WaitingChannel) (rest : List WaitingChannel) (number : ℕ) (layer : LayerView) → IsInOrder layer.streams layer.names (waits ∷ rest) layer.named → slot_at layer number ≡ free
+agrees_tells : (waits : WaitingChannel) (rest : List WaitingChannel) (number : ℕ) (layer : LayerView) → IsInOrder layer.streams layer.names (waits ∷ rest) layer.named → slot_numbered layer number ≡ free
     → TellsFirst waits rest layer (row_taken number waits.delivery (agrees waits.name) (channels_waiting rest layer))
 agrees_tells waits rest number layer a is_free =
     subst (λ (slot : StreamSlot). TellsFirst waits rest layer (taken_as number waits.delivery (agrees waits.name) (outcome_of (agrees waits.name) slot) (channels_waiting rest layer))) (sym is_free)
     (quiet_row_tells number waits.delivery (agrees waits.name) (outcome_of (agrees waits.name) free) (channels_waiting rest layer) (first_out layer.streams layer.names waits rest layer.named a) (Some waits.name)
     (life_with (waits ∷ rest) layer) (given_first waits rest number layer a is_free) (refl, refl) refl)
 
-opens_tells : (waits : WaitingChannel) (opening : Opening) (rest : List WaitingChannel) (number : ℕ) (layer : LayerView) → IsInOrder layer.streams layer.names (waits ∷ rest) layer.named → slot_at layer number ≡ free
+opens_tells : (waits : WaitingChannel) (opening : Opening) (rest : List WaitingChannel) (number : ℕ) (layer : LayerView) → IsInOrder layer.streams layer.names (waits ∷ rest) layer.named → slot_numbered layer number ≡ free
     → TellsFirst waits rest layer (row_taken number waits.delivery (opens waits.name opening) (channels_waiting rest layer))
 opens_tells waits opening rest number layer a is_free =
     subst (λ (slot : StreamSlot). TellsFirst waits rest layer (taken_as number waits.delivery (opens waits.name opening) (outcome_of (opens waits.name opening) slot) (channels_waiting rest layer))) (sym is_free)
@@ -118,15 +118,15 @@ none_tells waits rest layer a =
     lives n (inl same) = subst (λ (m : ℕ). Hears m (life_with (waits ∷ rest) layer m) (of_channel (ended waits.name NoStream) ∷ []) (life_with rest layer m)) same own
     lives n (inr apart) =
         ends_other n waits.name NoStream [] (life_with (waits ∷ rest) layer n) (life_with rest layer n) apart
-        (ap (λ (b : Bool). life_where (b || is_some (entry_at n layer.names)) (nat_lt n layer.named)) (sym (past_head waits rest n apart)))
+        (ap (λ (b : Bool). life_where (b || is_some (entry_numbered n layer.names)) (nat_lt n layer.named)) (sym (past_head waits rest n apart)))
 
 -- the stream that a channel gets is free
-gets_free : (role : Role) (view : ChannelsView) (negotiated : Option ℕ) (number : ℕ) → GetsStream role view negotiated (Some number) → slot_at view.layer number ≡ free
+gets_free : (role : Role) (view : ChannelsView) (negotiated : Option ℕ) (number : ℕ) → GetsStream role view negotiated (Some number) → slot_numbered view.layer number ≡ free
 gets_free role view None number gets = ap slot_of gets.0.is_free
-gets_free role view (Some agreed) number gets = subst (λ (m : ℕ). slot_at view.layer m ≡ free) (sym gets.0) (ap slot_of gets.2)
+gets_free role view (Some agreed) number gets = subst (λ (m : ℕ). slot_numbered view.layer m ≡ free) (sym gets.0) (ap slot_of gets.2)
 
 opened_tells : (answer : Result (Unit {0}) SendError) (waits : WaitingChannel) (rest : List WaitingChannel) (number : ℕ) (below : UserView) (layer : LayerView)
-    → IsInOrder layer.streams layer.names (waits ∷ rest) layer.named → slot_at layer number ≡ free → true ≡ is_taken answer → TellsFirst waits rest layer (opened_by answer number waits below (channels_waiting rest layer)).layer
+    → IsInOrder layer.streams layer.names (waits ∷ rest) layer.named → slot_numbered layer number ≡ free → true ≡ is_taken answer → TellsFirst waits rest layer (view_after_open answer number waits below (channels_waiting rest layer)).layer
 opened_tells (Ok done) waits rest number below layer a is_free begun = opens_tells waits (opening_said waits.payload) rest number layer a is_free
 opened_tells (Err refusal) waits rest number below layer a is_free begun = absurd cc
 
@@ -146,7 +146,7 @@ first_tells role waits rest None (Some number) old new a gets on =
 -- the channel that didn't begin waits on
 refused_tells : (answer : Result (Unit {0}) SendError) (waits : WaitingChannel) (rest : List WaitingChannel) (number : ℕ) (below : UserView) (layer : LayerView)
     → IsInOrder layer.streams layer.names (waits ∷ rest) layer.named → false ≡ is_taken answer
-    → TellsFirst waits rest layer (channels_waiting (waits ∷ rest) (opened_by answer number waits below (channels_waiting rest layer)).layer)
+    → TellsFirst waits rest layer (channels_waiting (waits ∷ rest) (view_after_open answer number waits below (channels_waiting rest layer)).layer)
 refused_tells (Ok done) waits rest number below layer a begun = absurd cc
 refused_tells (Err refusal) waits rest number below layer a begun = record { more = []; behind = sym (append-nil layer.notices); lives = λ n. refl; apart = a }
 

@@ -10,10 +10,10 @@ use Rattle.dcsctp_channel_calls.specs.declared.channel.ChannelError.{ChannelErro
 use Rattle.dcsctp_channel_calls.specs.declared.channel.ChannelId.{ChannelId}
 use Rattle.dcsctp_channel_calls.specs.declared.channel.HeldStream.{HeldStream}
 use Rattle.dcsctp_channel_calls.specs.declared.channel.Limits.{Limits}
-use Rattle.dcsctp_channel_calls.specs.View.{WaitingChannel, ChannelNotice, of_channel, LayerView, ChannelsView, held_at, gathered}
+use Rattle.dcsctp_channel_calls.specs.View.{WaitingChannel, ChannelNotice, of_channel, LayerView, ChannelsView, held_stream_numbered, view_with_events}
 use Rattle.dcsctp_channel_calls.specs.Calls.{OnlySocket, on_layer, clock_set}
-use Rattle.dcsctp_channel_calls.specs.Sending.{SendsBy, sent_by, row_where, ends_waiting, closed_at, channel_closed, SetsThresholdWhere, open_stream, stream_of_name}
-use Rattle.dcsctp_channel_calls.specs.Opening.{BeginsOn, BeginsInTurn, none_waits, begins, waits_on, BeginsWhereKnown, BeginsWaiting, may_begin, opened_by, opening_said, channels_waiting, without_stream, OpensBy, OpensChannel, open_refusal, named_next}
+use Rattle.dcsctp_channel_calls.specs.Sending.{SendsIfOpen, view_after_send, row_taken_if_held, ends_waiting, layer_after_close, channel_closed, SetsThresholdIfOpen, open_stream, stream_of_name}
+use Rattle.dcsctp_channel_calls.specs.Opening.{BeginsOn, BeginsInTurn, none_waits, begins, waits_on, BeginsWhereKnown, BeginsWaiting, may_begin, view_after_open, opening_said, channels_waiting, without_stream, OpensOrRefuses, OpensChannel, open_refusal, named_next}
 use Rattle.dcsctp_channel_laws.specs.Names.{names_given, AreWithin, ChannelsCall, sets_role, connects, handles_input, advances, aborts, shuts_down, opens_channel, sends_content, closes_channel, sets_threshold, IsCallMade}
 use Rattle.dcsctp_channel_laws.proofs.Adding.{le_same, rises, Adds, adds_then, adds_quietly, adds_none, adds_refl, adds_to, adds_from}
 use Rattle.dcsctp_channel_laws.proofs.Rows.{accepts, IsBounded, row_adds}
@@ -22,22 +22,22 @@ use Rattle.dcsctp_channel_laws.proofs.Rows.{accepts, IsBounded, row_adds}
 
 pub only_adds : (Makes : UserView → Type 0) (old new : ChannelsView) → OnlySocket Makes old new → Adds old.layer new.layer
 only_adds Makes old new only =
-    adds_to old.layer (gathered (record old { below = only.below })) new only.is (adds_none old.layer (gathered (record old { below = only.below })).layer refl (le_same old.layer.named) refl)
+    adds_to old.layer (view_with_events (record old { below = only.below })) new only.is (adds_none old.layer (view_with_events (record old { below = only.below })).layer refl (le_same old.layer.named) refl)
 
-pub gathers_add : (view : ChannelsView) → Adds view.layer (gathered view).layer
-gathers_add view = adds_none view.layer (gathered view).layer refl (le_same view.layer.named) refl
+pub gathers_add : (view : ChannelsView) → Adds view.layer (view_with_events view).layer
+gathers_add view = adds_none view.layer (view_with_events view).layer refl (le_same view.layer.named) refl
 
 -- ---- rows
 
-pub row_where_adds : (held : Option HeldStream) (number : ℕ) (input : SlotInput) (layer : LayerView) → accepts input ≡ false → IsBounded layer.limits input → Adds layer (row_where held number input layer)
+pub row_where_adds : (held : Option HeldStream) (number : ℕ) (input : SlotInput) (layer : LayerView) → accepts input ≡ false → IsBounded layer.limits input → Adds layer (row_taken_if_held held number input layer)
 row_where_adds None number input layer not bounded = adds_refl layer
 row_where_adds (Some held) number input layer not bounded = row_adds number held.delivery input layer not bounded
 
 -- ---- channels begin
 
-opened_adds : (answer : Result (Unit {0}) SendError) (number : ℕ) (waits : WaitingChannel) (below : UserView) (layer : LayerView) → Adds layer (opened_by answer number waits below layer).layer
+opened_adds : (answer : Result (Unit {0}) SendError) (number : ℕ) (waits : WaitingChannel) (below : UserView) (layer : LayerView) → Adds layer (view_after_open answer number waits below layer).layer
 opened_adds (Ok done) number waits below layer = row_adds number waits.delivery (opens waits.name (opening_said waits.payload)) layer refl tt
-opened_adds (Err refusal) number waits below layer = adds_none layer (opened_by (Err refusal) number waits below layer).layer refl (le_same layer.named) refl
+opened_adds (Err refusal) number waits below layer = adds_none layer (view_after_open (Err refusal) number waits below layer).layer refl (le_same layer.named) refl
 
 ends_adds : (name : ℕ) (old new : ChannelsView) → new ≡ on_layer (without_stream name) old → Adds old.layer new.layer
 ends_adds name old new is =
@@ -83,18 +83,18 @@ named_adds : (opening : Opening) (negotiated : Option ℕ) (layer : LayerView) �
 named_adds opening negotiated layer = adds_none layer (named_next opening negotiated layer) refl (let le : layer.named ≤ layer.named + 1 = omega arith in le) refl
 
 opens_add : (opening : Opening) (negotiated : Option ℕ) (refusal : Option ChannelError) (answer : Result ChannelId ChannelError) (old new : ChannelsView)
-    → OpensBy opening negotiated refusal answer old new → Adds old.layer new.layer
+    → OpensOrRefuses opening negotiated refusal answer old new → Adds old.layer new.layer
 opens_add opening negotiated None (Ok id) old new made =
     adds_then old.layer (named_next opening negotiated old.layer) [] new.layer (named_adds opening negotiated old.layer) (waiting_adds (on_layer (named_next opening negotiated) old) new made.1)
 opens_add opening negotiated None (Err error) old new made = absurd made
 opens_add opening negotiated (Some refusal) (Ok id) old new made = absurd made
 opens_add opening negotiated (Some refusal) (Err error) old new made = adds_to old.layer old new made.1 (adds_refl old.layer)
 
-sent_adds : (taken : Result (Unit {0}) SendError) (number bytes : ℕ) (held : HeldStream) (below : UserView) (layer : LayerView) → Adds layer (sent_by taken number bytes held below layer).layer
-sent_adds (Ok done) number bytes held below layer = adds_none layer (sent_by (Ok done) number bytes held below layer).layer refl (le_same layer.named) refl
+sent_adds : (taken : Result (Unit {0}) SendError) (number bytes : ℕ) (held : HeldStream) (below : UserView) (layer : LayerView) → Adds layer (view_after_send taken number bytes held below layer).layer
+sent_adds (Ok done) number bytes held below layer = adds_none layer (view_after_send (Ok done) number bytes held below layer).layer refl (le_same layer.named) refl
 sent_adds (Err refusal) number bytes held below layer = adds_refl layer
 
-sends_add : (found : Option (ℕ × HeldStream)) (content : ChannelContent) (answer : Result (Unit {0}) ChannelError) (old new : ChannelsView) → SendsBy found content answer old new
+sends_add : (found : Option (ℕ × HeldStream)) (content : ChannelContent) (answer : Result (Unit {0}) ChannelError) (old new : ChannelsView) → SendsIfOpen found content answer old new
     → Adds old.layer new.layer
 sends_add None content answer old new made = adds_to old.layer old new made.1 (adds_refl old.layer)
 sends_add (Some found) content answer old new made = adds_to old.layer _ new made.is (sent_adds made.taken found.0 _ found.1 made.below old.layer)
@@ -116,12 +116,12 @@ ends_within : (limits : Limits) (name : ℕ) (waiting : List WaitingChannel) →
 ends_within limits name [] = tt
 ends_within limits name (waits ∷ rest) = end_within limits name (waits.name == name) (ends_waiting name rest) (ends_within limits name rest)
 
-closes_add : (stream : Option ℕ) (name : ℕ) (layer : LayerView) → Adds layer (closed_at stream name layer)
-closes_add (Some number) name layer = row_where_adds (held_at layer number) number is_closed layer refl tt
+closes_add : (stream : Option ℕ) (name : ℕ) (layer : LayerView) → Adds layer (layer_after_close stream name layer)
+closes_add (Some number) name layer = row_where_adds (held_stream_numbered layer number) number is_closed layer refl tt
 closes_add None name layer =
-    adds_quietly layer (closed_at None name layer) (ends_waiting name layer.waiting) refl (ends_waiting_quietly name layer.waiting) (ends_within layer.limits name layer.waiting) (le_same layer.named) refl
+    adds_quietly layer (layer_after_close None name layer) (ends_waiting name layer.waiting) refl (ends_waiting_quietly name layer.waiting) (ends_within layer.limits name layer.waiting) (le_same layer.named) refl
 
-sets_add : (stream : Option ℕ) (bytes : ℕ) (answer : Result (Unit {0}) ChannelError) (old new : ChannelsView) → SetsThresholdWhere stream bytes answer old new → Adds old.layer new.layer
+sets_add : (stream : Option ℕ) (bytes : ℕ) (answer : Result (Unit {0}) ChannelError) (old new : ChannelsView) → SetsThresholdIfOpen stream bytes answer old new → Adds old.layer new.layer
 sets_add None bytes answer old new made = adds_to old.layer old new made.1 (adds_refl old.layer)
 sets_add (Some number) bytes answer old new made = adds_to old.layer _ new made.1.is (adds_refl old.layer)
 
@@ -140,7 +140,7 @@ calls_add (sends_content name content answer) old new made = sends_add (open_str
 calls_add (closes_channel name) old new made = adds_to old.layer (on_layer (channel_closed name) old) new made (closes_add (stream_of_name old.layer name) name old.layer)
 calls_add (sets_threshold name bytes answer) old new made = sets_add (stream_of_name old.layer name) bytes answer old new made
 
-opens_next : (opening : Opening) (negotiated : Option ℕ) (refusal : Option ChannelError) (id : ChannelId) (old new : ChannelsView) → OpensBy opening negotiated refusal (Ok id) old new
+opens_next : (opening : Opening) (negotiated : Option ℕ) (refusal : Option ChannelError) (id : ChannelId) (old new : ChannelsView) → OpensOrRefuses opening negotiated refusal (Ok id) old new
     → (id.0 ≡ old.layer.named) × (id.0 + 1 ≤ new.layer.named)
 opens_next opening negotiated None id old new made =
     let adds = waiting_adds (on_layer (named_next opening negotiated) old) new made.1 in

@@ -5,11 +5,11 @@ use Rattle.dcsctp_channel_calls.specs.api.spec.endpoint.Event.{Event, sent, conn
 use Rattle.dcsctp_channel_calls.specs.messages.channel_spec.Slots.{SlotInput, was_performed, was_refused, peer_resets, association_ends}
 use Rattle.dcsctp_channel_calls.specs.declared.channel.HeldStream.{HeldStream}
 use Rattle.dcsctp_channel_calls.specs.declared.channel.Limits.{Limits}
-use Rattle.dcsctp_channel_calls.specs.View.{WaitingChannel, ChannelNotice, association_made, association_over, LayerView, ChannelsView, held_at}
+use Rattle.dcsctp_channel_calls.specs.View.{WaitingChannel, ChannelNotice, association_made, association_over, LayerView, ChannelsView, held_stream_numbered}
 use Rattle.dcsctp_channel_calls.specs.Calls.{on_layer}
-use Rattle.dcsctp_channel_calls.specs.Sending.{row_where}
+use Rattle.dcsctp_channel_calls.specs.Sending.{row_taken_if_held}
 use Rattle.dcsctp_channel_calls.specs.Opening.{BeginsWaiting}
-use Rattle.dcsctp_channel_calls.specs.Events.{rows_taken, reset_numbers, lost_waiting, streams_lost, waiting_lost, with_notices, channels_ended, low_notice, low_notices, connection_made, streams_reset, amount_reported, HandlesEvent, HandlesEventWhere}
+use Rattle.dcsctp_channel_calls.specs.Events.{rows_taken, reset_numbers, lost_waiting, streams_lost, waiting_lost, with_notices, channels_ended, low_notice, low_notices, connection_made, streams_reset, amount_reported, HandlesEvent, HandlesEventUnlessEnded}
 use Rattle.dcsctp_channel_laws.specs.Names.{names_given, AreWithin}
 use Rattle.dcsctp_channel_laws.proofs.Adding.{le_same, Adds, adds_then, adds_quietly, adds_refl, adds_to, adds_from}
 use Rattle.dcsctp_channel_laws.proofs.Rows.{accepts, IsBounded}
@@ -20,8 +20,8 @@ use Rattle.dcsctp_channel_laws.proofs.Calls.{only_adds, row_where_adds, waiting_
 pub rows_add : (numbers : List ℕ) (input : SlotInput) (layer : LayerView) → accepts input ≡ false → ((limits : Limits) → IsBounded limits input) → Adds layer (rows_taken numbers input layer)
 rows_add [] input layer not bounded = adds_refl layer
 rows_add (number ∷ numbers) input layer not bounded =
-    adds_then layer (row_where (held_at layer number) number input layer) [] _ (row_where_adds (held_at layer number) number input layer not (bounded layer.limits))
-    (rows_add numbers input (row_where (held_at layer number) number input layer) not bounded)
+    adds_then layer (row_taken_if_held (held_stream_numbered layer number) number input layer) [] _ (row_where_adds (held_stream_numbered layer number) number input layer not (bounded layer.limits))
+    (rows_add numbers input (row_taken_if_held (held_stream_numbered layer number) number input layer) not bounded)
 
 notices_add : (notices : List ChannelNotice) (layer : LayerView) → names_given notices ≡ [] → AreWithin layer.limits notices → Adds layer (with_notices notices layer)
 notices_add notices layer none within = adds_quietly layer (with_notices notices layer) notices refl none within (le_same layer.named) refl
@@ -84,7 +84,7 @@ event_adds (incoming_stream_reset numbers) old new made =
 event_adds (streams_reset_performed numbers) old new made = then_begins (rows_taken numbers was_performed) old new (rows_add numbers was_performed old.layer refl (λ limits. tt)) made
 event_adds (streams_reset_failed numbers) old new is = adds_to old.layer (on_layer (rows_taken numbers was_refused) old) new is (rows_add numbers was_refused old.layer refl (λ limits. tt))
 event_adds (buffered_amount_low number) old new is =
-    adds_to old.layer (on_layer (amount_reported number) old) new is (notices_add (low_notices (held_at old.layer number)) old.layer (lows_quietly (held_at old.layer number)) (lows_within old.layer.limits (held_at old.layer number)))
+    adds_to old.layer (on_layer (amount_reported number) old) new is (notices_add (low_notices (held_stream_numbered old.layer number)) old.layer (lows_quietly (held_stream_numbered old.layer number)) (lows_within old.layer.limits (held_stream_numbered old.layer number)))
 event_adds (sent packet) old new is = adds_to old.layer old new is (adds_refl old.layer)
 event_adds (error kind text) old new is = adds_to old.layer old new is (adds_refl old.layer)
 event_adds total_buffered_amount_low old new is = adds_to old.layer old new is (adds_refl old.layer)
@@ -94,6 +94,6 @@ event_adds (lifecycle_message_expired id) old new is = adds_to old.layer old new
 event_adds (lifecycle_message_delivered id) old new is = adds_to old.layer old new is (adds_refl old.layer)
 event_adds (lifecycle_end id) old new is = adds_to old.layer old new is (adds_refl old.layer)
 
-pub events_add : (over : Bool) (event : Event (List ℕ)) (old new : ChannelsView) → HandlesEventWhere over event old new → Adds old.layer new.layer
+pub events_add : (over : Bool) (event : Event (List ℕ)) (old new : ChannelsView) → HandlesEventUnlessEnded over event old new → Adds old.layer new.layer
 events_add true event old new is = adds_to old.layer old new is (adds_refl old.layer)
 events_add false event old new made = event_adds event old new made

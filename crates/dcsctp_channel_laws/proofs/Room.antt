@@ -2,7 +2,7 @@
 use Rattle.std.proofs.Common.{◌≡◌, ◌<◌, ◌⊎◌, ◌+◌, true, false, not, ◌&&◌, Bool, Option, Some, None, is_some, nat_lt, length, refl, inl, inr}
 use Rattle.std.proofs.lemmas.Bool.{ltb-true}
 use Rattle.dcsctp_channel_calls.specs.declared.channel.HeldStream.{HeldStream}
-use Rattle.dcsctp_channel_calls.specs.View.{LayerView, held_at, slot_of}
+use Rattle.dcsctp_channel_calls.specs.View.{LayerView, held_stream_numbered, slot_of}
 use Rattle.dcsctp_channel_calls.specs.Arrivals.{has_place, is_peers}
 use Rattle.dcsctp_channel_laws.specs.Names.{OpensHaveRoom}
 
@@ -16,5 +16,5 @@ place_has_room layer (Some held) place = inr refl
 
 pub opens_room : OpensHaveRoom
 opens_room layer number opening accepted =
-    place_has_room layer (held_at layer number)
-    (first_holds (has_place (slot_of (held_at layer number)) layer) (not (nat_lt layer.limits.text (length opening.label + length opening.protocol))) (is_peers layer.role number) accepted)
+    place_has_room layer (held_stream_numbered layer number)
+    (first_holds (has_place (slot_of (held_stream_numbered layer number)) layer) (not (nat_lt layer.limits.text (length opening.label + length opening.protocol))) (is_peers layer.role number) accepted)

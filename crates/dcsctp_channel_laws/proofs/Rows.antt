@@ -8,9 +8,9 @@ use Rattle.dcsctp_channel_calls.specs.messages.channel_spec.declared.types.OwnRe
 use Rattle.dcsctp_channel_calls.specs.messages.channel_spec.declared.types.StreamUse.{StreamUse}
 use Rattle.dcsctp_channel_calls.specs.messages.channel_spec.Contents.{ChannelContent}
 use Rattle.dcsctp_channel_calls.specs.messages.channel_spec.Slots.{Opening, StreamSlot, free, used, Report, opened, ended, SlotInput, opens, agrees, hears_open, hears_ack, hears_message, hears_bad_message, may_acknowledge, is_closed, all_is_sent, cannot_reset, was_performed, was_refused, peer_resets, association_ends}
-use Rattle.dcsctp_channel_calls.specs.messages.channel_spec.Table.{outcome_of, reports_of, end_where, settled_where, reopens_where, heard_reports, message_reports, acknowledges_where, resets_where, gives_up_where, after_performed, asks_again_where, after_refused, most_refusals}
+use Rattle.dcsctp_channel_calls.specs.messages.channel_spec.Table.{outcome_of, reports_of, end_if_heard, settled_if_reset, reopens_if_reset, heard_reports, message_reports, acknowledges_if_owed, resets_if_closing, gives_up_if_closing, after_performed, asks_again_or_gives_up, after_refused, most_refusals}
 use Rattle.dcsctp_channel_calls.specs.declared.channel.Limits.{Limits}
-use Rattle.dcsctp_channel_calls.specs.View.{of_channel, LayerView, slot_at, row_taken}
+use Rattle.dcsctp_channel_calls.specs.View.{of_channel, LayerView, slot_numbered, row_taken}
 use Rattle.dcsctp_channel_laws.specs.Names.{names_given, AreWithin}
 use Rattle.dcsctp_channel_laws.proofs.Adding.{le_same, Adds, adds_quietly}
 
@@ -26,15 +26,15 @@ ends_before : (limits : Limits) (name : Option ℕ) (e : ChannelEnd) → IsQuiet
 ends_before limits None e = (refl, tt)
 ends_before limits (Some n) e = (refl, tt)
 
-settles : (limits : Limits) (peer_reset : Bool) (own : OwnReset) (stream : StreamUse) → IsQuiet limits (settled_where peer_reset own stream).reports
-settles limits true Performed stream = ends_quietly limits stream.name (end_where stream.heard)
+settles : (limits : Limits) (peer_reset : Bool) (own : OwnReset) (stream : StreamUse) → IsQuiet limits (settled_if_reset peer_reset own stream).reports
+settles limits true Performed stream = ends_quietly limits stream.name (end_if_heard stream.heard)
 settles limits true NotAsked stream = (refl, tt)
 settles limits true Asked stream = (refl, tt)
 settles limits true GivenUp stream = (refl, tt)
 settles limits false own stream = (refl, tt)
 
-reopens : (limits : Limits) (peer_reset : Bool) (own : OwnReset) (name : ℕ) (opening : Opening) (stream : StreamUse) → IsQuiet limits (reopens_where peer_reset own false name opening stream).reports
-reopens limits true Asked name opening stream = ends_before limits stream.name (end_where stream.heard)
+reopens : (limits : Limits) (peer_reset : Bool) (own : OwnReset) (name : ℕ) (opening : Opening) (stream : StreamUse) → IsQuiet limits (reopens_if_reset peer_reset own false name opening stream).reports
+reopens limits true Asked name opening stream = ends_before limits stream.name (end_if_heard stream.heard)
 reopens limits true NotAsked name opening stream = (refl, tt)
 reopens limits true Performed name opening stream = (refl, tt)
 reopens limits true GivenUp name opening stream = (refl, tt)
@@ -54,12 +54,12 @@ messages limits true name content le = (refl, tt)
 messages limits false None content le = (refl, tt)
 messages limits false (Some n) content le = (refl, (le, tt))
 
-acknowledges : (limits : Limits) (owes closing : Bool) (stream : StreamUse) → IsQuiet limits (acknowledges_where owes closing stream).reports
+acknowledges : (limits : Limits) (owes closing : Bool) (stream : StreamUse) → IsQuiet limits (acknowledges_if_owed owes closing stream).reports
 acknowledges limits true false stream = (refl, tt)
 acknowledges limits true true stream = (refl, tt)
 acknowledges limits false closing stream = (refl, tt)
 
-resets : (limits : Limits) (closing awaits : Bool) (own : OwnReset) (stream : StreamUse) → IsQuiet limits (resets_where closing awaits own stream).reports
+resets : (limits : Limits) (closing awaits : Bool) (own : OwnReset) (stream : StreamUse) → IsQuiet limits (resets_if_closing closing awaits own stream).reports
 resets limits true false NotAsked stream = (refl, tt)
 resets limits true false Asked stream = (refl, tt)
 resets limits true false Performed stream = (refl, tt)
@@ -67,7 +67,7 @@ resets limits true false GivenUp stream = (refl, tt)
 resets limits true true own stream = (refl, tt)
 resets limits false awaits own stream = (refl, tt)
 
-gives_up : (limits : Limits) (closing awaits : Bool) (own : OwnReset) (stream : StreamUse) → IsQuiet limits (gives_up_where closing awaits own stream).reports
+gives_up : (limits : Limits) (closing awaits : Bool) (own : OwnReset) (stream : StreamUse) → IsQuiet limits (gives_up_if_closing closing awaits own stream).reports
 gives_up limits true false NotAsked stream = ends_quietly limits stream.name ResetRefused
 gives_up limits true false Asked stream = (refl, tt)
 gives_up limits true false Performed stream = (refl, tt)
@@ -81,7 +81,7 @@ performs limits NotAsked stream = (refl, tt)
 performs limits Performed stream = (refl, tt)
 performs limits GivenUp stream = (refl, tt)
 
-asks_again : (limits : Limits) (again : Bool) (stream : StreamUse) → IsQuiet limits (asks_again_where again stream).reports
+asks_again : (limits : Limits) (again : Bool) (stream : StreamUse) → IsQuiet limits (asks_again_or_gives_up again stream).reports
 asks_again limits true stream = (refl, tt)
 asks_again limits false stream = ends_quietly limits stream.name ResetRefused
 
@@ -168,5 +168,5 @@ no_names input slot not = (quiet (wide input) input slot not (wide_enough input)
 
 pub row_adds : (number : ℕ) (delivery : Delivery) (input : SlotInput) (layer : LayerView) → accepts input ≡ false → IsBounded layer.limits input → Adds layer (row_taken number delivery input layer)
 row_adds number delivery input layer not bounded =
-    let all = quiet layer.limits input (slot_at layer number) not bounded in
-    adds_quietly layer (row_taken number delivery input layer) (map of_channel (outcome_of input (slot_at layer number)).reports) refl all.0 all.1 (le_same layer.named) refl
+    let all = quiet layer.limits input (slot_numbered layer number) not bounded in
+    adds_quietly layer (row_taken number delivery input layer) (map of_channel (outcome_of input (slot_numbered layer number)).reports) refl all.0 all.1 (le_same layer.named) refl

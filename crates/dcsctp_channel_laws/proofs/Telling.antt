@@ -4,11 +4,11 @@ use Rattle.std.proofs.lemmas.Bool.{eq-eqb, ne_eqb, lt-ltb, le-ltb, cases_eq, cas
 use Rattle.std.proofs.lemmas.List.{append-nil}
 use Rattle.dcsctp_channel_calls.specs.messages.channel_spec.declared.types.ChannelEnd.{ChannelEnd}
 use Rattle.dcsctp_channel_calls.specs.messages.channel_spec.declared.types.Delivery.{Delivery}
-use Rattle.dcsctp_channel_calls.specs.messages.channel_spec.Slots.{Opening, StreamSlot, name_in, Report, opened, incoming, message, ended, SlotInput, SlotOutcome}
+use Rattle.dcsctp_channel_calls.specs.messages.channel_spec.Slots.{Opening, StreamSlot, name_of_slot, Report, opened, incoming, message, ended, SlotInput, SlotOutcome}
 use Rattle.dcsctp_channel_calls.specs.messages.channel_spec.Table.{reports_of}
 use Rattle.dcsctp_channel_calls.specs.messages.channel_spec.Laws.{Speaks}
 use Rattle.dcsctp_channel_calls.specs.declared.channel.HeldStream.{HeldStream}
-use Rattle.dcsctp_channel_calls.specs.View.{WaitingChannel, ChannelNotice, of_channel, LayerView, entry_at, slot_at, taken_as}
+use Rattle.dcsctp_channel_calls.specs.View.{WaitingChannel, ChannelNotice, of_channel, LayerView, entry_numbered, slot_numbered, taken_as}
 use Rattle.dcsctp_channel_calls.specs.Queries.{is_waiting}
 use Rattle.dcsctp_channel_laws.specs.Lives.{is_placed, IsOrderly, Life, unnamed, lasting, gone, life_where, life_in, News, of_birth, of_life, of_end, news_where, news_in, LivesOn, Hears, TellsLives}
 use Rattle.dcsctp_channel_laws.proofs.Rows.{GivesNoName}
@@ -69,16 +69,16 @@ or_true : (b : Bool) → (b || true) ≡ true
 or_true true = refl
 or_true false = refl
 
-pub lives_placed : (names : List (ℕ × ℕ)) (waiting : List WaitingChannel) (n number : ℕ) (is_below : Bool) → entry_at n names ≡ Some number → life_where (is_placed names waiting n) is_below ≡ lasting
+pub lives_placed : (names : List (ℕ × ℕ)) (waiting : List WaitingChannel) (n number : ℕ) (is_below : Bool) → entry_numbered n names ≡ Some number → life_where (is_placed names waiting n) is_below ≡ lasting
 lives_placed names waiting n number is_below at =
     ap (λ (o : Option ℕ). life_where (is_waiting n waiting || is_some o) is_below) at ∙ ap (λ (b : Bool). life_where b is_below) (or_true (is_waiting n waiting))
 
 pub lives_waiting : (names : List (ℕ × ℕ)) (waiting : List WaitingChannel) (n : ℕ) (is_below : Bool) → is_waiting n waiting ≡ true → life_where (is_placed names waiting n) is_below ≡ lasting
-lives_waiting names waiting n is_below waits = ap (λ (b : Bool). life_where (b || is_some (entry_at n names)) is_below) waits
+lives_waiting names waiting n is_below waits = ap (λ (b : Bool). life_where (b || is_some (entry_numbered n names)) is_below) waits
 
-pub lives_nowhere : (names : List (ℕ × ℕ)) (waiting : List WaitingChannel) (n named : ℕ) → is_waiting n waiting ≡ false → entry_at n names ≡ None → n < named → life_where (is_placed names waiting n) (nat_lt n named) ≡ gone
+pub lives_nowhere : (names : List (ℕ × ℕ)) (waiting : List WaitingChannel) (n named : ℕ) → is_waiting n waiting ≡ false → entry_numbered n names ≡ None → n < named → life_where (is_placed names waiting n) (nat_lt n named) ≡ gone
 lives_nowhere names waiting n named not_waiting none below =
-    ap (λ (b : Bool). life_where (b || is_some (entry_at n names)) (nat_lt n named)) not_waiting
+    ap (λ (b : Bool). life_where (b || is_some (entry_numbered n names)) (nat_lt n named)) not_waiting
     ∙ ap (λ (o : Option ℕ). life_where (is_some o) (nat_lt n named)) none ∙ ap (life_where false) (lt-ltb n named below)
 
 -- ---- a row that gives no name
@@ -127,12 +127,12 @@ speaks_other n (Some m) b (ended o w ∷ rs) l not (same, rest) quiet =
 
 -- The stream's channel before is its own, or it is given one that waited.
 pub record IsGiven (g : Option ℕ) (number : ℕ) (layer : LayerView) (before : ℕ → Life) : Type 0 where
-  pub from : (n : ℕ) → name_in (slot_at layer number) ≡ Some n → g ≡ Some n
-  pub is_free : (n : ℕ) → g ≡ Some n → (name_in (slot_at layer number) ≡ Some n) ⊎ IsFresh layer layer.named n
+  pub from : (n : ℕ) → name_of_slot (slot_numbered layer number) ≡ Some n → g ≡ Some n
+  pub is_free : (n : ℕ) → g ≡ Some n → (name_of_slot (slot_numbered layer number) ≡ Some n) ⊎ IsFresh layer layer.named n
   pub lasts : (n : ℕ) → g ≡ Some n → before n ≡ lasting
   pub others : (n : ℕ) → (g ≡ Some n → ⊥) → before n ≡ life_in layer n
 
-pub given_own : (number : ℕ) (layer : LayerView) → IsOrderly layer → IsGiven (name_in (slot_at layer number)) number layer (life_in layer)
+pub given_own : (number : ℕ) (layer : LayerView) → IsOrderly layer → IsGiven (name_of_slot (slot_numbered layer number)) number layer (life_in layer)
 given_own number layer a =
     record {
       from = λ n is. is;
@@ -141,34 +141,34 @@ given_own number layer a =
       others = λ n not. refl;
     }
 
-same_places : (names others : List (ℕ × ℕ)) (waiting : List WaitingChannel) (n : ℕ) (is_below : Bool) → entry_at n names ≡ entry_at n others → life_where (is_placed names waiting n) is_below ≡ life_where (is_placed others waiting n) is_below
+same_places : (names others : List (ℕ × ℕ)) (waiting : List WaitingChannel) (n : ℕ) (is_below : Bool) → entry_numbered n names ≡ entry_numbered n others → life_where (is_placed names waiting n) is_below ≡ life_where (is_placed others waiting n) is_below
 same_places names others waiting n is_below same = ap (λ (o : Option ℕ). life_where (is_waiting n waiting || is_some o) is_below) same
 
 module _ (number : ℕ) (after : StreamSlot) (layer : LayerView) (streams : List (ℕ × HeldStream)) (names : List (ℕ × ℕ)) (a : IsOrderly layer) (row : RowLeaves number after layer streams names)
-    (g : Option ℕ) (before : ℕ → Life) (given : IsGiven g number layer before) (reports : List Report) (speaks : Speaks g reports (name_in after)) (quiet : GivesNoName reports) where
-  not_waiting : (n : ℕ) → (name_in (slot_at layer number) ≡ Some n) ⊎ IsFresh layer layer.named n → is_waiting n layer.waiting ≡ false
+    (g : Option ℕ) (before : ℕ → Life) (given : IsGiven g number layer before) (reports : List Report) (speaks : Speaks g reports (name_of_slot after)) (quiet : GivesNoName reports) where
+  not_waiting : (n : ℕ) → (name_of_slot (slot_numbered layer number) ≡ Some n) ⊎ IsFresh layer layer.named n → is_waiting n layer.waiting ≡ false
   not_waiting n (inl had) = by (is_waiting n layer.waiting) refl
     where
       by : (b : Bool) → is_waiting n layer.waiting ≡ b → is_waiting n layer.waiting ≡ false
       by true waits =
-          let here : entry_at n layer.names ≡ Some number = a.leads number n had in
-          let none : entry_at n layer.names ≡ None = a.no_stream n waits in absurd cc
+          let here : entry_numbered n layer.names ≡ Some number = a.leads number n had in
+          let none : entry_numbered n layer.names ≡ None = a.no_stream n waits in absurd cc
       by false is = is
   not_waiting n (inr fresh) = fresh.not_waiting
 
-  below : (n : ℕ) → (name_in (slot_at layer number) ≡ Some n) ⊎ IsFresh layer layer.named n → n < layer.named
+  below : (n : ℕ) → (name_of_slot (slot_numbered layer number) ≡ Some n) ⊎ IsFresh layer layer.named n → n < layer.named
   below n (inl had) = a.was_named n number (a.leads number n had)
   below n (inr fresh) = fresh.is_below
 
-  no_stream_left : (n : ℕ) → name_in after ≡ None → (name_in (slot_at layer number) ≡ Some n) ⊎ IsFresh layer layer.named n → entry_at n names ≡ None
-  no_stream_left n none (inl had) = row.freed n had (λ (has : name_in after ≡ Some n). absurd cc)
-  no_stream_left n none (inr fresh) = by (is_named (name_in (slot_at layer number)) n)
+  no_stream_left : (n : ℕ) → name_of_slot after ≡ None → (name_of_slot (slot_numbered layer number) ≡ Some n) ⊎ IsFresh layer layer.named n → entry_numbered n names ≡ None
+  no_stream_left n none (inl had) = row.freed n had (λ (has : name_of_slot after ≡ Some n). absurd cc)
+  no_stream_left n none (inr fresh) = by (is_named (name_of_slot (slot_numbered layer number)) n)
     where
-      by : (name_in (slot_at layer number) ≡ Some n) ⊎ (name_in (slot_at layer number) ≡ Some n → ⊥) → entry_at n names ≡ None
-      by (inl had) = row.freed n had (λ (has : name_in after ≡ Some n). absurd cc)
-      by (inr not) = row.other n not (λ (has : name_in after ≡ Some n). absurd cc) ∙ fresh.no_stream
+      by : (name_of_slot (slot_numbered layer number) ≡ Some n) ⊎ (name_of_slot (slot_numbered layer number) ≡ Some n → ⊥) → entry_numbered n names ≡ None
+      by (inl had) = row.freed n had (λ (has : name_of_slot after ≡ Some n). absurd cc)
+      by (inr not) = row.other n not (λ (has : name_of_slot after ≡ Some n). absurd cc) ∙ fresh.no_stream
 
-  own_lives : (n : ℕ) → g ≡ Some n → Fate n (name_in after) (map of_channel reports) → Hears n (before n) (map of_channel reports) (life_where (is_placed names layer.waiting n) (nat_lt n layer.named))
+  own_lives : (n : ℕ) → g ≡ Some n → Fate n (name_of_slot after) (map of_channel reports) → Hears n (before n) (map of_channel reports) (life_where (is_placed names layer.waiting n) (nat_lt n layer.named))
   own_lives n is (inl (has, hears)) = hears_as n lasting (before n) (map of_channel reports) lasting _ (given.lasts n is) (lives_placed names layer.waiting n number (nat_lt n layer.named) (row.gets n has)) hears
   own_lives n is (inr (none, hears)) =
       hears_as n lasting (before n) (map of_channel reports) gone _ (given.lasts n is)
@@ -178,24 +178,24 @@ module _ (number : ℕ) (after : StreamSlot) (layer : LayerView) (streams : List
   row_lives n = by (is_named g n)
     where
       by : (g ≡ Some n) ⊎ (g ≡ Some n → ⊥) → Hears n (before n) (map of_channel reports) (life_where (is_placed names layer.waiting n) (nat_lt n layer.named))
-      by (inl is) = own_lives n is (speaks_own n (name_in after) reports (subst (λ (o : Option ℕ). Speaks o reports (name_in after)) is speaks) quiet)
+      by (inl is) = own_lives n is (speaks_own n (name_of_slot after) reports (subst (λ (o : Option ℕ). Speaks o reports (name_of_slot after)) is speaks) quiet)
       by (inr not) =
-          let other = speaks_other n g (name_in after) reports (before n) not speaks quiet in
+          let other = speaks_other n g (name_of_slot after) reports (before n) not speaks quiet in
           hears_as n (before n) (before n) (map of_channel reports) (before n) _ refl
-          (same_places names layer.names layer.waiting n (nat_lt n layer.named) (row.other n (λ (had : name_in (slot_at layer number) ≡ Some n). not (given.from n had)) other.0) ∙ sym (given.others n not)) other.1
+          (same_places names layer.names layer.waiting n (nat_lt n layer.named) (row.other n (λ (had : name_of_slot (slot_numbered layer number) ≡ Some n). not (given.from n had)) other.0) ∙ sym (given.others n not)) other.1
 
-  row_next : IsNext layer layer.named (name_in (slot_at layer number)) (name_in after)
+  row_next : IsNext layer layer.named (name_of_slot (slot_numbered layer number)) (name_of_slot after)
   row_next n has = by (is_named g n)
     where
-      by : (g ≡ Some n) ⊎ (g ≡ Some n → ⊥) → (name_in (slot_at layer number) ≡ Some n) ⊎ IsFresh layer layer.named n
+      by : (g ≡ Some n) ⊎ (g ≡ Some n → ⊥) → (name_of_slot (slot_numbered layer number) ≡ Some n) ⊎ IsFresh layer layer.named n
       by (inl is) = given.is_free n is
-      by (inr not) = absurd ((speaks_other n g (name_in after) reports lasting not speaks quiet).0 has)
+      by (inr not) = absurd ((speaks_other n g (name_of_slot after) reports lasting not speaks quiet).0 has)
 
 le_same : (n : ℕ) → n ≤ n
 le_same n = omega arith
 
 pub quiet_row_tells : (number : ℕ) (delivery : Delivery) (input : SlotInput) (outcome : SlotOutcome) (layer : LayerView) → IsOrderly layer → (g : Option ℕ) (before : ℕ → Life) → IsGiven g number layer before
-    → Speaks g outcome.reports (name_in outcome.after) → GivesNoName outcome.reports → TellsLives before layer [] (taken_as number delivery input outcome layer)
+    → Speaks g outcome.reports (name_of_slot outcome.after) → GivesNoName outcome.reports → TellsLives before layer [] (taken_as number delivery input outcome layer)
 quiet_row_tells number delivery input outcome layer a g before given speaks quiet =
     let row = row_leaves number delivery input outcome layer a in
     let new = taken_as number delivery input outcome layer in
@@ -219,10 +219,10 @@ lt_next n m apart = by (cases_lt n m)
     by (inr above) = le-ltb n (m + 1) (le_next m n above (cases_eq m n) apart) ∙ sym (le-ltb n m above)
 
 module _ (layer : LayerView) (a : IsOrderly layer) where
-  pub next_no_stream : entry_at layer.named layer.names ≡ None
-  next_no_stream = by (entry_at layer.named layer.names) refl
+  pub next_no_stream : entry_numbered layer.named layer.names ≡ None
+  next_no_stream = by (entry_numbered layer.named layer.names) refl
     where
-      by : (o : Option ℕ) → entry_at layer.named layer.names ≡ o → entry_at layer.named layer.names ≡ None
+      by : (o : Option ℕ) → entry_numbered layer.named layer.names ≡ o → entry_numbered layer.named layer.names ≡ None
       by None is = is
       by (Some k) is = let below : layer.named < layer.named = a.was_named layer.named k is in absurd (omega arith)
 
@@ -235,13 +235,13 @@ module _ (layer : LayerView) (a : IsOrderly layer) where
 
   pub next_unnamed : life_in layer layer.named ≡ unnamed
   next_unnamed =
-      ap (λ (b : Bool). life_where (b || is_some (entry_at layer.named layer.names)) (nat_lt layer.named layer.named)) next_not_waiting
+      ap (λ (b : Bool). life_where (b || is_some (entry_numbered layer.named layer.names)) (nat_lt layer.named layer.named)) next_not_waiting
       ∙ ap (λ (o : Option ℕ). life_where (is_some o) (nat_lt layer.named layer.named)) next_no_stream ∙ ap (life_where false) (le-ltb layer.named layer.named (le_same layer.named))
 
   pub next_fresh : IsFresh layer (layer.named + 1) layer.named
   next_fresh = record { no_stream = next_no_stream; not_waiting = next_not_waiting; is_below = omega arith }
 
-  module _ (number : ℕ) (after : StreamSlot) (streams : List (ℕ × HeldStream)) (names : List (ℕ × ℕ)) (row : RowLeaves number after layer streams names) (has : name_in after ≡ Some layer.named)
+  module _ (number : ℕ) (after : StreamSlot) (streams : List (ℕ × HeldStream)) (names : List (ℕ × ℕ)) (row : RowLeaves number after layer streams names) (has : name_of_slot after ≡ Some layer.named)
       (opening : Opening) (why : ChannelEnd) where
     abbrev life_now : ℕ → Life
     life_now n = life_where (is_placed names layer.waiting n) (nat_lt n (layer.named + 1))
@@ -251,41 +251,41 @@ module _ (layer : LayerView) (a : IsOrderly layer) where
         hears_as layer.named unnamed (life_in layer layer.named) (of_channel (incoming layer.named opening) ∷ []) lasting (life_now layer.named) next_unnamed
         (lives_placed names layer.waiting layer.named number (nat_lt layer.named (layer.named + 1)) (row.gets layer.named has)) (comes_now layer.named layer.named opening refl)
 
-    stays : (n : ℕ) → (layer.named ≡ n → ⊥) → (name_in (slot_at layer number) ≡ Some n → ⊥) → life_now n ≡ life_in layer n
+    stays : (n : ℕ) → (layer.named ≡ n → ⊥) → (name_of_slot (slot_numbered layer number) ≡ Some n → ⊥) → life_now n ≡ life_in layer n
     stays n not_next not_before =
-        same_places names layer.names layer.waiting n (nat_lt n (layer.named + 1)) (row.other n not_before (λ (is : name_in after ≡ Some n). let same : layer.named ≡ n = cc in not_next same))
+        same_places names layer.names layer.waiting n (nat_lt n (layer.named + 1)) (row.other n not_before (λ (is : name_of_slot after ≡ Some n). let same : layer.named ≡ n = cc in not_next same))
         ∙ ap (life_where (is_placed layer.names layer.waiting n)) (lt_next n layer.named not_next)
 
-    other : (n : ℕ) → (layer.named ≡ n → ⊥) → (name_in (slot_at layer number) ≡ Some n → ⊥) → Hears n (life_in layer n) (of_channel (incoming layer.named opening) ∷ []) (life_now n)
+    other : (n : ℕ) → (layer.named ≡ n → ⊥) → (name_of_slot (slot_numbered layer number) ≡ Some n → ⊥) → Hears n (life_in layer n) (of_channel (incoming layer.named opening) ∷ []) (life_now n)
     other n not_next not_before =
         hears_as n (life_in layer n) (life_in layer n) (of_channel (incoming layer.named opening) ∷ []) (life_in layer n) (life_now n) refl (stays n not_next not_before)
         (comes_other n layer.named opening (life_in layer n) not_next)
 
-    where_none : name_in (slot_at layer number) ≡ None → (n : ℕ) → (layer.named ≡ n) ⊎ (layer.named ≡ n → ⊥) → Hears n (life_in layer n) (of_channel (incoming layer.named opening) ∷ []) (life_now n)
+    where_none : name_of_slot (slot_numbered layer number) ≡ None → (n : ℕ) → (layer.named ≡ n) ⊎ (layer.named ≡ n → ⊥) → Hears n (life_in layer n) (of_channel (incoming layer.named opening) ∷ []) (life_now n)
     where_none none n (inl same) = subst (λ (m : ℕ). Hears m (life_in layer m) (of_channel (incoming layer.named opening) ∷ []) (life_now m)) same born
-    where_none none n (inr not_next) = other n not_next (λ (is : name_in (slot_at layer number) ≡ Some n). absurd cc)
+    where_none none n (inr not_next) = other n not_next (λ (is : name_of_slot (slot_numbered layer number) ≡ Some n). absurd cc)
 
     -- the channel that the stream had before
-    ends_first : (m : ℕ) → name_in (slot_at layer number) ≡ Some m → (layer.named ≡ m → ⊥) → Hears m (life_in layer m) (of_channel (ended m why) ∷ of_channel (incoming layer.named opening) ∷ []) (life_now m)
+    ends_first : (m : ℕ) → name_of_slot (slot_numbered layer number) ≡ Some m → (layer.named ≡ m → ⊥) → Hears m (life_in layer m) (of_channel (ended m why) ∷ of_channel (incoming layer.named opening) ∷ []) (life_now m)
     ends_first m had not_next =
-        let here : entry_at m layer.names ≡ Some number = a.leads number m had in
+        let here : entry_numbered m layer.names ≡ Some number = a.leads number m had in
         let below : m < layer.named = a.was_named m number here in
         let more : m < layer.named + 1 = omega arith in
         hears_as m lasting (life_in layer m) (of_channel (ended m why) ∷ of_channel (incoming layer.named opening) ∷ []) gone (life_now m) (lives_placed layer.names layer.waiting m number (nat_lt m layer.named) here)
-        (lives_nowhere names layer.waiting m (layer.named + 1) (had_not_waiting here) (row.freed m had (λ (is : name_in after ≡ Some m). let same : layer.named ≡ m = cc in not_next same)) more)
+        (lives_nowhere names layer.waiting m (layer.named + 1) (had_not_waiting here) (row.freed m had (λ (is : name_of_slot after ≡ Some m). let same : layer.named ≡ m = cc in not_next same)) more)
         (ends_now m m why (of_channel (incoming layer.named opening) ∷ []) gone refl (comes_other m layer.named opening gone not_next))
       where
-        had_not_waiting : entry_at m layer.names ≡ Some number → is_waiting m layer.waiting ≡ false
+        had_not_waiting : entry_numbered m layer.names ≡ Some number → is_waiting m layer.waiting ≡ false
         had_not_waiting here = by (is_waiting m layer.waiting) refl
           where
             by : (b : Bool) → is_waiting m layer.waiting ≡ b → is_waiting m layer.waiting ≡ false
-            by true waits = let none : entry_at m layer.names ≡ None = a.no_stream m waits in absurd cc
+            by true waits = let none : entry_numbered m layer.names ≡ None = a.no_stream m waits in absurd cc
             by false is = is
 
-    next_is_not : (m : ℕ) → name_in (slot_at layer number) ≡ Some m → layer.named ≡ m → ⊥
+    next_is_not : (m : ℕ) → name_of_slot (slot_numbered layer number) ≡ Some m → layer.named ≡ m → ⊥
     next_is_not m had same = let below : m < layer.named = a.was_named m number (a.leads number m had) in absurd (omega arith)
 
-    where_some : (m : ℕ) → name_in (slot_at layer number) ≡ Some m → (n : ℕ) → (layer.named ≡ n) ⊎ (layer.named ≡ n → ⊥) → (m ≡ n) ⊎ (m ≡ n → ⊥)
+    where_some : (m : ℕ) → name_of_slot (slot_numbered layer number) ≡ Some m → (n : ℕ) → (layer.named ≡ n) ⊎ (layer.named ≡ n → ⊥) → (m ≡ n) ⊎ (m ≡ n → ⊥)
         → Hears n (life_in layer n) (of_channel (ended m why) ∷ of_channel (incoming layer.named opening) ∷ []) (life_now n)
     where_some m had n next (inl same) =
         subst (λ (k : ℕ). Hears k (life_in layer k) (of_channel (ended m why) ∷ of_channel (incoming layer.named opening) ∷ []) (life_now k)) same (ends_first m had (next_is_not m had))
@@ -294,12 +294,12 @@ module _ (layer : LayerView) (a : IsOrderly layer) where
         (subst (λ (k : ℕ). Hears k (life_in layer k) (of_channel (incoming layer.named opening) ∷ []) (life_now k)) same born)
     where_some m had n (inr not_next) (inr apart) =
         ends_other n m why (of_channel (incoming layer.named opening) ∷ []) (life_in layer n) (life_now n) apart
-        (other n not_next (λ (is : name_in (slot_at layer number) ≡ Some n). let same : m ≡ n = cc in apart same))
+        (other n not_next (λ (is : name_of_slot (slot_numbered layer number) ≡ Some n). let same : m ≡ n = cc in apart same))
 
-    pub accepted_lives : (had : Option ℕ) → name_in (slot_at layer number) ≡ had → (n : ℕ)
+    pub accepted_lives : (had : Option ℕ) → name_of_slot (slot_numbered layer number) ≡ had → (n : ℕ)
         → Hears n (life_in layer n) (map of_channel (reports_of had (λ m. ended m why) ++ incoming layer.named opening ∷ [])) (life_now n)
     accepted_lives None is n = where_none is n (cases_eq layer.named n)
     accepted_lives (Some m) is n = where_some m is n (cases_eq layer.named n) (cases_eq m n)
 
-    pub accepted_next : IsNext layer (layer.named + 1) (name_in (slot_at layer number)) (name_in after)
-    accepted_next n is = let same : layer.named ≡ n = cc in subst (λ (m : ℕ). (name_in (slot_at layer number) ≡ Some m) ⊎ IsFresh layer (layer.named + 1) m) same (inr next_fresh)
+    pub accepted_next : IsNext layer (layer.named + 1) (name_of_slot (slot_numbered layer number)) (name_of_slot after)
+    accepted_next n is = let same : layer.named ≡ n = cc in subst (λ (m : ℕ). (name_of_slot (slot_numbered layer number) ≡ Some m) ⊎ IsFresh layer (layer.named + 1) m) same (inr next_fresh)

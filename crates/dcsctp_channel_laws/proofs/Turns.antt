@@ -12,16 +12,16 @@ use Rattle.dcsctp_channel_calls.specs.messages.channel_spec.declared.types.OwnRe
 use Rattle.dcsctp_channel_calls.specs.messages.channel_spec.declared.types.StreamUse.{StreamUse}
 use Rattle.dcsctp_channel_calls.specs.messages.channel_spec.Contents.{ChannelContent, text_ppid, binary_ppid, empty_text_ppid, empty_binary_ppid, content_from}
 use Rattle.dcsctp_channel_calls.specs.messages.channel_spec.Slots.{Opening, StreamSlot, free, used, Report, incoming, ended, SlotInput, opens, agrees, hears_open, hears_ack, hears_message, hears_bad_message, may_acknowledge, is_closed, all_is_sent, cannot_reset, was_performed, was_refused, peer_resets, association_ends}
-use Rattle.dcsctp_channel_calls.specs.messages.channel_spec.Table.{outcome_of, reports_of, end_where, reopens_where}
+use Rattle.dcsctp_channel_calls.specs.messages.channel_spec.Table.{outcome_of, reports_of, end_if_heard, reopens_if_reset}
 use Rattle.dcsctp_channel_calls.specs.messages.declared.control.ControlError.{ControlError}
-use Rattle.dcsctp_channel_calls.specs.messages.Format.{Control, open_message, acknowledgement, control_at}
+use Rattle.dcsctp_channel_calls.specs.messages.Format.{Control, open_message, acknowledgement, control_of_bytes}
 use Rattle.dcsctp_channel_calls.specs.declared.channel.HeldStream.{HeldStream}
 use Rattle.dcsctp_channel_calls.specs.declared.channel.Limits.{Limits}
-use Rattle.dcsctp_channel_calls.specs.View.{ChannelNotice, of_channel, LayerView, ChannelsView, held_at, slot_at, row_taken, gathered}
+use Rattle.dcsctp_channel_calls.specs.View.{ChannelNotice, of_channel, LayerView, ChannelsView, held_stream_numbered, slot_numbered, row_taken, view_with_events}
 use Rattle.dcsctp_channel_calls.specs.Calls.{on_layer}
-use Rattle.dcsctp_channel_calls.specs.Arrivals.{has_place, is_peers, accepts_open, input_of_control, input_of_content, input_of, AcceptsOpen, delivery_in, message_taken, TakesRow, ack_is_due, acked_by, SendsAck, AcksWhere, AcksHeld, is_handled, HandlesMessageWhere}
+use Rattle.dcsctp_channel_calls.specs.Arrivals.{has_place, is_peers, accepts_open, input_of_control, input_of_content, input_of, AcceptsOpen, delivery_of_input, message_taken, TakesRow, ack_is_due, view_after_ack, SendsAck, AcksIfDue, AcksHeld, is_handled, HandlesOrDropsMessage}
 use Rattle.dcsctp_channel_calls.specs.Late.{reset_input, DoesLate, a_reset, an_ack, waiting_begin}
-use Rattle.dcsctp_channel_calls.specs.Polls.{one_more_taken, HandlesNext, an_event, a_message, put_off, TakesWhere, PollsInTurn, takes, goes_on, idle}
+use Rattle.dcsctp_channel_calls.specs.Polls.{one_more_taken, HandlesNext, an_event, a_message, put_off, TakesNextNotice, PollsInTurn, takes, goes_on, idle}
 use Rattle.dcsctp_channel_laws.specs.Names.{names_given, AreNew, AreWithin, Reports, WasPacket, PollReports}
 use Rattle.dcsctp_channel_laws.proofs.Adding.{le_same, Adds, adds_then, adds_none, adds_refl, adds_to, adds_from}
 use Rattle.dcsctp_channel_laws.proofs.Rows.{row_adds}
@@ -46,8 +46,8 @@ after_end limits named opening short None e = one_report limits named opening sh
 after_end limits named opening short (Some name) e = one_report limits named opening short
 
 reopened : (limits : Limits) (named : ℕ) (opening : Opening) → length opening.label + length opening.protocol ≤ limits.text → (peer_reset : Bool) (own : OwnReset) (stream : StreamUse)
-    → Accepted limits named (reopens_where peer_reset own true named opening stream).reports
-reopened limits named opening short true Asked stream = after_end limits named opening short stream.name (end_where stream.heard)
+    → Accepted limits named (reopens_if_reset peer_reset own true named opening stream).reports
+reopened limits named opening short true Asked stream = after_end limits named opening short stream.name (end_if_heard stream.heard)
 reopened limits named opening short true NotAsked stream = no_reports limits named
 reopened limits named opening short true Performed stream = no_reports limits named
 reopened limits named opening short true GivenUp stream = no_reports limits named
@@ -61,9 +61,9 @@ accepted_in limits named opening short (used stream) = reopened limits named ope
 accepted_adds : (number : ℕ) (opening : Opening) (old new : ChannelsView) → length opening.label + length opening.protocol ≤ old.layer.limits.text → AcceptsOpen number opening old new
     → Adds old.layer new.layer
 accepted_adds number opening old new short accepts =
-    let all = accepted_in old.layer.limits old.layer.named opening short (slot_at old.layer number) in
+    let all = accepted_in old.layer.limits old.layer.named opening short (slot_numbered old.layer number) in
     adds_to old.layer _ new accepts.is
-    (record { more = map of_channel (outcome_of (hears_open true old.layer.named opening) (slot_at old.layer number)).reports; behind = refl; are_new = all.0; are_within = all.1; limits_stay = refl })
+    (record { more = map of_channel (outcome_of (hears_open true old.layer.named opening) (slot_numbered old.layer number)).reports; behind = refl; are_new = all.0; are_within = all.1; limits_stay = refl })
 
 -- ---- what a message is to its stream
 
@@ -88,7 +88,7 @@ open_short : (layer : LayerView) (number : ℕ) (opening : Opening) (accepted : 
     → ShortIn layer.limits (hears_open accepted layer.named opening)
 open_short layer number opening true is =
     not_less layer.limits.text (length opening.label + length opening.protocol) (nat_lt layer.limits.text (length opening.label + length opening.protocol)) refl
-    (second_holds (has_place (slot_at layer number) layer) (not (nat_lt layer.limits.text (length opening.label + length opening.protocol))) (is_peers layer.role number) is)
+    (second_holds (has_place (slot_numbered layer number) layer) (not (nat_lt layer.limits.text (length opening.label + length opening.protocol))) (is_peers layer.role number) is)
 open_short layer number opening false is = tt
 
 control_short : (layer : LayerView) (number : ℕ) (read : Result Control ControlError) → ShortIn layer.limits (input_of_control layer number read)
@@ -128,44 +128,44 @@ either_short limits false x y a b = b
 
 input_short : (layer : LayerView) (m : MessageContent) → ShortIn layer.limits (input_of layer m)
 input_short layer m =
-    either_short layer.limits _ _ _ (control_short layer m.stream (control_at m.payload))
+    either_short layer.limits _ _ _ (control_short layer m.stream (control_of_bytes m.payload))
     (content_short layer.limits m.ppid m.payload (nat_lt layer.limits.message (length m.payload)) refl)
 
 takes_add : (number : ℕ) (input : SlotInput) (old new : ChannelsView) → ShortIn old.layer.limits input → TakesRow number input old new → Adds old.layer new.layer
 takes_add number (hears_open true name opening) old new short made = accepted_adds number opening old new short made
 takes_add number (hears_open false name opening) old new short is =
-    adds_to old.layer (on_layer (message_taken number (hears_open false name opening)) old) new is (row_adds number (delivery_in (hears_open false name opening)) (hears_open false name opening) old.layer refl tt)
+    adds_to old.layer (on_layer (message_taken number (hears_open false name opening)) old) new is (row_adds number (delivery_of_input (hears_open false name opening)) (hears_open false name opening) old.layer refl tt)
 takes_add number (opens name opening) old new short is =
-    adds_to old.layer (on_layer (message_taken number (opens name opening)) old) new is (row_adds number (delivery_in (opens name opening)) (opens name opening) old.layer refl tt)
+    adds_to old.layer (on_layer (message_taken number (opens name opening)) old) new is (row_adds number (delivery_of_input (opens name opening)) (opens name opening) old.layer refl tt)
 takes_add number (agrees name) old new short is =
-    adds_to old.layer (on_layer (message_taken number (agrees name)) old) new is (row_adds number (delivery_in (agrees name)) (agrees name) old.layer refl tt)
-takes_add number hears_ack old new short is = adds_to old.layer (on_layer (message_taken number hears_ack) old) new is (row_adds number (delivery_in hears_ack) hears_ack old.layer refl tt)
+    adds_to old.layer (on_layer (message_taken number (agrees name)) old) new is (row_adds number (delivery_of_input (agrees name)) (agrees name) old.layer refl tt)
+takes_add number hears_ack old new short is = adds_to old.layer (on_layer (message_taken number hears_ack) old) new is (row_adds number (delivery_of_input hears_ack) hears_ack old.layer refl tt)
 takes_add number (hears_message content) old new short is =
-    adds_to old.layer (on_layer (message_taken number (hears_message content)) old) new is (row_adds number (delivery_in (hears_message content)) (hears_message content) old.layer refl short)
+    adds_to old.layer (on_layer (message_taken number (hears_message content)) old) new is (row_adds number (delivery_of_input (hears_message content)) (hears_message content) old.layer refl short)
 takes_add number hears_bad_message old new short is =
-    adds_to old.layer (on_layer (message_taken number hears_bad_message) old) new is (row_adds number (delivery_in hears_bad_message) hears_bad_message old.layer refl tt)
+    adds_to old.layer (on_layer (message_taken number hears_bad_message) old) new is (row_adds number (delivery_of_input hears_bad_message) hears_bad_message old.layer refl tt)
 takes_add number may_acknowledge old new short is =
-    adds_to old.layer (on_layer (message_taken number may_acknowledge) old) new is (row_adds number (delivery_in may_acknowledge) may_acknowledge old.layer refl tt)
-takes_add number is_closed old new short is = adds_to old.layer (on_layer (message_taken number is_closed) old) new is (row_adds number (delivery_in is_closed) is_closed old.layer refl tt)
-takes_add number all_is_sent old new short is = adds_to old.layer (on_layer (message_taken number all_is_sent) old) new is (row_adds number (delivery_in all_is_sent) all_is_sent old.layer refl tt)
-takes_add number cannot_reset old new short is = adds_to old.layer (on_layer (message_taken number cannot_reset) old) new is (row_adds number (delivery_in cannot_reset) cannot_reset old.layer refl tt)
+    adds_to old.layer (on_layer (message_taken number may_acknowledge) old) new is (row_adds number (delivery_of_input may_acknowledge) may_acknowledge old.layer refl tt)
+takes_add number is_closed old new short is = adds_to old.layer (on_layer (message_taken number is_closed) old) new is (row_adds number (delivery_of_input is_closed) is_closed old.layer refl tt)
+takes_add number all_is_sent old new short is = adds_to old.layer (on_layer (message_taken number all_is_sent) old) new is (row_adds number (delivery_of_input all_is_sent) all_is_sent old.layer refl tt)
+takes_add number cannot_reset old new short is = adds_to old.layer (on_layer (message_taken number cannot_reset) old) new is (row_adds number (delivery_of_input cannot_reset) cannot_reset old.layer refl tt)
 takes_add number was_performed old new short is =
-    adds_to old.layer (on_layer (message_taken number was_performed) old) new is (row_adds number (delivery_in was_performed) was_performed old.layer refl tt)
-takes_add number was_refused old new short is = adds_to old.layer (on_layer (message_taken number was_refused) old) new is (row_adds number (delivery_in was_refused) was_refused old.layer refl tt)
-takes_add number peer_resets old new short is = adds_to old.layer (on_layer (message_taken number peer_resets) old) new is (row_adds number (delivery_in peer_resets) peer_resets old.layer refl tt)
+    adds_to old.layer (on_layer (message_taken number was_performed) old) new is (row_adds number (delivery_of_input was_performed) was_performed old.layer refl tt)
+takes_add number was_refused old new short is = adds_to old.layer (on_layer (message_taken number was_refused) old) new is (row_adds number (delivery_of_input was_refused) was_refused old.layer refl tt)
+takes_add number peer_resets old new short is = adds_to old.layer (on_layer (message_taken number peer_resets) old) new is (row_adds number (delivery_of_input peer_resets) peer_resets old.layer refl tt)
 takes_add number association_ends old new short is =
-    adds_to old.layer (on_layer (message_taken number association_ends) old) new is (row_adds number (delivery_in association_ends) association_ends old.layer refl tt)
+    adds_to old.layer (on_layer (message_taken number association_ends) old) new is (row_adds number (delivery_of_input association_ends) association_ends old.layer refl tt)
 
 -- ---- ACKs
 
-acked_adds : (answer : Result (Unit {0}) SendError) (number : ℕ) (held : HeldStream) (below : UserView) (layer : LayerView) → Adds layer (acked_by answer number held below layer).layer
+acked_adds : (answer : Result (Unit {0}) SendError) (number : ℕ) (held : HeldStream) (below : UserView) (layer : LayerView) → Adds layer (view_after_ack answer number held below layer).layer
 acked_adds (Ok done) number held below layer = row_adds number held.delivery may_acknowledge layer refl tt
-acked_adds (Err refusal) number held below layer = adds_none layer (acked_by (Err refusal) number held below layer).layer refl (le_same layer.named) refl
+acked_adds (Err refusal) number held below layer = adds_none layer (view_after_ack (Err refusal) number held below layer).layer refl (le_same layer.named) refl
 
 ack_adds : (number : ℕ) (held : HeldStream) (old new : ChannelsView) → SendsAck number held old new → Adds old.layer new.layer
 ack_adds number held old new acks = adds_to old.layer _ new acks.is (acked_adds acks.answer number held acks.below old.layer)
 
-ack_where_adds : (due : Bool) (number : ℕ) (held : HeldStream) (old new : ChannelsView) → AcksWhere due number held old new → Adds old.layer new.layer
+ack_where_adds : (due : Bool) (number : ℕ) (held : HeldStream) (old new : ChannelsView) → AcksIfDue due number held old new → Adds old.layer new.layer
 ack_where_adds true number held old new acks = ack_adds number held old new acks
 ack_where_adds false number held old new is = adds_to old.layer old new is (adds_refl old.layer)
 
@@ -175,10 +175,10 @@ acks_add (Some held) number old new acks = ack_where_adds (ack_is_due old held) 
 
 -- ---- one thing
 
-message_adds : (handled : Bool) (m : MessageContent) (old new : ChannelsView) → HandlesMessageWhere handled m old new → Adds old.layer new.layer
+message_adds : (handled : Bool) (m : MessageContent) (old new : ChannelsView) → HandlesOrDropsMessage handled m old new → Adds old.layer new.layer
 message_adds false m old new is = adds_to old.layer old new is (adds_refl old.layer)
 message_adds true m old new made =
-    adds_then old.layer made.0.layer [] new.layer (takes_add m.stream (input_of old.layer m) old made.0 (input_short old.layer m) made.1) (acks_add (held_at made.0.layer m.stream) m.stream made.0 new made.2)
+    adds_then old.layer made.0.layer [] new.layer (takes_add m.stream (input_of old.layer m) old made.0 (input_short old.layer m) made.1) (acks_add (held_stream_numbered made.0.layer m.stream) m.stream made.0 new made.2)
 
 reset_adds : (answer : Result (Unit {0}) ResetStreamsError) (number : ℕ) (held : HeldStream) (layer : LayerView) → Adds layer (row_taken number held.delivery (reset_input answer) layer)
 reset_adds (Ok done) number held layer = row_adds number held.delivery all_is_sent layer refl tt
@@ -199,7 +199,7 @@ next_adds old new (put_off quiet lasts late) = late_adds old new late
 
 -- ---- a poll
 
-from_queue : (packets : List (List ℕ)) (old : LayerView) (notice : ChannelNotice) (new : LayerView) → TakesWhere packets old notice new → PollReports (Some notice) old new
+from_queue : (packets : List (List ℕ)) (old : LayerView) (notice : ChannelNotice) (new : LayerView) → TakesNextNotice packets old notice new → PollReports (Some notice) old new
 from_queue (packet ∷ rest) old notice new (out, is) =
     record { taken = []; was_taken = inr (refl, subst WasPacket (sym out) tt); reports = subst (λ (l : LayerView). Reports old [] l) (sym is) (adds_none old (record old { packets = rest }) refl (le_same old.named) refl) }
 from_queue [] old notice new taken =
@@ -217,10 +217,10 @@ behind_first result a b c adds polls = record { taken = polls.taken; was_taken =
 pub polls_add : (result : Option ChannelNotice) (new old : ChannelsView) → PollsInTurn result new old → PollReports result old.layer new.layer
 polls_add result new _ (takes old notice is taken below) =
     subst (λ (r : Option ChannelNotice). PollReports r old.layer new.layer) (sym is)
-    (behind_first (Some notice) old.layer (gathered old).layer new.layer (gathers_add old) (from_queue (gathered old).layer.packets (gathered old).layer notice new.layer taken))
+    (behind_first (Some notice) old.layer (view_with_events old).layer new.layer (gathers_add old) (from_queue (view_with_events old).layer.packets (view_with_events old).layer notice new.layer taken))
 polls_add result new _ (goes_on old between nothing next polls) =
     behind_first result old.layer between.layer new.layer
-    (adds_then old.layer (gathered old).layer [] between.layer (gathers_add old) (next_adds (gathered old) between next)) (polls_add result new between polls)
+    (adds_then old.layer (view_with_events old).layer [] between.layer (gathers_add old) (next_adds (view_with_events old) between next)) (polls_add result new between polls)
 polls_add result new _ (idle old is nothing none same) =
     subst (λ (r : Option ChannelNotice). PollReports r old.layer new.layer) (sym is)
-    (record { taken = []; was_taken = refl; reports = adds_to old.layer (gathered old) new same (gathers_add old) })
+    (record { taken = []; was_taken = refl; reports = adds_to old.layer (view_with_events old) new same (gathers_add old) })

@@ -1,8 +1,8 @@
 -- What a user hears of each channel, from its name to its end.
 use Rattle.std.specs.Prelude.{◌≡◌, ◌==◌, ◌<◌, ℕ, Bool, true, false, ◌||◌, Option, Some, None, is_some, Ok, List, [], ◌∷◌, ◌++◌, nat_lt, if◌then◌else◌}
-use Rattle.dcsctp_channel_calls.specs.messages.channel_spec.Slots.{name_in, opened, incoming, message, ended}
+use Rattle.dcsctp_channel_calls.specs.messages.channel_spec.Slots.{name_of_slot, opened, incoming, message, ended}
 use Rattle.dcsctp_channel_calls.specs.declared.channel.HeldStream.{HeldStream}
-use Rattle.dcsctp_channel_calls.specs.View.{WaitingChannel, ChannelNotice, packet_out, association_made, of_channel, amount_low, association_over, LayerView, ChannelsView, entry_at, slot_of, slot_at}
+use Rattle.dcsctp_channel_calls.specs.View.{WaitingChannel, ChannelNotice, packet_out, association_made, of_channel, amount_low, association_over, LayerView, ChannelsView, entry_numbered, slot_of, slot_numbered}
 use Rattle.dcsctp_channel_calls.specs.declared.channel.ChannelState.TheVariants.{Closed}
 use Rattle.dcsctp_channel_calls.specs.Queries.{is_waiting, channel_state}
 use Rattle.dcsctp_channel_calls.specs.Polls.{PollsAs}
@@ -12,7 +12,7 @@ use Rattle.dcsctp_channel_laws.specs.Names.{ChannelsCall, opens_channel, IsCallM
 
 -- a channel waits for a stream, or has one
 abbrev pub is_placed : List (ℕ × ℕ) → List WaitingChannel → ℕ → Bool
-is_placed names waiting name = is_waiting name waiting || is_some (entry_at name names)
+is_placed names waiting name = is_waiting name waiting || is_some (entry_numbered name names)
 
 abbrev pub ComesFirst : {A : Type 0} → ℕ → List (ℕ × A) → Type 0
 ComesFirst number [] = Unit {0}
@@ -32,11 +32,11 @@ WaitApart (waits ∷ rest) = (is_waiting waits.name rest ≡ false) × WaitApart
 pub record IsInOrder (streams : List (ℕ × HeldStream)) (names : List (ℕ × ℕ)) (waiting : List WaitingChannel) (named : ℕ) : Type 0 where
   pub streams_rise : AreRising streams
   pub names_rise : AreRising names
-  pub leads : (number name : ℕ) → name_in (slot_of (entry_at number streams)) ≡ Some name → entry_at name names ≡ Some number
-  pub led_to : (name number : ℕ) → entry_at name names ≡ Some number → name_in (slot_of (entry_at number streams)) ≡ Some name
+  pub leads : (number name : ℕ) → name_of_slot (slot_of (entry_numbered number streams)) ≡ Some name → entry_numbered name names ≡ Some number
+  pub led_to : (name number : ℕ) → entry_numbered name names ≡ Some number → name_of_slot (slot_of (entry_numbered number streams)) ≡ Some name
   pub wait_apart : WaitApart waiting
-  pub no_stream : (name : ℕ) → is_waiting name waiting ≡ true → entry_at name names ≡ None
-  pub was_named : (name number : ℕ) → entry_at name names ≡ Some number → name < named
+  pub no_stream : (name : ℕ) → is_waiting name waiting ≡ true → entry_numbered name names ≡ None
+  pub was_named : (name number : ℕ) → entry_numbered name names ≡ Some number → name < named
   pub waits_named : (name : ℕ) → is_waiting name waiting ≡ true → name < named
 
 abbrev pub IsOrderly : LayerView → Type 0
@@ -125,7 +125,7 @@ BeginApart = (layer : LayerView) → layer.streams ≡ [] → layer.names ≡ []
 -- No two streams have one channel.
 abbrev pub StreamsAreApart : Type 0
 StreamsAreApart =
-    (layer : LayerView) → IsOrderly layer → (one other name : ℕ) → name_in (slot_at layer one) ≡ Some name → name_in (slot_at layer other) ≡ Some name → one ≡ other
+    (layer : LayerView) → IsOrderly layer → (one other name : ℕ) → name_of_slot (slot_numbered layer one) ≡ Some name → name_of_slot (slot_numbered layer other) ≡ Some name → one ≡ other
 
 -- A channel is shown as closed where it isn't there, and nowhere else.
 pub record IsSeenAs (layer : LayerView) (name : ℕ) : Type 0 where

@@ -6,7 +6,7 @@ use Rattle.dcsctp_channel_calls.specs.messages.channel_spec.Slots.{Opening, inco
 use Rattle.dcsctp_channel_calls.specs.declared.channel.ChannelError.{ChannelError}
 use Rattle.dcsctp_channel_calls.specs.declared.channel.ChannelId.{ChannelId}
 use Rattle.dcsctp_channel_calls.specs.declared.channel.Limits.{Limits}
-use Rattle.dcsctp_channel_calls.specs.View.{ChannelNotice, packet_out, of_channel, LayerView, ChannelsView, held_at}
+use Rattle.dcsctp_channel_calls.specs.View.{ChannelNotice, packet_out, of_channel, LayerView, ChannelsView, held_stream_numbered}
 use Rattle.dcsctp_channel_calls.specs.Arrivals.{accepts_open}
 use Rattle.dcsctp_channel_calls.specs.Calls.{on_layer, SocketConnects, SocketHandlesInput, SocketAdvances, SocketCloses, SocketShutsDown}
 use Rattle.dcsctp_channel_calls.specs.Sending.{SendsContent, channel_closed, SetsChannelThreshold}
@@ -97,4 +97,4 @@ PollsGiveNewNames = (result : Option ChannelNotice) (old new : ChannelsView) →
 -- A channel of the peer is accepted where fewer streams are in use than the limits allow, or where its stream was in use.
 abbrev pub OpensHaveRoom : Type 0
 OpensHaveRoom =
-    (layer : LayerView) (number : ℕ) (opening : Opening) → accepts_open layer number opening ≡ true → (length layer.streams < layer.limits.channels) ⊎ (is_some (held_at layer number) ≡ true)
+    (layer : LayerView) (number : ℕ) (opening : Opening) → accepts_open layer number opening ≡ true → (length layer.streams < layer.limits.channels) ⊎ (is_some (held_stream_numbered layer number) ≡ true)

@@ -13,7 +13,7 @@ use Rattle.dcsctp_channel_spec.specs.declared.types.Reliability.TheVariants.{Rel
 use Rattle.dcsctp_channel_spec.specs.Slots.{Opening}
 use Rattle.dcsctp_channel_messages.specs.declared.control.ControlError.{ControlError}
 use Rattle.dcsctp_channel_messages.specs.declared.control.ControlError.TheVariants.{UnknownMessageType, CutOff}
-use Rattle.dcsctp_channel_messages.specs.Format.{Control, open_message, acknowledgement, ack_type, open_type, channel_type, reliability_parameter, reliability_of, label_length, protocol_length, delivery_with, delivery_at, opening_with, open_with, open_at, open_bytes, control_at}
+use Rattle.dcsctp_channel_messages.specs.Format.{Control, open_message, acknowledgement, ack_type, open_type, channel_type, reliability_parameter, reliability_of, label_length, protocol_length, delivery_with, delivery_of_bytes, opening_with, open_with, open_of_bytes, open_bytes, control_of_bytes}
 use Rattle.dcsctp_channel_messages.specs.Laws.{AreOctets, canonical, OpensAreCanonical}
 
 abbrev done : Control → Result Control ControlError
@@ -39,35 +39,35 @@ not_false false e = absurd cc
 record IsRead (bytes : List ℕ) (opening : Opening) : Type 0 where
   kind : slice_index bytes 0 ≡ open_type
   long : 12 ≤ length bytes
-  read : open_at bytes ≡ done (open_message opening)
+  read : open_of_bytes bytes ≡ done (open_message opening)
 
 begins : (kind : ℕ) (rest : List ℕ) (opening : Opening) (test : Bool)
-    → cond test (done acknowledgement) (cond (not (kind == open_type)) (fault (UnknownMessageType kind)) (cond (nat_lt (length (kind ∷ rest)) 12) (fault CutOff) (open_at (kind ∷ rest)))) ≡ done (open_message opening)
+    → cond test (done acknowledgement) (cond (not (kind == open_type)) (fault (UnknownMessageType kind)) (cond (nat_lt (length (kind ∷ rest)) 12) (fault CutOff) (open_of_bytes (kind ∷ rest)))) ≡ done (open_message opening)
     → IsRead (kind ∷ rest) opening
 begins kind rest opening true e = absurd cc
 begins kind rest opening false e =
-    let after = goes_on (not (kind == open_type)) (UnknownMessageType kind) (cond (nat_lt (length (kind ∷ rest)) 12) (fault CutOff) (open_at (kind ∷ rest))) (open_message opening) e in
+    let after = goes_on (not (kind == open_type)) (UnknownMessageType kind) (cond (nat_lt (length (kind ∷ rest)) 12) (fault CutOff) (open_of_bytes (kind ∷ rest))) (open_message opening) e in
     record {
       kind = eqb-true kind open_type (not_false (kind == open_type) (passed (not (kind == open_type)) (UnknownMessageType kind) _ (open_message opening) e));
-      long = ltb-false (length (kind ∷ rest)) 12 (passed (nat_lt (length (kind ∷ rest)) 12) CutOff (open_at (kind ∷ rest)) (open_message opening) after);
-      read = goes_on (nat_lt (length (kind ∷ rest)) 12) CutOff (open_at (kind ∷ rest)) (open_message opening) after;
+      long = ltb-false (length (kind ∷ rest)) 12 (passed (nat_lt (length (kind ∷ rest)) 12) CutOff (open_of_bytes (kind ∷ rest)) (open_message opening) after);
+      read = goes_on (nat_lt (length (kind ∷ rest)) 12) CutOff (open_of_bytes (kind ∷ rest)) (open_message opening) after;
     }
 
-is_read : (bytes : List ℕ) (opening : Opening) → control_at bytes ≡ done (open_message opening) → IsRead bytes opening
-unfolding control_at
+is_read : (bytes : List ℕ) (opening : Opening) → control_of_bytes bytes ≡ done (open_message opening) → IsRead bytes opening
+unfolding control_of_bytes
 is_read [] opening e = absurd cc
 is_read (kind ∷ rest) opening e = begins kind rest opening (kind == ack_type) e
 
 record IsWhole (bytes : List ℕ) (opening : Opening) : Type 0 where
   delivery : Delivery
-  is : delivery_at bytes ≡ Some delivery
+  is : delivery_of_bytes bytes ≡ Some delivery
   whole : 12 + label_length bytes + protocol_length bytes ≤ length bytes
   same : opening ≡ opening_with bytes delivery
 
 same_opening : (a b : Opening) → done (open_message a) ≡ done (open_message b) → b ≡ a
 same_opening a b e = cc
 
-whole_where : (bytes : List ℕ) (opening : Opening) (delivery : Option Delivery) → delivery_at bytes ≡ delivery → open_with bytes delivery ≡ done (open_message opening) → IsWhole bytes opening
+whole_where : (bytes : List ℕ) (opening : Opening) (delivery : Option Delivery) → delivery_of_bytes bytes ≡ delivery → open_with bytes delivery ≡ done (open_message opening) → IsWhole bytes opening
 whole_where bytes opening None is e = absurd cc
 whole_where bytes opening (Some delivery) is e =
     record {
@@ -77,9 +77,9 @@ whole_where bytes opening (Some delivery) is e =
       same = same_opening _ _ (goes_on (nat_lt (length bytes) (12 + label_length bytes + protocol_length bytes)) CutOff (done (open_message (opening_with bytes delivery))) (open_message opening) e);
     }
 
-is_whole : (bytes : List ℕ) (opening : Opening) → open_at bytes ≡ done (open_message opening) → IsWhole bytes opening
-unfolding open_at
-is_whole bytes opening e = whole_where bytes opening (delivery_at bytes) refl e
+is_whole : (bytes : List ℕ) (opening : Opening) → open_of_bytes bytes ≡ done (open_message opening) → IsWhole bytes opening
+unfolding open_of_bytes
+is_whole bytes opening e = whole_where bytes opening (delivery_of_bytes bytes) refl e
 
 -- ---- the delivery
 

@@ -10,7 +10,7 @@ use Rattle.dcsctp_channel_spec.specs.declared.types.Reliability.{Reliability}
 use Rattle.dcsctp_channel_spec.specs.declared.types.Reliability.TheVariants.{Reliable, Retransmissions, Lifetime}
 use Rattle.dcsctp_channel_spec.specs.Slots.{Opening}
 use Rattle.dcsctp_channel_messages.specs.declared.control.ControlError.{ControlError}
-use Rattle.dcsctp_channel_messages.specs.Format.{Control, open_message, open_type, channel_type, reliability_parameter, label_length, protocol_length, delivery_at, open_with, open_at, open_bytes, control_at}
+use Rattle.dcsctp_channel_messages.specs.Format.{Control, open_message, open_type, channel_type, reliability_parameter, label_length, protocol_length, delivery_of_bytes, open_with, open_of_bytes, open_bytes, control_of_bytes}
 use Rattle.dcsctp_channel_messages.specs.Laws.{OpensReadBack}
 
 -- ---- the delivery
@@ -29,7 +29,7 @@ abbrev says : Bool → Reliability → ℕ → Option Delivery
 says ordered reliability priority = Some (record { ordered = ordered; reliability = reliability; priority = priority })
 
 delivery_reads : (ordered : Bool) (reliability : Reliability) (priority label protocol : ℕ) (tail : List ℕ) → priority < 2 ^ 16 → reliability_parameter reliability < 2 ^ 32
-    → delivery_at (bytes_of ordered reliability priority label protocol tail) ≡ says ordered reliability priority
+    → delivery_of_bytes (bytes_of ordered reliability priority label protocol tail) ≡ says ordered reliability priority
 delivery_reads true Reliable priority label protocol tail fits limit_fits = ap (λ (n : ℕ). says true Reliable n) (from_be_bytes-to_be_bytes_2 priority fits)
 delivery_reads false Reliable priority label protocol tail fits limit_fits = ap (λ (n : ℕ). says false Reliable n) (from_be_bytes-to_be_bytes_2 priority fits)
 delivery_reads true (Retransmissions limit) priority label protocol tail fits limit_fits =
@@ -90,11 +90,11 @@ open_reads opening rest label_fits protocol_fits =
     chosen _ _ _ whole ∙ ap (λ (read : Opening). done (open_message read)) (same_opening _ _ _ _ opening.delivery label_reads protocol_reads)
 
 pub opens_read_back : OpensReadBack
-unfolding control_at open_at open_bytes
+unfolding control_of_bytes open_of_bytes open_bytes
 opens_read_back opening rest fits =
     let bytes : List ℕ = open_bytes opening ++ rest in
     let tail_is : length bytes ≡ 12 + (length opening.label + length opening.protocol + length rest) = omega (arith, three_lengths opening.label opening.protocol rest) in
     let long : ltb (length bytes) 12 ≡ false = le-ltb (length bytes) 12 (omega (arith, tail_is)) in
-    let delivery_is : delivery_at bytes ≡ Some opening.delivery =
+    let delivery_is : delivery_of_bytes bytes ≡ Some opening.delivery =
     delivery_reads opening.delivery.ordered opening.delivery.reliability opening.delivery.priority (length opening.label) (length opening.protocol) (opening.label ++ opening.protocol ++ rest) fits.priority fits.parameter in
     chosen _ _ _ long ∙ ap (λ (delivery : Option Delivery). open_with bytes delivery) delivery_is ∙ open_reads opening rest fits.label fits.protocol

@@ -4,7 +4,7 @@ use Rattle.dcsctp_channel_spec.specs.declared.types.Reliability.TheVariants.{Rel
 use Rattle.dcsctp_channel_spec.specs.Slots.{Opening}
 use Rattle.dcsctp_channel_messages.specs.declared.control.ControlError.{ControlError}
 use Rattle.dcsctp_channel_messages.specs.declared.control.ControlError.TheVariants.{Empty, UnknownMessageType, CutOff, UnknownChannelType}
-use Rattle.dcsctp_channel_messages.specs.Format.{Control, open_message, acknowledgement, open_at, open_bytes, control_at}
+use Rattle.dcsctp_channel_messages.specs.Format.{Control, open_message, acknowledgement, open_of_bytes, open_bytes, control_of_bytes}
 
 abbrev done : Control → Result Control ControlError
 done control = Ok control
@@ -33,40 +33,40 @@ abbrev limited : Opening
 limited = record { label = []; protocol = []; delivery = record { ordered = false; reliability = Retransmissions 3; priority = 128 } }
 
 -- read, with a byte behind the protocol
-limited_is_read : control_at (3 ∷ 0x81 ∷ 0 ∷ 128 ∷ 0 ∷ 0 ∷ 0 ∷ 3 ∷ 0 ∷ 0 ∷ 0 ∷ 0 ∷ 9 ∷ []) ≡ done (open_message limited)
-unfolding control_at open_at
+limited_is_read : control_of_bytes (3 ∷ 0x81 ∷ 0 ∷ 128 ∷ 0 ∷ 0 ∷ 0 ∷ 3 ∷ 0 ∷ 0 ∷ 0 ∷ 0 ∷ 9 ∷ []) ≡ done (open_message limited)
+unfolding control_of_bytes open_of_bytes
 limited_is_read = refl
 
 -- a reliable channel ignores the parameter
-parameter_is_ignored : control_at (3 ∷ 0x00 ∷ 1 ∷ 0 ∷ 1 ∷ 2 ∷ 3 ∷ 4 ∷ 0 ∷ 2 ∷ 0 ∷ 0 ∷ 97 ∷ 98 ∷ []) ≡ done (open_message plain)
-unfolding control_at open_at
+parameter_is_ignored : control_of_bytes (3 ∷ 0x00 ∷ 1 ∷ 0 ∷ 1 ∷ 2 ∷ 3 ∷ 4 ∷ 0 ∷ 2 ∷ 0 ∷ 0 ∷ 97 ∷ 98 ∷ []) ≡ done (open_message plain)
+unfolding control_of_bytes open_of_bytes
 parameter_is_ignored = refl
 
 -- an ACK of four bytes
-long_ack_is_read : control_at (2 ∷ 0 ∷ 0 ∷ 0 ∷ []) ≡ done acknowledgement
-unfolding control_at
+long_ack_is_read : control_of_bytes (2 ∷ 0 ∷ 0 ∷ 0 ∷ []) ≡ done acknowledgement
+unfolding control_of_bytes
 long_ack_is_read = refl
 
 -- ---- refused
 
-nothing_is_refused : control_at [] ≡ fault Empty
-unfolding control_at
+nothing_is_refused : control_of_bytes [] ≡ fault Empty
+unfolding control_of_bytes
 nothing_is_refused = refl
 
 -- message type 1 is reserved
-other_types_are_refused : control_at (1 ∷ 0 ∷ []) ≡ fault (UnknownMessageType 1)
-unfolding control_at
+other_types_are_refused : control_of_bytes (1 ∷ 0 ∷ []) ≡ fault (UnknownMessageType 1)
+unfolding control_of_bytes
 other_types_are_refused = refl
 
-short_open_is_refused : control_at (3 ∷ 0 ∷ 1 ∷ 0 ∷ 0 ∷ 0 ∷ 0 ∷ 0 ∷ 0 ∷ 0 ∷ 0 ∷ []) ≡ fault CutOff
-unfolding control_at
+short_open_is_refused : control_of_bytes (3 ∷ 0 ∷ 1 ∷ 0 ∷ 0 ∷ 0 ∷ 0 ∷ 0 ∷ 0 ∷ 0 ∷ 0 ∷ []) ≡ fault CutOff
+unfolding control_of_bytes
 short_open_is_refused = refl
 
-label_past_the_end_is_refused : control_at (3 ∷ 0 ∷ 1 ∷ 0 ∷ 0 ∷ 0 ∷ 0 ∷ 0 ∷ 0 ∷ 2 ∷ 0 ∷ 0 ∷ 97 ∷ []) ≡ fault CutOff
-unfolding control_at open_at
+label_past_the_end_is_refused : control_of_bytes (3 ∷ 0 ∷ 1 ∷ 0 ∷ 0 ∷ 0 ∷ 0 ∷ 0 ∷ 0 ∷ 2 ∷ 0 ∷ 0 ∷ 97 ∷ []) ≡ fault CutOff
+unfolding control_of_bytes open_of_bytes
 label_past_the_end_is_refused = refl
 
 -- 0x7f is reserved
-other_channels_are_refused : control_at (3 ∷ 0x7f ∷ 1 ∷ 0 ∷ 0 ∷ 0 ∷ 0 ∷ 0 ∷ 0 ∷ 0 ∷ 0 ∷ 0 ∷ []) ≡ fault (UnknownChannelType 0x7f)
-unfolding control_at open_at
+other_channels_are_refused : control_of_bytes (3 ∷ 0x7f ∷ 1 ∷ 0 ∷ 0 ∷ 0 ∷ 0 ∷ 0 ∷ 0 ∷ 0 ∷ 0 ∷ 0 ∷ []) ≡ fault (UnknownChannelType 0x7f)
+unfolding control_of_bytes open_of_bytes
 other_channels_are_refused = refl

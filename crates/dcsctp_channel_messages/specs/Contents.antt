@@ -5,9 +5,9 @@ use Rattle.dcsctp_channel_messages.specs.declared.control.Control.TheVariants.{O
 use Rattle.dcsctp_channel_messages.specs.declared.control.OpenMessage.{OpenMessage}
 use Rattle.dcsctp_channel_messages.specs.Format.{Control, open_message, acknowledgement}
 
-abbrev pub opening_in : OpenMessage → Opening
-opening_in message = record { label = message.label.now; protocol = message.protocol.now; delivery = message.delivery }
+abbrev pub opening_of_message : OpenMessage → Opening
+opening_of_message message = record { label = message.label.now; protocol = message.protocol.now; delivery = message.delivery }
 
 abbrev pub control_content : Message → Control
-control_content (Open message) = open_message (opening_in message)
+control_content (Open message) = open_message (opening_of_message message)
 control_content Ack = acknowledgement

@@ -67,8 +67,8 @@ delivery_with bytes None = None
 delivery_with bytes (Some reliability) =
     Some (record { ordered = nat_lt (slice_index bytes 1) 0x80; reliability = reliability; priority = u16_at 2 bytes })
 
-abbrev pub delivery_at : List ℕ → Option Delivery
-delivery_at bytes = delivery_with bytes (reliability_of (slice_index bytes 1 % 0x80) (u32_at 4 bytes))
+abbrev pub delivery_of_bytes : List ℕ → Option Delivery
+delivery_of_bytes bytes = delivery_with bytes (reliability_of (slice_index bytes 1 % 0x80) (u32_at 4 bytes))
 
 abbrev pub label_length : List ℕ → ℕ
 label_length bytes = u16_at 8 bytes
@@ -92,14 +92,14 @@ open_with bytes (Some delivery) =
     else Ok (open_message (opening_with bytes delivery))
 
 -- an OPEN with all its fixed fields
-unfoldable pub open_at : List ℕ → Result Control ControlError
-open_at bytes = open_with bytes (delivery_at bytes)
+unfoldable pub open_of_bytes : List ℕ → Result Control ControlError
+open_of_bytes bytes = open_with bytes (delivery_of_bytes bytes)
 
 -- what bytes are; an ACK may have any length
-unfoldable pub control_at : List ℕ → Result Control ControlError
-control_at [] = Err Empty
-control_at (kind ∷ rest) =
+unfoldable pub control_of_bytes : List ℕ → Result Control ControlError
+control_of_bytes [] = Err Empty
+control_of_bytes (kind ∷ rest) =
     if kind == ack_type then Ok acknowledgement
     else (if not (kind == open_type) then Err (UnknownMessageType kind)
     else (if nat_lt (length (kind ∷ rest)) 12 then Err CutOff
-    else open_at (kind ∷ rest)))
+    else open_of_bytes (kind ∷ rest)))

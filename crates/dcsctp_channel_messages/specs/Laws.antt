@@ -1,7 +1,7 @@
 -- What is written reads back, and what reads back was written so, but for what is ignored.
 use Rattle.std.specs.Prelude.{◌≡◌, ◌==◌, ◌<◌, ◌^◌, ℕ, ◌+◌, ◌%◌, List, [], ◌∷◌, ◌++◌, length, take, drop, slice_index, get_or, Ok, if◌then◌else◌}
 use Rattle.dcsctp_channel_spec.specs.Slots.{Opening}
-use Rattle.dcsctp_channel_messages.specs.Format.{open_message, acknowledgement, ack_type, reliability_parameter, label_length, protocol_length, open_bytes, control_at}
+use Rattle.dcsctp_channel_messages.specs.Format.{open_message, acknowledgement, ack_type, reliability_parameter, label_length, protocol_length, open_bytes, control_of_bytes}
 
 -- Each number fits its field.
 pub record FitsOpening (opening : Opening) : Type 0 where
@@ -11,7 +11,7 @@ pub record FitsOpening (opening : Opening) : Type 0 where
   pub parameter : reliability_parameter opening.delivery.reliability < 2 ^ 32
 
 abbrev pub OpensReadBack : Type 0
-OpensReadBack = (opening : Opening) (rest : List ℕ) → FitsOpening opening → control_at (open_bytes opening ++ rest) ≡ Ok (open_message opening)
+OpensReadBack = (opening : Opening) (rest : List ℕ) → FitsOpening opening → control_of_bytes (open_bytes opening ++ rest) ≡ Ok (open_message opening)
 
 -- each is below 256
 abbrev pub AreOctets : List ℕ → Type 0
@@ -25,11 +25,11 @@ canonical bytes =
     ++ take (4 + label_length bytes + protocol_length bytes) (drop 8 bytes)
 
 abbrev pub OpensAreCanonical : Type 0
-OpensAreCanonical = (bytes : List ℕ) (opening : Opening) → AreOctets bytes → control_at bytes ≡ Ok (open_message opening) → open_bytes opening ≡ canonical bytes
+OpensAreCanonical = (bytes : List ℕ) (opening : Opening) → AreOctets bytes → control_of_bytes bytes ≡ Ok (open_message opening) → open_bytes opening ≡ canonical bytes
 
 pub record AcksAre (bytes : List ℕ) : Type 0 where
-  pub each : (rest : List ℕ) → bytes ≡ ack_type ∷ rest → control_at bytes ≡ Ok acknowledgement
-  pub only : control_at bytes ≡ Ok acknowledgement → (rest : List ℕ) × (bytes ≡ ack_type ∷ rest)
+  pub each : (rest : List ℕ) → bytes ≡ ack_type ∷ rest → control_of_bytes bytes ≡ Ok acknowledgement
+  pub only : control_of_bytes bytes ≡ Ok acknowledgement → (rest : List ℕ) × (bytes ≡ ack_type ∷ rest)
 
 abbrev pub AcksAreRead : Type 0
 AcksAreRead = (bytes : List ℕ) → AcksAre bytes

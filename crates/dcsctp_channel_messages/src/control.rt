@@ -1,8 +1,8 @@
 //! Reads and writes the two control messages (RFC 8832, section 5).
 
 ghost use Rattle.std.specs.Prelude.{◌≡◌, ◌<◌, ◌≤◌, ◌^◌, length, IfOk, MatchResult, Ok, Err};
-ghost use Rattle.dcsctp_channel_messages.specs.Contents.{control_content, opening_in};
-ghost use Rattle.dcsctp_channel_messages.specs.Format.{control_at, open_at, open_bytes, ack_bytes};
+ghost use Rattle.dcsctp_channel_messages.specs.Contents.{control_content, opening_of_message};
+ghost use Rattle.dcsctp_channel_messages.specs.Format.{control_of_bytes, open_of_bytes, open_bytes, ack_bytes};
 
 use crate::delivery::{channel_type, delivery_at, reliability_parameter};
 use dcsctp_channel_spec::Delivery;
@@ -69,10 +69,10 @@ pub enum ControlError {
 
 /// Reads a control message. Bytes after the protocol of an OPEN, and after the type of an ACK, are ignored: some
 /// peers send ACKs of four bytes. So is the reliability parameter of a reliable channel. Allocates nothing.
-#[tactic(auto, unfolding(crate::specs::Format::control_at))]
+#[tactic(auto, unfolding(crate::specs::Format::control_of_bytes))]
 pub fn read_control(bytes: &[u8]) -> Result<Control<'_>, ControlError>
-    ensures { MatchResult result (λ control. control_at bytes.now ≡ Ok (control_content control))
-        (λ error. control_at bytes.now ≡ Err error) }
+    ensures { MatchResult result (λ control. control_of_bytes bytes.now ≡ Ok (control_content control))
+        (λ error. control_of_bytes bytes.now ≡ Err error) }
 {
     if bytes.is_empty() {
         return Err(ControlError::Empty);
@@ -90,11 +90,11 @@ pub fn read_control(bytes: &[u8]) -> Result<Control<'_>, ControlError>
 }
 
 // Reads an OPEN with all its fixed fields.
-#[tactic(auto, unfolding(crate::specs::Format::open_at))]
+#[tactic(auto, unfolding(crate::specs::Format::open_of_bytes))]
 fn read_open(bytes: &[u8]) -> Result<Control<'_>, ControlError>
     requires { 12 ≤ length bytes.now }
-    ensures { MatchResult result (λ control. open_at bytes.now ≡ Ok (control_content control))
-        (λ error. open_at bytes.now ≡ Err error) }
+    ensures { MatchResult result (λ control. open_of_bytes bytes.now ≡ Ok (control_content control))
+        (λ error. open_of_bytes bytes.now ≡ Err error) }
 {
     let Some(delivery) = delivery_at(bytes) else {
         return Err(ControlError::UnknownChannelType(bytes[1]));
@@ -118,7 +118,7 @@ fn read_open(bytes: &[u8]) -> Result<Control<'_>, ControlError>
 pub fn write_open(alloc: Global, message: &OpenMessage<'_>) -> Result<Vec<u8>, AllocError>
     requires label { length message.now.label.now < 2 ^ 16 }
     requires protocol { length message.now.protocol.now < 2 ^ 16 }
-    ensures { IfOk result (λ bytes. bytes.items ≡ open_bytes (opening_in message.now)) }
+    ensures { IfOk result (λ bytes. bytes.items ≡ open_bytes (opening_of_message message.now)) }
 {
     let len = FIXED_LEN + message.label.len() + message.protocol.len();
     let mut bytes = Vec::with_capacity(alloc, len)?;

@@ -1,7 +1,7 @@
 //! How a channel's messages are sent, as an OPEN says it (RFC 8832, section 5.1).
 
 ghost use Rattle.std.specs.Prelude.{◌≡◌, ◌≤◌, length};
-ghost use Rattle.dcsctp_channel_messages.specs.Format.{channel_type, reliability_parameter, reliability_of, delivery_at};
+ghost use Rattle.dcsctp_channel_messages.specs.Format.{channel_type, reliability_parameter, reliability_of, delivery_of_bytes};
 
 use dcsctp_channel_spec::{Delivery, Reliability};
 use dcsctp_wire::{u16_at, u32_at};
@@ -52,7 +52,7 @@ fn reliability_of(kind: u8, parameter: u32) -> Option<Reliability>
 /// unknown.
 pub(crate) fn delivery_at(bytes: &[u8]) -> Option<Delivery>
     requires { 12 ≤ length bytes.now }
-    ensures { result ≡ delivery_at bytes.now }
+    ensures { result ≡ delivery_of_bytes bytes.now }
 {
     let reliability = reliability_of(bytes[1] % UNORDERED, u32_at(bytes, 4))?;
     Some(Delivery {

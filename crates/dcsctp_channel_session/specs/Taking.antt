@@ -2,7 +2,7 @@
 use Rattle.std.specs.Prelude.{◌≡◌, Option, Some, None, Result, Ok, Err}
 use Rattle.dcsctp_session.specs.Status.{fault_status, taken_status}
 use Rattle.dcsctp_session.specs.declared.status.Status.{Status}
-use Rattle.dcsctp_channel_calls.specs.Notices.{notice_of, notices_in}
+use Rattle.dcsctp_channel_calls.specs.Notices.{notice_of, polled_notice}
 use Rattle.dcsctp_channel_calls.specs.Polls.{PollsChannels}
 use Rattle.dcsctp_channel_calls.specs.api.declared.errors.SocketFault.{SocketFault}
 use Rattle.dcsctp_channel_calls.specs.declared.channel.ChannelEvent.{ChannelEvent}
@@ -27,7 +27,7 @@ event_told (Some event) = notice_record (notice_of event)
 -- The next event is taken and kept, and the record says it; without one it says none.
 pub record EventPolled (old : ChannelSession) (status : Status) (told : ChannelEventRecord) (new : ChannelSession) : Type 0 where
   pub outcome : Result (Option ChannelEvent) SocketFault
-  pub call : PollsChannels (channels_view old) (notices_in outcome) (channels_view new)
+  pub call : PollsChannels (channels_view old) (polled_notice outcome) (channels_view new)
   pub status_is : status ≡ polled_status outcome
   pub kept : new.event ≡ event_polled outcome
   pub says : told ≡ event_told new.event

@@ -6,7 +6,7 @@ ghost use Rattle.dcsctp_channel_calls.specs.api.Calls.{socket_state_of};
 ghost use Rattle.dcsctp_channel_calls.specs.api.spec.endpoint.Endpoint.{own_tag};
 ghost use Rattle.dcsctp_channel_calls.specs.api.spec.endpoint.TimeTurns.{next_moment};
 ghost use Rattle.dcsctp_session.specs.Options.{ShowsOptions, never};
-ghost use Rattle.dcsctp_session.specs.Calls.{MetricsShown, CountsShown};
+ghost use Rattle.dcsctp_session.specs.Calls.{ShowsMetricsRecord, ShowsCountsRecord};
 ghost use Rattle.dcsctp_channel_session.specs.Views.{channels_view, channels_deadline};
 ghost use Rattle.dcsctp_channel_session.specs.Calls.{ChannelsConnect, ChannelsShutDown, ChannelsAbort, ChannelsHandle, ChannelsAdvance, ChannelsLimit};
 
@@ -98,14 +98,14 @@ impl ChannelSession {
 
     /// What the socket has counted in its life.
     pub fn counts(&self) -> CountsRecord
-        ensures { CountsShown (channels_view self.now).below result }
+        ensures { ShowsCountsRecord (channels_view self.now).below result }
     {
         CountsRecord::of(&self.channels.socket().get_counts())
     }
 
     /// The metrics; none where the peer isn't known.
     pub fn metrics(&self) -> Option<MetricsRecord>
-        ensures { MetricsShown (channels_view self.now).below result }
+        ensures { ShowsMetricsRecord (channels_view self.now).below result }
     {
         let metrics = self.channels.metrics()?;
         Some(MetricsRecord::of(&metrics))

@@ -1,7 +1,7 @@
 //! Taking events, and copying or showing what they hold.
 
 ghost use Rattle.std.specs.Prelude.{◌≡◌};
-ghost use Rattle.dcsctp_session.specs.Copying.{CopiesTaken, ShowsPlace};
+ghost use Rattle.dcsctp_session.specs.Copying.{CopiesIfTaken, ShowsPlace};
 ghost use Rattle.dcsctp_channel_session.specs.Records.{memory_in, items_in, options_in};
 ghost use Rattle.dcsctp_channel_session.specs.Taking.{EventPolled};
 
@@ -34,7 +34,7 @@ impl ChannelSession {
     /// Copies the packet or the message of the event that was taken last, and says how many bytes it has. A buffer
     /// that is too small is unchanged.
     pub fn event_bytes(&self, buffer: &mut [u8], length: &mut usize) -> Status
-        ensures { CopiesTaken (items_in (memory_in self.now.event)) buffer.old result buffer.new
+        ensures { CopiesIfTaken (items_in (memory_in self.now.event)) buffer.old result buffer.new
             length.new }
     {
         match &self.event {

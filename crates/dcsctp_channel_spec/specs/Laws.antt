@@ -6,7 +6,7 @@ use Rattle.dcsctp_channel_spec.specs.declared.types.OwnReset.{OwnReset}
 use Rattle.dcsctp_channel_spec.specs.declared.types.OwnReset.TheVariants.{NotAsked, Asked, Performed, GivenUp}
 use Rattle.dcsctp_channel_spec.specs.declared.types.StreamUse.{StreamUse}
 use Rattle.dcsctp_channel_spec.specs.Contents.{ChannelContent}
-use Rattle.dcsctp_channel_spec.specs.Slots.{StreamSlot, free, used, name_in, Report, opened, incoming, message, ended, SlotAsk, send_open, send_ack, reset_stream, SlotInput, opens, agrees, hears_open, hears_message, hears_bad_message, may_acknowledge, is_closed, all_is_sent, cannot_reset, was_performed, was_refused, peer_resets, association_ends}
+use Rattle.dcsctp_channel_spec.specs.Slots.{StreamSlot, free, used, name_of_slot, Report, opened, incoming, message, ended, SlotAsk, send_open, send_ack, reset_stream, SlotInput, opens, agrees, hears_open, hears_message, hears_bad_message, may_acknowledge, is_closed, all_is_sent, cannot_reset, was_performed, was_refused, peer_resets, association_ends}
 use Rattle.dcsctp_channel_spec.specs.Table.{outcome_of}
 
 -- ---- what is reported
@@ -15,7 +15,7 @@ use Rattle.dcsctp_channel_spec.specs.Table.{outcome_of}
 abbrev pub given_name : SlotInput → StreamSlot → Option ℕ
 given_name (opens name opening) free = Some name
 given_name (agrees name) free = Some name
-given_name input slot = name_in slot
+given_name input slot = name_of_slot slot
 
 -- What is reported names the channel of its stream, in this order: an OPEN of the peer makes one where there is none,
 -- messages and the peer's knowledge are of one that is there, and after its end there is none.
@@ -28,35 +28,35 @@ Speaks (Some name) (ended other why ∷ reports) after = (other ≡ name) × Spe
 Speaks before (report ∷ reports) after = ⊥
 
 abbrev pub EachSpeaksInTurn : Type 0
-EachSpeaksInTurn = (input : SlotInput) (slot : StreamSlot) → Speaks (given_name input slot) (outcome_of input slot).reports (name_in (outcome_of input slot).after)
+EachSpeaksInTurn = (input : SlotInput) (slot : StreamSlot) → Speaks (given_name input slot) (outcome_of input slot).reports (name_of_slot (outcome_of input slot).after)
 
-abbrev pub messages_in : List Report → List Report
-messages_in [] = []
-messages_in (message name content ∷ reports) = message name content ∷ messages_in reports
-messages_in (report ∷ reports) = messages_in reports
+abbrev pub messages_of_reports : List Report → List Report
+messages_of_reports [] = []
+messages_of_reports (message name content ∷ reports) = message name content ∷ messages_of_reports reports
+messages_of_reports (report ∷ reports) = messages_of_reports reports
 
-abbrev pub message_where : Option ℕ → Bool → ChannelContent → List Report
-message_where (Some name) false content = message name content ∷ []
-message_where name closing content = []
+abbrev pub message_if_open : Option ℕ → Bool → ChannelContent → List Report
+message_if_open (Some name) false content = message name content ∷ []
+message_if_open name closing content = []
 
 abbrev pub message_due : SlotInput → StreamSlot → List Report
-message_due (hears_message content) (used stream) = message_where stream.name stream.closing content
+message_due (hears_message content) (used stream) = message_if_open stream.name stream.closing content
 message_due input slot = []
 
 -- A message is reported as it came, where its channel is open, and no other message is.
 abbrev pub MessagesAreReported : Type 0
-MessagesAreReported = (input : SlotInput) (slot : StreamSlot) → messages_in (outcome_of input slot).reports ≡ message_due input slot
+MessagesAreReported = (input : SlotInput) (slot : StreamSlot) → messages_of_reports (outcome_of input slot).reports ≡ message_due input slot
 
 -- Each that is reported as incoming was opened so by this OPEN, which was accepted.
-abbrev pub AreOpenedBy : SlotInput → List Report → Type 0
-AreOpenedBy input [] = Unit {0}
-AreOpenedBy (hears_open accepted name opening) (incoming other said ∷ reports) =
-    (accepted ≡ true) × (other ≡ name) × (said ≡ opening) × AreOpenedBy (hears_open accepted name opening) reports
-AreOpenedBy input (incoming other said ∷ reports) = ⊥
-AreOpenedBy input (report ∷ reports) = AreOpenedBy input reports
+abbrev pub AreTrueOpenings : SlotInput → List Report → Type 0
+AreTrueOpenings input [] = Unit {0}
+AreTrueOpenings (hears_open accepted name opening) (incoming other said ∷ reports) =
+    (accepted ≡ true) × (other ≡ name) × (said ≡ opening) × AreTrueOpenings (hears_open accepted name opening) reports
+AreTrueOpenings input (incoming other said ∷ reports) = ⊥
+AreTrueOpenings input (report ∷ reports) = AreTrueOpenings input reports
 
 abbrev pub IncomingWereOpened : Type 0
-IncomingWereOpened = (input : SlotInput) (slot : StreamSlot) → AreOpenedBy input (outcome_of input slot).reports
+IncomingWereOpened = (input : SlotInput) (slot : StreamSlot) → AreTrueOpenings input (outcome_of input slot).reports
 
 abbrev pub knows : StreamSlot → Bool
 knows free = false
@@ -104,32 +104,32 @@ FreesStream peer_resets stream = stream.own ≡ Performed
 FreesStream association_ends stream = Unit {0}
 FreesStream input stream = ⊥
 
-pub record IsFreedBy (input : SlotInput) (stream : StreamUse) : Type 0 where
+pub record IsFreedExactly (input : SlotInput) (stream : StreamUse) : Type 0 where
   pub only : (outcome_of input (used stream)).after ≡ free → FreesStream input stream
   pub always : FreesStream input stream → (outcome_of input (used stream)).after ≡ free
 
 abbrev pub FreedByBothResets : Type 0
-FreedByBothResets = (input : SlotInput) (stream : StreamUse) → IsFreedBy input stream
+FreedByBothResets = (input : SlotInput) (stream : StreamUse) → IsFreedExactly input stream
 
 -- ---- what is asked of the socket
 
 -- An OPEN goes out where a channel gets its stream, an ACK once, and a reset on a closing stream of which no request is
 -- unanswered: each only by its input, and is recorded.
-abbrev pub IsAskedBy : SlotInput → StreamSlot → StreamSlot → SlotAsk → Type 0
-IsAskedBy (opens name opening) free after (send_open said) = said ≡ opening
-IsAskedBy may_acknowledge (used stream) (used later) send_ack = (stream.owes_ack ≡ true) × (stream.closing ≡ false) × (later.owes_ack ≡ false)
-IsAskedBy all_is_sent (used stream) (used later) reset_stream =
+abbrev pub IsAllowedAsk : SlotInput → StreamSlot → StreamSlot → SlotAsk → Type 0
+IsAllowedAsk (opens name opening) free after (send_open said) = said ≡ opening
+IsAllowedAsk may_acknowledge (used stream) (used later) send_ack = (stream.owes_ack ≡ true) × (stream.closing ≡ false) × (later.owes_ack ≡ false)
+IsAllowedAsk all_is_sent (used stream) (used later) reset_stream =
     (stream.closing ≡ true) × (stream.own ≡ NotAsked) × (stream.awaits_answer ≡ false) × (later.own ≡ Asked)
-IsAskedBy input slot after request = ⊥
+IsAllowedAsk input slot after request = ⊥
 
 -- One call of the socket at most.
-abbrev pub AreAskedBy : SlotInput → StreamSlot → StreamSlot → List SlotAsk → Type 0
-AreAskedBy input slot after [] = Unit {0}
-AreAskedBy input slot after (request ∷ []) = IsAskedBy input slot after request
-AreAskedBy input slot after requests = ⊥
+abbrev pub AreAllowedAsks : SlotInput → StreamSlot → StreamSlot → List SlotAsk → Type 0
+AreAllowedAsks input slot after [] = Unit {0}
+AreAllowedAsks input slot after (request ∷ []) = IsAllowedAsk input slot after request
+AreAllowedAsks input slot after requests = ⊥
 
 abbrev pub RequestsAreApart : Type 0
-RequestsAreApart = (input : SlotInput) (slot : StreamSlot) → AreAskedBy input slot (outcome_of input slot).after (outcome_of input slot).asks
+RequestsAreApart = (input : SlotInput) (slot : StreamSlot) → AreAllowedAsks input slot (outcome_of input slot).after (outcome_of input slot).asks
 
 -- ---- while a channel lasts
 

@@ -37,9 +37,9 @@ abbrev pub refused_use : Bool → StreamUse
 refused_use awaits =
     record { name = None; heard = true; owes_ack = false; closing = true; own = NotAsked; peer_reset = false; awaits_answer = awaits; refusals = 0 }
 
-abbrev pub name_in : StreamSlot → Option ℕ
-name_in free = None
-name_in (used stream) = stream.name
+abbrev pub name_of_slot : StreamSlot → Option ℕ
+name_of_slot free = None
+name_of_slot (used stream) = stream.name
 
 -- ---- what is reported to the user, and what is asked of the socket
 

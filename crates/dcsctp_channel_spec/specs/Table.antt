@@ -24,17 +24,17 @@ ends_as end stream = reports_of stream.name (λ name. ended name end)
 
 -- ---- both directions were reset
 
-abbrev pub end_where : Bool → ChannelEnd
-end_where true = Closed
-end_where false = Refused
+abbrev pub end_if_heard : Bool → ChannelEnd
+end_if_heard true = Closed
+end_if_heard false = Refused
 
 -- The stream is free where the peer has reset it, and has performed our reset (RFC 8831, section 6.7).
-abbrev pub settled_where : Bool → OwnReset → StreamUse → SlotOutcome
-settled_where true Performed stream = record { after = free; reports = ends_as (end_where stream.heard) stream; asks = [] }
-settled_where peer_reset own stream = becomes stream
+abbrev pub settled_if_reset : Bool → OwnReset → StreamUse → SlotOutcome
+settled_if_reset true Performed stream = record { after = free; reports = ends_as (end_if_heard stream.heard) stream; asks = [] }
+settled_if_reset peer_reset own stream = becomes stream
 
 abbrev pub settled_use : StreamUse → SlotOutcome
-settled_use stream = settled_where stream.peer_reset stream.own stream
+settled_use stream = settled_if_reset stream.peer_reset stream.own stream
 
 abbrev pub closed_use : StreamUse → StreamUse
 closed_use stream = record stream { closing = true }
@@ -51,22 +51,22 @@ on_agreement name (used stream) = becomes stream
 
 -- ---- the peer opens
 
-abbrev pub accepts_where : Bool → ℕ → Opening → Bool → SlotOutcome
-accepts_where true name opening awaits = record { after = used (accepted_use name awaits); reports = incoming name opening ∷ []; asks = [] }
-accepts_where false name opening awaits = becomes (refused_use awaits)
+abbrev pub accepts_or_refuses : Bool → ℕ → Opening → Bool → SlotOutcome
+accepts_or_refuses true name opening awaits = record { after = used (accepted_use name awaits); reports = incoming name opening ∷ []; asks = [] }
+accepts_or_refuses false name opening awaits = becomes (refused_use awaits)
 
 abbrev pub reports_before : List Report → SlotOutcome → SlotOutcome
 reports_before reports outcome = record outcome { reports = reports ++ outcome.reports }
 
 -- A peer gives a stream again once it has reset it and performed our reset. Then the OPEN says what the answer to our
 -- request would have said, and that answer is still to come.
-abbrev pub reopens_where : Bool → OwnReset → Bool → ℕ → Opening → StreamUse → SlotOutcome
-reopens_where true Asked accepted name opening stream = reports_before (ends_as (end_where stream.heard) stream) (accepts_where accepted name opening true)
-reopens_where peer_reset own accepted name opening stream = becomes (closed_use stream)
+abbrev pub reopens_if_reset : Bool → OwnReset → Bool → ℕ → Opening → StreamUse → SlotOutcome
+reopens_if_reset true Asked accepted name opening stream = reports_before (ends_as (end_if_heard stream.heard) stream) (accepts_or_refuses accepted name opening true)
+reopens_if_reset peer_reset own accepted name opening stream = becomes (closed_use stream)
 
 abbrev pub on_peer_open : Bool → ℕ → Opening → StreamSlot → SlotOutcome
-on_peer_open accepted name opening free = accepts_where accepted name opening false
-on_peer_open accepted name opening (used stream) = reopens_where stream.peer_reset stream.own accepted name opening stream
+on_peer_open accepted name opening free = accepts_or_refuses accepted name opening false
+on_peer_open accepted name opening (used stream) = reopens_if_reset stream.peer_reset stream.own accepted name opening stream
 
 -- ---- what the peer sends
 
@@ -100,13 +100,13 @@ on_bad_message (used stream) = becomes (closed_use stream)
 
 -- ---- the ACK
 
-abbrev pub acknowledges_where : Bool → Bool → StreamUse → SlotOutcome
-acknowledges_where true false stream = record { after = used (record stream { owes_ack = false }); reports = []; asks = send_ack ∷ [] }
-acknowledges_where owes_ack closing stream = becomes stream
+abbrev pub acknowledges_if_owed : Bool → Bool → StreamUse → SlotOutcome
+acknowledges_if_owed true false stream = record { after = used (record stream { owes_ack = false }); reports = []; asks = send_ack ∷ [] }
+acknowledges_if_owed owes_ack closing stream = becomes stream
 
 abbrev pub on_room : StreamSlot → SlotOutcome
 on_room free = slot_stays free
-on_room (used stream) = acknowledges_where stream.owes_ack stream.closing stream
+on_room (used stream) = acknowledges_if_owed stream.owes_ack stream.closing stream
 
 -- ---- the own reset
 
@@ -115,25 +115,25 @@ on_close free = slot_stays free
 on_close (used stream) = becomes (closed_use stream)
 
 -- Not where the request of the channel before isn't answered: the socket would take the one for the other.
-abbrev pub resets_where : Bool → Bool → OwnReset → StreamUse → SlotOutcome
-resets_where true false NotAsked stream = record { after = used (record stream { own = Asked }); reports = []; asks = reset_stream ∷ [] }
-resets_where closing awaits own stream = becomes stream
+abbrev pub resets_if_closing : Bool → Bool → OwnReset → StreamUse → SlotOutcome
+resets_if_closing true false NotAsked stream = record { after = used (record stream { own = Asked }); reports = []; asks = reset_stream ∷ [] }
+resets_if_closing closing awaits own stream = becomes stream
 
 abbrev pub on_all_sent : StreamSlot → SlotOutcome
 on_all_sent free = slot_stays free
-on_all_sent (used stream) = resets_where stream.closing stream.awaits_answer stream.own stream
+on_all_sent (used stream) = resets_if_closing stream.closing stream.awaits_answer stream.own stream
 
 -- its user hears of the end, and the stream isn't given again before the association ends
 abbrev pub given_up : StreamUse → SlotOutcome
 given_up stream = record { after = used (record stream { own = GivenUp; name = None }); reports = ends_as ResetRefused stream; asks = [] }
 
-abbrev pub gives_up_where : Bool → Bool → OwnReset → StreamUse → SlotOutcome
-gives_up_where true false NotAsked stream = given_up stream
-gives_up_where closing awaits own stream = becomes stream
+abbrev pub gives_up_if_closing : Bool → Bool → OwnReset → StreamUse → SlotOutcome
+gives_up_if_closing true false NotAsked stream = given_up stream
+gives_up_if_closing closing awaits own stream = becomes stream
 
 abbrev pub on_no_reset : StreamSlot → SlotOutcome
 on_no_reset free = slot_stays free
-on_no_reset (used stream) = gives_up_where stream.closing stream.awaits_answer stream.own stream
+on_no_reset (used stream) = gives_up_if_closing stream.closing stream.awaits_answer stream.own stream
 
 abbrev pub after_performed : OwnReset → StreamUse → SlotOutcome
 after_performed Asked stream = settled_use (record stream { own = Performed; awaits_answer = false })
@@ -147,12 +147,12 @@ on_performed (used stream) = after_performed stream.own stream
 abbrev pub most_refusals : ℕ
 most_refusals = 3
 
-abbrev pub asks_again_where : Bool → StreamUse → SlotOutcome
-asks_again_where true stream = becomes (record stream { own = NotAsked; refusals = stream.refusals + 1 })
-asks_again_where false stream = given_up stream
+abbrev pub asks_again_or_gives_up : Bool → StreamUse → SlotOutcome
+asks_again_or_gives_up true stream = becomes (record stream { own = NotAsked; refusals = stream.refusals + 1 })
+asks_again_or_gives_up false stream = given_up stream
 
 abbrev pub after_refused : OwnReset → StreamUse → SlotOutcome
-after_refused Asked stream = asks_again_where (nat_lt (stream.refusals + 1) most_refusals) (record stream { awaits_answer = false })
+after_refused Asked stream = asks_again_or_gives_up (nat_lt (stream.refusals + 1) most_refusals) (record stream { awaits_answer = false })
 after_refused own stream = becomes (record stream { awaits_answer = false })
 
 abbrev pub on_refused : StreamSlot → SlotOutcome

@@ -10,27 +10,27 @@ use Rattle.dcsctp_channel_calls.specs.api.types.queues.Messages.{message_content
 use Rattle.dcsctp_channel_calls.specs.messages.channel_spec.declared.types.Delivery.{Delivery}
 use Rattle.dcsctp_channel_calls.specs.messages.channel_spec.declared.types.OwnReset.{OwnReset}
 use Rattle.dcsctp_channel_calls.specs.messages.channel_spec.declared.types.OwnReset.TheVariants.{NotAsked, Asked, Performed, GivenUp}
-use Rattle.dcsctp_channel_calls.specs.messages.channel_spec.Slots.{Opening, name_in, Report, incoming, ended, SlotOutcome, SlotInput, hears_open}
-use Rattle.dcsctp_channel_calls.specs.messages.channel_spec.Table.{on_peer_open, reports_of, end_where}
+use Rattle.dcsctp_channel_calls.specs.messages.channel_spec.Slots.{Opening, name_of_slot, Report, incoming, ended, SlotOutcome, SlotInput, hears_open}
+use Rattle.dcsctp_channel_calls.specs.messages.channel_spec.Table.{on_peer_open, reports_of, end_if_heard}
 use Rattle.dcsctp_channel_calls.specs.messages.declared.control.ControlError.{ControlError}
 use Rattle.dcsctp_channel_calls.specs.messages.Format.{Control, open_message}
 use Rattle.dcsctp_channel_calls.specs.declared.channel.HeldStream.{HeldStream}
-use Rattle.dcsctp_channel_calls.specs.View.{ToldEvent, ChannelNotice, of_channel, slot_of, LayerView, ChannelsView, held_at, was_asked, held_after, streams_with, names_with}
+use Rattle.dcsctp_channel_calls.specs.View.{ReportedEvent, ChannelNotice, of_channel, slot_of, LayerView, ChannelsView, held_stream_numbered, was_asked, held_after, streams_with, names_with}
 use Rattle.dcsctp_channel_calls.specs.Calls.{KeepsTaking, PartGoes, on_layer}
 use Rattle.dcsctp_channel_calls.specs.Opening.{ReadiesStream}
-use Rattle.dcsctp_channel_calls.specs.Events.{with_notices, HandlesEventWhere}
-use Rattle.dcsctp_channel_calls.specs.Arrivals.{has_place, is_peers, accepts_open, AcceptsOpen, input_of_control, message_taken, TakesRow, ack_is_due, SendsAck, AcksWhere, AcksHeld, AcksNow, HandlesMessage}
+use Rattle.dcsctp_channel_calls.specs.Events.{with_notices, HandlesEventUnlessEnded}
+use Rattle.dcsctp_channel_calls.specs.Arrivals.{has_place, is_peers, accepts_open, AcceptsOpen, input_of_control, message_taken, TakesRow, ack_is_due, SendsAck, AcksIfDue, AcksHeld, AcksNow, HandlesMessage}
 use Rattle.dcsctp_channel_calls.specs.Polls.{HandlesReady}
 use Rattle.dcsctp_channels.specs.Layer.{Leaves, accepted_before, accepted_at, HandlesTold}
 use Rattle.dcsctp_channels.proofs.Keeping.{keeps_named, keeps_same, keeps_then, keeps_report}
 
 -- ---- ACKs
 
-acks_now : (number : ℕ) (held : HeldStream) (old new : ChannelsView) → held_at old.layer number ≡ Some held → ack_is_due old held ≡ true → SendsAck number held old new → AcksNow number old new
+acks_now : (number : ℕ) (held : HeldStream) (old new : ChannelsView) → held_stream_numbered old.layer number ≡ Some held → ack_is_due old held ≡ true → SendsAck number held old new → AcksNow number old new
 acks_now number held old new at due acks =
-    subst (λ (o : Option HeldStream). AcksHeld o number old new) (sym at) (subst (λ (b : Bool). AcksWhere b number held old new) (sym due) acks)
+    subst (λ (o : Option HeldStream). AcksHeld o number old new) (sym at) (subst (λ (b : Bool). AcksIfDue b number held old new) (sym due) acks)
 
-pub acks_in : {A E : Type 0} (number : ℕ) (held : HeldStream) (old new : ChannelsView) (result : Result A E) → held_at old.layer number ≡ Some held → ack_is_due old held ≡ true
+pub acks_in : {A E : Type 0} (number : ℕ) (held : HeldStream) (old new : ChannelsView) (result : Result A E) → held_stream_numbered old.layer number ≡ Some held → ack_is_due old held ≡ true
     → PartGoes (λ done. SendsAck number held) old result new → PartGoes (λ done. AcksNow number) old result new
 acks_in number held old new (Ok done) at due goes = (goes.0, acks_now number held old new at due goes.1)
 acks_in number held old new (Err error) at due goes = (goes.0, tt)
@@ -83,7 +83,7 @@ abbrev row_at : Option HeldStream → ℕ → Delivery → SlotInput → SlotOut
 row_at held number delivery input outcome layer =
     record layer {
       streams = streams_with number held outcome.after (held_after layer.moment delivery input held) layer.streams;
-      names = names_with number (name_in (slot_of held)) (name_in outcome.after) layer.names;
+      names = names_with number (name_of_slot (slot_of held)) (name_of_slot outcome.after) layer.names;
       notices = layer.notices ++ map of_channel outcome.reports;
     }
 
@@ -102,7 +102,7 @@ accepted_row number opening (Some held) layer has =
     let both = both_hold held.stream.peer_reset (was_asked held.stream.own) has in
     let own = asked held.stream.own both.1 in
     rw (both.0, own) (ap (λ (notices : List ChannelNotice). record (accepted_by number opening (Some held) layer) { notices = notices })
-    (then_report held.stream.name (λ n. ended n (end_where held.stream.heard)) (incoming layer.named opening) layer.notices))
+    (then_report held.stream.name (λ n. ended n (end_if_heard held.stream.heard)) (incoming layer.named opening) layer.notices))
 
 done_in : {A E : Type 0} (number id : ℕ) (opening : Opening) (old : ChannelsView) (prepared : UserView) (named taken after : LayerView) (result : Result A E)
     → accepts_open old.layer number opening ≡ true → ReadiesStream number opening.delivery.priority old.below prepared
@@ -110,7 +110,7 @@ done_in : {A E : Type 0} (number id : ℕ) (opening : Opening) (old : ChannelsVi
     → ByResult (λ done. after ≡ with_notices (of_channel (incoming id opening) ∷ []) taken) (after ≡ taken) result
     → IfOk result (λ answer. AcceptsOpen number opening old (record { below = prepared; layer = after }))
 done_in number id opening old prepared named taken after (Ok done) accepted prepares is names takes reports =
-    let has = first_holds (has_place (slot_of (held_at old.layer number)) old.layer) _ (is_peers old.layer.role number) accepted in
+    let has = first_holds (has_place (slot_of (held_stream_numbered old.layer number)) old.layer) _ (is_peers old.layer.role number) accepted in
     let taken_is : taken ≡ accepted_at number old.layer.named opening.delivery (record old.layer { named = old.layer.named + 1 }) =
     takes ∙ ap (λ (n : ℕ). accepted_at number n opening.delivery named) is ∙ ap (accepted_at number old.layer.named opening.delivery) names in
     record {
@@ -119,7 +119,7 @@ done_in number id opening old prepared named taken after (Ok done) accepted prep
       is =
           ap (λ (l : LayerView). record { below = prepared; layer = l })
           (reports ∙ ap (λ (n : ℕ). with_notices (of_channel (incoming n opening) ∷ []) taken) is ∙ ap (with_notices (of_channel (incoming old.layer.named opening) ∷ [])) taken_is
-          ∙ accepted_row number opening (held_at old.layer number) old.layer has);
+          ∙ accepted_row number opening (held_stream_numbered old.layer number) old.layer has);
     }
 done_in number id opening old prepared named taken after (Err error) accepted prepares is names takes reports = tt
 
@@ -152,7 +152,7 @@ ready_in message old below mid new (Err error) takes is goes = (ready_keeps old.
 
 -- ---- an event that was told
 
-pub told_handled : (old new : ChannelsView) (first : ToldEvent) (rest : List ToldEvent) → old.layer.told ≡ first ∷ rest → KeepsTaking (record old.layer { told = rest }) new.layer
-    → HandlesEventWhere old.layer.over first.event (on_layer (λ layer. record layer { told = rest }) old) new → KeepsTaking old.layer new.layer × HandlesTold true old new
+pub told_handled : (old new : ChannelsView) (first : ReportedEvent) (rest : List ReportedEvent) → old.layer.told ≡ first ∷ rest → KeepsTaking (record old.layer { told = rest }) new.layer
+    → HandlesEventUnlessEnded old.layer.over first.event (on_layer (λ layer. record layer { told = rest }) old) new → KeepsTaking old.layer new.layer × HandlesTold true old new
 told_handled old new first rest is keeps handles =
     (keeps_then old.layer (record old.layer { told = rest }) new.layer (keeps_same old.layer (record old.layer { told = rest }) refl refl refl refl) keeps, (first, rest, is, handles))

@@ -3,10 +3,10 @@ use Rattle.std.proofs.Common.{◌≡◌, ℕ, Bool, false, Option, Some, None, R
 use Rattle.std.proofs.lemmas.List.{append-nil}
 use Rattle.dcsctp_channel_calls.specs.messages.channel_spec.declared.types.StreamUse.{StreamUse}
 use Rattle.dcsctp_channel_calls.specs.messages.channel_spec.Contents.{ChannelContent}
-use Rattle.dcsctp_channel_calls.specs.messages.channel_spec.Slots.{name_in, Report, used, hears_ack, hears_message}
+use Rattle.dcsctp_channel_calls.specs.messages.channel_spec.Slots.{name_of_slot, Report, used, hears_ack, hears_message}
 use Rattle.dcsctp_channel_calls.specs.messages.channel_spec.Table.{heard_use, heard_reports, message_reports, on_message, outcome_of}
 use Rattle.dcsctp_channel_calls.specs.declared.channel.HeldStream.{HeldStream}
-use Rattle.dcsctp_channel_calls.specs.View.{ChannelNotice, of_channel, slot_of, LayerView, held_at, entry_put, went_on, held_after, counted_with, received_on, streams_with, names_with}
+use Rattle.dcsctp_channel_calls.specs.View.{ChannelNotice, of_channel, slot_of, LayerView, held_stream_numbered, entry_put, went_on, held_after, counted_with, received_on, streams_with, names_with}
 use Rattle.dcsctp_channel_calls.specs.Calls.{KeepsTaking}
 use Rattle.dcsctp_channel_calls.specs.Events.{with_notices}
 use Rattle.dcsctp_channel_calls.specs.Arrivals.{plain_delivery, message_taken}
@@ -27,7 +27,7 @@ abbrev heard_at : ℕ → ChannelContent → LayerView → Option HeldStream →
 heard_at number content layer held =
     record layer {
       streams = streams_with number held (on_message content (slot_of held)).after (held_after layer.moment plain_delivery (hears_message content) held) layer.streams;
-      names = names_with number (name_in (slot_of held)) (name_in (on_message content (slot_of held)).after) layer.names;
+      names = names_with number (name_of_slot (slot_of held)) (name_of_slot (on_message content (slot_of held)).after) layer.names;
       notices = layer.notices ++ map of_channel (on_message content (slot_of held)).reports;
     }
 
@@ -56,7 +56,7 @@ step_use : (after : Option StreamUse) (stream : StreamUse) → slot_in after ≡
 step_use (Some other) stream is = cc
 step_use None stream is = absurd cc
 
-heard_layer : (number : ℕ) (content : ChannelContent) (held counted : HeldStream) (step : Step) (old first second : LayerView) → held_at old number ≡ Some held → held.stream.closing ≡ false
+heard_layer : (number : ℕ) (content : ChannelContent) (held counted : HeldStream) (step : Step) (old first second : LayerView) → held_stream_numbered old number ≡ Some held → held.stream.closing ≡ false
     → IsStep step (outcome_of hears_ack (used held.stream)) → first ≡ with_notices (map of_channel (notice_reports step.notice)) old
     → second ≡ with_notices (map of_channel (message_reports false held.stream.name content)) first → counted ≡ received_on (length content.bytes) held
     → stream_left number counted step.after second ≡ message_taken number (hears_message content) old
@@ -80,7 +80,7 @@ keeps_all number content held step old first second new one two keeps =
     (keeps_notices first second (map of_channel (message_reports false held.stream.name content)) (ap (λ (l : LayerView). l.packets) two) (ap (λ (l : LayerView). l.notices) two) (ap (λ (l : LayerView). l.named) two) (ap (λ (l : LayerView). l.failed) two))
     keeps)
 
-pub heard_in : {A E : Type 0} (number : ℕ) (content : ChannelContent) (held counted : HeldStream) (step : Step) (old first second new : LayerView) (result : Result A E) → held_at old number ≡ Some held
+pub heard_in : {A E : Type 0} (number : ℕ) (content : ChannelContent) (held counted : HeldStream) (step : Step) (old first second new : LayerView) (result : Result A E) → held_stream_numbered old number ≡ Some held
     → held.stream.closing ≡ false → IsStep step (outcome_of hears_ack (used held.stream)) → first ≡ with_notices (map of_channel (notice_reports step.notice)) old
     → second ≡ with_notices (map of_channel (message_reports false held.stream.name content)) first → counted ≡ received_on (length content.bytes) held
     → Leaves (stream_left number counted step.after second) second result new → Leaves (message_taken number (hears_message content) old) old result new

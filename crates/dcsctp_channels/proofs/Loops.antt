@@ -7,12 +7,12 @@ use Rattle.dcsctp_channel_calls.specs.api.declared.errors.SendError.{SendError}
 use Rattle.dcsctp_channel_calls.specs.api.Calls.{UserView}
 use Rattle.dcsctp_channel_calls.specs.messages.channel_spec.declared.types.Role.{Role}
 use Rattle.dcsctp_channel_calls.specs.messages.channel_spec.Slots.{SlotInput}
-use Rattle.dcsctp_channel_calls.specs.View.{WaitingChannel, ToldEvent, ChannelNotice, LayerView, ChannelsView, held_at, gathered}
+use Rattle.dcsctp_channel_calls.specs.View.{WaitingChannel, ReportedEvent, ChannelNotice, LayerView, ChannelsView, held_stream_numbered, view_with_events}
 use Rattle.dcsctp_channel_calls.specs.Calls.{KeepsTaking, PartGoes, on_layer}
-use Rattle.dcsctp_channel_calls.specs.Sending.{row_where}
-use Rattle.dcsctp_channel_calls.specs.Opening.{BeginsAll, begins, waits_on, none_waits, BeginsOn, FirstBegins, opened_by, channels_waiting}
+use Rattle.dcsctp_channel_calls.specs.Sending.{row_taken_if_held}
+use Rattle.dcsctp_channel_calls.specs.Opening.{BeginsAll, begins, waits_on, none_waits, BeginsOn, FirstBegins, view_after_open, channels_waiting}
 use Rattle.dcsctp_channel_calls.specs.Events.{rows_taken, waiting_lost}
-use Rattle.dcsctp_channel_calls.specs.Polls.{NothingToTake, NothingTold, NothingToDo, TakesNotice, HandlesNext, an_event, put_off, is_due_in, event_is_due, PollsAs, takes, goes_on, idle, PollsWhere, PollsChannels}
+use Rattle.dcsctp_channel_calls.specs.Polls.{NothingToTake, HasNothingToReport, NothingToDo, TakesNotice, HandlesNext, an_event, put_off, is_first_due, event_is_due, PollsAs, takes, goes_on, idle, PollsOrFails, PollsChannels}
 use Rattle.dcsctp_channels.specs.Layer.{DoesLateWhere, HandlesNextWhere, HandlesTold}
 use Rattle.dcsctp_channels.proofs.Keeping.{keeps_refl, keeps_same, keeps_then}
 
@@ -24,7 +24,7 @@ none_left (x ∷ xs) new same rest = let e : suc (length xs) ≡ length xs = ap 
 -- ---- events are taken over
 
 pub record GathersFurther (old new : ChannelsView) : Type 0 where
-  pub same : gathered new ≡ gathered old
+  pub same : view_with_events new ≡ view_with_events old
   pub keeps : KeepsTaking old.layer new.layer
 
 -- ---- rows on several streams
@@ -37,7 +37,7 @@ pub takes_begin : (all : List ℕ) (input : SlotInput) (layer : LayerView) → T
 takes_begin all input layer = record { same = refl; keeps = keeps_refl layer }
 
 pub takes_next : (all rest : List ℕ) (number : ℕ) (input : SlotInput) (old new after : LayerView) → TakesFurther all (number ∷ rest) input old new
-    → after ≡ row_where (held_at new number) number input new → KeepsTaking new after → TakesFurther all rest input old after
+    → after ≡ row_taken_if_held (held_stream_numbered new number) number input new → KeepsTaking new after → TakesFurther all rest input old after
 takes_next all rest number input old new after on is keeps =
     record { same = (rw is refl) ∙ on.same; keeps = keeps_then old new after on.keeps keeps }
 
@@ -46,7 +46,7 @@ numbers_at streams i lt = rw (add-one, drop-cons streams i (record { 0 = 0 })) r
 
 pub takes_at : (streams : List StreamId) (i : ℕ) (input : SlotInput) (old new after : LayerView) → i < length streams → KeepsTaking new after
     → TakesFurther (stream_numbers streams) (stream_numbers (drop i streams)) input old new
-    → after ≡ row_where (held_at new (get_or streams i (record { 0 = 0 })).0) (get_or streams i (record { 0 = 0 })).0 input new
+    → after ≡ row_taken_if_held (held_stream_numbered new (get_or streams i (record { 0 = 0 })).0) (get_or streams i (record { 0 = 0 })).0 input new
     → TakesFurther (stream_numbers streams) (stream_numbers (drop (i + 1) streams)) input old after
 takes_at streams i input old new after lt keeps on is =
     takes_next (stream_numbers streams) (stream_numbers (drop (i + 1) streams)) (get_or streams i (record { 0 = 0 })).0 input old new after
@@ -63,7 +63,7 @@ begins_on role view = record { rest = λ last all. all; keeps = keeps_refl view.
 
 -- to begin leaves the channels that wait behind
 opened_waiting : (answer : Result (Unit {0}) SendError) (number : ℕ) (waits : WaitingChannel) (below : UserView) (layer : LayerView)
-    → (opened_by answer number waits below layer).layer.waiting ≡ layer.waiting
+    → (view_after_open answer number waits below layer).layer.waiting ≡ layer.waiting
 opened_waiting (Ok done) number waits below layer = refl
 opened_waiting (Err refusal) number waits below layer = refl
 
@@ -122,7 +122,7 @@ pub polls_on : (view : ChannelsView) → PollsFurther view view
 polls_on view = record { rest = λ result last polls. polls; keeps = keeps_refl view.layer }
 
 -- all is taken over, and one thing is handled
-pub polls_next : (old new mid after : ChannelsView) → PollsFurther old new → mid ≡ gathered new → KeepsTaking new.layer mid.layer → NothingToTake mid.layer
+pub polls_next : (old new mid after : ChannelsView) → PollsFurther old new → mid ≡ view_with_events new → KeepsTaking new.layer mid.layer → NothingToTake mid.layer
     → HandlesNext mid after → KeepsTaking mid.layer after.layer → PollsFurther old after
 polls_next old new mid after on gathers gathering nothing next keeps =
     record {
@@ -131,28 +131,28 @@ polls_next old new mid after on gathers gathering nothing next keeps =
     }
 
 -- there is something to take
-pub polls_takes : (old new mid last : ChannelsView) (notice : ChannelNotice) → PollsFurther old new → mid ≡ gathered new → TakesNotice mid.layer notice last.layer
+pub polls_takes : (old new mid last : ChannelsView) (notice : ChannelNotice) → PollsFurther old new → mid ≡ view_with_events new → TakesNotice mid.layer notice last.layer
     → last.below ≡ mid.below → PollsAs old (Some notice) last
 polls_takes old new mid last notice on gathers taken same =
     on.rest (Some notice) last
     (takes new notice refl (subst (λ (v : ChannelsView). TakesNotice v.layer notice last.layer) gathers taken) (same ∙ ap (λ (v : ChannelsView). v.below) gathers))
 
 -- there is nothing to do
-pub polls_idle : (old new mid last : ChannelsView) → PollsFurther old new → mid ≡ gathered new → NothingToTake mid.layer → NothingToDo mid → last ≡ mid → PollsAs old None last
+pub polls_idle : (old new mid last : ChannelsView) → PollsFurther old new → mid ≡ view_with_events new → NothingToTake mid.layer → NothingToDo mid → last ≡ mid → PollsAs old None last
 polls_idle old new mid last on gathers nothing none same =
     on.rest None last
     (idle new refl (subst (λ (v : ChannelsView). NothingToTake v.layer) gathers nothing) (subst (λ (v : ChannelsView). NothingToDo v) gathers none) (same ∙ gathers))
 
 -- the first event is handled where one is due
 none_told : (view : ChannelsView) → view.layer.told ≡ [] → event_is_due view ≡ false
-none_told view none = ap (λ (told : List ToldEvent). is_due_in told view) none
+none_told view none = ap (λ (told : List ReportedEvent). is_first_due told view) none
 
 pub told_next : (handled : Bool) (old new : ChannelsView) → event_is_due old ≡ true → HandlesTold handled old new → HandlesNextWhere handled old new
 told_next true old new due told = an_event told.0 told.1 due told.2 told.3
 told_next false old new due none = absurd (true≢false (sym due ∙ none_told old none))
 
 -- what was put off is done where nothing is told
-pub late_next : (done : Bool) (old new : ChannelsView) → NothingTold old → old.layer.over ≡ false → DoesLateWhere done old new → HandlesNextWhere done old new
+pub late_next : (done : Bool) (old new : ChannelsView) → HasNothingToReport old → old.layer.over ≡ false → DoesLateWhere done old new → HandlesNextWhere done old new
 late_next true old new quiet lasts late = put_off quiet lasts late
 late_next false old new quiet lasts (same, none) = (same, record { quiet = quiet; late = inr none })
 
@@ -160,34 +160,34 @@ pub told_in_turn : {E : Type 0} (result : Result Bool E) (old new : ChannelsView
 told_in_turn (Ok handled) old new due goes = (goes.0, told_next handled old new due goes.1)
 told_in_turn (Err error) old new due goes = (goes.0, tt)
 
-pub late_in_turn : {E : Type 0} (result : Result Bool E) (old new : ChannelsView) → NothingTold old → old.layer.over ≡ false → PartGoes DoesLateWhere old result new
+pub late_in_turn : {E : Type 0} (result : Result Bool E) (old new : ChannelsView) → HasNothingToReport old → old.layer.over ≡ false → PartGoes DoesLateWhere old result new
     → PartGoes HandlesNextWhere old result new
 late_in_turn (Ok done) old new quiet lasts goes = (goes.0, late_next done old new quiet lasts goes.1)
 late_in_turn (Err error) old new quiet lasts goes = (goes.0, tt)
 
 -- the same, by what is left where there was nothing to take
-pub polls_next_from : (old new all : ChannelsView) (left : LayerView) (after : ChannelsView) (handled : Bool) → PollsFurther old new → all ≡ gathered new → KeepsTaking new.layer all.layer
+pub polls_next_from : (old new all : ChannelsView) (left : LayerView) (after : ChannelsView) (handled : Bool) → PollsFurther old new → all ≡ view_with_events new → KeepsTaking new.layer all.layer
     → NothingToTake all.layer → left ≡ all.layer → HandlesNextWhere handled (record all { layer = left }) after → handled ≡ true → KeepsTaking left after.layer → PollsFurther old after
 polls_next_from old new all left after handled on gathers gathering nothing same next so keeps =
     polls_next old new all after on gathers gathering nothing
     (subst (λ (b : Bool). HandlesNextWhere b all after) so (subst (λ (l : LayerView). HandlesNextWhere handled (record all { layer = l }) after) same next))
     (subst (λ (l : LayerView). KeepsTaking l after.layer) same keeps)
 
-pub polls_idle_from : (old new all : ChannelsView) (left : LayerView) (last : ChannelsView) (handled : Bool) → PollsFurther old new → all ≡ gathered new → KeepsTaking new.layer all.layer
+pub polls_idle_from : (old new all : ChannelsView) (left : LayerView) (last : ChannelsView) (handled : Bool) → PollsFurther old new → all ≡ view_with_events new → KeepsTaking new.layer all.layer
     → NothingToTake all.layer → left ≡ all.layer → HandlesNextWhere handled (record all { layer = left }) last → handled ≡ false
     → PollsAs old None last × (last.layer.failed ≡ old.layer.failed)
 polls_idle_from old new all left last handled on gathers gathering nothing same next so =
     let none = subst (λ (b : Bool). HandlesNextWhere b all last) so (subst (λ (l : LayerView). HandlesNextWhere handled (record all { layer = l }) last) same next) in
     (polls_idle old new all last on gathers nothing none.1 none.0, ap (λ (v : ChannelsView). v.layer.failed) none.0 ∙ gathering.runs ∙ on.keeps.runs)
 
-pub polls_takes_from : (old new all last : ChannelsView) (notice : ChannelNotice) → PollsFurther old new → all ≡ gathered new → KeepsTaking new.layer all.layer → TakesNotice all.layer notice last.layer
+pub polls_takes_from : (old new all last : ChannelsView) (notice : ChannelNotice) → PollsFurther old new → all ≡ view_with_events new → KeepsTaking new.layer all.layer → TakesNotice all.layer notice last.layer
     → last.below ≡ all.below → last.layer.failed ≡ all.layer.failed → PollsAs old (Some notice) last × (last.layer.failed ≡ old.layer.failed)
 polls_takes_from old new all last notice on gathers gathering taken same runs =
     (polls_takes old new all last notice on gathers taken same, runs ∙ gathering.runs ∙ on.keeps.runs)
 
 -- a poll where nothing has failed
 pub polls_ok : (old new : ChannelsView) (result : Option ChannelNotice) → old.layer.failed ≡ false → PollsAs old result new → new.layer.failed ≡ old.layer.failed → PollsChannels old (Ok result) new
-polls_ok old new result runs polls same = subst (λ (b : Bool). PollsWhere b old (Ok result) new) (sym runs) (polls, same ∙ runs)
+polls_ok old new result runs polls same = subst (λ (b : Bool). PollsOrFails b old (Ok result) new) (sym runs) (polls, same ∙ runs)
 
 -- ---- channels that wait end
 

@@ -13,7 +13,7 @@ use Rattle.dcsctp_channel_calls.specs.View.{WaitingChannel, of_channel, LayerVie
 use Rattle.dcsctp_channel_calls.specs.Calls.{KeepsTaking}
 use Rattle.dcsctp_channel_calls.specs.Opening.{channels_waiting}
 use Rattle.dcsctp_channel_calls.specs.Events.{with_notices}
-use Rattle.dcsctp_channel_calls.specs.Sending.{without_waiting, ends_waiting, closed_at}
+use Rattle.dcsctp_channel_calls.specs.Sending.{without_waiting, ends_waiting, layer_after_close}
 use Rattle.dcsctp_channel_calls.specs.Queries.{is_waiting}
 use Rattle.dcsctp_channels.specs.Layer.{waiting_said, place_from}
 use Rattle.dcsctp_channels.specs.declared.layer.Waiting.{Waiting}
@@ -94,13 +94,13 @@ waits_at name from (x ∷ xs) = waits_here name from x xs (waits_at name (from +
 
 -- ---- it is closed
 
-pub closed_none : (name : ℕ) (layer : LayerView) → without_waiting name layer.waiting ≡ layer.waiting → ends_waiting name layer.waiting ≡ [] → layer ≡ closed_at None name layer
+pub closed_none : (name : ℕ) (layer : LayerView) → without_waiting name layer.waiting ≡ layer.waiting → ends_waiting name layer.waiting ≡ [] → layer ≡ layer_after_close None name layer
 closed_none name layer same ends = rw (same, ends, append-nil layer.notices) refl
 
 pub closed_waiting : {A E : Type 0} (name : ℕ) (old mid new : LayerView) (rest : List WaitingChannel) (result : Result A E) → rest ≡ without_waiting name old.waiting
     → ends_waiting name old.waiting ≡ of_channel (ended name Closed) ∷ [] → mid ≡ channels_waiting rest old
     → ByResult (λ done. new ≡ with_notices (of_channel (ended name Closed) ∷ []) mid) (new ≡ mid) result
-    → KeepsTaking old new × OnOk result (new ≡ closed_at None name old)
+    → KeepsTaking old new × OnOk result (new ≡ layer_after_close None name old)
 closed_waiting name old mid new rest result removed ends out reports = (
   keeps_report old mid new (of_channel (ended name Closed) ∷ []) result
       (subst (λ (l : LayerView). KeepsTaking old l) (sym out) (keeps_same old (channels_waiting rest old) refl refl refl refl)) reports,

@@ -12,10 +12,10 @@ use Rattle.std.proofs.lemmas.List.Elements.{All-cons, All-nil}
 use Rattle.std.proofs.lemmas.List.Sums.{sum_by-cons}
 use Rattle.dcsctp_channel_calls.specs.api.Calls.{UserView, stream_shown}
 use Rattle.dcsctp_channel_calls.specs.declared.channel.HeldStream.{HeldStream}
-use Rattle.dcsctp_channel_calls.specs.View.{ChannelsView, entry_at, entry_put, without_entry}
+use Rattle.dcsctp_channel_calls.specs.View.{ChannelsView, entry_numbered, entry_put, without_entry}
 use Rattle.dcsctp_channel_calls.specs.Arrivals.{owes_now, is_open_now, ack_is_due}
 use Rattle.dcsctp_channel_calls.specs.Late.{may_reset, patience_ends, is_all_sent, reset_is_due, NoResetIsDue, NoAckIsDue}
-use Rattle.dcsctp_channel_calls.specs.Polls.{sooner_where, deadline_with}
+use Rattle.dcsctp_channel_calls.specs.Polls.{sooner_if_ending, deadline_with}
 use Rattle.dcsctp_channels.specs.Weights.{late_weight, late_count}
 
 abbrev counts : Bool → ℕ
@@ -61,12 +61,12 @@ no_acks view is = record { none = no_acks_in view view.layer.streams is }
 pub no_deadline : (below : UserView) (entries : List (ℕ × HeldStream)) (due : ℕ) → late_count entries ≡ 0 → deadline_with below entries due ≡ due
 no_deadline below [] due is = refl
 no_deadline below (entry ∷ entries) due is =
-    ap (λ (b : Bool). deadline_with below entries (sooner_where (b && (stream_shown below entry.0).amount == 0) (patience_ends entry.1) due)) (none_first entry entries is).0
+    ap (λ (b : Bool). deadline_with below entries (sooner_if_ending (b && (stream_shown below entry.0).amount == 0) (patience_ends entry.1) due)) (none_first entry entries is).0
     ∙ no_deadline below entries due (none_behind entry entries is)
 
 -- ---- a stream comes into use, or goes
 
-pub freed_weight : (number : ℕ) (entries others : List (ℕ × HeldStream)) (held : HeldStream) → others ≡ without_entry number entries → entry_at number entries ≡ Some held
+pub freed_weight : (number : ℕ) (entries others : List (ℕ × HeldStream)) (held : HeldStream) → others ≡ without_entry number entries → entry_numbered number entries ≡ Some held
     → late_count others + late_weight held ≡ late_count entries
 freed_weight number entries others held is at =
     ap (λ (es : List (ℕ × HeldStream)). late_count es + late_weight held) is
@@ -74,7 +74,7 @@ freed_weight number entries others held is at =
     ∙ sum_by-remove_entry late_weight (is_at (nat_cmp number)) entries
 
 pub put_weight : (number : ℕ) (held : HeldStream) (entries others : List (ℕ × HeldStream)) (before : Option HeldStream) → IsStrictlySortedBy nat_cmp (keys_of entries) → others ≡ entry_put number held entries
-    → before ≡ entry_at number entries → late_count others + unwrap_or (option_map late_weight before) 0 ≡ late_count entries + late_weight held
+    → before ≡ entry_numbered number entries → late_count others + unwrap_or (option_map late_weight before) 0 ≡ late_count entries + late_weight held
 put_weight number held entries others before sorted is at =
     ap (λ (es : List (ℕ × HeldStream)). late_count es + unwrap_or (option_map late_weight before) 0) is
     ∙ ap (λ (o : Option HeldStream). late_count (entry_put number held entries) + unwrap_or (option_map late_weight o) 0) at

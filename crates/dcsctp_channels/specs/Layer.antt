@@ -5,14 +5,14 @@ use Rattle.dcsctp_channel_calls.specs.api.Events.{event_content}
 use Rattle.dcsctp_channel_calls.specs.messages.channel_spec.declared.types.Delivery.{Delivery}
 use Rattle.dcsctp_channel_calls.specs.messages.channel_spec.declared.types.StreamUse.{StreamUse}
 use Rattle.dcsctp_channel_calls.specs.messages.channel_spec.Contents.{ChannelContent}
-use Rattle.dcsctp_channel_calls.specs.messages.channel_spec.Slots.{name_in, accepted_use}
-use Rattle.dcsctp_channel_calls.specs.messages.channel_spec.Table.{end_where, ends_as}
+use Rattle.dcsctp_channel_calls.specs.messages.channel_spec.Slots.{name_of_slot, accepted_use}
+use Rattle.dcsctp_channel_calls.specs.messages.channel_spec.Table.{end_if_heard, ends_as}
 use Rattle.dcsctp_channel_calls.specs.declared.channel.HeldStream.{HeldStream}
 use Rattle.dcsctp_channel_calls.specs.Notices.{notice_of}
-use Rattle.dcsctp_channel_calls.specs.View.{WaitingChannel, ToldEvent, of_channel, LayerView, ChannelsView, entry_put, held_at, held_from, went_on, streams_with, names_with}
+use Rattle.dcsctp_channel_calls.specs.View.{WaitingChannel, ReportedEvent, of_channel, LayerView, ChannelsView, entry_put, held_stream_numbered, held_from, went_on, streams_with, names_with}
 use Rattle.dcsctp_channel_calls.specs.declared.channel.Limits.{Limits}
 use Rattle.dcsctp_channel_calls.specs.Calls.{KeepsTaking, on_layer}
-use Rattle.dcsctp_channel_calls.specs.Events.{with_notices, HandlesEventWhere}
+use Rattle.dcsctp_channel_calls.specs.Events.{with_notices, HandlesEventUnlessEnded}
 use Rattle.dcsctp_channel_calls.specs.Late.{DoesLate, NothingIsLate}
 use Rattle.dcsctp_channel_calls.specs.Polls.{HandlesNext, NothingToDo}
 use Rattle.dcsctp_channels.specs.declared.arrivals.Kind.{Kind}
@@ -24,7 +24,7 @@ use Rattle.dcsctp_channels.specs.declared.layer.Waiting.{Waiting}
 abbrev pub waiting_said : Waiting → WaitingChannel
 waiting_said waiting = record { name = waiting.id.0; payload = waiting.payload.items; delivery = waiting.delivery; negotiated = waiting.negotiated }
 
-abbrev pub told_of : Told → ToldEvent
+abbrev pub told_of : Told → ReportedEvent
 told_of told = record { after = told.after; event = event_content told.event }
 
 abbrev pub layer_view : Layer → LayerView
@@ -66,7 +66,7 @@ abbrev pub stream_left : ℕ → HeldStream → Option StreamUse → LayerView �
 stream_left number held after layer =
     record layer {
       streams = streams_with number (Some held) (slot_in after) (went_on layer.moment held) layer.streams;
-      names = names_with number held.stream.name (name_in (slot_in after)) layer.names;
+      names = names_with number held.stream.name (name_of_slot (slot_in after)) layer.names;
     }
 
 -- a layer of which nothing is known yet
@@ -94,10 +94,10 @@ fresh_layer limits =
 abbrev pub accepted_before : Option HeldStream → ℕ → ℕ → Delivery → LayerView → LayerView
 accepted_before None number name delivery layer = put_at number None (held_from layer.moment delivery (accepted_use name false)) layer
 accepted_before (Some held) number name delivery layer =
-    put_at number held.stream.name (held_from layer.moment delivery (accepted_use name true)) (with_notices (map of_channel (ends_as (end_where held.stream.heard) held.stream)) layer)
+    put_at number held.stream.name (held_from layer.moment delivery (accepted_use name true)) (with_notices (map of_channel (ends_as (end_if_heard held.stream.heard) held.stream)) layer)
 
 abbrev pub accepted_at : ℕ → ℕ → Delivery → LayerView → LayerView
-accepted_at number name delivery layer = accepted_before (held_at layer number) number name delivery layer
+accepted_at number name delivery layer = accepted_before (held_stream_numbered layer number) number name delivery layer
 
 -- ---- what a user's message is by its identifier
 
@@ -121,7 +121,7 @@ HandlesNextWhere false old new = (new ≡ old) × NothingToDo old
 
 -- The first event was handled; there is always one.
 abbrev pub HandlesTold : Bool → ChannelsView → ChannelsView → Type 0
-HandlesTold true old new = (first : ToldEvent) × (rest : List ToldEvent) × (old.layer.told ≡ first ∷ rest) × HandlesEventWhere old.layer.over first.event (on_layer (λ layer. record layer { told = rest }) old) new
+HandlesTold true old new = (first : ReportedEvent) × (rest : List ReportedEvent) × (old.layer.told ≡ first ∷ rest) × HandlesEventUnlessEnded old.layer.over first.event (on_layer (λ layer. record layer { told = rest }) old) new
 HandlesTold false old new = old.layer.told ≡ []
 
 abbrev pub place_from : ℕ → ℕ → List WaitingChannel → Option ℕ

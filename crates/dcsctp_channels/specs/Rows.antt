@@ -1,7 +1,7 @@
 -- The rows of the table as functions of a stream in use.
 use Rattle.std.specs.Prelude.{◌≡◌, ℕ, Option, Some, None, List, [], ◌∷◌, ◌++◌, map}
 use Rattle.dcsctp_channel_calls.specs.messages.channel_spec.declared.types.StreamUse.{StreamUse}
-use Rattle.dcsctp_channel_calls.specs.messages.channel_spec.Slots.{StreamSlot, free, used, name_in, Report, opened, ended, SlotOutcome, SlotInput, hears_ack, hears_bad_message, may_acknowledge, is_closed, all_is_sent, cannot_reset, was_performed, was_refused, peer_resets, association_ends}
+use Rattle.dcsctp_channel_calls.specs.messages.channel_spec.Slots.{StreamSlot, free, used, name_of_slot, Report, opened, ended, SlotOutcome, SlotInput, hears_ack, hears_bad_message, may_acknowledge, is_closed, all_is_sent, cannot_reset, was_performed, was_refused, peer_resets, association_ends}
 use Rattle.dcsctp_channel_calls.specs.declared.channel.HeldStream.{HeldStream}
 use Rattle.dcsctp_channel_calls.specs.View.{of_channel, LayerView, went_on, streams_with, names_with}
 use Rattle.dcsctp_channels.specs.declared.rows.Notice.{Notice}
@@ -41,6 +41,6 @@ abbrev pub step_taken : ℕ → HeldStream → Step → LayerView → LayerView
 step_taken number held step layer =
     record layer {
       streams = streams_with number (Some held) (slot_in step.after) (went_on layer.moment held) layer.streams;
-      names = names_with number held.stream.name (name_in (slot_in step.after)) layer.names;
+      names = names_with number held.stream.name (name_of_slot (slot_in step.after)) layer.names;
       notices = layer.notices ++ map of_channel (notice_reports step.notice);
     }

@@ -7,13 +7,13 @@ ghost use Rattle.dcsctp_channel_calls.specs.Events.{with_notices};
 ghost use Rattle.dcsctp_channel_calls.specs.api.types.queues.Messages.{message_content};
 ghost use Rattle.dcsctp_channel_calls.specs.messages.channel_spec.Contents.{content_from};
 ghost use Rattle.dcsctp_channel_calls.specs.messages.channel_spec.Slots.{Opening, refused_use, hears_open, hears_message, hears_bad_message};
-ghost use Rattle.dcsctp_channel_calls.specs.messages.Contents.{opening_in};
-ghost use Rattle.dcsctp_channel_calls.specs.View.{of_channel, held_at, slot_at, held_from, received_on};
+ghost use Rattle.dcsctp_channel_calls.specs.messages.Contents.{opening_of_message};
+ghost use Rattle.dcsctp_channel_calls.specs.View.{of_channel, held_stream_numbered, slot_numbered, held_from, received_on};
 ghost use Rattle.dcsctp_channel_calls.specs.Notices.{opening_of};
 ghost use Rattle.dcsctp_channel_calls.specs.declared.channel.HeldStream.{HeldStream};
 ghost use Rattle.dcsctp_channel_calls.specs.Calls.{PartGoes};
 ghost use Rattle.dcsctp_channel_calls.specs.Arrivals.{HandlesMessage, TakesRow, input_of, input_of_control, has_place, accepts_open, AcceptsOpen, AcksNow, SendsAck, ack_is_due, plain_delivery, message_taken};
-ghost use Rattle.dcsctp_channel_calls.specs.messages.Format.{control_at};
+ghost use Rattle.dcsctp_channel_calls.specs.messages.Format.{control_of_bytes};
 ghost use Rattle.dcsctp_channels.specs.Layer.{layer_view, whole_view, Leaves, put_at, accepted_at, kind_content};
 
 use crate::below::{has_stream, prepare_stream};
@@ -116,7 +116,7 @@ fn take_control<S: DcSctpSocket>(
     bytes: &[u8],
 ) -> Result<(), AllocError>
     ensures { PartGoes (λ done. TakesRow stream (input_of_control (layer_view layer.old) stream
-        (control_at bytes.now))) (whole_view (S.user_view socket.old) layer.old) result
+        (control_of_bytes bytes.now))) (whole_view (S.user_view socket.old) layer.old) result
         (whole_view (S.user_view socket.new) layer.new) }
 {
     match read_control(bytes) {
@@ -166,7 +166,7 @@ fn hear_open(
     is_text: bool,
     bytes: Vec<u8>,
 ) -> Result<(), AllocError>
-    requires at { held_at (layer_view layer.old) stream ≡ Some held.now }
+    requires at { held_stream_numbered (layer_view layer.old) stream ≡ Some held.now }
     requires goes_on { held.now.stream.closing ≡ false }
     ensures { Leaves (message_taken stream (hears_message
         (record { is_text = is_text; bytes = bytes.items })) (layer_view layer.old))
@@ -242,7 +242,7 @@ fn refuse(layer: &mut Layer, stream: u16) -> Result<(), AllocError>
 
 // Is the stream free, and is there room for one more; or is it given again?
 fn has_place(layer: &Layer, stream: u16) -> bool
-    ensures { result ≡ has_place (slot_at (layer_view layer.now) stream) (layer_view layer.now) }
+    ensures { result ≡ has_place (slot_numbered (layer_view layer.now) stream) (layer_view layer.now) }
 {
     match layer.table.at(stream) {
         None => layer.table.channels.len() < layer.limits.channels,
@@ -252,7 +252,7 @@ fn has_place(layer: &Layer, stream: u16) -> bool
 
 // Is the peer's OPEN accepted?
 fn accepts(layer: &Layer, stream: u16, message: &OpenMessage<'_>) -> bool
-    ensures { result ≡ accepts_open (layer_view layer.now) stream (opening_in message.now) }
+    ensures { result ≡ accepts_open (layer_view layer.now) stream (opening_of_message message.now) }
 {
     let Some(role) = layer.role else {
         return false;
@@ -262,7 +262,7 @@ fn accepts(layer: &Layer, stream: u16, message: &OpenMessage<'_>) -> bool
 }
 
 fn options_of(alloc: Global, message: &OpenMessage<'_>) -> Result<ChannelOptions, AllocError>
-    ensures { IfOk result (λ options. opening_of options ≡ opening_in message.now) }
+    ensures { IfOk result (λ options. opening_of options ≡ opening_of_message message.now) }
 {
     Ok(ChannelOptions {
         label: Vec::from_slice(alloc, message.label)?,
@@ -297,8 +297,8 @@ fn accept<S: DcSctpSocket>(
     stream: u16,
     message: &OpenMessage<'_>,
 ) -> Result<(), AllocError>
-    requires { accepts_open (layer_view layer.old) stream (opening_in message.now) ≡ true }
-    ensures { PartGoes (λ done. AcceptsOpen stream (opening_in message.now))
+    requires { accepts_open (layer_view layer.old) stream (opening_of_message message.now) ≡ true }
+    ensures { PartGoes (λ done. AcceptsOpen stream (opening_of_message message.now))
         (whole_view (S.user_view socket.old) layer.old) result
         (whole_view (S.user_view socket.new) layer.new) }
 {
@@ -362,7 +362,7 @@ pub(crate) fn send_ack<S: DcSctpSocket>(
     layer: &mut Layer,
     stream: u16,
 ) -> Result<(), AllocError>
-    ensures { (held : HeldStream) → held_at (layer_view layer.old) stream ≡ Some held → PartGoes
+    ensures { (held : HeldStream) → held_stream_numbered (layer_view layer.old) stream ≡ Some held → PartGoes
         (λ done. SendsAck stream held) (whole_view (S.user_view socket.old) layer.old) result
         (whole_view (S.user_view socket.new) layer.new) }
 {

@@ -3,7 +3,7 @@
 ghost use Rattle.std.specs.Prelude.{◌≡◌, [], ◌∷◌, OnOk};
 ghost use Rattle.dcsctp_channel_calls.specs.api.types.ByResult.{ByResult};
 ghost use Rattle.dcsctp_channel_calls.specs.api.Events.{event_content};
-ghost use Rattle.dcsctp_channel_calls.specs.View.{layer_told, gathered, stream_count, has_stream};
+ghost use Rattle.dcsctp_channel_calls.specs.View.{layer_after_events, view_with_events, stream_count, has_stream};
 ghost use Rattle.dcsctp_channel_calls.specs.Calls.{PartGoes, SocketConnects, SocketShutsDown, SocketHandlesInput, SocketAdvances};
 ghost use Rattle.dcsctp_channel_calls.specs.Opening.{ReadiesStream};
 ghost use Rattle.dcsctp_channels.specs.Layer.{layer_view, whole_view};
@@ -14,7 +14,7 @@ use std::alloc::AllocError;
 
 // Takes over an event of the socket.
 fn tell(layer: &mut Layer, event: SocketEvent, ready: usize) -> Result<(), AllocError>
-    ensures { ByResult (λ done. layer_view layer.new ≡ layer_told (event_content event ∷ []) ready
+    ensures { ByResult (λ done. layer_view layer.new ≡ layer_after_events (event_content event ∷ []) ready
         (layer_view layer.old)) (layer_view layer.new ≡ layer_view layer.old) result }
 {
     match event {
@@ -38,7 +38,7 @@ fn tell(layer: &mut Layer, event: SocketEvent, ready: usize) -> Result<(), Alloc
 
 /// Takes over the socket's events: packets go out at once, the others wait until the messages before them were read.
 pub(crate) fn gather<S: DcSctpSocket>(socket: &mut S, layer: &mut Layer) -> Result<(), AllocError>
-    ensures { PartGoes (λ done old new. new ≡ gathered old)
+    ensures { PartGoes (λ done old new. new ≡ view_with_events old)
         (whole_view (S.user_view socket.old) layer.old) result
         (whole_view (S.user_view socket.new) layer.new) }
 {

@@ -5,7 +5,7 @@ ghost use Rattle.dcsctp_channel_calls.specs.api.types.Setting.{longest_message};
 ghost use Rattle.dcsctp_channel_calls.specs.api.Calls.{with_setting};
 ghost use Rattle.dcsctp_channel_calls.specs.api.Metrics.{ShowsMetrics};
 ghost use Rattle.dcsctp_channel_calls.specs.api.spec.endpoint.TimeTurns.{next_moment};
-ghost use Rattle.dcsctp_channel_calls.specs.Notices.{opening_of, notices_in};
+ghost use Rattle.dcsctp_channel_calls.specs.Notices.{opening_of, polled_notice};
 ghost use Rattle.dcsctp_channel_calls.specs.Queries.{channel_state, amount_on, threshold_on, traffic_on};
 ghost use Rattle.dcsctp_channel_calls.specs.Calls.{Answers, SocketConnects, SocketHandlesInput, SocketAdvances, SocketCloses, SocketShutsDown, on_layer};
 ghost use Rattle.dcsctp_channel_calls.specs.Sending.{SendsContent, channel_closed, SetsChannelThreshold, stream_of_name};
@@ -328,7 +328,7 @@ impl<S: DcSctpSocket + Drop> Channels<S> {
     /// Takes what happened first. Take all before each packet that is handed in, and before you wait: what is
     /// answered to the peer is answered here.
     pub fn poll_event(&mut self) -> Result<Option<ChannelEvent>, SocketFault>
-        ensures { PollsChannels (channels_shown S.user_view self.old) (notices_in result)
+        ensures { PollsChannels (channels_shown S.user_view self.old) (polled_notice result)
             (channels_shown S.user_view self.new) }
     {
         if self.layer.failed {

@@ -6,12 +6,12 @@ ghost use Rattle.std.specs.VecDeque.{deque_len};
 ghost use Rattle.dcsctp_channel_calls.specs.api.spec.endpoint.TimeTurns.{next_moment};
 ghost use Rattle.dcsctp_channel_calls.specs.api.Calls.{stream_shown};
 ghost use Rattle.dcsctp_channel_calls.specs.declared.channel.HeldStream.{HeldStream};
-ghost use Rattle.dcsctp_channel_calls.specs.View.{held_at};
+ghost use Rattle.dcsctp_channel_calls.specs.View.{held_stream_numbered};
 ghost use Rattle.dcsctp_channel_calls.specs.Calls.{PartGoes};
-ghost use Rattle.dcsctp_channel_calls.specs.Sending.{channel_closed, closed_at};
+ghost use Rattle.dcsctp_channel_calls.specs.Sending.{channel_closed, layer_after_close};
 ghost use Rattle.dcsctp_channel_calls.specs.Arrivals.{ack_is_due};
 ghost use Rattle.dcsctp_channel_calls.specs.Late.{NoResetIsDue, NoAckIsDue, ResetsStream, may_reset, reset_is_due, is_all_sent, patience_ends, may_begin_now};
-ghost use Rattle.dcsctp_channel_calls.specs.Polls.{sooner_where, deadline_with};
+ghost use Rattle.dcsctp_channel_calls.specs.Polls.{sooner_if_ending, deadline_with};
 ghost use Rattle.dcsctp_channel_calls.specs.Opening.{channels_waiting};
 ghost use Rattle.dcsctp_channels.specs.Layer.{layer_view, whole_view, waiting_said, Leaves, DoesLateWhere, place_waiting};
 
@@ -57,7 +57,7 @@ fn reset_is_due<S: DcSctpSocket>(socket: &S, layer: &Layer, stream: u16, held: &
 fn due_reset<S: DcSctpSocket>(socket: &S, layer: &Layer) -> Option<u16>
     ensures none { IfNone result (NoResetIsDue (whole_view (S.user_view socket.now) layer.now)) }
     ensures some { IfSome result (λ stream. (held : HeldStream) ×
-        (held_at (layer_view layer.now) stream ≡ Some held) ×
+        (held_stream_numbered (layer_view layer.now) stream ≡ Some held) ×
         (reset_is_due (whole_view (S.user_view socket.now) layer.now) stream held ≡ true)) }
 {
     if layer.table.late == 0 {
@@ -73,7 +73,7 @@ fn due_reset<S: DcSctpSocket>(socket: &S, layer: &Layer) -> Option<u16>
 
 // Asks for the reset of the own stream.
 fn reset<S: DcSctpSocket>(socket: &mut S, layer: &mut Layer, stream: u16) -> Result<(), AllocError>
-    ensures { (held : HeldStream) → held_at (layer_view layer.old) stream ≡ Some held → PartGoes
+    ensures { (held : HeldStream) → held_stream_numbered (layer_view layer.old) stream ≡ Some held → PartGoes
         (λ done. ResetsStream stream held) (whole_view (S.user_view socket.old) layer.old) result
         (whole_view (S.user_view socket.new) layer.new) }
 {
@@ -90,7 +90,7 @@ fn reset<S: DcSctpSocket>(socket: &mut S, layer: &mut Layer, stream: u16) -> Res
 fn due_ack<S: DcSctpSocket>(socket: &S, layer: &Layer) -> Option<u16>
     ensures none { IfNone result (NoAckIsDue (whole_view (S.user_view socket.now) layer.now)) }
     ensures some { IfSome result (λ stream. (held : HeldStream) ×
-        (held_at (layer_view layer.now) stream ≡ Some held) ×
+        (held_stream_numbered (layer_view layer.now) stream ≡ Some held) ×
         (ack_is_due (whole_view (S.user_view socket.now) layer.now) held ≡ true)) }
 {
     if layer.table.late == 0 {
@@ -161,7 +161,7 @@ pub(crate) fn place_of(layer: &Layer, id: ChannelId) -> Option<usize>
 }
 
 fn close_waiting(layer: &mut Layer, id: ChannelId) -> Result<(), AllocError>
-    ensures { Leaves (closed_at None id.0 (layer_view layer.old)) (layer_view layer.old) result
+    ensures { Leaves (layer_after_close None id.0 (layer_view layer.old)) (layer_view layer.old) result
         (layer_view layer.new) }
 {
     let Some(place) = place_of(layer, id) else {
@@ -203,7 +203,7 @@ fn sooner<S: DcSctpSocket>(
     held: &HeldStream,
     due: SocketTime,
 ) -> SocketTime
-    ensures { result ≡ sooner_where (may_reset held.now.stream &&
+    ensures { result ≡ sooner_if_ending (may_reset held.now.stream &&
         (stream_shown (S.user_view socket.now) stream).amount == 0) (patience_ends held.now) due }
 {
     if rows::may_reset(held.stream) && socket.buffered_amount(StreamId(stream)) == 0 {

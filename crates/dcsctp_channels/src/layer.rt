@@ -5,8 +5,8 @@ ghost use Rattle.dcsctp_channel_calls.specs.api.declared.errors.SocketFault.TheV
 ghost use Rattle.dcsctp_channel_calls.specs.api.types.ByResult.{ByResult};
 ghost use Rattle.dcsctp_channel_calls.specs.api.types.Ids.{stream_numbers};
 ghost use Rattle.dcsctp_channel_calls.specs.Notices.{notice_of};
-ghost use Rattle.dcsctp_channel_calls.specs.View.{of_channel, held_at, held_from, went_on};
-ghost use Rattle.dcsctp_channel_calls.specs.Sending.{row_where};
+ghost use Rattle.dcsctp_channel_calls.specs.View.{of_channel, held_stream_numbered, held_from, went_on};
+ghost use Rattle.dcsctp_channel_calls.specs.Sending.{row_taken_if_held};
 ghost use Rattle.dcsctp_channel_calls.specs.Events.{with_notices, rows_taken};
 ghost use Rattle.dcsctp_channel_calls.specs.Polls.{TakesNotice, NothingToTake};
 ghost use Rattle.dcsctp_channels.specs.Layer.{layer_view, fresh_layer, Leaves, put_at, stream_left};
@@ -245,7 +245,7 @@ fn take_step(
 
 /// Takes a row on a stream, if that is in use.
 pub(crate) fn take_row(layer: &mut Layer, stream: u16, row: Row) -> Result<(), AllocError>
-    ensures { Leaves (row_where (held_at (layer_view layer.old) stream) stream (row_input row)
+    ensures { Leaves (row_taken_if_held (held_stream_numbered (layer_view layer.old) stream) stream (row_input row)
         (layer_view layer.old)) (layer_view layer.old) result (layer_view layer.new) }
 {
     match layer.table.at(stream) {

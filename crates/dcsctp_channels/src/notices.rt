@@ -8,7 +8,7 @@ ghost use Rattle.dcsctp_channel_calls.specs.messages.channel_spec.Slots.{was_per
 ghost use Rattle.dcsctp_channel_calls.specs.View.{association_over};
 ghost use Rattle.dcsctp_channel_calls.specs.Calls.{PartGoes, SocketCloses, on_layer};
 ghost use Rattle.dcsctp_channel_calls.specs.Opening.{BeginsWaiting};
-ghost use Rattle.dcsctp_channel_calls.specs.Events.{HandlesEvent, HandlesEventWhere, with_notices, rows_taken, channels_ended, waiting_lost, streams_lost, streams_reset, amount_reported, connection_made};
+ghost use Rattle.dcsctp_channel_calls.specs.Events.{HandlesEvent, HandlesEventUnlessEnded, with_notices, rows_taken, channels_ended, waiting_lost, streams_lost, streams_reset, amount_reported, connection_made};
 ghost use Rattle.dcsctp_channels.specs.Layer.{layer_view, whole_view, Leaves};
 
 use crate::below::gather;
@@ -26,7 +26,7 @@ pub(crate) fn handle_event<S: DcSctpSocket>(
     layer: &mut Layer,
     event: SocketEvent,
 ) -> Result<(), AllocError>
-    ensures { PartGoes (λ done. HandlesEventWhere layer.old.has_ended (event_content event))
+    ensures { PartGoes (λ done. HandlesEventUnlessEnded layer.old.has_ended (event_content event))
         (whole_view (S.user_view socket.old) layer.old) result
         (whole_view (S.user_view socket.new) layer.new) }
 {

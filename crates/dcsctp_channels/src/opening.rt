@@ -2,7 +2,7 @@
 
 ghost use Rattle.std.specs.Prelude.{◌≡◌, None, true};
 ghost use Rattle.dcsctp_channel_calls.specs.api.types.ByResult.{ByResult};
-ghost use Rattle.dcsctp_channel_calls.specs.View.{held_at};
+ghost use Rattle.dcsctp_channel_calls.specs.View.{held_stream_numbered};
 ghost use Rattle.dcsctp_channel_calls.specs.messages.channel_spec.Streams.{is_own};
 ghost use Rattle.dcsctp_channel_calls.specs.Calls.{PartGoes};
 ghost use Rattle.dcsctp_channel_calls.specs.Opening.{GetsStream, Agrees, SendsOpen, FirstBegins, BeginsAll, BeginsWaiting, without_stream};
@@ -130,7 +130,7 @@ fn agree<S: DcSctpSocket>(
     stream: u16,
     waiting: &Waiting,
 ) -> Result<bool, AllocError>
-    requires { held_at (layer_view layer.old) stream ≡ None }
+    requires { held_stream_numbered (layer_view layer.old) stream ≡ None }
     ensures { PartGoes (λ done old new. (done ≡ true) × Agrees stream (waiting_said waiting.now) old
         new) (whole_view (S.user_view socket.old) layer.old) result
         (whole_view (S.user_view socket.new) layer.new) }
@@ -149,7 +149,7 @@ fn send_open<S: DcSctpSocket>(
     stream: u16,
     waiting: &Waiting,
 ) -> Result<bool, AllocError>
-    requires { held_at (layer_view layer.old) stream ≡ None }
+    requires { held_stream_numbered (layer_view layer.old) stream ≡ None }
     ensures { PartGoes (SendsOpen stream (waiting_said waiting.now))
         (whole_view (S.user_view socket.old) layer.old) result
         (whole_view (S.user_view socket.new) layer.new) }

@@ -2,7 +2,7 @@
 
 ghost use Rattle.std.specs.Prelude.{◌≡◌};
 ghost use Rattle.dcsctp_channel_calls.specs.Queries.{channel_state, is_waiting, state_held};
-ghost use Rattle.dcsctp_channel_calls.specs.View.{held_at};
+ghost use Rattle.dcsctp_channel_calls.specs.View.{held_stream_numbered};
 ghost use Rattle.dcsctp_channels.specs.Layer.{layer_view};
 
 use crate::closing::place_of;
@@ -22,7 +22,7 @@ pub(crate) fn state_of(layer: &Layer, id: ChannelId) -> ChannelState
 
 // The state of the channel of a stream.
 fn state_on(layer: &Layer, stream: u16) -> ChannelState
-    ensures { result ≡ state_held (held_at (layer_view layer.now) stream) }
+    ensures { result ≡ state_held (held_stream_numbered (layer_view layer.now) stream) }
 {
     match layer.table.at(stream) {
         Some(held) if held.stream.closing => ChannelState::Closing,

@@ -5,7 +5,7 @@ ghost use Rattle.dcsctp_channel_calls.specs.View.{may_reopen};
 ghost use Rattle.dcsctp_channel_calls.specs.Arrivals.{owes_now};
 ghost use Rattle.dcsctp_channel_calls.specs.Late.{may_reset};
 ghost use Rattle.dcsctp_channel_calls.specs.messages.channel_spec.Slots.{used, accepted_use, refused_use, opened_use, agreed_use};
-ghost use Rattle.dcsctp_channel_calls.specs.messages.channel_spec.Table.{becomes, ends_as, end_where, heard_reports, on_ack, on_close, on_room, on_all_sent, on_no_reset, on_performed, on_refused, on_peer_reset, on_association_end, outcome_of, settled_use, given_up};
+ghost use Rattle.dcsctp_channel_calls.specs.messages.channel_spec.Table.{becomes, ends_as, end_if_heard, heard_reports, on_ack, on_close, on_room, on_all_sent, on_no_reset, on_performed, on_refused, on_peer_reset, on_association_end, outcome_of, settled_use, given_up};
 ghost use Rattle.dcsctp_channels.specs.Rows.{IsStep, row_input, notice_reports};
 
 use dcsctp_channel_calls::channel_messages::channel_spec::{ChannelEnd, OwnReset, StreamUse};
@@ -163,7 +163,7 @@ fn ending(stream: StreamUse, end: ChannelEnd) -> Option<Notice>
 
 /// The end of the channel of which both directions were reset.
 pub(crate) fn ended(stream: StreamUse) -> Option<Notice>
-    ensures { notice_reports result ≡ ends_as (end_where stream.heard) stream }
+    ensures { notice_reports result ≡ ends_as (end_if_heard stream.heard) stream }
 {
     if stream.heard {
         ending(stream, ChannelEnd::Closed)

@@ -2,7 +2,7 @@
 
 ghost use Rattle.std.specs.Prelude.{◌≡◌, [], OnOk};
 ghost use Rattle.dcsctp_channels.specs.Weights.{late_weight, late_count};
-ghost use Rattle.dcsctp_channel_calls.specs.View.{entry_at, entry_put, without_entry, names_with};
+ghost use Rattle.dcsctp_channel_calls.specs.View.{entry_numbered, entry_put, without_entry, names_with};
 
 use crate::rows;
 use dcsctp_channel_calls::HeldStream;
@@ -46,14 +46,14 @@ impl Table {
 
     /// What a stream is used for; none: it is free.
     pub(crate) fn at(&self, stream: u16) -> Option<HeldStream>
-        ensures { result ≡ entry_at stream self.now.channels.entries }
+        ensures { result ≡ entry_numbered stream self.now.channels.entries }
     {
         self.channels.get(&stream).copied()
     }
 
     /// The stream of a channel, if it has one.
     pub(crate) fn stream_of(&self, name: u64) -> Option<u16>
-        ensures { result ≡ entry_at name self.now.names.entries }
+        ensures { result ≡ entry_numbered name self.now.names.entries }
     {
         self.names.get(&name).copied()
     }

@@ -1,10 +1,10 @@
 -- What each step of a flush does, by whether an allocation failed.
 use Rattle.dcsctp_transfer.specs.spec.queues.SendQueue.{has_queued_data, SendQueueState}
 use Rattle.dcsctp_core.proofs.FirstLemmas.{Forwarded, BeforeData, fills_first, forwarded_where, transfer_is, before_data, begun_in_view, fills_behind, handed_of, until_of, same_view}
-use Rattle.dcsctp_core.specs.Flushing.{FillsAskedPacket, AcknowledgesInQueues, AskCut, AsksWith, FillsResetRequest, FillsWith, ForwardsAt, HasNoData, KeepsSize, SendsUnlessEmpty, TellsData, TellsForward, TriesData, can_queues_send, packet_for}
+use Rattle.dcsctp_core.specs.Flushing.{FillsAskedPacket, AcknowledgesInQueues, CutsAsk, AsksWith, FillsResetRequest, FillsWith, ForwardsInTime, HasNoData, KeepsSize, SendsUnlessEmpty, AddsFirstOfData, AddsFirstOfForward, TriesData, can_queues_send, packet_for}
 use Rattle.dcsctp_transfer.specs.Filling.{FillsRequestedSack, is_sack_wanted}
 use Rattle.std.proofs.Common.{◌≡◌, Bool, Err, IsOk, List, None, Ok, Option, Result, Some, [], ap, append_assoc, false, refl, subst, sym, true, ℕ, ◌++◌, ◌||◌, ◌∙◌}
-use Rattle.dcsctp_transfer.specs.spec.endpoint.FlushOutcomes.{Ask, FillsWhere, filled, first_ask, later_ask, may_abandon, may_forward, room_in, stage_of}
+use Rattle.dcsctp_transfer.specs.spec.endpoint.FlushOutcomes.{Ask, FillsIfAllowed, filled_draft, first_ask, later_ask, may_abandon, may_forward, room_of_draft, stage_of}
 use Rattle.dcsctp_transfer.specs.wire_build.Building.{Building, bytes_remaining}
 use Rattle.dcsctp_transfer.specs.spec.Packet.{Emission}
 use Rattle.dcsctp_transfer.specs.spec.endpoint.Endpoint.{Endpoint}
@@ -30,35 +30,35 @@ busy_by false queue transfer is not_idle = is
 busy_by true queue transfer is not_idle = absurd (not_idle is)
 
 later_cut : {R : Type 0} (found : Option Transfer) (old new : View R) (draft : Emission) (packet : Building) → old.endpoint.queues.transfer ≡ found → packet ≡ packet_for old.endpoint.options draft
-    → (HasNoData old.endpoint.queues.queue found → ⊥) → TellsData found old packet new → AskCut later_ask old draft new.events
+    → (HasNoData old.endpoint.queues.queue found → ⊥) → AddsFirstOfData found old packet new → CutsAsk later_ask old draft new.events
 later_cut None old new draft packet holds is some tells = cut_untold later_ask old draft new.events tells
 later_cut (Some transfer) old new draft packet holds is some tells =
     let e : Endpoint = old.endpoint in
-    let room : bytes_remaining packet ≡ room_in e (filled draft []) = room_is_left e (filled draft []) packet (is ∙ ap (packet_for e.options) (sym (same_draft draft))) in
+    let room : bytes_remaining packet ≡ room_of_draft e (filled_draft draft []) = room_is_left e (filled_draft draft []) packet (is ∙ ap (packet_for e.options) (sym (same_draft draft))) in
     let u : GivesUntilFull later_ask e draft transfer =
     later_until e draft transfer tells.sent
-    (subst (λ (n : ℕ). FillsWhere (may_give e.queues.queue transfer.retransmission) e.moment (stage_of e.queues.queue transfer.retransmission [] n) tells.sent) room tells.fills) in
+    (subst (λ (n : ℕ). FillsIfAllowed (may_give e.queues.queue transfer.retransmission) e.moment (stage_of e.queues.queue transfer.retransmission [] n) tells.sent) room tells.fills) in
     let busy : is_idle e.queues.queue transfer ≡ false = busy_by (is_idle e.queues.queue transfer) e.queues.queue transfer refl (λ idle. some (idle_parts e.queues.queue transfer idle).0) in
     cut_within later_ask old draft new.events u.sent.told tells.tells.front tells.tells.rest (answer_filling later_ask e draft transfer u holds busy) tells.tells.parts tells.tells.told
 
-pub later_returns : {R E : Type 0} (packet filled : Building) (old : Context R) (result : Result (Unit {0}) E) (new : Context R) → TriesData packet old result new filled
-    → (HasNoData old.send_queue (transfer_of old.state) → IsOk result) → FillsWith later_ask packet old result new filled
-later_returns packet filled old (Ok done) new h idle = λ draft is. fills_later (view_of old) draft (view_of new) packet filled is h
-later_returns packet filled old (Err error) new h idle =
+pub later_returns : {R E : Type 0} (packet filled_draft : Building) (old : Context R) (result : Result (Unit {0}) E) (new : Context R) → TriesData packet old result new filled_draft
+    → (HasNoData old.send_queue (transfer_of old.state) → IsOk result) → FillsWith later_ask packet old result new filled_draft
+later_returns packet filled_draft old (Ok done) new h idle = λ draft is. fills_later (view_of old) draft (view_of new) packet filled_draft is h
+later_returns packet filled_draft old (Err error) new h idle =
     λ draft is. later_cut (transfer_of old.state) (view_of old) (view_of new) draft packet refl is (λ none. cc (idle none)) h
 
 -- ---- a FORWARD-TSN
 
 forward_cut : {R : Type 0} (old : Context R) (found : Option Transfer) (along : Bool) (state : State) (draft : Emission) (packet acked : Building) (new : View R) → transfer_of old.state ≡ found
-    → AcknowledgesInQueues found along old.state packet state acked → TellsForward (transfer_of state) (view_of (record old { state = state })) new → AskCut first_ask (view_of old) draft new.events
+    → AcknowledgesInQueues found along old.state packet state acked → AddsFirstOfForward (transfer_of state) (view_of (record old { state = state })) new → CutsAsk first_ask (view_of old) draft new.events
 forward_cut {R = R} old None along state draft packet acked new holds ack tells =
     let none : transfer_of state ≡ None = ap transfer_of ack.0 ∙ holds in
-    cut_untold first_ask (view_of old) draft new.events (subst (λ (f : Option Transfer). TellsForward f (view_of (record old { state = state })) new) none tells)
+    cut_untold first_ask (view_of old) draft new.events (subst (λ (f : Option Transfer). AddsFirstOfForward f (view_of (record old { state = state })) new) none tells)
 forward_cut {R = R} old (Some transfer) along state draft packet acked new holds ack tells =
     let e : Endpoint = endpoint_of old in
     let mid : Transfer = ack.0 in
-    let here : TellsForward (Some mid) (view_of (record old { state = state })) new =
-    subst (λ (f : Option Transfer). TellsForward f (view_of (record old { state = state })) new) (ap transfer_of ack.1 ∙ transfer_is old.state transfer mid holds) tells in
+    let here : AddsFirstOfForward (Some mid) (view_of (record old { state = state })) new =
+    subst (λ (f : Option Transfer). AddsFirstOfForward f (view_of (record old { state = state })) new) (ap transfer_of ack.1 ∙ transfer_is old.state transfer mid holds) tells in
     let t = here.1 in
     let gives_up : GivesUpAll e.moment (stage_of e.queues.queue transfer.retransmission [] 0) t.gave_up =
     subst (λ (r : RetransmissionState). GivesUpAll e.moment (stage_of e.queues.queue r [] 0) t.gave_up) (unchanged (is_sack_wanted along transfer) mid ack.2) t.gives_up in
@@ -70,19 +70,19 @@ forward_cut {R = R} old (Some transfer) along state draft packet acked new holds
     unchanged false mid h = ap (λ (t : Transfer). t.retransmission) h.0
 
 pub forward_refused : {R : Type 0} (packet acked : Building) (old : Context R) (along : Bool) (state : State) (draft : Emission) (new : Context R)
-    → AcknowledgesInQueues (transfer_of old.state) along old.state packet state acked → TellsForward (transfer_of state) (view_of (record old { state = state })) (view_of new)
-    → AskCut first_ask (view_of old) draft (view_of new).events
+    → AcknowledgesInQueues (transfer_of old.state) along old.state packet state acked → AddsFirstOfForward (transfer_of state) (view_of (record old { state = state })) (view_of new)
+    → CutsAsk first_ask (view_of old) draft (view_of new).events
 forward_refused packet acked old along state draft new ack tells = forward_cut old (transfer_of old.state) along state draft packet acked (view_of new) refl ack tells
 
 -- ---- a reset
 
 reset_cut : {R : Type 0} (old : Context R) (found : Option Transfer) (along : Bool) (state : State) (draft : Emission) (packet acked given_packet : Building) (given : View R) (events : List (Event (List ℕ)))
     → transfer_of old.state ≡ found → along ≡ (has_queued_data old.send_queue || can_queues_send found) → packet ≡ packet_for old.options draft → AcknowledgesInQueues found along old.state packet state acked
-    → ForwardsAt (transfer_of state) (view_of (record old { state = state })) acked given given_packet → events ≡ given.events → AskCut first_ask (view_of old) draft events
+    → ForwardsInTime (transfer_of state) (view_of (record old { state = state })) acked given given_packet → events ≡ given.events → CutsAsk first_ask (view_of old) draft events
 reset_cut {R = R} old None along state draft packet acked given_packet given events holds is built ack forward same =
-    let up : ForwardsAt None (view_of old) acked given given_packet =
-    subst (λ (f : Option Transfer). ForwardsAt f (view_of old) acked given given_packet) holds
-    (subst (λ (s : State). ForwardsAt (transfer_of s) (view_of (record old { state = s })) acked given given_packet) ack.0 forward) in
+    let up : ForwardsInTime None (view_of old) acked given given_packet =
+    subst (λ (f : Option Transfer). ForwardsInTime f (view_of old) acked given given_packet) holds
+    (subst (λ (s : State). ForwardsInTime (transfer_of s) (view_of (record old { state = s })) acked given given_packet) ack.0 forward) in
     cut_untold first_ask (view_of old) draft events (same ∙ ap (λ (v : View R). v.events) up.0)
 reset_cut {R = R} old (Some transfer) along state draft packet acked given_packet given events holds is built ack forward same =
     let e : Endpoint = endpoint_of old in
@@ -93,8 +93,8 @@ reset_cut {R = R} old (Some transfer) along state draft packet acked given_packe
 
 pub reset_refused : {R : Type 0} (packet acked given_packet : Building) (old : Context R) (along : Bool) (state : State) (given : Context R) (draft : Emission) (events : List (Event (List ℕ)))
     → along ≡ (has_queued_data old.send_queue || can_queues_send (transfer_of old.state)) → packet ≡ packet_for old.options draft
-    → AcknowledgesInQueues (transfer_of old.state) along old.state packet state acked → ForwardsAt (transfer_of state) (view_of (record old { state = state })) acked (view_of given) given_packet
-    → events ≡ (view_of given).events → AskCut first_ask (view_of old) draft events
+    → AcknowledgesInQueues (transfer_of old.state) along old.state packet state acked → ForwardsInTime (transfer_of state) (view_of (record old { state = state })) acked (view_of given) given_packet
+    → events ≡ (view_of given).events → CutsAsk first_ask (view_of old) draft events
 reset_refused packet acked given_packet old along state given draft events is built ack forward same =
     reset_cut old (transfer_of old.state) along state draft packet acked given_packet (view_of given) events refl is built ack forward same
 
@@ -102,18 +102,18 @@ reset_refused packet acked given_packet old along state given draft events is bu
 
 data_cut : {R : Type 0} (old : Context R) (found : Option Transfer) (along : Bool) (state : State) (draft : Emission) (packet acked given_packet request_packet : Building) (given here new : View R)
     → transfer_of old.state ≡ found → along ≡ (has_queued_data old.send_queue || can_queues_send found) → packet ≡ packet_for old.options draft → AcknowledgesInQueues found along old.state packet state acked
-    → ForwardsAt (transfer_of state) (view_of (record old { state = state })) acked given given_packet → FillsResetRequest given.endpoint.queues.transfer given given_packet here request_packet
-    → (HasNoData here.endpoint.queues.queue here.endpoint.queues.transfer → ⊥) → TellsData here.endpoint.queues.transfer here request_packet new → AskCut first_ask (view_of old) draft new.events
+    → ForwardsInTime (transfer_of state) (view_of (record old { state = state })) acked given given_packet → FillsResetRequest given.endpoint.queues.transfer given given_packet here request_packet
+    → (HasNoData here.endpoint.queues.queue here.endpoint.queues.transfer → ⊥) → AddsFirstOfData here.endpoint.queues.transfer here request_packet new → CutsAsk first_ask (view_of old) draft new.events
 data_cut {R = R} old None along state draft packet acked given_packet request_packet given here new holds is built ack forward begin some tells =
     let same = same_view old along state given here packet acked given_packet request_packet holds ack forward begin in
     cut_untold first_ask (view_of old) draft new.events
-    (subst (λ (f : Option Transfer). TellsData f (view_of old) request_packet new) holds (subst (λ (v : View R). TellsData v.endpoint.queues.transfer v request_packet new) same.0 tells))
+    (subst (λ (f : Option Transfer). AddsFirstOfData f (view_of old) request_packet new) holds (subst (λ (v : View R). AddsFirstOfData v.endpoint.queues.transfer v request_packet new) same.0 tells))
 data_cut {R = R} old (Some transfer) along state draft packet acked given_packet request_packet given here new holds is built ack forward begin some tells =
     let e : Endpoint = endpoint_of old in
     let d : BeforeData (view_of old) draft transfer here request_packet =
     before_data (view_of old) draft transfer given here given_packet request_packet (forwarded_where old transfer along state draft given packet acked given_packet holds is built ack forward) begin in
     let begun_view : View R = begun_in_view (view_of old) d.up.next d.up.gave_up (record transfer { tracker = d.up.tracker }) d.begun (handed_of d) in
-    let t : TellsData begun_view.endpoint.queues.transfer begun_view request_packet new = subst (λ (v : View R). TellsData v.endpoint.queues.transfer v request_packet new) d.view tells in
+    let t : AddsFirstOfData begun_view.endpoint.queues.transfer begun_view request_packet new = subst (λ (v : View R). AddsFirstOfData v.endpoint.queues.transfer v request_packet new) d.view tells in
     let u : GivesUntilFull first_ask e draft transfer =
     until_of (view_of old) draft transfer here request_packet d t.sent (fills_behind (view_of old) draft transfer here request_packet d t.sent t.fills) in
     let nothing : is_idle e.queues.queue transfer ≡ true → HasNoData begun_view.endpoint.queues.queue begun_view.endpoint.queues.transfer = λ idle.
@@ -125,23 +125,23 @@ data_cut {R = R} old (Some transfer) along state draft packet acked given_packet
     (ap (λ (es : List (Event (List ℕ))). d.up.gave_up.told ++ es) t.tells.parts ∙ sym (append_assoc d.up.gave_up.told t.tells.front t.tells.rest))
     (t.tells.told ∙ append_assoc (view_of old).events d.up.gave_up.told t.tells.front)
 
-pub first_returns : {R E : Type 0} (packet acked given_packet request_packet filled : Building) (old : Context R) (along : Bool) (state : State) (given begun : Context R) (result : Result (Unit {0}) E) (new : Context R)
+pub first_returns : {R E : Type 0} (packet acked given_packet request_packet filled_draft : Building) (old : Context R) (along : Bool) (state : State) (given begun : Context R) (result : Result (Unit {0}) E) (new : Context R)
     → along ≡ (has_queued_data old.send_queue || can_queues_send (transfer_of old.state)) → AcknowledgesInQueues (transfer_of old.state) along old.state packet state acked
-    → ForwardsAt (transfer_of state) (view_of (record old { state = state })) acked (view_of given) given_packet
+    → ForwardsInTime (transfer_of state) (view_of (record old { state = state })) acked (view_of given) given_packet
     → FillsResetRequest (transfer_of given.state) (view_of given) given_packet (view_of begun) request_packet
-    → TriesData request_packet begun result new filled → (HasNoData begun.send_queue (transfer_of begun.state) → IsOk result) → FillsWith first_ask packet old result new filled
-first_returns packet acked given_packet request_packet filled old along state given begun (Ok done) new is ack forward begin h idle =
-    λ draft built. fills_first old along state draft (view_of given) (view_of begun) (view_of new) packet acked given_packet request_packet filled is built ack forward begin h
-first_returns packet acked given_packet request_packet filled old along state given begun (Err error) new is ack forward begin h idle =
+    → TriesData request_packet begun result new filled_draft → (HasNoData begun.send_queue (transfer_of begun.state) → IsOk result) → FillsWith first_ask packet old result new filled_draft
+first_returns packet acked given_packet request_packet filled_draft old along state given begun (Ok done) new is ack forward begin h idle =
+    λ draft built. fills_first old along state draft (view_of given) (view_of begun) (view_of new) packet acked given_packet request_packet filled_draft is built ack forward begin h
+first_returns packet acked given_packet request_packet filled_draft old along state given begun (Err error) new is ack forward begin h idle =
     λ draft built. data_cut old (transfer_of old.state) along state draft packet acked given_packet request_packet (view_of given) (view_of begun) (view_of new) refl is built ack forward begin
     (λ none. cc (idle none)) h
 
 -- ---- and then the packet is sent
 
-pub asks_returns : {R E : Type 0} (stream : R → Stream) (ask : Ask) (packet filled : Building) (old mid : Context R) (result : Result Bool E) (new : Context R)
-    → ((draft : Emission) → packet ≡ packet_for old.options draft → FillsAskedPacket ask (view_of old) draft (view_of mid) filled) → SendsUnlessEmpty filled mid result new → KeepsSize filled
+pub asks_returns : {R E : Type 0} (stream : R → Stream) (ask : Ask) (packet filled_draft : Building) (old mid : Context R) (result : Result Bool E) (new : Context R)
+    → ((draft : Emission) → packet ≡ packet_for old.options draft → FillsAskedPacket ask (view_of old) draft (view_of mid) filled_draft) → SendsUnlessEmpty filled_draft mid result new → KeepsSize filled_draft
     → AsksWith stream ask packet old result new
-asks_returns stream ask packet filled old mid (Ok is_sent) new fills sends size =
-    λ draft is. asks_for stream ask (view_of old) (view_of mid) (view_of new) draft filled is_sent (fills draft is) size sends.0 sends.1
-asks_returns stream ask packet filled old mid (Err error) new fills sends size =
-    λ draft is. ask_cut ask (view_of old) (view_of mid) (view_of new) draft filled (fills draft is) size sends
+asks_returns stream ask packet filled_draft old mid (Ok is_sent) new fills sends size =
+    λ draft is. asks_for stream ask (view_of old) (view_of mid) (view_of new) draft filled_draft is_sent (fills draft is) size sends.0 sends.1
+asks_returns stream ask packet filled_draft old mid (Err error) new fills sends size =
+    λ draft is. ask_cut ask (view_of old) (view_of mid) (view_of new) draft filled_draft (fills draft is) size sends

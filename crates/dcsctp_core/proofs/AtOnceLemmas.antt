@@ -9,7 +9,7 @@ use Rattle.dcsctp_transfer.specs.spec.endpoint.Event.{Event}
 use Rattle.dcsctp_transfer.specs.spec.Packet.{Plain, unworked, Content, Emission}
 use Rattle.dcsctp_transfer.specs.spec.queues.Transfer.{Transfer}
 use Rattle.dcsctp_transfer.specs.spec.queues.Retransmission.{has_fast_retransmit}
-use Rattle.dcsctp_transfer.specs.spec.endpoint.Endpoint.{Endpoint, held_in}
+use Rattle.dcsctp_transfer.specs.spec.endpoint.Endpoint.{Endpoint, held_by_core}
 use Rattle.dcsctp_transfer.specs.spec.endpoint.Outcome.{Outcome, still, sends}
 use Rattle.dcsctp_transfer.specs.spec.association.Choices.{plain_contents}
 use Rattle.dcsctp_transfer.specs.spec.endpoint.FlushOutcomes.{Answer, draft_to, goes_out, is_none}
@@ -20,9 +20,9 @@ use Rattle.dcsctp_core.specs.declared.context.Context.{Context}
 use Rattle.dcsctp_core.specs.declared.state.State.{State}
 use Rattle.dcsctp_core.specs.declared.transmission_control_block.TransmissionControlBlock.{TransmissionControlBlock}
 use Rattle.dcsctp_core.specs.View.{View, core_of, tcb_of, held_of, transfer_of, endpoint_of, view_of, Moves}
-use Rattle.dcsctp_core.specs.Handling.{TakesPossibleTurn, CutIn}
-use Rattle.dcsctp_core.specs.Flushing.{packet_being_built, packet_for, empty_packet, sent_where, KeepsSize}
-use Rattle.dcsctp_core.specs.Below.{FillsLostAtOnce, has_lost_data, GoesAtOnce, AtOnceAt}
+use Rattle.dcsctp_core.specs.Handling.{TakesPossibleTurn, CutsSomeTurn}
+use Rattle.dcsctp_core.specs.Flushing.{packet_being_built, packet_for, empty_packet, sent_if_filled, KeepsSize}
+use Rattle.dcsctp_core.specs.Below.{FillsLostAtOnce, has_lost_data, GoesAtOnce, FlushesAtOnce}
 use Rattle.dcsctp_core.proofs.BelowLemmas.{below_view, moves_to, moves_from}
 use Rattle.dcsctp_core.proofs.Composing.{cut_first}
 use Rattle.dcsctp_core.proofs.FillLemmas.{data_fit, room_is_left}
@@ -35,7 +35,7 @@ use Rattle.dcsctp_transfer.proofs.spec_lemmas.LostOutcomes.{some_lost}
 -- the packet that was filled, if it holds a chunk
 goes : {R : Type 0} (stream : R → Stream) (v : View R) (after : Transfer) (with_checksum : Bool) (tag : ℕ) (contents : List Content) (packet : Building) (new : View R)
     → packet ≡ packet_being_built v.endpoint.options with_checksum tag contents
-    → new ≡ sent_where (not (is_none contents)) packet (record v { endpoint = with_transfer v.endpoint after })
+    → new ≡ sent_if_filled (not (is_none contents)) packet (record v { endpoint = with_transfer v.endpoint after })
     → Moves stream v (goes_out (with_transfer v.endpoint after) [] with_checksum tag contents) new
 goes stream v after with_checksum tag [] packet new built is = moves_to stream v new (with_transfer v.endpoint after) is
 goes stream v after with_checksum tag (content ∷ contents) packet new built is =
@@ -46,10 +46,10 @@ goes stream v after with_checksum tag (content ∷ contents) packet new built is
     (sent_moves stream (record v { endpoint = e }) new emission bytes is (built_bytes v.endpoint.options packet with_checksum tag (content ∷ contents) bytes built refl))
 
 at_once_by : {R : Type 0} (stream : R → Stream) (v : View R) (held : Held) (transfer after : Transfer) (packet filled_packet : Building) (is_sent : Bool) (new : View R)
-    → has_fast_retransmit transfer.retransmission ≡ true → held_in v.endpoint.core ≡ Some held → v.endpoint.queues.transfer ≡ Some transfer
+    → has_fast_retransmit transfer.retransmission ≡ true → held_by_core v.endpoint.core ≡ Some held → v.endpoint.queues.transfer ≡ Some transfer
     → packet ≡ packet_for v.endpoint.options (draft_to held) → FillsAtOnce v.endpoint.moment transfer packet after filled_packet → KeepsSize filled_packet
-    → is_sent ≡ not (is_none filled_packet.body) → new ≡ sent_where is_sent filled_packet (record v { endpoint = with_transfer v.endpoint after })
-    → TakesPossibleTurn stream AtOnceAt v new
+    → is_sent ≡ not (is_none filled_packet.body) → new ≡ sent_if_filled is_sent filled_packet (record v { endpoint = with_transfer v.endpoint after })
+    → TakesPossibleTurn stream FlushesAtOnce v new
 at_once_by {R = R} stream v held transfer after packet filled_packet is_sent new fast holds below built fills size sent_is is =
     let e : Endpoint = v.endpoint in
     let draft : Emission = draft_to held in
@@ -79,29 +79,29 @@ at_once_by {R = R} stream v held transfer after packet filled_packet is_sent new
       outcome = o;
       turn = subst (λ (h : Option Held). GoesAtOnce e h e.queues.transfer o) (sym holds) (subst (λ (t : Option Transfer). GoesAtOnce e (Some held) t o) (sym below) by_fast);
       moves = goes stream v left draft.with_checksum draft.packet.tag contents filled_packet new packed
-          (is ∙ ap (λ (b : Bool). sent_where b filled_packet (record v { endpoint = with_transfer e after })) goes_if
-          ∙ ap (λ (t : Transfer). sent_where (not (is_none contents)) filled_packet (record v { endpoint = with_transfer e t })) fills.is);
+          (is ∙ ap (λ (b : Bool). sent_if_filled b filled_packet (record v { endpoint = with_transfer e after })) goes_if
+          ∙ ap (λ (t : Transfer). sent_if_filled (not (is_none contents)) filled_packet (record v { endpoint = with_transfer e t })) fills.is);
     }
 
 at_once_where : {R : Type 0} (stream : R → Stream) (old : Context R) (tcb : TransmissionControlBlock) (state : State) (packet filled_packet : Building) (is_sent : Bool) (new : View R) (found : Option Transfer)
     → transfer_of old.state ≡ found → has_lost_data found ≡ true → Some tcb ≡ tcb_of old.state
     → packet ≡ empty_packet old.options (tcb.capabilities.zero_checksum_method.0 == 0) tcb.peer.tag
     → FillsLostAtOnce old.moment found old.state packet state filled_packet → KeepsSize filled_packet
-    → is_sent ≡ not (is_none filled_packet.body) → new ≡ sent_where is_sent filled_packet (view_of (record old { state = state }))
-    → TakesPossibleTurn stream AtOnceAt (view_of old) new
+    → is_sent ≡ not (is_none filled_packet.body) → new ≡ sent_if_filled is_sent filled_packet (view_of (record old { state = state }))
+    → TakesPossibleTurn stream FlushesAtOnce (view_of old) new
 at_once_where stream old tcb state packet filled_packet is_sent new None below fast kept built fills size sent_is is = absurd (cc)
 at_once_where {R = R} stream old tcb state packet filled_packet is_sent new (Some transfer) below fast kept built fills size sent_is is =
     let held : Held = held_of tcb in
-    let holds : held_in (core_of old.state) ≡ Some held = held_by_tcb old.state tcb kept in
+    let holds : held_by_core (core_of old.state) ≡ Some held = held_by_tcb old.state tcb kept in
     at_once_by stream (view_of old) held transfer fills.0 packet filled_packet is_sent new fast holds below (packet_to old.options old.state tcb held packet kept holds built) fills.2 size sent_is
-    (is ∙ ap (λ (v : View R). sent_where is_sent filled_packet v) (below_view old state transfer fills.0 below fills.1))
+    (is ∙ ap (λ (v : View R). sent_if_filled is_sent filled_packet v) (below_view old state transfer fills.0 below fills.1))
 
 pub at_once_sent : {R : Type 0} (stream : R → Stream) (old : Context R) (tcb : TransmissionControlBlock) (state : State) (packet filled_packet : Building) (is_sent : Bool) (new : View R)
     → has_lost_data (transfer_of old.state) ≡ true → Some tcb ≡ tcb_of old.state
     → packet ≡ empty_packet old.options (tcb.capabilities.zero_checksum_method.0 == 0) tcb.peer.tag
     → FillsLostAtOnce old.moment (transfer_of old.state) old.state packet state filled_packet → KeepsSize filled_packet
-    → is_sent ≡ not (is_none filled_packet.body) → new ≡ sent_where is_sent filled_packet (view_of (record old { state = state }))
-    → TakesPossibleTurn stream AtOnceAt (view_of old) new
+    → is_sent ≡ not (is_none filled_packet.body) → new ≡ sent_if_filled is_sent filled_packet (view_of (record old { state = state }))
+    → TakesPossibleTurn stream FlushesAtOnce (view_of old) new
 at_once_sent stream old tcb state packet filled_packet is_sent new fast kept built fills size sent_is is =
     at_once_where stream old tcb state packet filled_packet is_sent new (transfer_of old.state) refl fast kept built fills size sent_is is
 
@@ -112,11 +112,11 @@ still_at_once e None found none = refl
 still_at_once e (Some held) None none = refl
 still_at_once e (Some held) (Some transfer) none = subst (λ (b : Bool). FastRetransmits b e held transfer (still e)) (sym none) refl
 
-pub none_at_once : {R : Type 0} (stream : R → Stream) (old : Context R) → has_lost_data (transfer_of old.state) ≡ false → TakesPossibleTurn stream AtOnceAt (view_of old) (view_of old)
+pub none_at_once : {R : Type 0} (stream : R → Stream) (old : Context R) → has_lost_data (transfer_of old.state) ≡ false → TakesPossibleTurn stream FlushesAtOnce (view_of old) (view_of old)
 none_at_once stream old none =
-    record { outcome = still (endpoint_of old); turn = still_at_once (endpoint_of old) (held_in (core_of old.state)) (transfer_of old.state) none; moves = moves_still stream (view_of old) }
+    record { outcome = still (endpoint_of old); turn = still_at_once (endpoint_of old) (held_by_core (core_of old.state)) (transfer_of old.state) none; moves = moves_still stream (view_of old) }
 
-pub at_once_no_peer : {R : Type 0} (stream : R → Stream) (old : Context R) → None ≡ tcb_of old.state → TakesPossibleTurn stream AtOnceAt (view_of old) (view_of old)
+pub at_once_no_peer : {R : Type 0} (stream : R → Stream) (old : Context R) → None ≡ tcb_of old.state → TakesPossibleTurn stream FlushesAtOnce (view_of old) (view_of old)
 at_once_no_peer stream old nobody =
     let e : Endpoint = endpoint_of old in
     record {
@@ -137,7 +137,7 @@ any_at_once e None found = (still e, refl)
 any_at_once e (Some held) None = (still e, refl)
 any_at_once e (Some held) (Some transfer) = any_fast e held transfer
 
-pub at_once_cut : {R : Type 0} (view : View R) (events : List (Event (List ℕ))) → events ≡ view.events → CutIn AtOnceAt view events
+pub at_once_cut : {R : Type 0} (view : View R) (events : List (Event (List ℕ))) → events ≡ view.events → CutsSomeTurn FlushesAtOnce view events
 at_once_cut view events same =
-    let any = any_at_once view.endpoint (held_in view.endpoint.core) view.endpoint.queues.transfer in
+    let any = any_at_once view.endpoint (held_by_core view.endpoint.core) view.endpoint.queues.transfer in
     record { outcome = any.0; turn = any.1; cut = cut_first view any.0 events same }

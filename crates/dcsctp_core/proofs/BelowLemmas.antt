@@ -27,7 +27,7 @@ use Rattle.dcsctp_core.specs.View.{View, tcb_of, transfer_of, endpoint_of, view_
 use Rattle.dcsctp_core.specs.Handling.{TakesPossibleTurn}
 use Rattle.dcsctp_core.specs.Timing.{is_timer_due, ExpiryTurn, ExpiresAlways}
 use Rattle.dcsctp_core.specs.Flushing.{state_with}
-use Rattle.dcsctp_core.specs.Below.{ChangesQueues, ChangesWhere, LosesAt, HandlesSackInTransfer, TakesFirst, TakesReady}
+use Rattle.dcsctp_core.specs.Below.{ChangesQueues, ChangesOrKeeps, LosesAllInFlight, HandlesSackInTransfer, TakesFirst, TakesReady}
 use Rattle.dcsctp_core.proofs.FirstLemmas.{endpoint_with}
 use Rattle.dcsctp_core.proofs.LendingLemmas.{found, lent, left_with}
 
@@ -74,7 +74,7 @@ abbrev Lost : {R : Type 0} → (R → Stream) → Context R → View R → Type 
 Lost stream old new = (is_timer_due (endpoint_of old) (own_timer retransmission) ≡ true) × TakesPossibleTurn stream (ExpiryTurn (own_timer retransmission)) (view_of old) new
 
 lost : {R : Type 0} (stream : R → Stream) (old : Context R) (state : State) (count : ℕ) (found : Option Transfer) → transfer_of old.state ≡ found
-    → has_come old.moment (loss_deadline found) ≡ true → ChangesQueues (LosesAt old.moment) found old.state state
+    → has_come old.moment (loss_deadline found) ≡ true → ChangesQueues (LosesAllInFlight old.moment) found old.state state
     → count ≡ error_counted old.tx_error_counter.limit old.tx_error_counter.count
     → Lost stream old (with_count (view_of (record old { state = state })) count)
 lost stream old state count None holds due changes counts = absurd (cc)
@@ -96,17 +96,17 @@ lost {R = R} stream old state count (Some transfer) holds due changes counts =
     )
 
 pub loss_counted : {R : Type 0} (stream : R → Stream) (old : Context R) (state : State) (counter : ErrorCount) (b : Bool) → b ≡ has_come old.moment (loss_deadline (transfer_of old.state)) → b ≡ true
-    → ChangesWhere b (LosesAt old.moment) (transfer_of old.state) old.state state
+    → ChangesOrKeeps b (LosesAllInFlight old.moment) (transfer_of old.state) old.state state
     → counter ≡ record old.tx_error_counter { count = error_counted old.tx_error_counter.limit old.tx_error_counter.count }
     → Lost stream old (with_count (view_of (record old { state = state })) counter.count)
 loss_counted stream old state counter b answer comes changes counts =
-    lost stream old state counter.count (transfer_of old.state) refl (sym answer ∙ comes) (subst (λ (x : Bool). ChangesWhere x (LosesAt old.moment) (transfer_of old.state) old.state state) comes changes)
+    lost stream old state counter.count (transfer_of old.state) refl (sym answer ∙ comes) (subst (λ (x : Bool). ChangesOrKeeps x (LosesAllInFlight old.moment) (transfer_of old.state) old.state state) comes changes)
     (ap (λ (c : ErrorCount). c.count) counts)
 
 pub loss_not_due : {R : Type 0} (stream : R → Stream) (old : Context R) (state : State) (b : Bool) → b ≡ has_come old.moment (loss_deadline (transfer_of old.state)) → b ≡ false
-    → ChangesWhere b (LosesAt old.moment) (transfer_of old.state) old.state state → ExpiresAlways stream (own_timer retransmission) old false (record old { state = state })
+    → ChangesOrKeeps b (LosesAllInFlight old.moment) (transfer_of old.state) old.state state → ExpiresAlways stream (own_timer retransmission) old false (record old { state = state })
 loss_not_due stream old state b answer waits changes =
-    (sym answer ∙ waits, same_view old state (subst (λ (x : Bool). ChangesWhere x (LosesAt old.moment) (transfer_of old.state) old.state state) waits changes))
+    (sym answer ∙ waits, same_view old state (subst (λ (x : Bool). ChangesOrKeeps x (LosesAllInFlight old.moment) (transfer_of old.state) old.state state) waits changes))
 
 -- ---- a SACK
 

@@ -7,13 +7,13 @@ use Rattle.dcsctp_transfer.specs.types.declared.association.Pair.{Pair}
 use Rattle.dcsctp_transfer.specs.types.declared.word.Word.{Word}
 use Rattle.dcsctp_transfer.specs.spec.endpoint.Event.{Event}
 use Rattle.dcsctp_transfer.specs.spec.Packet.{Emission}
-use Rattle.dcsctp_transfer.specs.spec.endpoint.Outcome.{Outcome, noting}
-use Rattle.dcsctp_transfer.specs.spec.association.Effect.{Effect, drawn_in}
-use Rattle.dcsctp_transfer.specs.api.Calls.{user_event, Drawn}
+use Rattle.dcsctp_transfer.specs.spec.endpoint.Outcome.{Outcome, with_effects_first}
+use Rattle.dcsctp_transfer.specs.spec.association.Effect.{Effect, drawn_pairs}
+use Rattle.dcsctp_transfer.specs.api.Calls.{user_event, DrawsWords}
 use Rattle.dcsctp_transfer.specs.api.Events.{event_content}
 use Rattle.dcsctp_transfer.specs.api.declared.events.SocketEvent.{SocketEvent}
-use Rattle.dcsctp_core.specs.View.{View, Moves, CutTurn}
-use Rattle.dcsctp_core.proofs.Moving.{Drawn-append}
+use Rattle.dcsctp_core.specs.View.{View, Moves, CutsTurn}
+use Rattle.dcsctp_core.proofs.Moving.{DrawsWords-append}
 
 -- these words and events, and then those of a turn
 abbrev pub behind : List Word → List (Event Emission) → Outcome → Outcome
@@ -28,7 +28,7 @@ pub record Adds {R : Type 0} (old : View R) (added : List (Event Emission)) (new
 pub record Draws {R : Type 0} (stream : R → Stream) (old : View R) (taken : List Word) (new : View R) : Type 0 where
   pub words : new.words ≡ old.words ++ taken
   pub pairs : new.pairs ≡ old.pairs
-  pub drawn : Drawn (stream old.generator) taken (stream new.generator)
+  pub drawn : DrawsWords (stream old.generator) taken (stream new.generator)
 
 -- ---- a turn after them
 
@@ -49,8 +49,8 @@ moves_behind stream a b c words events o added drawn m =
       endpoint = m.endpoint;
       events = events_behind (ports_of a.endpoint.options) (ports_of b.endpoint.options) a.events b.events c.events events o.events added.ports added.events m.events;
       words = m.words ∙ ap (λ (ws : List Word). ws ++ o.words) drawn.words ∙ append_assoc a.words words o.words;
-      pairs = m.pairs ∙ ap (λ (ps : List Pair). ps ++ drawn_in o.effects) drawn.pairs;
-      drawn = Drawn-append (stream a.generator) (stream b.generator) (stream c.generator) words o.words drawn.drawn m.drawn;
+      pairs = m.pairs ∙ ap (λ (ps : List Pair). ps ++ drawn_pairs o.effects) drawn.pairs;
+      drawn = DrawsWords-append (stream a.generator) (stream b.generator) (stream c.generator) words o.words drawn.drawn m.drawn;
     }
 
 -- ---- the same outcome in another form
@@ -72,7 +72,7 @@ take_behind f (x ∷ xs) ys n = ap (λ zs. f x ∷ zs) (take_behind f xs ys n)
 
 -- what is cut after these events
 pub cut_behind : {R : Type 0} (a b : View R) (words : List Word) (events : List (Event Emission)) (o : Outcome) (es : List (Event (List ℕ)))
-    → Adds a events b → CutTurn b o es → CutTurn a (behind words events o) es
+    → Adds a events b → CutsTurn b o es → CutsTurn a (behind words events o) es
 cut_behind a b words events o es added cut =
     let ports : Ports = ports_of a.endpoint.options in
     record {
@@ -86,15 +86,15 @@ cut_behind a b words events o es added cut =
     }
 
 -- before its first event
-pub cut_first : {R : Type 0} (a : View R) (o : Outcome) (es : List (Event (List ℕ))) → es ≡ a.events → CutTurn a o es
+pub cut_first : {R : Type 0} (a : View R) (o : Outcome) (es : List (Event (List ℕ))) → es ≡ a.events → CutsTurn a o es
 cut_first a o es same = record { count = 0; added = same ∙ sym (append-nil a.events) }
 
 -- The events in front of its outcome's were added, and no others.
 pub cut_after : {R : Type 0} (old : View R) (o : Outcome) (events : List (Event (List ℕ))) (front rest : List (Event Emission))
-    → o.events ≡ front ++ rest → events ≡ old.events ++ map (user_event (ports_of old.endpoint.options)) front → CutTurn old o events
+    → o.events ≡ front ++ rest → events ≡ old.events ++ map (user_event (ports_of old.endpoint.options)) front → CutsTurn old o events
 cut_after old o events front rest is added =
     let later : Outcome = record o { events = rest } in
-    let cut : CutTurn old (behind [] front later) events = cut_behind old (record old { events = events }) [] front later events (record { ports = refl; events = added })
+    let cut : CutsTurn old (behind [] front later) events = cut_behind old (record old { events = events }) [] front later events (record { ports = refl; events = added })
     (cut_first (record old { events = events }) later events refl) in
     record { count = cut.count; added = cut.added ∙ ap (λ (es : List (Event Emission)). old.events ++ take cut.count (map (user_event (ports_of old.endpoint.options)) es)) (sym is) }
 
@@ -104,12 +104,12 @@ added_one old new event is = ap (map event_content) is ∙ map-append event_cont
 
 -- ---- the same turn with more effects recorded
 
-pub moves_noting : {R : Type 0} (stream : R → Stream) (a b : View R) (effects : List Effect) (o : Outcome) → drawn_in o.effects ≡ drawn_in (effects ++ o.effects)
-    → Moves stream a o b → Moves stream a (noting effects o) b
+pub moves_noting : {R : Type 0} (stream : R → Stream) (a b : View R) (effects : List Effect) (o : Outcome) → drawn_pairs o.effects ≡ drawn_pairs (effects ++ o.effects)
+    → Moves stream a o b → Moves stream a (with_effects_first effects o) b
 moves_noting stream a b effects o same m =
     record { endpoint = m.endpoint; events = m.events; words = m.words; pairs = m.pairs ∙ ap (λ (ps : List Pair). a.pairs ++ ps) same; drawn = m.drawn }
 
-pub cut_noting : {R : Type 0} (old : View R) (effects : List Effect) (o : Outcome) (es : List (Event (List ℕ))) → CutTurn old o es → CutTurn old (noting effects o) es
+pub cut_noting : {R : Type 0} (old : View R) (effects : List Effect) (o : Outcome) (es : List (Event (List ℕ))) → CutsTurn old o es → CutsTurn old (with_effects_first effects o) es
 cut_noting old effects o es cut = record { count = cut.count; added = cut.added }
 
 -- ---- a turn that would have added more
@@ -122,7 +122,7 @@ take_longer (suc n) (x ∷ xs) ys =
     (suc rest.0, ap (λ zs. x ∷ zs) rest.1)
 
 -- more would have come
-pub cut_longer : {R : Type 0} (v : View R) (o all : Outcome) (more : List (Event Emission)) (events : List (Event (List ℕ))) → all.events ≡ o.events ++ more → CutTurn v o events → CutTurn v all events
+pub cut_longer : {R : Type 0} (v : View R) (o all : Outcome) (more : List (Event Emission)) (events : List (Event (List ℕ))) → all.events ≡ o.events ++ more → CutsTurn v o events → CutsTurn v all events
 cut_longer v o all more events parts cut =
     let f : Event Emission → Event (List ℕ) = user_event (ports_of v.endpoint.options) in
     let longer = take_longer cut.count (map f o.events) (map f more) in

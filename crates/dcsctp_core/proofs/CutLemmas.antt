@@ -5,12 +5,12 @@ use Rattle.dcsctp_transfer.specs.spec.queues.NextItem.{is_abandonment_due}
 use Rattle.dcsctp_transfer.proofs.spec_lemmas.FilledAnswers.{Completes}
 use Rattle.std.proofs.lemmas.Bool.Decides.{nat_tests}
 use Rattle.std.proofs.Common.{arith, ◌≡◌, Bool, List, None, Option, Some, [], ap, append_assoc, false, length, map, nat_lt, refl, subst, sym, true, ℕ, ◌&&◌, ◌++◌, ◌∙◌, ◌∷◌}
-use Rattle.dcsctp_transfer.specs.spec.endpoint.FlushOutcomes.{Ask, GivesUpWhere, FillingEvent, answer_contents, filled, first_ask, goes_out, may_abandon, may_forward, stage_of, filling_event_content, filling_event}
-use Rattle.dcsctp_core.specs.Flushing.{AskCut, is_in_time}
+use Rattle.dcsctp_transfer.specs.spec.endpoint.FlushOutcomes.{Ask, GivesUpThenForwards, FillingEvent, answer_contents, filled_draft, first_ask, goes_out, may_abandon, may_forward, stage_of, filling_event_content, filling_event}
+use Rattle.dcsctp_core.specs.Flushing.{CutsAsk, is_in_time}
 use Rattle.dcsctp_transfer.specs.spec.Packet.{Content, Emission, Plain}
 use Rattle.dcsctp_transfer.specs.spec.endpoint.Endpoint.{Endpoint}
 use Rattle.dcsctp_transfer.specs.spec.endpoint.Event.{Event}
-use Rattle.dcsctp_transfer.specs.spec.queues.Abandoning.{GivesUpAll, GivesUpFirst, IsDueAt}
+use Rattle.dcsctp_transfer.specs.spec.queues.Abandoning.{GivesUpAll, GivesUpFirst, IsDueForAbandoning}
 use Rattle.dcsctp_transfer.specs.spec.queues.Items.{Item}
 use Rattle.dcsctp_transfer.specs.spec.queues.Transfer.{Transfer, is_idle}
 use Rattle.dcsctp_core.specs.View.{View}
@@ -49,13 +49,13 @@ told_front (one ∷ told) (event ∷ front) rest is =
 
 -- An ask is cut within the events of some answer.
 pub cut_within : {R : Type 0} (ask : Ask) (old : View R) (draft : Emission) (events telling front more : List (Event (List ℕ))) → Completes ask old.endpoint draft telling
-    → telling ≡ front ++ more → events ≡ old.events ++ front → AskCut ask old draft events
+    → telling ≡ front ++ more → events ≡ old.events ++ front → CutsAsk ask old draft events
 cut_within {R = R} ask old draft events telling front more c is added =
     let e : Endpoint = old.endpoint in
     let all : map filling_event_content c.answer.told ≡ front ++ (more ++ c.rest) =
     c.told ∙ (ap (λ (es : List (Event (List ℕ))). es ++ c.rest) is ∙ append_assoc front more c.rest) in
     let split : ToldFront c.answer.told front = told_front c.answer.told front (more ++ c.rest) all in
-    let out = told_first c.answer.after (map filling_event c.answer.told) draft.with_checksum draft.packet.tag (filled draft (answer_contents c.answer)).packet.contents in
+    let out = told_first c.answer.after (map filling_event c.answer.told) draft.with_checksum draft.packet.tag (filled_draft draft (answer_contents c.answer)).packet.contents in
     record {
       answer = c.answer;
       allowed = c.allowed;
@@ -68,7 +68,7 @@ cut_within {R = R} ask old draft events telling front more c is added =
     }
 
 -- before any event
-pub cut_untold : {R : Type 0} (ask : Ask) (old : View R) (draft : Emission) (events : List (Event (List ℕ))) → events ≡ old.events → AskCut ask old draft events
+pub cut_untold : {R : Type 0} (ask : Ask) (old : View R) (draft : Emission) (events : List (Event (List ℕ))) → events ≡ old.events → CutsAsk ask old draft events
 cut_untold ask old draft events same = cut_within ask old draft events [] [] [] (some_answer ask old.endpoint draft) refl (same ∙ sym (append-nil old.events))
 
 -- Where messages may be abandoned, the ask isn't idle.
@@ -81,7 +81,7 @@ busy_if ask e transfer may = go (is_idle e.queues.queue transfer) refl
 
 -- messages were abandoned, as far as that is so
 pub gave_up_completes : (b : Bool) (e : Endpoint) (draft : Emission) (transfer : Transfer) (room : ℕ) (gave_up : Stage) (next : Option ℕ) (forwards : List Plain) → e.queues.transfer ≡ Some transfer
-    → may_forward first_ask e transfer.retransmission ≡ b → GivesUpWhere b e.moment transfer room (stage_of e.queues.queue transfer.retransmission [] 0) gave_up next forwards
+    → may_forward first_ask e transfer.retransmission ≡ b → GivesUpThenForwards b e.moment transfer room (stage_of e.queues.queue transfer.retransmission [] 0) gave_up next forwards
     → Completes first_ask e draft gave_up.told
 gave_up_completes true e draft transfer room gave_up next forwards holds may h = answer_giving_up first_ask e draft transfer gave_up holds (busy_if first_ask e transfer may) may h.0
 gave_up_completes false e draft transfer room gave_up next forwards holds may h =
@@ -91,9 +91,9 @@ gave_up_completes false e draft transfer room gave_up next forwards holds may h 
 none_abandoned : (now : ℕ) (old new : Stage) → may_abandon old.queue ≡ false → StageSteps (GivesUpFirst now) old new → new ≡ old
 none_abandoned now old new never_may no_step = refl
 none_abandoned now old new never_may (one_more_step between new' steps step) =
-    absurd (never (subst (λ (s : Stage). IsDueAt now step.place s.queue) (none_abandoned now old between never_may steps) step.is_due))
+    absurd (never (subst (λ (s : Stage). IsDueForAbandoning now step.place s.queue) (none_abandoned now old between never_may steps) step.is_due))
   where
-    never : IsDueAt now step.place old.queue → ⊥
+    never : IsDueForAbandoning now step.place old.queue → ⊥
     never due = may (old.queue.partial_reliability) refl old.queue.outstanding.items refl
       where
         may : (negotiated : Bool) → old.queue.partial_reliability ≡ negotiated → (items : List Item) → old.queue.outstanding.items ≡ items → ⊥

@@ -2,7 +2,7 @@
 use Rattle.std.proofs.Common.{◌≡◌, Bool, true, false, cond, List, [], ◌∷◌, ◌++◌, refl, sym, ap, ◌∙◌}
 use Rattle.std.proofs.lemmas.List.{append-nil}
 use Rattle.rand_core.specs.Stream.{Stream}
-use Rattle.dcsctp_transfer.specs.spec.association.Effect.{Effect, ends, drawn_in}
+use Rattle.dcsctp_transfer.specs.spec.association.Effect.{Effect, ends, drawn_pairs}
 use Rattle.dcsctp_transfer.specs.types.declared.word.Word.{Word}
 use Rattle.dcsctp_transfer.specs.types.Settings.{ports_of}
 use Rattle.dcsctp_transfer.specs.spec.endpoint.Event.{Event}
@@ -42,7 +42,7 @@ ends_after_packet {R = R} stream a b c emission event runs first second =
     moves_behind stream a b c o.words o.events (ended_outcome (quiet b.endpoint [] []) event) (record { ports = ports; events = first.events })
     (record {
       words = first.words;
-      pairs = first.pairs ∙ ap (λ (es : List Effect). a.pairs ++ drawn_in es) (notes_nothing (fits a.endpoint emission) a.endpoint [] emission) ∙ append-nil a.pairs;
+      pairs = first.pairs ∙ ap (λ (es : List Effect). a.pairs ++ drawn_pairs es) (notes_nothing (fits a.endpoint emission) a.endpoint [] emission) ∙ append-nil a.pairs;
       drawn = first.drawn;
     }) ended in
     moves_as stream a c _ _

@@ -21,12 +21,12 @@ use Rattle.dcsctp_transfer.specs.spec.queues.Retransmission.{can_send, outstandi
 use Rattle.dcsctp_transfer.specs.types.declared.association.Held.{Held}
 use Rattle.dcsctp_transfer.specs.spec.endpoint.Endpoint.{Endpoint, Timers}
 use Rattle.dcsctp_transfer.specs.spec.association.Choices.{plain_contents}
-use Rattle.dcsctp_transfer.specs.spec.endpoint.BegunResets.{BegunReset, stream_field, streams_within, last_assigned_tsn, begun_where, begun_in, request_contents, queue_requesting, after_begun, retransmission_begun}
-use Rattle.dcsctp_transfer.specs.spec.endpoint.FlushOutcomes.{may_be_asked, FillingEvent, amount_is_low, total_amount_is_low, message_is_sent, message_may_have_expired, message_has_expired, message_ends, filling_event, Answer, answer_contents, filled, Ask, first_ask, later_ask, own_sack, room_in, where_fits, begun_at, wants_sack, FitsPlain, Gives, GivesWhere, IsAnswerOfQueues, timers_with, nothing_waits, filling_event_content, FillsWhere, GivesUpWhere, forward_where, may_abandon, may_forward, stage_of}
+use Rattle.dcsctp_transfer.specs.spec.endpoint.BegunResets.{BegunReset, stream_field, streams_within, last_assigned_tsn, begun_if_ready, begun_if_connected, request_contents, queue_requesting, after_begun, retransmission_begun}
+use Rattle.dcsctp_transfer.specs.spec.endpoint.FlushOutcomes.{may_be_asked, FillingEvent, amount_is_low, total_amount_is_low, message_is_sent, message_may_have_expired, message_has_expired, message_ends, filling_event, Answer, answer_contents, filled_draft, Ask, first_ask, later_ask, own_sack, room_of_draft, where_fits, begun_by_ask, wants_sack, FitsPlain, Gives, GivesUnlessIdle, IsAnswerOfQueues, timers_with, nothing_waits, filling_event_content, FillsIfAllowed, GivesUpThenForwards, forward_moment, may_abandon, may_forward, stage_of}
 use Rattle.dcsctp_transfer.specs.api.Calls.{user_event}
 use Rattle.dcsctp_transfer.specs.Filling.{has_chunks, FillsDataPacket, with_chunk}
 use Rattle.dcsctp_core.specs.View.{View}
-use Rattle.dcsctp_core.specs.Flushing.{packet_for, timers_where, FillsAskedPacket, FillsPacketData}
+use Rattle.dcsctp_core.specs.Flushing.{packet_for, timers_if_filled, FillsAskedPacket, FillsPacketData}
 use Rattle.dcsctp_core.proofs.SentLemmas.{body_of, body_append, body_of_chunks, room_is}
 use Rattle.dcsctp_transfer.proofs.spec_lemmas.FilledAnswers.{GivesUntilFull}
 use Rattle.dcsctp_transfer.specs.spec.queues.Outstanding.{OutstandingState}
@@ -55,7 +55,7 @@ pub data_fit : (chunks : List ChunkContent) → AllByRecursion FitsChunk chunks 
 data_fit [] h = tt
 data_fit (chunk ∷ chunks) h = (h.0, data_fit chunks h.1)
 
-timers_are : (e : Endpoint) (chunks : List ChunkContent) → timers_where (has_chunks chunks) e ≡ timers_with e (map unworked chunks)
+timers_are : (e : Endpoint) (chunks : List ChunkContent) → timers_if_filled (has_chunks chunks) e ≡ timers_with e (map unworked chunks)
 timers_are e [] = refl
 timers_are e (chunk ∷ chunks) = refl
 
@@ -105,26 +105,26 @@ answer_by sacks begun chunks told after = record { acknowledgements = sacks; beg
 
 -- the packet with all of it after what it holds
 packet_is : (options : Options) (draft : Emission) (sacks : List Plain) (begun : Option BegunReset) (chunks : List ChunkContent) (told : List FillingEvent) (after : Endpoint) (filled_packet : Building)
-    → filled_packet ≡ record (packet_for options (filled draft (plain_contents sacks ++ request_contents begun))) {
-      body = (packet_for options (filled draft (plain_contents sacks ++ request_contents begun))).body ++ flat_map chunk_bytes chunks;
+    → filled_packet ≡ record (packet_for options (filled_draft draft (plain_contents sacks ++ request_contents begun))) {
+      body = (packet_for options (filled_draft draft (plain_contents sacks ++ request_contents begun))).body ++ flat_map chunk_bytes chunks;
     }
-    → filled_packet ≡ packet_for options (filled draft (answer_contents (answer_by sacks begun chunks told after)))
+    → filled_packet ≡ packet_for options (filled_draft draft (answer_contents (answer_by sacks begun chunks told after)))
 packet_is options draft sacks begun chunks told after filled_packet is =
     let behind : List Content = plain_contents sacks ++ request_contents begun in
     let front : List Content = draft.packet.contents ++ behind in
     let more : List Content = plain_contents (map unworked chunks) in
     is
-    ∙ ap (λ (bytes : List ℕ). record (packet_for options (filled draft behind)) { body = body_of front ++ bytes }) (body_of_chunks chunks)
+    ∙ ap (λ (bytes : List ℕ). record (packet_for options (filled_draft draft behind)) { body = body_of front ++ bytes }) (body_of_chunks chunks)
     ∙ ap (λ (bytes : List ℕ). record (packet_for options draft) { body = bytes })
     (sym (body_append front more) ∙ ap body_of (append_assoc draft.packet.contents behind more ∙ ap (λ (cs : List Content). draft.packet.contents ++ cs) (append_assoc (plain_contents sacks) (request_contents begun) more)))
 
 -- Where no stream is ready, no reset is begun.
-pub none_begun : (ask : Ask) (follows : Bool) (held : Option Held) (room last_tsn : ℕ) (queue : SendQueueState) → is_none_ready (ready_streams queue) ≡ true → begun_at ask follows held room last_tsn queue ≡ None
+pub none_begun : (ask : Ask) (follows : Bool) (held : Option Held) (room last_tsn : ℕ) (queue : SendQueueState) → is_none_ready (ready_streams queue) ≡ true → begun_by_ask ask follows held room last_tsn queue ≡ None
 none_begun later_ask follows held room last_tsn queue none = refl
 none_begun first_ask follows None room last_tsn queue none = refl
 none_begun first_ask follows (Some held) room last_tsn queue none =
-    ap (λ (streams : List ℕ). begun_where follows held.own_outstanding held.own_next last_tsn (map stream_field (take (streams_within room) streams))) (empty (ready_streams queue) none)
-    ∙ ap (λ (streams : List ℕ). begun_where follows held.own_outstanding held.own_next last_tsn (map stream_field streams)) (take_none (streams_within room))
+    ap (λ (streams : List ℕ). begun_if_ready follows held.own_outstanding held.own_next last_tsn (map stream_field (take (streams_within room) streams))) (empty (ready_streams queue) none)
+    ∙ ap (λ (streams : List ℕ). begun_if_ready follows held.own_outstanding held.own_next last_tsn (map stream_field streams)) (take_none (streams_within room))
     ∙ nothing held.own_outstanding
   where
     empty : (streams : List ℕ) → is_none_ready streams ≡ true → streams ≡ []
@@ -135,13 +135,13 @@ none_begun first_ask follows (Some held) room last_tsn queue none =
     take_none zero = refl
     take_none (suc n) = refl
 
-    nothing : (outstanding : Option ℕ) → begun_where follows outstanding held.own_next last_tsn [] ≡ None
+    nothing : (outstanding : Option ℕ) → begun_if_ready follows outstanding held.own_next last_tsn [] ≡ None
     nothing None = refl
     nothing (Some number) = refl
 
 -- So the queue stays as it is.
 pub requesting_none : (count room last_tsn : ℕ) (follows : Bool) (held : Option Held) (begun : Option BegunReset) (queue left : SendQueueState) → is_none_ready (ready_streams queue) ≡ true
-    → begun ≡ begun_in follows held room last_tsn queue → left ≡ queue_requesting count begun queue → left ≡ queue
+    → begun ≡ begun_if_connected follows held room last_tsn queue → left ≡ queue_requesting count begun queue → left ≡ queue
 requesting_none count room last_tsn follows held begun queue left none is hands =
     hands ∙ ap (λ (b : Option BegunReset). queue_requesting count b queue) (is ∙ none_begun first_ask follows held room last_tsn queue none)
 
@@ -150,8 +150,8 @@ requesting_none count room last_tsn follows held begun queue left none is hands 
 -- what an ask amounts to, up to the data: where it begins
 abbrev pub start_of : {ask : Ask} {e : Endpoint} {draft : Emission} {transfer : Transfer} → GivesUntilFull ask e draft transfer → Stage
 start_of {e = e} {draft = draft} u =
-    stage_of (queue_requesting (streams_within (room_in e (filled draft (plain_contents (u.sacks ++ u.forwards))))) u.begun u.gave_up.waiting)
-    (retransmission_begun u.begun u.gave_up.queue) u.gave_up.told (room_in e (filled draft (plain_contents (u.sacks ++ u.forwards) ++ request_contents u.begun)))
+    stage_of (queue_requesting (streams_within (room_of_draft e (filled_draft draft (plain_contents (u.sacks ++ u.forwards))))) u.begun u.gave_up.waiting)
+    (retransmission_begun u.begun u.gave_up.queue) u.gave_up.told (room_of_draft e (filled_draft draft (plain_contents (u.sacks ++ u.forwards) ++ request_contents u.begun)))
 
 -- the transfer layer then
 abbrev pub transfer_after : {ask : Ask} {e : Endpoint} {draft : Emission} {transfer : Transfer} → GivesUntilFull ask e draft transfer → Transfer
@@ -160,10 +160,10 @@ transfer_after {transfer = transfer} u = record transfer { retransmission = u.se
 -- the endpoint with this below it
 abbrev pub endpoint_given : Endpoint → Option BegunReset → Bool → ℕ → SendQueueState → Transfer → Endpoint
 endpoint_given e begun any later left after =
-    record (after_begun begun e) { timers = timers_where any (after_begun begun e); no_forward_tsn_before = later; queues = record { queue = left; transfer = Some after } }
+    record (after_begun begun e) { timers = timers_if_filled any (after_begun begun e); no_forward_tsn_before = later; queues = record { queue = left; transfer = Some after } }
 
 abbrev pub given_endpoint : {ask : Ask} {e : Endpoint} {draft : Emission} {transfer : Transfer} → GivesUntilFull ask e draft transfer → Bool → Endpoint
-given_endpoint {e = e} u any = endpoint_given e u.begun any (forward_where u.next e.no_forward_tsn_before) u.sent.waiting (transfer_after u)
+given_endpoint {e = e} u any = endpoint_given e u.begun any (forward_moment u.next e.no_forward_tsn_before) u.sent.waiting (transfer_after u)
 
 -- A packet that was filled: what it came to up to the data, and the data in it.
 pub record Parts {R : Type 0} (ask : Ask) (old : View R) (draft : Emission) (transfer : Transfer) (new : View R) (filled_packet : Building) : Type 0 where
@@ -177,8 +177,8 @@ pub record Parts {R : Type 0} (ask : Ask) (old : View R) (draft : Emission) (tra
   pub are_told : map filling_event_content told ≡ until.sent.told
   pub holds : old.endpoint.queues.transfer ≡ Some transfer
   pub adds : filled_packet
-      ≡ record (packet_for old.endpoint.options (filled draft (plain_contents (until.sacks ++ until.forwards) ++ request_contents until.begun))) {
-        body = (packet_for old.endpoint.options (filled draft (plain_contents (until.sacks ++ until.forwards) ++ request_contents until.begun))).body ++ flat_map chunk_bytes chunks;
+      ≡ record (packet_for old.endpoint.options (filled_draft draft (plain_contents (until.sacks ++ until.forwards) ++ request_contents until.begun))) {
+        body = (packet_for old.endpoint.options (filled_draft draft (plain_contents (until.sacks ++ until.forwards) ++ request_contents until.begun))).body ++ flat_map chunk_bytes chunks;
       }
   pub is : new ≡ record old { endpoint = given_endpoint until (has_chunks chunks); events = old.events ++ until.sent.told }
 
@@ -201,9 +201,9 @@ may_not later_ask e state none = refl
 may_not first_ask e state none =
     and_none (nat_le e.no_forward_tsn_before e.moment) (may_abandon state) (and_none state.partial_reliability (nat_lt 0 (outstanding_count state)) (ap (nat_lt 0) none))
 
-no_forwards : (b : Bool) (now : ℕ) (transfer : Transfer) (room : ℕ) (old new : Stage) (next : Option ℕ) (chunks : List Plain) → b ≡ false → GivesUpWhere b now transfer room old new next chunks
+no_forwards : (b : Bool) (now : ℕ) (transfer : Transfer) (room : ℕ) (old new : Stage) (next : Option ℕ) (chunks : List Plain) → b ≡ false → GivesUpThenForwards b now transfer room old new next chunks
     → (new ≡ old) × (next ≡ None) × (chunks ≡ [])
-no_forwards b now transfer room old new next chunks is h = subst (λ (x : Bool). GivesUpWhere x now transfer room old new next chunks) is h
+no_forwards b now transfer room old new next chunks is h = subst (λ (x : Bool). GivesUpThenForwards x now transfer room old new next chunks) is h
 
 no_chunks : (outstanding : OutstandingState) (chunks : List ChunkContent) → AreChunksOfTsns outstanding [] (map unworked chunks) → chunks ≡ []
 no_chunks outstanding [] h = refl
@@ -229,12 +229,12 @@ pub record IdleUntil (ask : Ask) (e : Endpoint) (draft : Emission) (transfer : T
 pub idle_until : (ask : Ask) (e : Endpoint) (draft : Emission) (transfer : Transfer) (u : GivesUntilFull ask e draft transfer) → is_idle e.queues.queue transfer ≡ true → IdleUntil ask e draft transfer u
 idle_until ask e draft transfer u idle =
     let parts = idle_parts e.queues.queue transfer idle in
-    let none = no_sacks (wants_sack ask e.queues.queue transfer) (room_in e draft) transfer u.tracker u.sacks (idle_wants ask e.queues.queue transfer idle) u.acknowledges in
+    let none = no_sacks (wants_sack ask e.queues.queue transfer) (room_of_draft e draft) transfer u.tracker u.sacks (idle_wants ask e.queues.queue transfer idle) u.acknowledges in
     let up = no_forwards (may_forward ask e transfer.retransmission) e.moment transfer _ _ u.gave_up u.next u.forwards (may_not ask e transfer.retransmission parts.0.1) u.gives_up in
     let waits : u.gave_up.waiting ≡ e.queues.queue = ap (λ (s : Stage). s.waiting) up.0 in
     let ready : is_none_ready (ready_streams u.gave_up.waiting) ≡ true = ap (λ (q : SendQueueState). is_none_ready (ready_streams q)) waits ∙ idle_ready e.queues.queue transfer idle in
     let begun : u.begun ≡ None = u.begins ∙ none_begun ask e.options.follow_rfc (may_be_asked e.core e.options.follow_rfc) _ (last_assigned_tsn u.gave_up.queue) u.gave_up.waiting ready in
-    let left : (start_of u).waiting ≡ e.queues.queue = ap (λ (b : Option BegunReset). queue_requesting (streams_within (room_in e (filled draft (plain_contents (u.sacks ++ u.forwards))))) b u.gave_up.waiting) begun ∙ waits in
+    let left : (start_of u).waiting ≡ e.queues.queue = ap (λ (b : Option BegunReset). queue_requesting (streams_within (room_of_draft e (filled_draft draft (plain_contents (u.sacks ++ u.forwards))))) b u.gave_up.waiting) begun ∙ waits in
     let state : (start_of u).queue ≡ transfer.retransmission = ap (λ (b : Option BegunReset). retransmission_begun b u.gave_up.queue) begun ∙ ap (λ (s : Stage). s.queue) up.0 in
     record {
       sacks = none.1;
@@ -253,8 +253,8 @@ idle_until ask e draft transfer u idle =
 abbrev answer_out_of : Endpoint → Transfer → List Plain → Option BegunReset → List ChunkContent → List FillingEvent → Option ℕ → SendQueueState → RetransmissionState → TrackerState → Answer
 answer_out_of e transfer sacks begun chunks told next waiting queue tracker =
     answer_by sacks begun chunks told (record (after_begun begun e) {
-      timers = timers_where (has_chunks chunks) (after_begun begun e);
-      no_forward_tsn_before = forward_where next e.no_forward_tsn_before;
+      timers = timers_if_filled (has_chunks chunks) (after_begun begun e);
+      no_forward_tsn_before = forward_moment next e.no_forward_tsn_before;
       queues = record { queue = waiting; transfer = Some (record transfer { retransmission = queue; tracker = tracker }) };
     })
 
@@ -306,7 +306,7 @@ gives_by ask old draft transfer new filled_packet p =
     }
 
 gives_where : {R : Type 0} (ask : Ask) (old : View R) (draft : Emission) (transfer : Transfer) (new : View R) (filled_packet : Building) (p : Parts ask old draft transfer new filled_packet) (b : Bool)
-    → is_idle old.endpoint.queues.queue transfer ≡ b → GivesWhere b ask old.endpoint draft transfer (answer_of p)
+    → is_idle old.endpoint.queues.queue transfer ≡ b → GivesUnlessIdle b ask old.endpoint draft transfer (answer_of p)
 gives_where ask old draft transfer new filled_packet p true is = idle_answer ask old draft transfer new filled_packet p is
 gives_where ask old draft transfer new filled_packet p false is = gives_by ask old draft transfer new filled_packet p
 
@@ -317,7 +317,7 @@ fills_by {R = R} ask old draft transfer new filled_packet p =
     let u : GivesUntilFull ask e draft transfer = p.until in
     record {
       answer = answer_of p;
-      kept = ap (λ (t : Timers). record (after_begun u.begun e) { timers = t; no_forward_tsn_before = forward_where u.next e.no_forward_tsn_before; queues = record { queue = u.sent.waiting; transfer = Some (transfer_after u) } })
+      kept = ap (λ (t : Timers). record (after_begun u.begun e) { timers = t; no_forward_tsn_before = forward_moment u.next e.no_forward_tsn_before; queues = record { queue = u.sent.waiting; transfer = Some (transfer_after u) } })
           (timers_are (after_begun u.begun e) p.chunks);
       by_transfer = subst (IsAnswerOfQueues ask e draft (answer_of p)) (sym p.holds) (gives_where ask old draft transfer new filled_packet p (is_idle e.queues.queue transfer) refl);
       endpoint = ap (λ (v : View R). v.endpoint) p.is;
@@ -330,9 +330,9 @@ fills_by {R = R} ask old draft transfer new filled_packet p =
 
 -- The events of filling a packet come after those of abandoning messages.
 pub told_after : (front : List (Event (List ℕ))) (b : Bool) (now : ℕ) (waiting : SendQueueState) (state : RetransmissionState) (room : ℕ) (sent : Stage)
-    → FillsWhere b now (stage_of waiting state [] room) sent → FillsWhere b now (stage_of waiting state front room) (behind_events front sent)
+    → FillsIfAllowed b now (stage_of waiting state [] room) sent → FillsIfAllowed b now (stage_of waiting state front room) (behind_events front sent)
 told_after front b now waiting state room sent fills =
-    subst (λ (told : List (Event (List ℕ))). FillsWhere b now (stage_of waiting state told room) (behind_events front sent)) (append-nil front)
+    subst (λ (told : List (Event (List ℕ))). FillsIfAllowed b now (stage_of waiting state told room) (behind_events front sent)) (append-nil front)
     (told_behind front b now (stage_of waiting state [] room) sent fills)
 
 -- the same where nothing goes
@@ -361,7 +361,7 @@ fills_nothing {R = R} ask old draft new filled_packet holds same is =
 
 -- what fills it is all it amounts to
 abbrev pub later_until : (e : Endpoint) (draft : Emission) (transfer : Transfer) (sent : Stage)
-    → FillsWhere (may_give e.queues.queue transfer.retransmission) e.moment (stage_of e.queues.queue transfer.retransmission [] (room_in e (filled draft []))) sent → GivesUntilFull later_ask e draft transfer
+    → FillsIfAllowed (may_give e.queues.queue transfer.retransmission) e.moment (stage_of e.queues.queue transfer.retransmission [] (room_of_draft e (filled_draft draft []))) sent → GivesUntilFull later_ask e draft transfer
 later_until e draft transfer sent fills =
     record {
       sacks = [];
@@ -378,16 +378,16 @@ later_until e draft transfer sent fills =
     }
 
 -- The draft with nothing added is the same, so it has as much room.
-pub same_draft : (draft : Emission) → filled draft [] ≡ draft
+pub same_draft : (draft : Emission) → filled_draft draft [] ≡ draft
 same_draft draft = ap (λ (contents : List Content). record draft { packet = record draft.packet { contents = contents } }) (append-nil draft.packet.contents)
 
-pub room_is_left : (e : Endpoint) (draft : Emission) (packet : Building) → packet ≡ packet_for e.options draft → bytes_remaining packet ≡ room_in e draft
+pub room_is_left : (e : Endpoint) (draft : Emission) (packet : Building) → packet ≡ packet_for e.options draft → bytes_remaining packet ≡ room_of_draft e draft
 room_is_left e draft packet is = ap bytes_remaining is ∙ room_is e draft
 
 -- the view with this below its endpoint
 abbrev filled_view : {R : Type 0} → View R → Bool → SendQueueState → Transfer → List (Event (List ℕ)) → View R
 filled_view old any left after telling =
-    record old { endpoint = record old.endpoint { timers = timers_where any old.endpoint; queues = record { queue = left; transfer = Some after } }; events = telling }
+    record old { endpoint = record old.endpoint { timers = timers_if_filled any old.endpoint; queues = record { queue = left; transfer = Some after } }; events = telling }
 
 -- what a packet that was filled leaves
 pub view_filled : {R : Type 0} (old : View R) (transfer after : Transfer) (left : SendQueueState) (packet filled_packet : Building) (any : Bool) (new : View R)
@@ -406,12 +406,12 @@ later_by old draft None new packet filled_packet holds is h = fills_nothing late
 later_by old draft (Some transfer) new packet filled_packet holds is h =
     let e : Endpoint = old.endpoint in
     let filling = h.3 in
-    let behind : packet ≡ packet_for e.options (filled draft []) = is ∙ ap (packet_for e.options) (sym (same_draft draft)) in
-    let room : bytes_remaining packet ≡ room_in e (filled draft []) = room_is_left e (filled draft []) packet behind in
+    let behind : packet ≡ packet_for e.options (filled_draft draft []) = is ∙ ap (packet_for e.options) (sym (same_draft draft)) in
+    let room : bytes_remaining packet ≡ room_of_draft e (filled_draft draft []) = room_is_left e (filled_draft draft []) packet behind in
     fills_by later_ask old draft transfer new filled_packet
     (record {
       until = later_until e draft transfer filling.sent
-          (subst (λ (n : ℕ). FillsWhere (may_give e.queues.queue transfer.retransmission) e.moment (stage_of e.queues.queue transfer.retransmission [] n) filling.sent) room filling.fills);
+          (subst (λ (n : ℕ). FillsIfAllowed (may_give e.queues.queue transfer.retransmission) e.moment (stage_of e.queues.queue transfer.retransmission [] n) filling.sent) room filling.fills);
       still = λ no_data no_items. filling.idle no_data no_items ∙ ap (stage_of e.queues.queue transfer.retransmission []) room;
       chunks = filling.chunks;
       are = filling.are;
@@ -432,7 +432,7 @@ fills_later old draft new packet filled_packet is h = later_by old draft old.end
 
 chunk_where : (b : Bool) (options : Options) (draft : Emission) (room : ℕ) (chunk : ChunkContent) → nat_le (length (chunk_bytes chunk)) room ≡ b
     → (if b then record (packet_for options draft) { body = (packet_for options draft).body ++ chunk_bytes chunk } else packet_for options draft)
-    ≡ packet_for options (filled draft (plain_contents (if b then unworked chunk ∷ [] else [])))
+    ≡ packet_for options (filled_draft draft (plain_contents (if b then unworked chunk ∷ [] else [])))
 chunk_where true options draft room chunk is =
     ap (λ (bytes : List ℕ). record (packet_for options draft) { body = bytes })
     (ap (λ (bytes : List ℕ). body_of draft.packet.contents ++ bytes) (sym (append-nil (chunk_bytes chunk))) ∙ sym (body_append draft.packet.contents (plain (unworked chunk) ∷ [])))
@@ -441,17 +441,17 @@ chunk_where false options draft room chunk is =
 
 -- a chunk after what the packet holds, if it fits
 pub chunk_packet : (e : Endpoint) (draft : Emission) (chunk : ChunkContent)
-    → with_chunk (packet_for e.options draft) chunk ≡ packet_for e.options (filled draft (plain_contents (where_fits (room_in e draft) (unworked chunk))))
+    → with_chunk (packet_for e.options draft) chunk ≡ packet_for e.options (filled_draft draft (plain_contents (where_fits (room_of_draft e draft) (unworked chunk))))
 chunk_packet e draft chunk =
     ap (λ (room : ℕ). if nat_le (length (chunk_bytes chunk)) room then record (packet_for e.options draft) { body = (packet_for e.options draft).body ++ chunk_bytes chunk } else packet_for e.options draft)
     (room_is e draft)
-    ∙ chunk_where (nat_le (length (chunk_bytes chunk)) (room_in e draft)) e.options draft (room_in e draft) chunk refl
+    ∙ chunk_where (nat_le (length (chunk_bytes chunk)) (room_of_draft e draft)) e.options draft (room_of_draft e draft) chunk refl
 
 -- a SACK that is cut to the room
 pub sack_packet : (e : Endpoint) (draft : Emission) (packet : Building) (transfer : Transfer) → packet ≡ packet_for e.options draft
     → with_chunk packet (sack_chunk (sack_of (bytes_remaining packet) transfer.tracker (advertised_window transfer)))
-    ≡ packet_for e.options (filled draft (plain_contents (where_fits (room_in e draft) (own_sack (room_in e draft) transfer))))
+    ≡ packet_for e.options (filled_draft draft (plain_contents (where_fits (room_of_draft e draft) (own_sack (room_of_draft e draft) transfer))))
 sack_packet e draft packet transfer is =
     ap (λ (b : Building). with_chunk b (sack_chunk (sack_of (bytes_remaining b) transfer.tracker (advertised_window transfer)))) is
     ∙ ap (λ (room : ℕ). with_chunk (packet_for e.options draft) (sack_chunk (sack_of room transfer.tracker (advertised_window transfer)))) (room_is e draft)
-    ∙ chunk_packet e draft (sack_chunk (sack_of (room_in e draft) transfer.tracker (advertised_window transfer)))
+    ∙ chunk_packet e draft (sack_chunk (sack_of (room_of_draft e draft) transfer.tracker (advertised_window transfer)))

@@ -5,15 +5,15 @@ use Rattle.std.proofs.lemmas.List.{append-nil, map-append}
 use Rattle.dcsctp_transfer.specs.wire_build.Building.{Building, bytes_remaining}
 use Rattle.dcsctp_transfer.specs.spec.endpoint.Event.{Event}
 use Rattle.dcsctp_transfer.specs.spec.Packet.{Plain, plain, Content, chunk_out, Emission, plain_out}
-use Rattle.dcsctp_transfer.specs.spec.queues.Tracker.{TrackerState, sacked}
+use Rattle.dcsctp_transfer.specs.spec.queues.Tracker.{TrackerState, tracker_after_sack}
 use Rattle.dcsctp_transfer.specs.spec.queues.SendQueue.{SendQueueState, has_queued_data}
 use Rattle.dcsctp_transfer.specs.spec.queues.Transfer.{Transfer, may_give}
 use Rattle.dcsctp_transfer.specs.spec.queues.Retransmission.{RetransmissionState}
 use Rattle.dcsctp_transfer.specs.spec.endpoint.Endpoint.{Endpoint, Core, OutstandingRequest}
-use Rattle.dcsctp_transfer.specs.spec.endpoint.Timers.{RunningTimer, TimerSettings, started}
+use Rattle.dcsctp_transfer.specs.spec.endpoint.Timers.{RunningTimer, TimerSettings, started_timer}
 use Rattle.dcsctp_transfer.specs.spec.association.Choices.{plain_contents}
-use Rattle.dcsctp_transfer.specs.spec.endpoint.BegunResets.{BegunReset, streams_within, last_assigned_tsn, begun_in, request_contents, reconfiguration_settings, transfer_reset_begun, core_asking, after_begun, queue_requesting, retransmission_begun}
-use Rattle.dcsctp_transfer.specs.spec.endpoint.FlushOutcomes.{may_be_asked, own_sack, filled, first_ask, room_in, where_fits, wants_sack, FitsPlain, FillsWhere, ForwardsWhere, GivesUpWhere, forward_where, FillingEvent, begun_at, may_abandon, may_forward, stage_of, filling_event_content}
+use Rattle.dcsctp_transfer.specs.spec.endpoint.BegunResets.{BegunReset, streams_within, last_assigned_tsn, begun_if_connected, request_contents, reconfiguration_settings, transfer_reset_begun, core_asking, after_begun, queue_requesting, retransmission_begun}
+use Rattle.dcsctp_transfer.specs.spec.endpoint.FlushOutcomes.{may_be_asked, own_sack, filled_draft, first_ask, room_of_draft, where_fits, wants_sack, FitsPlain, FillsIfAllowed, ForwardsIfAbandoned, GivesUpThenForwards, forward_moment, FillingEvent, begun_by_ask, may_abandon, may_forward, stage_of, filling_event_content}
 use Rattle.dcsctp_transfer.specs.wire.Content.{ChunkContent}
 use Rattle.dcsctp_transfer.specs.wire.Spelling.{chunk_bytes}
 use Rattle.dcsctp_transfer.specs.Filling.{is_sack_wanted, FillsRequestedSack, has_chunks}
@@ -21,7 +21,7 @@ use Rattle.dcsctp_core.specs.declared.context.Context.{Context}
 use Rattle.dcsctp_core.specs.declared.state.State.{State}
 use Rattle.dcsctp_core.specs.declared.state.State.TheVariants.{Closed, CookieWait, CookieEchoed, Open}
 use Rattle.dcsctp_core.specs.View.{View, core_of, tie_of, t1_of, t2_of, outstanding_of, reconfiguration_of, transfer_of, endpoint_of, view_of}
-use Rattle.dcsctp_core.specs.Flushing.{packet_for, state_with, AcknowledgesInQueues, ForwardsAt, FillsResetRequest, FillsPacketData, timers_where, FillsAskedPacket, can_queues_send, ForwardsNow, is_in_time}
+use Rattle.dcsctp_core.specs.Flushing.{packet_for, state_with, AcknowledgesInQueues, ForwardsInTime, FillsResetRequest, FillsPacketData, timers_if_filled, FillsAskedPacket, can_queues_send, ForwardsNow, is_in_time}
 use Rattle.dcsctp_core.proofs.FillLemmas.{fills_by, fills_nothing, sack_packet, endpoint_given, room_is_left, same_draft, stays_behind, told_after, view_filled}
 use Rattle.dcsctp_core.proofs.SentLemmas.{body_append}
 use Rattle.dcsctp_transfer.proofs.spec_lemmas.FilledAnswers.{GivesUntilFull}
@@ -104,9 +104,9 @@ endpoint_with context old transfer holds =
 record Acked (e : Endpoint) (draft : Emission) (b : Bool) (transfer mid : Transfer) (packet : Building) : Type 0 where
   sacks : List Plain
   tracker : TrackerState
-  acknowledges : asks.Acknowledges b (room_in e draft) transfer tracker sacks
+  acknowledges : asks.Acknowledges b (room_of_draft e draft) transfer tracker sacks
   mid_is : mid ≡ record transfer { tracker = tracker }
-  is : packet ≡ packet_for e.options (filled draft (plain_contents sacks))
+  is : packet ≡ packet_for e.options (filled_draft draft (plain_contents sacks))
 
 acked : (e : Endpoint) (draft : Emission) (b : Bool) (transfer mid : Transfer) (before packet : Building) → before ≡ packet_for e.options draft → FillsRequestedSack b transfer before mid packet
     → Acked e draft b transfer mid packet
@@ -114,8 +114,8 @@ acked e draft false transfer mid before packet is h =
     record { sacks = []; tracker = transfer.tracker; acknowledges = (refl, refl); mid_is = h.0; is = h.1 ∙ is ∙ ap (packet_for e.options) (sym (same_draft draft)) }
 acked e draft true transfer mid before packet is h =
     record {
-      sacks = where_fits (room_in e draft) (own_sack (room_in e draft) transfer);
-      tracker = sacked transfer.tracker;
+      sacks = where_fits (room_of_draft e draft) (own_sack (room_of_draft e draft) transfer);
+      tracker = tracker_after_sack transfer.tracker;
       acknowledges = (refl, refl);
       mid_is = h.0;
       is = h.1 ∙ sack_packet e draft before transfer is;
@@ -126,19 +126,19 @@ abbrev acknowledged_view : {R : Type 0} → View R → Transfer → View R
 acknowledged_view old transfer = record old { endpoint = record old.endpoint { queues = record old.endpoint.queues { transfer = Some transfer } } }
 
 -- the chunks of two lists, one after the other
-filled_twice : (draft : Emission) (front back : List Plain) → filled (filled draft (plain_contents front)) (plain_contents back) ≡ filled draft (plain_contents (front ++ back))
+filled_twice : (draft : Emission) (front back : List Plain) → filled_draft (filled_draft draft (plain_contents front)) (plain_contents back) ≡ filled_draft draft (plain_contents (front ++ back))
 filled_twice draft front back =
     ap (λ (contents : List Content). record draft { packet = record draft.packet { contents = contents } })
     (append_assoc draft.packet.contents (plain_contents front) (plain_contents back) ∙ ap (λ (contents : List Content). draft.packet.contents ++ contents) (sym (map-append plain front back)))
 
 -- contents one after the other
-filled_behind : (draft : Emission) (front back : List Content) → filled (filled draft front) back ≡ filled draft (front ++ back)
+filled_behind : (draft : Emission) (front back : List Content) → filled_draft (filled_draft draft front) back ≡ filled_draft draft (front ++ back)
 filled_behind draft front back =
     ap (λ (contents : List Content). record draft { packet = record draft.packet { contents = contents } }) (append_assoc draft.packet.contents front back)
 
 -- the packet with these contents after what it holds
 contents_behind : (e : Endpoint) (draft : Emission) (contents : List Content) (packet filled_packet : Building) → packet ≡ packet_for e.options draft
-    → filled_packet ≡ record packet { body = packet.body ++ flat_map chunk_bytes (map chunk_out contents) } → filled_packet ≡ packet_for e.options (filled draft contents)
+    → filled_packet ≡ record packet { body = packet.body ++ flat_map chunk_bytes (map chunk_out contents) } → filled_packet ≡ packet_for e.options (filled_draft draft contents)
 contents_behind e draft contents packet filled_packet is adds =
     adds
     ∙ ap (λ (b : Building). record b { body = b.body ++ flat_map chunk_bytes (map chunk_out contents) }) is
@@ -155,7 +155,7 @@ abbrev pub forwarded_view : {R : Type 0} → View R → Option ℕ → Stage →
 forwarded_view old next gave_up mid =
     record old {
       endpoint = record old.endpoint {
-        no_forward_tsn_before = forward_where next old.endpoint.no_forward_tsn_before;
+        no_forward_tsn_before = forward_moment next old.endpoint.no_forward_tsn_before;
         queues = record { queue = gave_up.waiting; transfer = Some (record mid { retransmission = gave_up.queue }) };
       };
       events = old.events ++ gave_up.told;
@@ -166,12 +166,12 @@ record GivenUp {R : Type 0} (old : View R) (draft : Emission) (mid : Transfer) (
   gave_up : Stage
   next : Option ℕ
   forwards : List Plain
-  gives_up : GivesUpWhere (may_forward first_ask old.endpoint mid.retransmission) old.endpoint.moment mid (room_in old.endpoint draft)
+  gives_up : GivesUpThenForwards (may_forward first_ask old.endpoint mid.retransmission) old.endpoint.moment mid (room_of_draft old.endpoint draft)
       (stage_of old.endpoint.queues.queue mid.retransmission [] 0) gave_up next forwards
   fit : AllByRecursion FitsPlain forwards
   told : List FillingEvent
   are_told : map filling_event_content told ≡ gave_up.told
-  is : packet ≡ packet_for old.endpoint.options (filled draft (plain_contents forwards))
+  is : packet ≡ packet_for old.endpoint.options (filled_draft draft (plain_contents forwards))
   view : given ≡ forwarded_view old next gave_up mid
 
 given_up : {R : Type 0} (old : View R) (draft : Emission) (mid : Transfer) (given : View R) (before packet : Building) (b : Bool) → is_in_time old.endpoint ≡ b → old.endpoint.queues.transfer ≡ Some mid
@@ -183,7 +183,7 @@ given_up {R = R} old draft mid given before packet false early holds is h =
       gave_up = start;
       next = None;
       forwards = [];
-      gives_up = subst (λ (b : Bool). GivesUpWhere (b && may_abandon mid.retransmission) e.moment mid (room_in e draft) start start None []) (sym early) (refl, refl, refl);
+      gives_up = subst (λ (b : Bool). GivesUpThenForwards (b && may_abandon mid.retransmission) e.moment mid (room_of_draft e draft) start start None []) (sym early) (refl, refl, refl);
       fit = tt;
       told = [];
       are_told = refl;
@@ -200,8 +200,8 @@ given_up {R = R} old draft mid given before packet true in_time holds is h =
       gave_up = forwards.gave_up;
       next = h.0;
       forwards = forwards.chunks;
-      gives_up = subst (λ (b : Bool). GivesUpWhere (b && may_abandon mid.retransmission) e.moment mid (room_in e draft) start forwards.gave_up h.0 forwards.chunks) (sym in_time)
-          (subst (λ (room : ℕ). GivesUpWhere (may_abandon mid.retransmission) e.moment mid room start forwards.gave_up h.0 forwards.chunks) (room_is_left e draft before is) forwards.gives_up);
+      gives_up = subst (λ (b : Bool). GivesUpThenForwards (b && may_abandon mid.retransmission) e.moment mid (room_of_draft e draft) start forwards.gave_up h.0 forwards.chunks) (sym in_time)
+          (subst (λ (room : ℕ). GivesUpThenForwards (may_abandon mid.retransmission) e.moment mid room start forwards.gave_up h.0 forwards.chunks) (room_is_left e draft before is) forwards.gives_up);
       fit = forwards.fits;
       told = forwards.told;
       are_told = forwards.are_told;
@@ -216,7 +216,7 @@ given_up {R = R} old draft mid given before packet true in_time holds is h =
     view_with : SendQueueState → Transfer → List (Event (List ℕ)) → View R
     view_with queue transfer events =
         record old {
-          endpoint = record old.endpoint { no_forward_tsn_before = forward_where h.0 old.endpoint.no_forward_tsn_before; queues = record { queue = queue; transfer = Some transfer } };
+          endpoint = record old.endpoint { no_forward_tsn_before = forward_moment h.0 old.endpoint.no_forward_tsn_before; queues = record { queue = queue; transfer = Some transfer } };
           events = events;
         }
 
@@ -233,12 +233,12 @@ begun_in_view old next gave_up mid begun handed =
 
 -- What acknowledges counts for nothing there.
 forwards_before : (b : Bool) (now : ℕ) (transfer : Transfer) (tracker : TrackerState) (room : ℕ) (state : RetransmissionState) (next : Option ℕ) (chunks : List Plain)
-    → ForwardsWhere b now (record transfer { tracker = tracker }) room state next chunks → ForwardsWhere b now transfer room state next chunks
+    → ForwardsIfAbandoned b now (record transfer { tracker = tracker }) room state next chunks → ForwardsIfAbandoned b now transfer room state next chunks
 forwards_before false now transfer tracker room state next chunks h = h
 forwards_before true now transfer tracker room state next chunks h = h
 
 gives_up_before : (b : Bool) (now : ℕ) (transfer : Transfer) (tracker : TrackerState) (room : ℕ) (old new : Stage) (next : Option ℕ) (chunks : List Plain)
-    → GivesUpWhere b now (record transfer { tracker = tracker }) room old new next chunks → GivesUpWhere b now transfer room old new next chunks
+    → GivesUpThenForwards b now (record transfer { tracker = tracker }) room old new next chunks → GivesUpThenForwards b now transfer room old new next chunks
 gives_up_before false now transfer tracker room old new next chunks h = h
 gives_up_before true now transfer tracker room old new next chunks h =
     (h.0, forwards_before (is_first_abandoned new.queue.outstanding.items) now transfer tracker room new.queue next chunks h.1)
@@ -247,28 +247,28 @@ gives_up_before true now transfer tracker room old new next chunks h =
 pub record Forwarded {R : Type 0} (old : View R) (draft : Emission) (transfer : Transfer) (given : View R) (packet : Building) : Type 0 where
   pub sacks : List Plain
   pub tracker : TrackerState
-  pub acknowledges : asks.Acknowledges (wants_sack first_ask old.endpoint.queues.queue transfer) (room_in old.endpoint draft) transfer tracker sacks
+  pub acknowledges : asks.Acknowledges (wants_sack first_ask old.endpoint.queues.queue transfer) (room_of_draft old.endpoint draft) transfer tracker sacks
   pub gave_up : Stage
   pub next : Option ℕ
   pub forwards : List Plain
-  pub gives_up : GivesUpWhere (may_forward first_ask old.endpoint transfer.retransmission) old.endpoint.moment transfer (room_in old.endpoint (filled draft (plain_contents sacks)))
+  pub gives_up : GivesUpThenForwards (may_forward first_ask old.endpoint transfer.retransmission) old.endpoint.moment transfer (room_of_draft old.endpoint (filled_draft draft (plain_contents sacks)))
       (stage_of old.endpoint.queues.queue transfer.retransmission [] 0) gave_up next forwards
   pub fit : AllByRecursion FitsPlain forwards
   pub told : List FillingEvent
   pub are_told : map filling_event_content told ≡ gave_up.told
-  pub is : packet ≡ packet_for old.endpoint.options (filled draft (plain_contents (sacks ++ forwards)))
+  pub is : packet ≡ packet_for old.endpoint.options (filled_draft draft (plain_contents (sacks ++ forwards)))
   pub view : given ≡ forwarded_view old next gave_up (record transfer { tracker = tracker })
 
 pub forwarded : {R : Type 0} (old : View R) (draft : Emission) (transfer mid : Transfer) (given : View R) (before acked_packet given_packet : Building) → before ≡ packet_for old.endpoint.options draft
     → FillsRequestedSack (wants_sack first_ask old.endpoint.queues.queue transfer) transfer before mid acked_packet
-    → ForwardsAt (Some mid) (acknowledged_view old mid) acked_packet given given_packet → Forwarded old draft transfer given given_packet
+    → ForwardsInTime (Some mid) (acknowledged_view old mid) acked_packet given given_packet → Forwarded old draft transfer given given_packet
 forwarded {R = R} old draft transfer mid given before acked_packet given_packet built ack forward =
     let e : Endpoint = old.endpoint in
     let a = acked e draft (wants_sack first_ask e.queues.queue transfer) transfer mid before acked_packet built ack in
     let now : Transfer = record transfer { tracker = a.tracker } in
-    let up : GivenUp (acknowledged_view old now) (filled draft (plain_contents a.sacks)) now given given_packet =
-    given_up (acknowledged_view old now) (filled draft (plain_contents a.sacks)) now given acked_packet given_packet (is_in_time e) refl refl a.is
-    (subst (λ (t : Transfer). ForwardsAt (Some t) (acknowledged_view old t) acked_packet given given_packet) a.mid_is forward) in
+    let up : GivenUp (acknowledged_view old now) (filled_draft draft (plain_contents a.sacks)) now given given_packet =
+    given_up (acknowledged_view old now) (filled_draft draft (plain_contents a.sacks)) now given acked_packet given_packet (is_in_time e) refl refl a.is
+    (subst (λ (t : Transfer). ForwardsInTime (Some t) (acknowledged_view old t) acked_packet given given_packet) a.mid_is forward) in
     record {
       sacks = a.sacks;
       tracker = a.tracker;
@@ -276,7 +276,7 @@ forwarded {R = R} old draft transfer mid given before acked_packet given_packet 
       gave_up = up.gave_up;
       next = up.next;
       forwards = up.forwards;
-      gives_up = gives_up_before (may_forward first_ask e transfer.retransmission) e.moment transfer a.tracker (room_in e (filled draft (plain_contents a.sacks)))
+      gives_up = gives_up_before (may_forward first_ask e transfer.retransmission) e.moment transfer a.tracker (room_of_draft e (filled_draft draft (plain_contents a.sacks)))
           (stage_of e.queues.queue transfer.retransmission [] 0) up.gave_up up.next up.forwards up.gives_up;
       fit = up.fit;
       told = up.told;
@@ -287,7 +287,7 @@ forwarded {R = R} old draft transfer mid given before acked_packet given_packet 
 
 -- the draft after that
 abbrev pub behind_forwards : {R : Type 0} {old : View R} {draft : Emission} {transfer : Transfer} {given : View R} {packet : Building} → Forwarded old draft transfer given packet → Emission
-behind_forwards {draft = draft} f = filled draft (plain_contents (f.sacks ++ f.forwards))
+behind_forwards {draft = draft} f = filled_draft draft (plain_contents (f.sacks ++ f.forwards))
 
 -- What a packet holds before data goes in, as the ask says it.
 pub record BeforeData {R : Type 0} (old : View R) (draft : Emission) (transfer : Transfer) (here : View R) (packet : Building) : Type 0 where
@@ -295,11 +295,11 @@ pub record BeforeData {R : Type 0} (old : View R) (draft : Emission) (transfer :
   pub given_packet : Building
   pub up : Forwarded old draft transfer given given_packet
   pub begun : Option BegunReset
-  pub begins : begun ≡ begun_at first_ask old.endpoint.options.follow_rfc (may_be_asked old.endpoint.core old.endpoint.options.follow_rfc) (room_in old.endpoint (behind_forwards up)) (last_assigned_tsn up.gave_up.queue) up.gave_up.waiting
-  pub is : packet ≡ packet_for old.endpoint.options (filled draft (plain_contents (up.sacks ++ up.forwards) ++ request_contents begun))
+  pub begins : begun ≡ begun_by_ask first_ask old.endpoint.options.follow_rfc (may_be_asked old.endpoint.core old.endpoint.options.follow_rfc) (room_of_draft old.endpoint (behind_forwards up)) (last_assigned_tsn up.gave_up.queue) up.gave_up.waiting
+  pub is : packet ≡ packet_for old.endpoint.options (filled_draft draft (plain_contents (up.sacks ++ up.forwards) ++ request_contents begun))
   pub view : here
       ≡ begun_in_view old up.next up.gave_up (record transfer { tracker = up.tracker }) begun
-      (queue_requesting (streams_within (room_in old.endpoint (behind_forwards up))) begun up.gave_up.waiting)
+      (queue_requesting (streams_within (room_of_draft old.endpoint (behind_forwards up))) begun up.gave_up.waiting)
 
 pub before_data : {R : Type 0} (old : View R) (draft : Emission) (transfer : Transfer) (given here : View R) (given_packet packet : Building) → Forwarded old draft transfer given given_packet
     → FillsResetRequest given.endpoint.queues.transfer given given_packet here packet → BeforeData old draft transfer here packet
@@ -308,13 +308,13 @@ before_data {R = R} old draft transfer given here given_packet packet up begin =
     let now : Transfer = record transfer { tracker = up.tracker } in
     let begins : FillsResetRequest (Some (record now { retransmission = up.gave_up.queue })) (forwarded_view old up.next up.gave_up now) given_packet here packet =
     subst (λ (v : View R). FillsResetRequest v.endpoint.queues.transfer v given_packet here packet) up.view begin in
-    let room : bytes_remaining given_packet ≡ room_in e (behind_forwards up) = room_is_left e (behind_forwards up) given_packet up.is in
+    let room : bytes_remaining given_packet ≡ room_of_draft e (behind_forwards up) = room_is_left e (behind_forwards up) given_packet up.is in
     record {
       given = given;
       given_packet = given_packet;
       up = up;
       begun = begins.0;
-      begins = begins.2 ∙ ap (λ (n : ℕ). begun_in e.options.follow_rfc (may_be_asked e.core e.options.follow_rfc) n (last_assigned_tsn up.gave_up.queue) up.gave_up.waiting) room;
+      begins = begins.2 ∙ ap (λ (n : ℕ). begun_if_connected e.options.follow_rfc (may_be_asked e.core e.options.follow_rfc) n (last_assigned_tsn up.gave_up.queue) up.gave_up.waiting) room;
       is = contents_behind e (behind_forwards up) (request_contents begins.0) given_packet packet up.is begins.4
           ∙ ap (packet_for e.options) (filled_behind draft (plain_contents (up.sacks ++ up.forwards)) (request_contents begins.0));
       view = begins.5
@@ -323,16 +323,16 @@ before_data {R = R} old draft transfer given here given_packet packet up begin =
 
 -- what waits once the reset is begun, and what is in flight
 abbrev pub handed_of : {R : Type 0} {old : View R} {draft : Emission} {transfer : Transfer} {here : View R} {packet : Building} → BeforeData old draft transfer here packet → SendQueueState
-handed_of {old = old} d = queue_requesting (streams_within (room_in old.endpoint (behind_forwards d.up))) d.begun d.up.gave_up.waiting
+handed_of {old = old} d = queue_requesting (streams_within (room_of_draft old.endpoint (behind_forwards d.up))) d.begun d.up.gave_up.waiting
 
 abbrev pub state_of : {R : Type 0} {old : View R} {draft : Emission} {transfer : Transfer} {here : View R} {packet : Building} → BeforeData old draft transfer here packet → RetransmissionState
 state_of d = retransmission_begun d.begun d.up.gave_up.queue
 
 abbrev pub room_of : {R : Type 0} {old : View R} {draft : Emission} {transfer : Transfer} {here : View R} {packet : Building} → BeforeData old draft transfer here packet → ℕ
-room_of {old = old} {draft = draft} d = room_in old.endpoint (filled draft (plain_contents (d.up.sacks ++ d.up.forwards) ++ request_contents d.begun))
+room_of {old = old} {draft = draft} d = room_of_draft old.endpoint (filled_draft draft (plain_contents (d.up.sacks ++ d.up.forwards) ++ request_contents d.begun))
 
 abbrev pub until_of : {R : Type 0} (old : View R) (draft : Emission) (transfer : Transfer) (here : View R) (packet : Building) (d : BeforeData old draft transfer here packet) (sent : Stage)
-    → FillsWhere (may_give (handed_of d) (state_of d)) old.endpoint.moment (stage_of (handed_of d) (state_of d) [] (room_of d)) sent → GivesUntilFull first_ask old.endpoint draft transfer
+    → FillsIfAllowed (may_give (handed_of d) (state_of d)) old.endpoint.moment (stage_of (handed_of d) (state_of d) [] (room_of d)) sent → GivesUntilFull first_ask old.endpoint draft transfer
 until_of old draft transfer here packet d sent fills =
     record {
       sacks = d.up.sacks;
@@ -354,31 +354,31 @@ moment_begun (Some begun) e = refl
 
 -- what fills it with data, after that
 pub fills_behind : {R : Type 0} (old : View R) (draft : Emission) (transfer : Transfer) (here : View R) (packet : Building) (d : BeforeData old draft transfer here packet) (sent : Stage)
-    → FillsWhere (may_give (handed_of d) (state_of d)) (after_begun d.begun (forwarded_view old d.up.next d.up.gave_up (record transfer { tracker = d.up.tracker })).endpoint).moment
+    → FillsIfAllowed (may_give (handed_of d) (state_of d)) (after_begun d.begun (forwarded_view old d.up.next d.up.gave_up (record transfer { tracker = d.up.tracker })).endpoint).moment
     (stage_of (handed_of d) (state_of d) [] (bytes_remaining packet)) sent
-    → FillsWhere (may_give (handed_of d) (state_of d)) old.endpoint.moment (stage_of (handed_of d) (state_of d) [] (room_of d)) sent
+    → FillsIfAllowed (may_give (handed_of d) (state_of d)) old.endpoint.moment (stage_of (handed_of d) (state_of d) [] (room_of d)) sent
 fills_behind old draft transfer here packet d sent fills =
-    subst (λ (n : ℕ). FillsWhere (may_give (handed_of d) (state_of d)) old.endpoint.moment (stage_of (handed_of d) (state_of d) [] n) sent) (room_is_left old.endpoint _ packet d.is)
-    (subst (λ (now : ℕ). FillsWhere (may_give (handed_of d) (state_of d)) now (stage_of (handed_of d) (state_of d) [] (bytes_remaining packet)) sent) (moment_begun d.begun _) fills)
+    subst (λ (n : ℕ). FillsIfAllowed (may_give (handed_of d) (state_of d)) old.endpoint.moment (stage_of (handed_of d) (state_of d) [] n) sent) (room_is_left old.endpoint _ packet d.is)
+    (subst (λ (now : ℕ). FillsIfAllowed (may_give (handed_of d) (state_of d)) now (stage_of (handed_of d) (state_of d) [] (bytes_remaining packet)) sent) (moment_begun d.begun _) fills)
 
 -- Abandoning messages leaves the retransmission timeout as it is, so a reset that is begun after it starts the same timer.
 begun_behind : (begun : Option BegunReset) (e : Endpoint) (any : Bool) (later : ℕ) (waits handed left : SendQueueState) (given after : Transfer) → reconfiguration_settings (Some given) ≡ reconfiguration_settings e.queues.transfer
     → let f : Endpoint = record (after_begun begun (record e { no_forward_tsn_before = later; queues = record { queue = waits; transfer = Some given } })) { queues = record { queue = handed; transfer = Some (transfer_reset_begun begun given) } } in
-    record f { timers = timers_where any f; queues = record { queue = left; transfer = Some after } } ≡ endpoint_given e begun any later left after
+    record f { timers = timers_if_filled any f; queues = record { queue = left; transfer = Some after } } ≡ endpoint_given e begun any later left after
 begun_behind None e true later waits handed left given after same = refl
 begun_behind None e false later waits handed left given after same = refl
 begun_behind (Some begun) e true later waits handed left given after same =
     ap (λ (settings : TimerSettings). let f : Endpoint = record e {
       core = core_asking e.core;
       outstanding = Some (record { last_tsn = begun.reset.last_tsn; streams = begun.reset.streams; is_new = begun.reset.is_new; waits_for_retry = false });
-      timers = record e.timers { reconfiguration = started e.moment settings };
+      timers = record e.timers { reconfiguration = started_timer e.moment settings };
     } in
-    let g : Endpoint = record f { timers = timers_where true f; no_forward_tsn_before = later; queues = record { queue = left; transfer = Some after } } in g) same
+    let g : Endpoint = record f { timers = timers_if_filled true f; no_forward_tsn_before = later; queues = record { queue = left; transfer = Some after } } in g) same
 begun_behind (Some begun) e false later waits handed left given after same =
     ap (λ (settings : TimerSettings). let f : Endpoint = record e {
       core = core_asking e.core;
       outstanding = Some (record { last_tsn = begun.reset.last_tsn; streams = begun.reset.streams; is_new = begun.reset.is_new; waits_for_retry = false });
-      timers = record e.timers { reconfiguration = started e.moment settings };
+      timers = record e.timers { reconfiguration = started_timer e.moment settings };
       no_forward_tsn_before = later;
       queues = record { queue = left; transfer = Some after };
     } in f) same
@@ -410,9 +410,9 @@ first_by {R = R} old draft transfer here new packet filled_packet holds d data_i
       adds = filling.adds ∙ ap (λ (b : Building). record b { body = b.body ++ flat_map chunk_bytes filling.chunks }) d.is;
       is = view_filled begun_view (transfer_reset_begun d.begun (record transfer { tracker = d.up.tracker; retransmission = d.up.gave_up.queue })) there.1 there.2 packet filled_packet there.0 new filling there.4
           ∙ ap (λ (x : Endpoint). record old { endpoint = x; events = old.events ++ d.up.gave_up.told ++ filling.sent.told })
-          (begun_behind d.begun e (has_chunks filling.chunks) (forward_where d.up.next e.no_forward_tsn_before) d.up.gave_up.waiting (handed_of d) filling.sent.waiting (record transfer { tracker = d.up.tracker; retransmission = d.up.gave_up.queue })
+          (begun_behind d.begun e (has_chunks filling.chunks) (forward_moment d.up.next e.no_forward_tsn_before) d.up.gave_up.waiting (handed_of d) filling.sent.waiting (record transfer { tracker = d.up.tracker; retransmission = d.up.gave_up.queue })
           (record transfer { retransmission = filling.sent.queue; tracker = d.up.tracker }) (sym (ap reconfiguration_settings holds)))
-          ∙ ap (λ (es : List (Event (List ℕ))). record old { endpoint = endpoint_given e d.begun (has_chunks filling.chunks) (forward_where d.up.next e.no_forward_tsn_before) filling.sent.waiting (record transfer { retransmission = filling.sent.queue; tracker = d.up.tracker }); events = es })
+          ∙ ap (λ (es : List (Event (List ℕ))). record old { endpoint = endpoint_given e d.begun (has_chunks filling.chunks) (forward_moment d.up.next e.no_forward_tsn_before) filling.sent.waiting (record transfer { retransmission = filling.sent.queue; tracker = d.up.tracker }); events = es })
           (append_assoc old.events d.up.gave_up.told filling.sent.told);
     })
 
@@ -424,12 +424,12 @@ along_is found queue transfer along holds is = ap (λ (b : Bool). is_sack_wanted
 
 -- no peer is known, so nothing has changed
 pub same_view : {R : Type 0} (old : Context R) (along : Bool) (state : State) (given here : View R) (packet acked_packet given_packet request_packet : Building) → transfer_of old.state ≡ None
-    → AcknowledgesInQueues None along old.state packet state acked_packet → ForwardsAt (transfer_of state) (view_of (record old { state = state })) acked_packet given given_packet
+    → AcknowledgesInQueues None along old.state packet state acked_packet → ForwardsInTime (transfer_of state) (view_of (record old { state = state })) acked_packet given given_packet
     → FillsResetRequest given.endpoint.queues.transfer given given_packet here request_packet → (here ≡ view_of old) × (request_packet ≡ packet)
 same_view {R = R} old along state given here packet acked_packet given_packet request_packet holds ack forward begin =
-    let up : ForwardsAt None (view_of old) acked_packet given given_packet =
-    subst (λ (f : Option Transfer). ForwardsAt f (view_of old) acked_packet given given_packet) holds
-    (subst (λ (s : State). ForwardsAt (transfer_of s) (view_of (record old { state = s })) acked_packet given given_packet) ack.0 forward) in
+    let up : ForwardsInTime None (view_of old) acked_packet given given_packet =
+    subst (λ (f : Option Transfer). ForwardsInTime f (view_of old) acked_packet given given_packet) holds
+    (subst (λ (s : State). ForwardsInTime (transfer_of s) (view_of (record old { state = s })) acked_packet given given_packet) ack.0 forward) in
     let at : FillsResetRequest None (view_of old) given_packet here request_packet =
     subst (λ (f : Option Transfer). FillsResetRequest f (view_of old) given_packet here request_packet) holds
     (subst (λ (v : View R). FillsResetRequest v.endpoint.queues.transfer v given_packet here request_packet) up.0 begin) in
@@ -438,23 +438,23 @@ same_view {R = R} old along state given here packet acked_packet given_packet re
 pub forwarded_where : {R : Type 0} (old : Context R) (transfer : Transfer) (along : Bool) (state : State) (draft : Emission) (given : View R) (before acked_packet given_packet : Building)
     → transfer_of old.state ≡ Some transfer → along ≡ (has_queued_data old.send_queue || can_queues_send (Some transfer)) → before ≡ packet_for old.options draft
     → AcknowledgesInQueues (Some transfer) along old.state before state acked_packet
-    → ForwardsAt (transfer_of state) (view_of (record old { state = state })) acked_packet given given_packet → Forwarded (view_of old) draft transfer given given_packet
+    → ForwardsInTime (transfer_of state) (view_of (record old { state = state })) acked_packet given given_packet → Forwarded (view_of old) draft transfer given given_packet
 forwarded_where {R = R} old transfer along state draft given before acked_packet given_packet holds is built ack forward =
     let mid : Transfer = ack.0 in
-    let at_state : ForwardsAt (transfer_of (state_with old.state mid)) (view_of (record old { state = state_with old.state mid })) acked_packet given given_packet =
-    subst (λ (s : State). ForwardsAt (transfer_of s) (view_of (record old { state = s })) acked_packet given given_packet) ack.1 forward in
-    let found : ForwardsAt (Some mid) (view_of (record old { state = state_with old.state mid })) acked_packet given given_packet =
-    subst (λ (f : Option Transfer). ForwardsAt f (view_of (record old { state = state_with old.state mid })) acked_packet given given_packet) (transfer_is old.state transfer mid holds) at_state in
+    let at_state : ForwardsInTime (transfer_of (state_with old.state mid)) (view_of (record old { state = state_with old.state mid })) acked_packet given given_packet =
+    subst (λ (s : State). ForwardsInTime (transfer_of s) (view_of (record old { state = s })) acked_packet given given_packet) ack.1 forward in
+    let found : ForwardsInTime (Some mid) (view_of (record old { state = state_with old.state mid })) acked_packet given given_packet =
+    subst (λ (f : Option Transfer). ForwardsInTime f (view_of (record old { state = state_with old.state mid })) acked_packet given given_packet) (transfer_is old.state transfer mid holds) at_state in
     let view : view_of (record old { state = state_with old.state mid }) ≡ acknowledged_view (view_of old) mid =
     ap (λ (e : Endpoint). record (view_of old) { endpoint = e }) (endpoint_with old transfer mid holds) in
     forwarded (view_of old) draft transfer mid given before acked_packet given_packet built
     (subst (λ (b : Bool). FillsRequestedSack b transfer before mid acked_packet) (along_is (Some transfer) old.send_queue transfer along refl is) ack.2)
-    (subst (λ (v : View R). ForwardsAt (Some mid) v acked_packet given given_packet) view found)
+    (subst (λ (v : View R). ForwardsInTime (Some mid) v acked_packet given given_packet) view found)
 
 first_where : {R : Type 0} (old : Context R) (found : Option Transfer) (along : Bool) (state : State) (draft : Emission) (given here new : View R) (before acked_packet given_packet request_packet filled_packet : Building)
     → transfer_of old.state ≡ found → along ≡ (has_queued_data old.send_queue || can_queues_send found) → before ≡ packet_for old.options draft
     → AcknowledgesInQueues found along old.state before state acked_packet
-    → ForwardsAt (transfer_of state) (view_of (record old { state = state })) acked_packet given given_packet
+    → ForwardsInTime (transfer_of state) (view_of (record old { state = state })) acked_packet given given_packet
     → FillsResetRequest given.endpoint.queues.transfer given given_packet here request_packet
     → FillsPacketData here.endpoint.queues.transfer here request_packet new filled_packet
     → FillsAskedPacket first_ask (view_of old) draft new filled_packet
@@ -472,7 +472,7 @@ first_where old (Some transfer) along state draft given here new before acked_pa
 pub fills_first : {R : Type 0} (old : Context R) (along : Bool) (state : State) (draft : Emission) (given here new : View R) (before acked_packet given_packet request_packet filled_packet : Building)
     → along ≡ (has_queued_data old.send_queue || can_queues_send (transfer_of old.state)) → before ≡ packet_for old.options draft
     → AcknowledgesInQueues (transfer_of old.state) along old.state before state acked_packet
-    → ForwardsAt (transfer_of state) (view_of (record old { state = state })) acked_packet given given_packet
+    → ForwardsInTime (transfer_of state) (view_of (record old { state = state })) acked_packet given given_packet
     → FillsResetRequest given.endpoint.queues.transfer given given_packet here request_packet
     → FillsPacketData here.endpoint.queues.transfer here request_packet new filled_packet
     → FillsAskedPacket first_ask (view_of old) draft new filled_packet

@@ -9,21 +9,21 @@ use Rattle.dcsctp_transfer.specs.Forwarding.{MakesForwardTsn}
 use Rattle.dcsctp_core.specs.declared.context.Context.{Context}
 use Rattle.dcsctp_core.specs.declared.state.State.{State}
 use Rattle.dcsctp_core.specs.View.{View, transfer_of, endpoint_of, view_of}
-use Rattle.dcsctp_core.specs.Flushing.{ForwardsInQueues, ForwardsNow, ForwardsAt}
-use Rattle.dcsctp_transfer.specs.spec.endpoint.FlushOutcomes.{forward_where}
+use Rattle.dcsctp_core.specs.Flushing.{ForwardsInQueues, ForwardsNow, ForwardsInTime}
+use Rattle.dcsctp_transfer.specs.spec.endpoint.FlushOutcomes.{forward_moment}
 use Rattle.dcsctp_core.proofs.FirstLemmas.{endpoint_with}
 use Rattle.std.proofs.lemmas.Bool.Decides.{nat_tests}
 
 -- the endpoint with this queue, once the next FORWARD-TSN was put off
 abbrev put_off : {R : Type 0} → Context R → SendQueueState → Option ℕ → Endpoint → Endpoint
-put_off old queue next e = record e { no_forward_tsn_before = forward_where next old.no_forward_tsn_before; queues = record e.queues { queue = queue } }
+put_off old queue next e = record e { no_forward_tsn_before = forward_moment next old.no_forward_tsn_before; queues = record e.queues { queue = queue } }
 
 abbrev forwarded : {R : Type 0} → Context R → State → SendQueueState → List (Event (List ℕ)) → Option ℕ → View R
 forwarded old state queue events next = record (view_of old) { endpoint = put_off old queue next (endpoint_of (record old { state = state })); events = events }
 
 pub forwards_below : {R : Type 0} (old : Context R) (new : View R) (found : Option Transfer) (state : State) (queue : SendQueueState) (events : List (Event (List ℕ))) (next : Option ℕ) (packet filled : Building)
     → transfer_of old.state ≡ found → nat_le old.no_forward_tsn_before old.moment ≡ true → new ≡ forwarded old state queue events next
-    → ForwardsInQueues old.moment found old.send_queue (view_of old).events packet old.state state queue events filled next → ForwardsAt found (view_of old) packet new filled
+    → ForwardsInQueues old.moment found old.send_queue (view_of old).events packet old.state state queue events filled next → ForwardsInTime found (view_of old) packet new filled
 forwards_below old new None state queue events next packet filled holds in_time is h = (
   is
       ∙ ap (λ (s : State). forwarded old s queue events next) h.0
@@ -44,13 +44,13 @@ forwards_below {R = R} old new (Some transfer) state queue events next packet fi
           ∙ ap (λ (s : State). forwarded old s queue events next) h.1
           ∙ ap (λ (e : Endpoint). record (view_of old) { endpoint = put_off old queue next e; events = events }) (endpoint_with old transfer after holds)
           ∙ ap (λ (es : List (Event (List ℕ))). record (view_of old) {
-            endpoint = record (endpoint_of old) { no_forward_tsn_before = forward_where next old.no_forward_tsn_before; queues = record { queue = queue; transfer = Some after } };
+            endpoint = record (endpoint_of old) { no_forward_tsn_before = forward_moment next old.no_forward_tsn_before; queues = record { queue = queue; transfer = Some after } };
             events = es;
           }) told,
     )
 
 -- before its time
-pub forwards_early : {R : Type 0} (old : Context R) (found : Option Transfer) (packet : Building) → old.moment < old.no_forward_tsn_before → ForwardsAt found (view_of old) packet (view_of old) packet
+pub forwards_early : {R : Type 0} (old : Context R) (found : Option Transfer) (packet : Building) → old.moment < old.no_forward_tsn_before → ForwardsInTime found (view_of old) packet (view_of old) packet
 forwards_early old None packet early = (refl, refl)
 forwards_early old (Some transfer) packet early =
     let late : nat_le old.no_forward_tsn_before old.moment ≡ false = grind (arith, nat_tests) in

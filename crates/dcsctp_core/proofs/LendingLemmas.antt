@@ -4,10 +4,10 @@ use Rattle.dcsctp_transfer.specs.spec.queues.Transfer.{Transfer}
 use Rattle.dcsctp_core.specs.declared.state.State.{State}
 use Rattle.dcsctp_core.specs.declared.state.State.TheVariants.{Closed, CookieWait, CookieEchoed, Open}
 use Rattle.dcsctp_core.specs.declared.transmission_control_block.TransmissionControlBlock.{TransmissionControlBlock}
-use Rattle.dcsctp_core.specs.View.{tcb_of, transfer_in, transfer_of}
+use Rattle.dcsctp_core.specs.View.{tcb_of, transfer_of_tcb, transfer_of}
 use Rattle.dcsctp_core.specs.Reconfiguring.{tcb_changed}
 use Rattle.dcsctp_core.specs.Flushing.{state_with}
-use Rattle.dcsctp_core.specs.Below.{ChangesQueues, ChangesWhere}
+use Rattle.dcsctp_core.specs.Below.{ChangesQueues, ChangesOrKeeps}
 
 pub within : {A : Type 0} {x y : A} → Some x ≡ Some y → x ≡ y
 within is = cc
@@ -30,10 +30,10 @@ kept (CookieEchoed echoed) tcb holds = ap (λ (t : TransmissionControlBlock). Co
 kept (Open opened) tcb holds = ap (λ (t : TransmissionControlBlock). Open (record opened { tcb = t })) (within holds)
 
 pub found : (state : State) (tcb : TransmissionControlBlock) → Some tcb ≡ tcb_of state → transfer_of state ≡ Some tcb.transfer
-found state tcb holds = ap transfer_in (sym holds)
+found state tcb holds = ap transfer_of_tcb (sym holds)
 
 pub nobody : (state : State) → None ≡ tcb_of state → transfer_of state ≡ None
-nobody state none = ap transfer_in (sym none)
+nobody state none = ap transfer_of_tcb (sym none)
 
 pub changes_lent : (Changes : Transfer → Transfer → Type 0) (state : State) (tcb : TransmissionControlBlock) (after : Transfer) → Some tcb ≡ tcb_of state → Changes tcb.transfer after
     → ChangesQueues Changes (transfer_of state) state (left_with state tcb after)
@@ -44,7 +44,7 @@ pub changes_nobody : (Changes : Transfer → Transfer → Type 0) (state : State
 changes_nobody Changes state none = subst (λ (f : Option Transfer). ChangesQueues Changes f state state) (sym (nobody state none)) refl
 
 pub changes_where : (b : Bool) (Changes : Transfer → Transfer → Type 0) (state : State) (tcb : TransmissionControlBlock) (after : Transfer) → Some tcb ≡ tcb_of state
-    → (b ≡ true → Changes tcb.transfer after) → (b ≡ false → after ≡ tcb.transfer) → ChangesWhere b Changes (transfer_of state) state (left_with state tcb after)
+    → (b ≡ true → Changes tcb.transfer after) → (b ≡ false → after ≡ tcb.transfer) → ChangesOrKeeps b Changes (transfer_of state) state (left_with state tcb after)
 changes_where true Changes state tcb after holds changes same = changes_lent Changes state tcb after holds (changes refl)
 changes_where false Changes state tcb after holds changes same = ap (λ (t : Transfer). left_with state tcb t) (same refl) ∙ kept state tcb holds
 

@@ -4,7 +4,7 @@ use Rattle.std.specs.Prelude.{if◌then◌else◌}
 use Rattle.std.proofs.lemmas.Bool.Decides.{nat_tests}
 use Rattle.dcsctp_core.specs.declared.deadlines.DeadlineKind.{DeadlineKind}
 use Rattle.dcsctp_core.specs.declared.deadlines.Entry.{Entry}
-use Rattle.dcsctp_core.specs.Listing.{is_before, is_same_kind, listed, placed, without, set_in, IsAbsent, IsEarliestEntry, IsListing}
+use Rattle.dcsctp_core.specs.Listing.{is_before, is_same_kind, listed_deadline, entries_with_one, without, list_with_deadline, IsAbsent, IsEarliestEntry, IsListing}
 
 -- ---- the order
 
@@ -45,11 +45,11 @@ pub first-absent : (first : Entry) (xs : List Entry) → IsEarliestEntry first x
 first-absent first [] is = tt
 first-absent first (x ∷ xs) is = (is.1, first-absent first xs is.2)
 
-first-placed : (first x : Entry) (xs : List Entry) → is_before first x ≡ true → is_same_kind first.kind x.kind ≡ false → IsEarliestEntry first xs → IsEarliestEntry first (placed x xs)
+first-placed : (first x : Entry) (xs : List Entry) → is_before first x ≡ true → is_same_kind first.kind x.kind ≡ false → IsEarliestEntry first xs → IsEarliestEntry first (entries_with_one x xs)
 first-placed first x [] before other is = (before, other, tt)
 first-placed first x (y ∷ ys) before other is = go (is_before x y) (first-placed first y ys is.0 is.1 is.2) (first-placed first x ys before other is.2)
   where
-    go : (b : Bool) → IsEarliestEntry first (placed y ys) → IsEarliestEntry first (placed x ys) → IsEarliestEntry first (if b then x ∷ placed y ys else y ∷ placed x ys)
+    go : (b : Bool) → IsEarliestEntry first (entries_with_one y ys) → IsEarliestEntry first (entries_with_one x ys) → IsEarliestEntry first (if b then x ∷ entries_with_one y ys else y ∷ entries_with_one x ys)
     go true carried kept = (before, other, carried)
     go false carried kept = (is.0, is.1, kept)
 
@@ -57,11 +57,11 @@ first-further : (x y : Entry) (xs : List Entry) → is_before x y ≡ true → I
 first-further x y [] before absent is = tt
 first-further x y (z ∷ zs) before absent is = (before-trans x y z before is.0, absent.0, first-further x y zs before absent.1 is.2)
 
-pub listing-placed : (x : Entry) (xs : List Entry) → IsAbsent x.kind xs → IsListing xs → IsListing (placed x xs)
+pub listing-placed : (x : Entry) (xs : List Entry) → IsAbsent x.kind xs → IsListing xs → IsListing (entries_with_one x xs)
 listing-placed x [] absent is = (tt, tt)
 listing-placed x (y ∷ ys) absent is = go (is_before x y) refl (listing-placed y ys (first-absent y ys is.0) is.1) (listing-placed x ys absent.1 is.1)
   where
-    go : (b : Bool) → is_before x y ≡ b → IsListing (placed y ys) → IsListing (placed x ys) → IsListing (if b then x ∷ placed y ys else y ∷ placed x ys)
+    go : (b : Bool) → is_before x y ≡ b → IsListing (entries_with_one y ys) → IsListing (entries_with_one x ys) → IsListing (if b then x ∷ entries_with_one y ys else y ∷ entries_with_one x ys)
     go true before carried kept = (first-placed x y ys before absent.0 (first-further x y ys before absent.1 is.0), carried)
     go false behind carried kept = (first-placed y x ys (before-total x y absent.0 behind) (same-sym y.kind x.kind ∙ absent.0) is.0, kept)
 
@@ -73,58 +73,58 @@ same-absent j k (x ∷ xs) same absent =
 
 -- ---- a deadline is set
 
-pub listing-set : (kind : DeadlineKind) (deadline : Option ℕ) (xs : List Entry) → IsListing xs → IsListing (set_in kind deadline xs)
+pub listing-set : (kind : DeadlineKind) (deadline : Option ℕ) (xs : List Entry) → IsListing xs → IsListing (list_with_deadline kind deadline xs)
 listing-set kind None xs is = listing-without kind xs is
 listing-set kind (Some moment) xs is = listing-placed (record { moment = moment; kind = kind }) (without kind xs) (without-absent kind xs) (listing-without kind xs is)
 
 -- ---- what the list says after `set`
 
-listed-without : (kind other : DeadlineKind) (xs : List Entry) → is_same_kind other kind ≡ false → listed other (without kind xs) ≡ listed other xs
+listed-without : (kind other : DeadlineKind) (xs : List Entry) → is_same_kind other kind ≡ false → listed_deadline other (without kind xs) ≡ listed_deadline other xs
 listed-without kind other [] differ = refl
 listed-without kind other (x ∷ xs) differ = go (is_same_kind kind x.kind) refl (listed-without kind other xs differ)
   where
-    go : (same : Bool) → is_same_kind kind x.kind ≡ same → listed other (without kind xs) ≡ listed other xs
-        → listed other (if same then without kind xs else x ∷ without kind xs) ≡ (if is_same_kind other x.kind then Some x.moment else listed other xs)
+    go : (same : Bool) → is_same_kind kind x.kind ≡ same → listed_deadline other (without kind xs) ≡ listed_deadline other xs
+        → listed_deadline other (if same then without kind xs else x ∷ without kind xs) ≡ (if is_same_kind other x.kind then Some x.moment else listed_deadline other xs)
     go true same rest =
         let apart : is_same_kind other x.kind ≡ false = grind (arith, nat_tests) in
-        rest ∙ sym (ap (λ b. if b then Some x.moment else listed other xs) apart)
+        rest ∙ sym (ap (λ b. if b then Some x.moment else listed_deadline other xs) apart)
     go false same rest = ap (λ others. if is_same_kind other x.kind then Some x.moment else others) rest
 
-pub listed-absent : (kind : DeadlineKind) (xs : List Entry) → IsAbsent kind xs → listed kind xs ≡ None
+pub listed-absent : (kind : DeadlineKind) (xs : List Entry) → IsAbsent kind xs → listed_deadline kind xs ≡ None
 listed-absent kind [] absent = refl
-listed-absent kind (x ∷ xs) absent = ap (λ b. if b then Some x.moment else listed kind xs) absent.0 ∙ listed-absent kind xs absent.1
+listed-absent kind (x ∷ xs) absent = ap (λ b. if b then Some x.moment else listed_deadline kind xs) absent.0 ∙ listed-absent kind xs absent.1
 
 -- two entries of different kinds may change places
-listed-swap : (kind : DeadlineKind) (x y : Entry) (xs : List Entry) → is_same_kind x.kind y.kind ≡ false → listed kind (x ∷ y ∷ xs) ≡ listed kind (y ∷ x ∷ xs)
+listed-swap : (kind : DeadlineKind) (x y : Entry) (xs : List Entry) → is_same_kind x.kind y.kind ≡ false → listed_deadline kind (x ∷ y ∷ xs) ≡ listed_deadline kind (y ∷ x ∷ xs)
 listed-swap kind x y xs differ = go (is_same_kind kind x.kind) (is_same_kind kind y.kind) refl refl
   where
     go : (b c : Bool) → is_same_kind kind x.kind ≡ b → is_same_kind kind y.kind ≡ c
-        → (if b then Some x.moment else (if c then Some y.moment else listed kind xs)) ≡ (if c then Some y.moment else (if b then Some x.moment else listed kind xs))
+        → (if b then Some x.moment else (if c then Some y.moment else listed_deadline kind xs)) ≡ (if c then Some y.moment else (if b then Some x.moment else listed_deadline kind xs))
     go true true b c = let both : is_same_kind x.kind y.kind ≡ true = grind (arith, nat_tests) in absurd (cc)
     go true false b c = refl
     go false true b c = refl
     go false false b c = refl
 
-pub listed-placed : (kind : DeadlineKind) (x : Entry) (xs : List Entry) → IsAbsent x.kind xs → IsListing xs → listed kind (placed x xs) ≡ listed kind (x ∷ xs)
+pub listed-placed : (kind : DeadlineKind) (x : Entry) (xs : List Entry) → IsAbsent x.kind xs → IsListing xs → listed_deadline kind (entries_with_one x xs) ≡ listed_deadline kind (x ∷ xs)
 listed-placed kind x [] absent is = refl
 listed-placed kind x (y ∷ ys) absent is =
     go (is_before x y) (listed-placed kind y ys (first-absent y ys is.0) is.1) (listed-placed kind x ys absent.1 is.1)
   where
-    go : (b : Bool) → listed kind (placed y ys) ≡ listed kind (y ∷ ys) → listed kind (placed x ys) ≡ listed kind (x ∷ ys)
-        → listed kind (if b then x ∷ placed y ys else y ∷ placed x ys) ≡ listed kind (x ∷ y ∷ ys)
+    go : (b : Bool) → listed_deadline kind (entries_with_one y ys) ≡ listed_deadline kind (y ∷ ys) → listed_deadline kind (entries_with_one x ys) ≡ listed_deadline kind (x ∷ ys)
+        → listed_deadline kind (if b then x ∷ entries_with_one y ys else y ∷ entries_with_one x ys) ≡ listed_deadline kind (x ∷ y ∷ ys)
     go true carried kept = ap (λ rest. if is_same_kind kind x.kind then Some x.moment else rest) carried
     go false carried kept = ap (λ rest. if is_same_kind kind y.kind then Some y.moment else rest) kept ∙ listed-swap kind y x ys (same-sym y.kind x.kind ∙ absent.0)
 
 pub set_tells : (kind other : DeadlineKind) (deadline : Option ℕ) (xs : List Entry) → IsListing xs
-    → listed other (set_in kind deadline xs) ≡ (if is_same_kind other kind then deadline else listed other xs)
+    → listed_deadline other (list_with_deadline kind deadline xs) ≡ (if is_same_kind other kind then deadline else listed_deadline other xs)
 set_tells kind other None xs is = go (is_same_kind other kind) refl
   where
-    go : (same : Bool) → is_same_kind other kind ≡ same → listed other (without kind xs) ≡ (if same then None else listed other xs)
+    go : (same : Bool) → is_same_kind other kind ≡ same → listed_deadline other (without kind xs) ≡ (if same then None else listed_deadline other xs)
     go true same = listed-absent other (without kind xs) (same-absent other kind (without kind xs) same (without-absent kind xs))
     go false differ = listed-without kind other xs differ
 set_tells kind other (Some moment) xs is =
     listed-placed other (record { moment = moment; kind = kind }) (without kind xs) (without-absent kind xs) (listing-without kind xs is) ∙ go (is_same_kind other kind) refl
   where
-    go : (same : Bool) → is_same_kind other kind ≡ same → (if same then Some moment else listed other (without kind xs)) ≡ (if same then Some moment else listed other xs)
+    go : (same : Bool) → is_same_kind other kind ≡ same → (if same then Some moment else listed_deadline other (without kind xs)) ≡ (if same then Some moment else listed_deadline other xs)
     go true same = refl
     go false differ = listed-without kind other xs differ

@@ -5,7 +5,7 @@ use Rattle.std.proofs.lemmas.Bool.Decides.{nat_tests}
 use Rattle.std.proofs.lemmas.List.{take_more, take_more_set, take-set-le, take-take, take-append-drop}
 use Rattle.dcsctp_core.specs.declared.deadlines.DeadlineKind.{DeadlineKind}
 use Rattle.dcsctp_core.specs.declared.deadlines.Entry.{Entry}
-use Rattle.dcsctp_core.specs.Listing.{is_before, is_same_kind, listed, besides, entry_place, placed, rank, without, AllBelow, IsAbsent, IsEarliestEntry, IsListing, EndsBefore, BeginsAfter}
+use Rattle.dcsctp_core.specs.Listing.{is_before, is_same_kind, listed_deadline, besides, entry_place, entries_with_one, rank, without, AllBelow, IsAbsent, IsEarliestEntry, IsListing, EndsBefore, BeginsAfter}
 use Rattle.dcsctp_core.proofs.GapLemmas.{from_place, gap_filled}
 use Rattle.dcsctp_core.proofs.ListingLemmas.{before-total, same-sym, first-absent, same-absent}
 
@@ -61,26 +61,26 @@ absent-without kind (x ∷ xs) absent =
     ap (λ b. if b then without kind xs else x ∷ without kind xs) absent.0 ∙ ap (λ l. x ∷ l) (absent-without kind xs absent.1)
 
 -- the deadline of a kind, by its place
-listed-at : (kind : DeadlineKind) (xs : List Entry) (d : Entry) → entry_place kind xs < length xs → listed kind xs ≡ Some (get_or xs (entry_place kind xs) d).moment
+listed-at : (kind : DeadlineKind) (xs : List Entry) (d : Entry) → entry_place kind xs < length xs → listed_deadline kind xs ≡ Some (get_or xs (entry_place kind xs) d).moment
 listed-at kind [] d some = absurd (omega (arith, some))
 listed-at kind (x ∷ xs) d some = go (is_same_kind kind x.kind) some (listed-at kind xs d)
   where
     go : (same : Bool) → (if same then 0 else suc (entry_place kind xs)) < suc (length xs)
-        → (entry_place kind xs < length xs → listed kind xs ≡ Some (get_or xs (entry_place kind xs) d).moment)
-        → (if same then Some x.moment else listed kind xs) ≡ Some (get_or (x ∷ xs) (if same then 0 else suc (entry_place kind xs)) d).moment
+        → (entry_place kind xs < length xs → listed_deadline kind xs ≡ Some (get_or xs (entry_place kind xs) d).moment)
+        → (if same then Some x.moment else listed_deadline kind xs) ≡ Some (get_or (x ∷ xs) (if same then 0 else suc (entry_place kind xs)) d).moment
     go true some rest = refl
     go false some rest = rest (omega (arith, some))
 
-pub listed_at : (kind : DeadlineKind) (xs : List Entry) (n p : ℕ) (d : Entry) → n ≤ length xs → p ≡ entry_place kind (take n xs) → p < n → Some (get_or xs p d).moment ≡ listed kind (take n xs)
+pub listed_at : (kind : DeadlineKind) (xs : List Entry) (n p : ℕ) (d : Entry) → n ≤ length xs → p ≡ entry_place kind (take n xs) → p < n → Some (get_or xs p d).moment ≡ listed_deadline kind (take n xs)
 listed_at kind xs n p d within is below =
     ap (λ (x : Entry). Some x.moment) (sym (get_or-take n xs p d below) ∙ ap (λ q. get_or (take n xs) q d) is)
     ∙ sym (listed-at kind (take n xs) d (omega (arith, is, length-take-le n xs within)))
 
-listed-absent : (kind : DeadlineKind) (xs : List Entry) → IsAbsent kind xs → listed kind xs ≡ None
+listed-absent : (kind : DeadlineKind) (xs : List Entry) → IsAbsent kind xs → listed_deadline kind xs ≡ None
 listed-absent kind [] absent = refl
-listed-absent kind (x ∷ xs) absent = ap (λ b. if b then Some x.moment else listed kind xs) absent.0 ∙ listed-absent kind xs absent.1
+listed-absent kind (x ∷ xs) absent = ap (λ b. if b then Some x.moment else listed_deadline kind xs) absent.0 ∙ listed-absent kind xs absent.1
 
-pub listed_nowhere : (kind : DeadlineKind) (xs : List Entry) → entry_place kind xs ≡ length xs → listed kind xs ≡ None
+pub listed_nowhere : (kind : DeadlineKind) (xs : List Entry) → entry_place kind xs ≡ length xs → listed_deadline kind xs ≡ None
 listed_nowhere kind xs none = listed-absent kind xs (place-absent kind xs none)
 
 -- ---- the others
@@ -157,16 +157,16 @@ begins_nowhere new xs i n all within = subst (BeginsAfter new) (sym (drop_all i 
 
 -- ---- a new entry is placed between these
 
-pub placed-listing : (x : Entry) (xs : List Entry) → IsEarliestEntry x xs → IsListing xs → placed x xs ≡ x ∷ xs
-placed-listing x [] is listing = refl
-placed-listing x (y ∷ ys) is listing =
-    ap (λ b. if b then x ∷ placed y ys else y ∷ placed x ys) is.0 ∙ ap (λ l. x ∷ l) (placed-listing y ys listing.0 listing.1)
+pub entries_with_one-listing : (x : Entry) (xs : List Entry) → IsEarliestEntry x xs → IsListing xs → entries_with_one x xs ≡ x ∷ xs
+entries_with_one-listing x [] is listing = refl
+entries_with_one-listing x (y ∷ ys) is listing =
+    ap (λ b. if b then x ∷ entries_with_one y ys else y ∷ entries_with_one x ys) is.0 ∙ ap (λ l. x ∷ l) (entries_with_one-listing y ys listing.0 listing.1)
 
-placed-first : (new : Entry) (xs : List Entry) → IsListing xs → IsAbsent new.kind xs → BeginsAfter new xs → placed new xs ≡ new ∷ xs
-placed-first new [] listing absent begins = refl
-placed-first new (y ∷ ys) listing absent begins =
-    ap (λ b. if b then new ∷ placed y ys else y ∷ placed new ys) (before-total y new (same-sym y.kind new.kind ∙ absent.0) begins)
-    ∙ ap (λ l. new ∷ l) (placed-listing y ys listing.0 listing.1)
+entries_with_one-first : (new : Entry) (xs : List Entry) → IsListing xs → IsAbsent new.kind xs → BeginsAfter new xs → entries_with_one new xs ≡ new ∷ xs
+entries_with_one-first new [] listing absent begins = refl
+entries_with_one-first new (y ∷ ys) listing absent begins =
+    ap (λ b. if b then new ∷ entries_with_one y ys else y ∷ entries_with_one new ys) (before-total y new (same-sym y.kind new.kind ∙ absent.0) begins)
+    ∙ ap (λ l. new ∷ l) (entries_with_one-listing y ys listing.0 listing.1)
 
 first-not : (new x : Entry) (xs ys : List Entry) → IsListing (x ∷ xs ++ ys) → EndsBefore new (x ∷ xs) → is_before new x ≡ false
 first-not new x [] ys listing ends = ends
@@ -176,17 +176,17 @@ ends-rest : (new x : Entry) (xs : List Entry) → EndsBefore new (x ∷ xs) → 
 ends-rest new x [] ends = tt
 ends-rest new x (y ∷ xs) ends = ends
 
-placed-between : (new : Entry) (xs ys : List Entry) → IsListing (xs ++ ys) → IsAbsent new.kind (xs ++ ys) → EndsBefore new xs → BeginsAfter new ys
-    → placed new (xs ++ ys) ≡ xs ++ new ∷ ys
-placed-between new [] ys listing absent ends begins = placed-first new ys listing absent begins
-placed-between new (x ∷ xs) ys listing absent ends begins =
-    ap (λ b. if b then new ∷ placed x (xs ++ ys) else x ∷ placed new (xs ++ ys)) (first-not new x xs ys listing ends)
-    ∙ ap (λ l. x ∷ l) (placed-between new xs ys listing.1 absent.1 (ends-rest new x xs ends) begins)
+entries_with_one-between : (new : Entry) (xs ys : List Entry) → IsListing (xs ++ ys) → IsAbsent new.kind (xs ++ ys) → EndsBefore new xs → BeginsAfter new ys
+    → entries_with_one new (xs ++ ys) ≡ xs ++ new ∷ ys
+entries_with_one-between new [] ys listing absent ends begins = entries_with_one-first new ys listing absent begins
+entries_with_one-between new (x ∷ xs) ys listing absent ends begins =
+    ap (λ b. if b then new ∷ entries_with_one x (xs ++ ys) else x ∷ entries_with_one new (xs ++ ys)) (first-not new x xs ys listing ends)
+    ∙ ap (λ l. x ∷ l) (entries_with_one-between new xs ys listing.1 absent.1 (ends-rest new x xs ends) begins)
 
 pub put_there : (new : Entry) (xs : List Entry) (p n : ℕ) → p < n → n ≤ length xs → IsListing (besides p n xs) → IsAbsent new.kind (besides p n xs)
-    → EndsBefore new (take p xs) → BeginsAfter new (drop (p + 1) (take n xs)) → take n (set xs p new) ≡ placed new (besides p n xs)
+    → EndsBefore new (take p xs) → BeginsAfter new (drop (p + 1) (take n xs)) → take n (set xs p new) ≡ entries_with_one new (besides p n xs)
 put_there new xs p n below within listing absent ends begins =
-    gap_filled xs p n new below within ∙ sym (placed-between new (take p xs) (drop (p + 1) (take n xs)) listing absent ends begins)
+    gap_filled xs p n new below within ∙ sym (entries_with_one-between new (take p xs) (drop (p + 1) (take n xs)) listing absent ends begins)
 
 -- ---- room for an entry of a later kind
 

@@ -5,7 +5,7 @@ use Rattle.std.proofs.lemmas.Bool.Decides.{nat_tests}
 use Rattle.dcsctp_core.specs.declared.deadlines.DeadlineKind.{DeadlineKind}
 use Rattle.dcsctp_core.specs.declared.deadlines.DeadlineKind.TheVariants.{AcknowledgementDelay, Retransmission, HeartbeatInterval, HeartbeatTimeout, Reconfiguration, T1, T2}
 use Rattle.dcsctp_core.specs.declared.deadlines.Entry.{Entry}
-use Rattle.dcsctp_core.specs.Listing.{is_before, is_same_kind, listed, placed, rank, deadline_by_kind, with_entry, AllBelow, IsAbsent, IsListing, RelistTells, RunningDeadlines}
+use Rattle.dcsctp_core.specs.Listing.{is_before, is_same_kind, listed_deadline, entries_with_one, rank, deadline_by_kind, with_entry, AllBelow, IsAbsent, IsListing, ListsEachTimer, RunningDeadlines}
 use Rattle.dcsctp_core.proofs.ListingLemmas.{listing-placed, set_tells}
 use Rattle.dcsctp_core.proofs.PlaceLemmas.{absent-without}
 
@@ -19,11 +19,11 @@ pub below-more : (n m : ℕ) (xs : List Entry) → n ≤ m → AllBelow n xs →
 below-more n m [] more below = tt
 below-more n m (x ∷ xs) more below = (omega (arith, below.0, more), below-more n m xs more below.1)
 
-below-placed : (n : ℕ) (x : Entry) (xs : List Entry) → rank x.kind < n → AllBelow n xs → AllBelow n (placed x xs)
+below-placed : (n : ℕ) (x : Entry) (xs : List Entry) → rank x.kind < n → AllBelow n xs → AllBelow n (entries_with_one x xs)
 below-placed n x [] lower below = (lower, tt)
 below-placed n x (y ∷ ys) lower below = go (is_before x y) (below-placed n y ys below.0 below.1) (below-placed n x ys lower below.1)
   where
-    go : (b : Bool) → AllBelow n (placed y ys) → AllBelow n (placed x ys) → AllBelow n (if b then x ∷ placed y ys else y ∷ placed x ys)
+    go : (b : Bool) → AllBelow n (entries_with_one y ys) → AllBelow n (entries_with_one x ys) → AllBelow n (if b then x ∷ entries_with_one y ys else y ∷ entries_with_one x ys)
     go true carried kept = (lower, carried)
     go false carried kept = (below.0, kept)
 
@@ -40,9 +40,9 @@ listing-entry kind None xs absent is = is
 listing-entry kind (Some moment) xs absent is = listing-placed (record { moment = moment; kind = kind }) xs absent is
 
 entry-tells : (kind other : DeadlineKind) (deadline : Option ℕ) (xs : List Entry) → IsAbsent kind xs → IsListing xs
-    → listed other (with_entry kind deadline xs) ≡ (if is_same_kind other kind then deadline else listed other xs)
+    → listed_deadline other (with_entry kind deadline xs) ≡ (if is_same_kind other kind then deadline else listed_deadline other xs)
 entry-tells kind other deadline xs absent is =
-    ap (λ others. listed other (with_entry kind deadline others)) (sym (absent-without kind xs absent)) ∙ set_tells kind other deadline xs is
+    ap (λ others. listed_deadline other (with_entry kind deadline others)) (sym (absent-without kind xs absent)) ∙ set_tells kind other deadline xs is
 
 -- ---- all of them, the last kind first
 
@@ -72,7 +72,7 @@ list-listing told limit [] descend = tt
 list-listing told limit (kind ∷ kinds) descend =
     listing-entry kind (deadline_by_kind told kind) (list_of told kinds) (list-absent told kind kinds descend.1) (list-listing told (rank kind) kinds descend.1)
 
-list-tells : (told : RunningDeadlines) (limit : ℕ) (kinds : List DeadlineKind) (other : DeadlineKind) → Descend limit kinds → listed other (list_of told kinds) ≡ said_among told kinds other
+list-tells : (told : RunningDeadlines) (limit : ℕ) (kinds : List DeadlineKind) (other : DeadlineKind) → Descend limit kinds → listed_deadline other (list_of told kinds) ≡ said_among told kinds other
 list-tells told limit [] other descend = refl
 list-tells told limit (kind ∷ kinds) other descend =
     entry-tells kind other (deadline_by_kind told kind) (list_of told kinds) (list-absent told kind kinds descend.1) (list-listing told (rank kind) kinds descend.1)
@@ -84,7 +84,7 @@ all_kinds = T2 ∷ T1 ∷ Reconfiguration ∷ HeartbeatTimeout ∷ HeartbeatInte
 descend : Descend 7 all_kinds
 descend = (omega arith, (omega arith, (omega arith, (omega arith, (omega arith, (omega arith, (omega arith, tt)))))))
 
-pub relist_tells : RelistTells
+pub relist_tells : ListsEachTimer
 relist_tells told kind = list-tells told 7 all_kinds kind descend ∙ go kind
   where
     go : (kind : DeadlineKind) → said_among told all_kinds kind ≡ deadline_by_kind told kind

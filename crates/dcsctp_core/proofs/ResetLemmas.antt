@@ -9,10 +9,10 @@ use Rattle.dcsctp_transfer.specs.wire.Spelling.{chunk_bytes}
 use Rattle.dcsctp_transfer.specs.spec.Packet.{chunk_out}
 use Rattle.dcsctp_transfer.specs.spec.Reconfiguration.{RequestedReset}
 use Rattle.dcsctp_transfer.specs.spec.association.FlushChanges.{reset_request}
-use Rattle.dcsctp_transfer.specs.spec.endpoint.BegunResets.{streams_within, stream_field, BegunReset, last_assigned_tsn, begun_in, begun_where, transfer_reset_begun, held_begun, core_asking, after_begun}
+use Rattle.dcsctp_transfer.specs.spec.endpoint.BegunResets.{streams_within, stream_field, BegunReset, last_assigned_tsn, begun_if_connected, begun_if_ready, transfer_reset_begun, held_begun, core_asking, after_begun}
 use Rattle.dcsctp_transfer.proofs.spec_lemmas.PacketLengths.{request_len}
 use Rattle.std.proofs.lemmas.Bool.Decides.{nat_tests}
-use Rattle.dcsctp_core.specs.Resetting.{IsStream, StartsReset, BeginsReset, request_begun, timer_begun, BeginsOwnReset, BeginsIn, BeginsResetInQueues}
+use Rattle.dcsctp_core.specs.Resetting.{IsStream, StartsReset, BeginsReset, request_begun, timer_begun, BeginsOwnReset, BeginsInState, BeginsResetInQueues}
 use Rattle.std.specs.List.{AllByRecursion}
 use Rattle.std.specs.Prelude.{is_some}
 use Rattle.std.specs.Option.{option_map}
@@ -26,10 +26,10 @@ use Rattle.dcsctp_core.specs.declared.transmission_control_block.TransmissionCon
 use Rattle.dcsctp_core.specs.Reconfiguring.{tcb_changed}
 use Rattle.dcsctp_core.proofs.LendingLemmas.{within, found}
 use Rattle.dcsctp_core.proofs.LoopLemmas.{held_by_tcb}
-use Rattle.dcsctp_core.specs.View.{request_number, tcb_of, held_of, core_of, phase_in, tie_of, t1_of, t2_of, outstanding_of, reconfiguration_of, transfer_of, endpoint_of, view_of, View}
+use Rattle.dcsctp_core.specs.View.{request_number, tcb_of, held_of, core_of, phase_of_open, tie_of, t1_of, t2_of, outstanding_of, reconfiguration_of, transfer_of, endpoint_of, view_of, View}
 use Rattle.dcsctp_transfer.specs.types.declared.association.Pair.{Pair}
 use Rattle.dcsctp_transfer.specs.types.declared.association.Held.{Held}
-use Rattle.dcsctp_transfer.specs.spec.endpoint.Endpoint.{Endpoint, Core, closed, cookie_wait, cookie_echoed, open_in, OpenPhase, OutstandingRequest, held_in, is_cookie_echoed}
+use Rattle.dcsctp_transfer.specs.spec.endpoint.Endpoint.{Endpoint, Core, closed, cookie_wait, cookie_echoed, open_in, OpenPhase, OutstandingRequest, held_by_core, is_cookie_echoed}
 use Rattle.dcsctp_transfer.specs.spec.endpoint.FlushOutcomes.{may_be_asked}
 use Rattle.dcsctp_transfer.specs.spec.endpoint.Timers.{RunningTimer}
 use Rattle.dcsctp_core.specs.declared.state.State.{State}
@@ -90,7 +90,7 @@ fields_same (stream ∷ streams) fit =
 -- ---- a reset is begun, where a stream is ready
 
 begun_is : (follows : Bool) (outstanding : Option ℕ) (number last_tsn : ℕ) (streams : List ℕ) → outstanding ≡ None → (length streams == 0) ≡ false
-    → Some (record { number = number; reset = record { last_tsn = last_tsn; streams = streams; is_new = follows } }) ≡ begun_where follows outstanding number last_tsn streams
+    → Some (record { number = number; reset = record { last_tsn = last_tsn; streams = streams; is_new = follows } }) ≡ begun_if_ready follows outstanding number last_tsn streams
 begun_is follows None number last_tsn [] none some = absurd (cc)
 begun_is follows None number last_tsn (stream ∷ streams) none some = refl
 begun_is follows (Some other) number last_tsn streams none some = absurd (cc)
@@ -105,7 +105,7 @@ begins_with start max ids queue old packet left new filled none is_max is some h
       begun = Some h.begun;
       is = ap (λ (b : BegunReset). Some b) h.is
           ∙ begun_is start.is_new (request_number old.reset_request) number last ids none some
-          ∙ ap (λ (streams : List ℕ). begun_where start.is_new (request_number old.reset_request) number last streams)
+          ∙ ap (λ (streams : List ℕ). begun_if_ready start.is_new (request_number old.reset_request) number last streams)
           (sym (fields_same ids h.fit) ∙ ap (map stream_field) (is ∙ ap (λ (n : ℕ). take n (ready_streams queue)) is_max));
       begins = h.begins;
       packet_is = h.packet_is;
@@ -141,7 +141,7 @@ begins_none start max ids queue old packet left is_max is none some handed =
     let empty : (length (take max (ready_streams queue)) == 0) ≡ true = subst (λ (ns : List ℕ). (length ns == 0) ≡ true) is none in
     record {
       begun = None;
-      is = sym (ap (λ (streams : List ℕ). begun_where start.is_new (request_number old.reset_request) old.next_outgoing_reset_req_seq_nbr (last_assigned_tsn old.transfer.retransmission) (map stream_field streams))
+      is = sym (ap (λ (streams : List ℕ). begun_if_ready start.is_new (request_number old.reset_request) old.next_outgoing_reset_req_seq_nbr (last_assigned_tsn old.transfer.retransmission) (map stream_field streams))
           (ap (λ (n : ℕ). take n (ready_streams queue)) (sym is_max) ∙ none_of (take max (ready_streams queue)) empty) ∙ begun_none start.is_new (request_number old.reset_request) _ _);
       begins = record { held = refl; request = refl; timer = refl; my = refl; tie_tag = refl; transfer = refl };
       packet_is = ap (λ (body : List ℕ). record packet { body = body }) (sym (append-nil packet.body));
@@ -152,7 +152,7 @@ begins_none start max ids queue old packet left is_max is none some handed =
     none_of [] none = refl
     none_of (stream ∷ streams) none = absurd (no_member stream streams none)
 
-    begun_none : (follows : Bool) (outstanding : Option ℕ) (number last_tsn : ℕ) → begun_where follows outstanding number last_tsn [] ≡ None
+    begun_none : (follows : Bool) (outstanding : Option ℕ) (number last_tsn : ℕ) → begun_if_ready follows outstanding number last_tsn [] ≡ None
     begun_none follows None number last_tsn = refl
     begun_none follows (Some other) number last_tsn = refl
 
@@ -191,7 +191,7 @@ open_core : (begun : Option BegunReset) (phase : OpenPhase) (my : Pair) (held : 
 open_core None phase my held = refl
 open_core (Some begun) phase my held = refl
 
-stood : (now : ℕ) (begun : Option BegunReset) (old new : State) (transfer : Transfer) → transfer_of old ≡ Some transfer → BeginsIn now begun old new → Stood now begun old new
+stood : (now : ℕ) (begun : Option BegunReset) (old new : State) (transfer : Transfer) → transfer_of old ≡ Some transfer → BeginsInState now begun old new → Stood now begun old new
 stood now begun Closed new transfer holds h = absurd (cc)
 stood now begun (CookieWait wait) new transfer holds h = absurd (cc)
 stood now begun (CookieEchoed echoed) new transfer holds h =
@@ -211,8 +211,8 @@ stood now begun (Open opened) new transfer holds h =
     let tcb : TransmissionControlBlock = h.0 in
     subst (Stood now begun (Open opened)) (sym h.2)
     (record {
-      core = ap (λ (my : Pair). open_in (phase_in opened.phase) my (held_of tcb)) h.1.my ∙ ap (λ (held : Held). open_in (phase_in opened.phase) opened.tcb.my held) h.1.held
-          ∙ open_core begun (phase_in opened.phase) opened.tcb.my (held_of opened.tcb);
+      core = ap (λ (my : Pair). open_in (phase_of_open opened.phase) my (held_of tcb)) h.1.my ∙ ap (λ (held : Held). open_in (phase_of_open opened.phase) opened.tcb.my held) h.1.held
+          ∙ open_core begun (phase_of_open opened.phase) opened.tcb.my (held_of opened.tcb);
       tie = h.1.tie_tag;
       t1 = refl;
       t2 = refl;
@@ -254,7 +254,7 @@ endpoint_begun context begun state queue h =
     ∙ begun_whole begun context queue
 
 -- By the RFC nobody is asked while the COOKIE ACK is awaited; else the peer may be.
-asked_where : (core : Core) (follows_rfc : Bool) → (follows_rfc && is_cookie_echoed core) ≡ false → held_in core ≡ may_be_asked core follows_rfc
+asked_where : (core : Core) (follows_rfc : Bool) → (follows_rfc && is_cookie_echoed core) ≡ false → held_by_core core ≡ may_be_asked core follows_rfc
 asked_where closed follows_rfc none = refl
 asked_where (cookie_wait my) follows_rfc none = refl
 asked_where (cookie_echoed my held cookie) true none = absurd (cc)
@@ -277,7 +277,7 @@ none_begins old None packet holds nobody = (refl, refl)
 none_begins old (Some transfer) packet holds nobody = (
   None,
   old.send_queue,
-  sym (ap (λ (held : Option Held). begun_in old.options.follow_rfc held (bytes_remaining packet) (last_assigned_tsn transfer.retransmission) old.send_queue) nobody),
+  sym (ap (λ (held : Option Held). begun_if_connected old.options.follow_rfc held (bytes_remaining packet) (last_assigned_tsn transfer.retransmission) old.send_queue) nobody),
   refl,
   ap (λ (body : List ℕ). record packet { body = body }) (sym (append-nil packet.body)),
   ap (λ (f : Option Transfer). record (view_of old) { endpoint = record (endpoint_of old) { queues = record { queue = old.send_queue; transfer = f } } }) holds,
@@ -298,7 +298,7 @@ begun_below old (Some transfer) state queue packet filled holds may h =
     endpoint_begun old h.begun state queue (stood old.moment h.begun old.state state transfer holds h.begins) ∙ ap below holds in (
       h.begun,
       queue,
-      h.is ∙ ap (λ (held : Option Held). begun_in old.options.follow_rfc held (bytes_remaining packet) (last_assigned_tsn transfer.retransmission) old.send_queue) (asked_where (core_of old.state) old.options.follow_rfc may),
+      h.is ∙ ap (λ (held : Option Held). begun_if_connected old.options.follow_rfc held (bytes_remaining packet) (last_assigned_tsn transfer.retransmission) old.send_queue) (asked_where (core_of old.state) old.options.follow_rfc may),
       h.hands_out,
       h.packet_is,
       ap (λ (e : Endpoint). record (view_of old) { endpoint = e }) is,
@@ -315,7 +315,7 @@ tries_reset {R = R} old new state queue packet filled (Err error) same may h = a
 -- ---- where the association was lent
 
 begins_in : (now : ℕ) (begun : Option BegunReset) (state : State) (tcb after : TransmissionControlBlock) → Some tcb ≡ tcb_of state → BeginsOwnReset now begun tcb after
-    → BeginsIn now begun state (tcb_changed (λ _. after) state)
+    → BeginsInState now begun state (tcb_changed (λ _. after) state)
 begins_in now begun Closed tcb after holds begins = refl
 begins_in now begun (CookieWait wait) tcb after holds begins = refl
 begins_in now begun (CookieEchoed echoed) tcb after holds begins = (after, subst (λ (t : TransmissionControlBlock). BeginsOwnReset now begun t after) (within holds) begins, refl)
@@ -331,7 +331,7 @@ begins_lent old tcb after queue packet filled (Ok done) holds h =
     subst (λ (f : Option Transfer). BeginsResetInQueues (start_of old) f old.send_queue old.state packet queue (tcb_changed (λ _. after) old.state) filled) (sym (found old.state tcb holds))
     (record {
       begun = h.begun;
-      is = h.is ∙ ap (λ (held : Option Held). begun_in old.options.follow_rfc held room last old.send_queue) (sym (held_by_tcb old.state tcb holds));
+      is = h.is ∙ ap (λ (held : Option Held). begun_if_connected old.options.follow_rfc held room last old.send_queue) (sym (held_by_tcb old.state tcb holds));
       begins = begins_in old.moment h.begun old.state tcb after holds h.begins;
       packet_is = h.packet_is;
       hands_out = h.hands_out;

@@ -10,14 +10,14 @@ use Rattle.dcsctp_transfer.specs.spec.queues.SendQueue.{SendQueueState, has_queu
 use Rattle.dcsctp_transfer.specs.spec.queues.Transfer.{Transfer, is_none_ready, is_idle, may_give}
 use Rattle.dcsctp_transfer.specs.spec.queues.Retransmission.{RetransmissionState, can_send}
 use Rattle.dcsctp_transfer.specs.spec.queues.Items.{marked_items, is_first_abandoned}
-use Rattle.dcsctp_transfer.specs.spec.endpoint.Endpoint.{Endpoint, held_in}
+use Rattle.dcsctp_transfer.specs.spec.endpoint.Endpoint.{Endpoint, held_by_core}
 use Rattle.dcsctp_transfer.specs.spec.endpoint.BegunResets.{last_assigned_tsn}
-use Rattle.dcsctp_transfer.specs.spec.endpoint.DataOutcomes.{flush_by, AnswersTo}
-use Rattle.dcsctp_transfer.specs.spec.endpoint.FlushOutcomes.{may_be_asked, draft_to, flush_of, packets_allowed, Ask, first_ask, later_ask, room_in, begun_at, Acknowledges, Gives, GivesWhere, IsAnswerOfQueues, nothing_waits, FillsWhere, ForwardsWhere, GivesUpWhere, filled, may_forward, stage_of}
+use Rattle.dcsctp_transfer.specs.spec.endpoint.DataOutcomes.{flush_to_peer, AnswersTo}
+use Rattle.dcsctp_transfer.specs.spec.endpoint.FlushOutcomes.{may_be_asked, draft_to, flush_of, packets_allowed, Ask, first_ask, later_ask, room_of_draft, begun_by_ask, Acknowledges, Gives, GivesUnlessIdle, IsAnswerOfQueues, nothing_waits, FillsIfAllowed, ForwardsIfAbandoned, GivesUpThenForwards, filled_draft, may_forward, stage_of}
 use Rattle.dcsctp_core.specs.declared.context.Context.{Context}
 use Rattle.dcsctp_core.specs.declared.transmission_control_block.TransmissionControlBlock.{TransmissionControlBlock}
 use Rattle.dcsctp_core.specs.View.{View, core_of, tcb_of, transfer_of, held_of, endpoint_of, view_of}
-use Rattle.dcsctp_core.specs.Handling.{TakesPossibleTurn, FlushAt}
+use Rattle.dcsctp_core.specs.Handling.{TakesPossibleTurn, SendsQueued}
 use Rattle.dcsctp_core.specs.Flushing.{NeedsNone, AsksFor, FlushesFor}
 use Rattle.dcsctp_core.proofs.Moving.{moves_still}
 use Rattle.dcsctp_core.proofs.FillLemmas.{none_begun}
@@ -38,11 +38,11 @@ unmarked queue state is = go (marked_items state.outstanding.items) (has_queued_
 
 -- So no message is abandoned, and no FORWARD-TSN goes.
 no_forward : (b : Bool) (now : ℕ) (queue : SendQueueState) (transfer : Transfer) (room : ℕ) → (b ≡ true → is_first_abandoned transfer.retransmission.outstanding.items ≡ false) → may_give queue transfer.retransmission ≡ false
-    → GivesUpWhere b now transfer room (stage_of queue transfer.retransmission [] 0) (stage_of queue transfer.retransmission [] 0) None []
+    → GivesUpThenForwards b now transfer room (stage_of queue transfer.retransmission [] 0) (stage_of queue transfer.retransmission [] 0) None []
 no_forward false now queue transfer room first none = (refl, refl, refl)
 no_forward true now queue transfer room first none = (
   record { steps = no_step; none_left = none_due now transfer.retransmission (unmarked queue transfer.retransmission none) },
-  subst (λ (b : Bool). ForwardsWhere b now transfer room transfer.retransmission None []) (sym (first refl)) (refl, refl),
+  subst (λ (b : Bool). ForwardsIfAbandoned b now transfer room transfer.retransmission None []) (sym (first refl)) (refl, refl),
 )
 
 -- that is asked of the first packet alone
@@ -51,19 +51,19 @@ in_first first_ask e state first h may = h refl
 in_first later_ask e state first h may = absurd (cc)
 
 -- Nor is a reset begun, where no stream is ready.
-rest_begun : (ask : Ask) (follows : Bool) (held : Option Held) (room last_tsn : ℕ) (queue : SendQueueState) → (ask ≡ first_ask → is_none_ready (ready_streams queue) ≡ true) → None ≡ begun_at ask follows held room last_tsn queue
+rest_begun : (ask : Ask) (follows : Bool) (held : Option Held) (room last_tsn : ℕ) (queue : SendQueueState) → (ask ≡ first_ask → is_none_ready (ready_streams queue) ≡ true) → None ≡ begun_by_ask ask follows held room last_tsn queue
 rest_begun later_ask follows held room last_tsn queue none = refl
 rest_begun first_ask follows held room last_tsn queue none = sym (none_begun first_ask follows held room last_tsn queue (none refl))
 
 gives_none : (ask : Ask) (e : Endpoint) (draft : Emission) (transfer : Transfer) → e.queues.transfer ≡ Some transfer → NeedsNone ask e.queues.queue (Some transfer) → Gives ask e draft transfer (nothing_waits e)
 gives_none ask e draft transfer holds needs =
-    let start : Stage = stage_of e.queues.queue transfer.retransmission [] (room_in e (filled draft [])) in
+    let start : Stage = stage_of e.queues.queue transfer.retransmission [] (room_of_draft e (filled_draft draft [])) in
     record {
       sacks = [];
       forwards = [];
       parts = refl;
       tracker = transfer.tracker;
-      acknowledges = subst (λ (b : Bool). Acknowledges b (room_in e draft) transfer transfer.tracker []) (sym needs.0) (refl, refl);
+      acknowledges = subst (λ (b : Bool). Acknowledges b (room_of_draft e draft) transfer transfer.tracker []) (sym needs.0) (refl, refl);
       gave_up = stage_of e.queues.queue transfer.retransmission [] 0;
       next = None;
       gives_up = no_forward (may_forward ask e transfer.retransmission) e.moment e.queues.queue transfer _
@@ -71,7 +71,7 @@ gives_none ask e draft transfer holds needs =
       later = refl;
       begins = rest_begun ask e.options.follow_rfc (may_be_asked e.core e.options.follow_rfc) _ (last_assigned_tsn transfer.retransmission) e.queues.queue needs.1;
       sent = start;
-      fills = subst (λ (b : Bool). FillsWhere b e.moment start start) (sym needs.3) (inl refl);
+      fills = subst (λ (b : Bool). FillsIfAllowed b e.moment start start) (sym needs.3) (inl refl);
       chunks = tt;
       forwards_fit = tt;
       data_fit = tt;
@@ -80,7 +80,7 @@ gives_none ask e draft transfer holds needs =
     }
 
 gives_where : (b : Bool) (ask : Ask) (e : Endpoint) (draft : Emission) (transfer : Transfer) → e.queues.transfer ≡ Some transfer → NeedsNone ask e.queues.queue (Some transfer)
-    → GivesWhere b ask e draft transfer (nothing_waits e)
+    → GivesUnlessIdle b ask e draft transfer (nothing_waits e)
 gives_where true ask e draft transfer holds needs = refl
 gives_where false ask e draft transfer holds needs = gives_none ask e draft transfer holds needs
 
@@ -109,18 +109,18 @@ flushes_rest stream ask zero view held needs = flushes_none stream ask view (dra
 flushes_rest stream ask (suc more) view held needs = flushes_last stream ask more view view (draft_to held) false refl (asks_none stream ask view held needs)
 
 rests_by : {R : Type 0} (stream : R → Stream) (old : Context R) (tcb : Option TransmissionControlBlock) → tcb ≡ tcb_of old.state → NeedsNone first_ask old.send_queue (transfer_of old.state)
-    → TakesPossibleTurn stream FlushAt (view_of old) (view_of old)
+    → TakesPossibleTurn stream SendsQueued (view_of old) (view_of old)
 rests_by stream old None kept needs = flush_no_peer stream old kept
 rests_by stream old (Some tcb) kept needs =
     let held : Held = held_of tcb in
-    let holds : held_in (core_of old.state) ≡ Some held = held_by_tcb old.state tcb kept in
+    let holds : held_by_core (core_of old.state) ≡ Some held = held_by_tcb old.state tcb kept in
     let e : Endpoint = endpoint_of old in
     let f = flushes_rest stream first_ask (packets_allowed old.options.max_burst (core_of old.state)) (view_of old) held needs in
     record {
       outcome = flush_of e (draft_to held) f.answers;
-      turn = (f.answers, subst (λ (peer : Option Held). AnswersTo e peer f.answers) (sym holds) f.allowed, sym (ap (λ (peer : Option Held). flush_by e peer f.answers) holds));
+      turn = (f.answers, subst (λ (peer : Option Held). AnswersTo e peer f.answers) (sym holds) f.allowed, sym (ap (λ (peer : Option Held). flush_to_peer e peer f.answers) holds));
       moves = f.moves;
     }
 
-pub flush_rests : {R : Type 0} (stream : R → Stream) (old : Context R) → NeedsNone first_ask old.send_queue (transfer_of old.state) → TakesPossibleTurn stream FlushAt (view_of old) (view_of old)
+pub flush_rests : {R : Type 0} (stream : R → Stream) (old : Context R) → NeedsNone first_ask old.send_queue (transfer_of old.state) → TakesPossibleTurn stream SendsQueued (view_of old) (view_of old)
 flush_rests stream old needs = rests_by stream old (tcb_of old.state) refl needs

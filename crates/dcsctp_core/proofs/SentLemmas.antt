@@ -4,7 +4,7 @@ use Rattle.std.specs.Prelude.{nat_le, if◌then◌else◌}
 use Rattle.std.proofs.lemmas.List.{append-nil}
 use Rattle.std.specs.List.{flat_map}
 use Rattle.dcsctp_transfer.specs.wire.Content.{ChunkContent}
-use Rattle.dcsctp_transfer.specs.wire.Spelling.{Spelled, by_value, by_list, spelled, other_bytes, parameter_chunk_bytes, spelled_bytes, chunk_bytes, header_bytes, packet_bytes_of}
+use Rattle.dcsctp_transfer.specs.wire.Spelling.{WrittenChunk, by_value, by_list, written_chunk, other_bytes, parameter_chunk_bytes, spelled_bytes, chunk_bytes, header_bytes, packet_bytes_of}
 use Rattle.dcsctp_transfer.specs.wire_build.Building.{Building, bytes_remaining}
 use Rattle.rand_core.specs.Stream.{Stream}
 use Rattle.dcsctp_transfer.specs.types.declared.association.Held.{Held}
@@ -13,22 +13,22 @@ use Rattle.dcsctp_transfer.specs.types.Settings.{ports_of, packet_size_limit}
 use Rattle.dcsctp_transfer.specs.spec.endpoint.Event.{sent}
 use Rattle.dcsctp_transfer.specs.spec.Packet.{Content, Emission, unworked, chunk_out, emission_bytes}
 use Rattle.dcsctp_transfer.specs.spec.endpoint.Endpoint.{Endpoint, may_answer}
-use Rattle.dcsctp_transfer.specs.spec.endpoint.Outcome.{Outcome, still, packet_counted, fits, quiet, sends, emits, answering, answered_where, answers_with, to_peer, contents_len}
+use Rattle.dcsctp_transfer.specs.spec.endpoint.Outcome.{Outcome, still, packet_counted, fits, quiet, sends, emits, answering, answered_if_allowed, answers_with, to_peer, contents_len}
 use Rattle.dcsctp_transfer.specs.spec.association.Choices.{plain_contents}
-use Rattle.dcsctp_transfer.specs.spec.endpoint.FlushOutcomes.{is_none, room_in}
+use Rattle.dcsctp_transfer.specs.spec.endpoint.FlushOutcomes.{is_none, room_of_draft}
 use Rattle.dcsctp_core.specs.View.{View, Moves}
 use Rattle.dcsctp_core.specs.Handling.{chunk_emitted, emitted_to, sent_to_peer, answered_to_peer, answer_counted, answered_to}
 use Rattle.dcsctp_core.proofs.Moving.{moves_still}
 use Rattle.dcsctp_core.specs.Flushing.{packet_being_built, packet_for}
 
 -- A chunk has bytes.
-spelled_is_not_empty : (s : Spelled) (rest : List ℕ) → spelled_bytes s ++ rest ≡ [] → ⊥
+spelled_is_not_empty : (s : WrittenChunk) (rest : List ℕ) → spelled_bytes s ++ rest ≡ [] → ⊥
 unfolding parameter_chunk_bytes other_bytes
 spelled_is_not_empty (by_value chunk_type flags value) rest none = cc none
 spelled_is_not_empty (by_list chunk_type flags fields parameters) rest none = cc none
 
 chunk_is_not_empty : (chunk : ChunkContent) (rest : List ℕ) → chunk_bytes chunk ++ rest ≡ [] → ⊥
-chunk_is_not_empty chunk rest none = spelled_is_not_empty (spelled chunk) rest none
+chunk_is_not_empty chunk rest none = spelled_is_not_empty (written_chunk chunk) rest none
 
 -- ---- the chunks of a packet in bytes
 
@@ -61,7 +61,7 @@ none_as_bytes (content ∷ contents) = some (body_of (content ∷ contents)) (λ
     some (byte ∷ bytes) not_empty = refl
 
 -- how much room is left in it
-pub room_is : (e : Endpoint) (draft : Emission) → bytes_remaining (packet_for e.options draft) ≡ room_in e draft
+pub room_is : (e : Endpoint) (draft : Emission) → bytes_remaining (packet_for e.options draft) ≡ room_of_draft e draft
 room_is e draft = ap (λ (n : ℕ). packet_size_limit e.options - 12 - n) (body_len draft.packet.contents)
 
 -- ---- a packet that is sent
@@ -123,11 +123,11 @@ emits_moves {R = R} stream v held content =
     let options = v.endpoint.options in
     let emission : Emission = to_peer held content in
     let bytes : List ℕ = chunk_bytes (chunk_out content) in
-    let spelled : List ℕ = packet_bytes_of emission.with_checksum (header_bytes options.local_port options.remote_port held.peer.tag) bytes in
+    let written_chunk : List ℕ = packet_bytes_of emission.with_checksum (header_bytes options.local_port options.remote_port held.peer.tag) bytes in
     let alone : bytes ++ [] ≡ bytes = append-nil bytes in
-    subst (λ (b : Bool). Moves stream v (if fits v.endpoint emission then sends v.endpoint [] [] emission else quiet v.endpoint [] []) (if b then record v { endpoint = packet_counted v.endpoint; events = v.events ++ sent spelled ∷ [] } else v))
+    subst (λ (b : Bool). Moves stream v (if fits v.endpoint emission then sends v.endpoint [] [] emission else quiet v.endpoint [] []) (if b then record v { endpoint = packet_counted v.endpoint; events = v.events ++ sent written_chunk ∷ [] } else v))
     (ap (λ (bs : List ℕ). nat_le (12 + length bs) (packet_size_limit options)) alone)
-    (emitted_where stream v emission spelled (fits v.endpoint emission)
+    (emitted_where stream v emission written_chunk (fits v.endpoint emission)
     (ap (λ (bs : List ℕ). packet_bytes_of emission.with_checksum (header_bytes options.local_port options.remote_port held.peer.tag) bs) alone))
 
 -- A chunk was sent to the peer, if it is known and the packet fits.
@@ -145,7 +145,7 @@ answering_moves stream a b o m =
 
 -- by whether it may be
 answered_at : {R : Type 0} (stream : R → Stream) (v : View R) (may : Bool) (held : Held) (content : Content)
-    → Moves stream v (answered_where may v.endpoint (to_peer held content)) (answered_to may (Some held) (chunk_out content) v)
+    → Moves stream v (answered_if_allowed may v.endpoint (to_peer held content)) (answered_to may (Some held) (chunk_out content) v)
 answered_at stream v false held content = moves_still stream v
 answered_at stream v true held content = answering_moves stream v _ _ (emits_moves stream v held content)
 

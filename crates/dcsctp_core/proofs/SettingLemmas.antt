@@ -5,9 +5,9 @@ use Rattle.std.proofs.lemmas.Bool.Decides.{nat_tests}
 use Rattle.dcsctp_core.specs.declared.deadlines.DeadlineKind.{DeadlineKind}
 use Rattle.dcsctp_core.specs.declared.deadlines.DeadlineKind.TheVariants.{AcknowledgementDelay, Retransmission, HeartbeatInterval, HeartbeatTimeout, Reconfiguration, T1, T2}
 use Rattle.dcsctp_core.specs.declared.deadlines.Entry.{Entry}
-use Rattle.dcsctp_core.specs.Listing.{is_before, is_same_kind, besides, listed, entry_place, placed, rank, set_in, without, IsAbsent, IsEarliestEntry, IsListing}
+use Rattle.dcsctp_core.specs.Listing.{is_before, is_same_kind, besides, listed_deadline, entry_place, entries_with_one, rank, list_with_deadline, without, IsAbsent, IsEarliestEntry, IsListing}
 use Rattle.dcsctp_core.proofs.ListingLemmas.{first-absent, listing-without, same-absent, without-absent}
-use Rattle.dcsctp_core.proofs.PlaceLemmas.{absent-without, last_gap, others_without, place-absent, placed-listing}
+use Rattle.dcsctp_core.proofs.PlaceLemmas.{absent-without, last_gap, others_without, place-absent, entries_with_one-listing}
 use Rattle.dcsctp_core.proofs.SevenLemmas.{six_absent}
 
 -- ---- the place is that of an entry
@@ -67,30 +67,30 @@ same-entry x kind moment same some =
     let moments : x.moment ≡ moment = cc in
     ap₂ (λ m k. let e : Entry = record { moment = m; kind = k } in e) moments (sym (kinds_same kind x.kind same))
 
-before-listed : (first : Entry) (kind : DeadlineKind) (moment : ℕ) (xs : List Entry) → IsEarliestEntry first xs → listed kind xs ≡ Some moment
+before-listed : (first : Entry) (kind : DeadlineKind) (moment : ℕ) (xs : List Entry) → IsEarliestEntry first xs → listed_deadline kind xs ≡ Some moment
     → is_before first (record { moment = moment; kind = kind }) ≡ true
 before-listed first kind moment [] is some = absurd (cc)
 before-listed first kind moment (x ∷ xs) is some = go (is_same_kind kind x.kind) refl some (before-listed first kind moment xs is.2)
   where
-    go : (same : Bool) → is_same_kind kind x.kind ≡ same → (if same then Some x.moment else listed kind xs) ≡ Some moment
-        → (listed kind xs ≡ Some moment → is_before first (record { moment = moment; kind = kind }) ≡ true) → is_before first (record { moment = moment; kind = kind }) ≡ true
+    go : (same : Bool) → is_same_kind kind x.kind ≡ same → (if same then Some x.moment else listed_deadline kind xs) ≡ Some moment
+        → (listed_deadline kind xs ≡ Some moment → is_before first (record { moment = moment; kind = kind }) ≡ true) → is_before first (record { moment = moment; kind = kind }) ≡ true
     go true same some rest = subst (λ (e : Entry). is_before first e ≡ true) (same-entry x kind moment same some) is.0
     go false other some rest = rest some
 
 not-after : (a b : Entry) → is_before a b ≡ true → is_before b a ≡ false
 not-after a b before = grind (arith, nat_tests)
 
-pub unchanged : (kind : DeadlineKind) (moment : ℕ) (xs : List Entry) → IsListing xs → listed kind xs ≡ Some moment → set_in kind (Some moment) xs ≡ xs
+pub unchanged : (kind : DeadlineKind) (moment : ℕ) (xs : List Entry) → IsListing xs → listed_deadline kind xs ≡ Some moment → list_with_deadline kind (Some moment) xs ≡ xs
 unchanged kind moment [] is none = absurd (cc)
 unchanged kind moment (x ∷ xs) is some = go (is_same_kind kind x.kind) refl some (unchanged kind moment xs is.1)
   where
-    go : (same : Bool) → is_same_kind kind x.kind ≡ same → (if same then Some x.moment else listed kind xs) ≡ Some moment
-        → (listed kind xs ≡ Some moment → set_in kind (Some moment) xs ≡ xs)
-        → placed (record { moment = moment; kind = kind }) (if same then without kind xs else x ∷ without kind xs) ≡ x ∷ xs
+    go : (same : Bool) → is_same_kind kind x.kind ≡ same → (if same then Some x.moment else listed_deadline kind xs) ≡ Some moment
+        → (listed_deadline kind xs ≡ Some moment → list_with_deadline kind (Some moment) xs ≡ xs)
+        → entries_with_one (record { moment = moment; kind = kind }) (if same then without kind xs else x ∷ without kind xs) ≡ x ∷ xs
     go true same some rest =
-        ap₂ placed (sym (same-entry x kind moment same some)) (absent-without kind xs (same-absent kind x.kind xs same (first-absent x xs is.0)))
-        ∙ placed-listing x xs is.0 is.1
+        ap₂ entries_with_one (sym (same-entry x kind moment same some)) (absent-without kind xs (same-absent kind x.kind xs same (first-absent x xs is.0)))
+        ∙ entries_with_one-listing x xs is.0 is.1
     go false other some rest =
         let new : Entry = record { moment = moment; kind = kind } in
-        ap (λ b. if b then new ∷ placed x (without kind xs) else x ∷ placed new (without kind xs)) (not-after x new (before-listed x kind moment xs is.0 some))
+        ap (λ b. if b then new ∷ entries_with_one x (without kind xs) else x ∷ entries_with_one new (without kind xs)) (not-after x new (before-listed x kind moment xs is.0 some))
         ∙ ap (λ l. x ∷ l) (rest some)

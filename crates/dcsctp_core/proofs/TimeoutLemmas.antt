@@ -3,14 +3,14 @@ use Rattle.std.proofs.Common.{◌≡◌, ℕ, ◌≤◌, ◌⊎◌, inl, inr, mi
 use Rattle.std.specs.Prelude.{if◌then◌else◌}
 use Rattle.std.proofs.lemmas.Bool.Decides.{nat_tests}
 use Rattle.dcsctp_transfer.specs.spec.endpoint.Endpoint.{Endpoint, Core, closed, cookie_wait, cookie_echoed, open_in}
-use Rattle.dcsctp_transfer.specs.spec.endpoint.TimeTurns.{Timer, t1_timer, own_timer, t2_timer, timers_in, timers_counted, deadline, deadline_of, delay_deadline, loss_deadline, with_deadline, deadlines_of, earliest, next_of, next_moment, has_come, NoneIsDue}
+use Rattle.dcsctp_transfer.specs.spec.endpoint.TimeTurns.{Timer, t1_timer, own_timer, t2_timer, handled_timers, timers_counted, deadline, deadline_of, delay_deadline, loss_deadline, with_deadline, deadlines_of, earliest, next_of, next_moment, has_come, NoneIsDue}
 use Rattle.dcsctp_transfer.specs.spec.endpoint.OwnTimers.{acknowledgement_delay, retransmission, heartbeat_interval, heartbeat_timeout, reconfiguration}
-use Rattle.dcsctp_transfer.specs.spec.endpoint.Turn.{clock_at}
+use Rattle.dcsctp_transfer.specs.spec.endpoint.Turn.{with_clock}
 use Rattle.dcsctp_core.specs.declared.deadlines.DeadlineKind.{DeadlineKind}
 use Rattle.dcsctp_core.specs.declared.deadlines.DeadlineKind.TheVariants.{AcknowledgementDelay, Retransmission, HeartbeatInterval, HeartbeatTimeout, Reconfiguration, T1, T2}
 use Rattle.dcsctp_core.specs.declared.deadlines.Entry.{Entry}
-use Rattle.dcsctp_core.specs.Listing.{is_before, is_same_kind, listed, first_moment, relisted, deadline_by_kind, IsEarliestEntry, IsListing, RunningDeadlines}
-use Rattle.dcsctp_core.specs.Timeout.{kind_of, deadline_among, deadline_in_phase, next_by, is_deadline_later, is_quiet, ListsDeadlines}
+use Rattle.dcsctp_core.specs.Listing.{is_before, is_same_kind, listed_deadline, first_moment, list_of_deadlines, deadline_by_kind, IsEarliestEntry, IsListing, RunningDeadlines}
+use Rattle.dcsctp_core.specs.Timeout.{kind_of, deadline_among, deadline_in_phase, next_deadline, is_deadline_later, is_quiet, ListsDeadlines}
 use Rattle.dcsctp_core.proofs.RelistLemmas.{relist_tells}
 
 -- ---- the first entry is the least
@@ -22,18 +22,18 @@ AtLeast m (Some deadline) = m ≤ deadline
 before_le : (a b : Entry) → is_before a b ≡ true → a.moment ≤ b.moment
 before_le a b before = grind (arith, nat_tests)
 
-others_later : (first : Entry) (xs : List Entry) → IsEarliestEntry first xs → (kind : DeadlineKind) → AtLeast first.moment (listed kind xs)
+others_later : (first : Entry) (xs : List Entry) → IsEarliestEntry first xs → (kind : DeadlineKind) → AtLeast first.moment (listed_deadline kind xs)
 others_later first [] is kind = tt
 others_later first (x ∷ xs) is kind = go (is_same_kind kind x.kind) (others_later first xs is.2 kind)
   where
-    go : (same : Bool) → AtLeast first.moment (listed kind xs) → AtLeast first.moment (if same then Some x.moment else listed kind xs)
+    go : (same : Bool) → AtLeast first.moment (listed_deadline kind xs) → AtLeast first.moment (if same then Some x.moment else listed_deadline kind xs)
     go true rest = before_le first x is.0
     go false rest = rest
 
-all_later : (first : Entry) (xs : List Entry) → IsEarliestEntry first xs → (kind : DeadlineKind) → AtLeast first.moment (listed kind (first ∷ xs))
+all_later : (first : Entry) (xs : List Entry) → IsEarliestEntry first xs → (kind : DeadlineKind) → AtLeast first.moment (listed_deadline kind (first ∷ xs))
 all_later first xs is kind = go (is_same_kind kind first.kind)
   where
-    go : (same : Bool) → AtLeast first.moment (if same then Some first.moment else listed kind xs)
+    go : (same : Bool) → AtLeast first.moment (if same then Some first.moment else listed_deadline kind xs)
     go true = omega arith
     go false = others_later first xs is kind
 
@@ -103,29 +103,29 @@ no_deadline e [] each = refl
 no_deadline e (timer ∷ timers) each = ap (λ o. with_deadline o (deadlines_of e timers)) each.0 ∙ no_deadline e timers each.1
 
 -- The first entry says the next moment of the socket.
-pub first_is_next : (e : Endpoint) (entries : List Entry) → IsListing entries → ListsDeadlines e entries → next_by e.moment (first_moment entries) ≡ next_moment e
+pub first_is_next : (e : Endpoint) (entries : List Entry) → IsListing entries → ListsDeadlines e entries → next_deadline e.moment (first_moment entries) ≡ next_moment e
 first_is_next e [] listing told =
     sym (ap (next_of e.moment) (no_deadline e (timers_counted e.core) (each_told e (λ o. o ≡ None) e.core (λ kind. sym (told kind)))))
 first_is_next e (x ∷ xs) listing told =
     let all = all_least e x.moment (timers_counted e.core) (each_told e (AtLeast x.moment) e.core (λ kind. subst (AtLeast x.moment) (told kind) (all_later x xs listing.0 kind))) in
-    let among = is_among e x.moment x.kind (timers_counted e.core) (sym (told x.kind) ∙ ap (λ same. if same then Some x.moment else listed x.kind xs) (same_self x.kind)) in
+    let among = is_among e x.moment x.kind (timers_counted e.core) (sym (told x.kind) ∙ ap (λ same. if same then Some x.moment else listed_deadline x.kind xs) (same_self x.kind)) in
     sym (next_is e.moment x.moment (deadlines_of e (timers_counted e.core)) all among)
 
 -- ---- advance_time
 
-none_has_come : (moment : ℕ) (entries : List Entry) → IsListing entries → is_deadline_later moment (first_moment entries) ≡ true → (kind : DeadlineKind) → has_come moment (listed kind entries) ≡ false
+none_has_come : (moment : ℕ) (entries : List Entry) → IsListing entries → is_deadline_later moment (first_moment entries) ≡ true → (kind : DeadlineKind) → has_come moment (listed_deadline kind entries) ≡ false
 none_has_come moment [] listing later kind = refl
-none_has_come moment (x ∷ xs) listing later kind = go (listed kind (x ∷ xs)) (all_later x xs listing.0 kind)
+none_has_come moment (x ∷ xs) listing later kind = go (listed_deadline kind (x ∷ xs)) (all_later x xs listing.0 kind)
   where
     go : (o : Option ℕ) → AtLeast x.moment o → has_come moment o ≡ false
     go None least = refl
     go (Some d) least = grind (arith, nat_tests)
 
-none_due : (e : Endpoint) (moment : ℕ) (timers : List Timer) → ForEach (λ timer. has_come moment (deadline e timer) ≡ false) timers → NoneIsDue (clock_at moment e) timers
+none_due : (e : Endpoint) (moment : ℕ) (timers : List Timer) → ForEach (λ timer. has_come moment (deadline e timer) ≡ false) timers → NoneIsDue (with_clock moment e) timers
 none_due e moment [] each = tt
 none_due e moment (timer ∷ timers) each = (go timer each.0, none_due e moment timers each.1)
   where
-    go : (t : Timer) → has_come moment (deadline e t) ≡ false → has_come moment (deadline (clock_at moment e) t) ≡ false
+    go : (t : Timer) → has_come moment (deadline e t) ≡ false → has_come moment (deadline (with_clock moment e) t) ≡ false
     go t1_timer is = is
     go (own_timer acknowledgement_delay) is = is
     go (own_timer retransmission) is = is
@@ -136,16 +136,16 @@ none_due e moment (timer ∷ timers) each = (go timer each.0, none_due e moment 
 
 -- Where the list is quiet at a moment, nothing is due then.
 pub none_is_due : (e : Endpoint) (moment : ℕ) (entries : List Entry) → IsListing entries → ListsDeadlines e entries → is_quiet e.core moment entries ≡ true
-    → NoneIsDue (clock_at moment e) (timers_in e.core)
+    → NoneIsDue (with_clock moment e) (handled_timers e.core)
 none_is_due e moment entries listing told quiet =
     go e.core quiet (λ later. each_told e (λ o. has_come moment o ≡ false) e.core (λ kind. subst (λ o. has_come moment o ≡ false) (told kind) (none_has_come moment entries listing later kind)))
   where
     go : (core : Core) → is_quiet core moment entries ≡ true → (is_deadline_later moment (first_moment entries) ≡ true → ForEach (λ timer. has_come moment (deadline e timer) ≡ false) (timers_counted core))
-        → NoneIsDue (clock_at moment e) (timers_in core)
+        → NoneIsDue (with_clock moment e) (handled_timers core)
     go closed quiet each = tt
-    go (cookie_wait mine) quiet each = none_due e moment (timers_in (cookie_wait mine)) (each quiet)
+    go (cookie_wait mine) quiet each = none_due e moment (handled_timers (cookie_wait mine)) (each quiet)
     go (cookie_echoed mine held cookie) quiet each = absurd (cc)
-    go (open_in state mine held) quiet each = none_due e moment (timers_in (open_in state mine held)) (each quiet)
+    go (open_in state mine held) quiet each = none_due e moment (handled_timers (open_in state mine held)) (each quiet)
 
 -- ---- what keeps the list
 
@@ -163,8 +163,8 @@ told_by e core =
     }
 
 -- The list that is made of it has what counts.
-pub relisted_is_told : (e : Endpoint) (core : Core) → e.core ≡ core → ListsDeadlines e (relisted (told_by e core))
-relisted_is_told e core is = subst (λ phase. ListsDeadlines e (relisted (told_by e phase))) is (λ kind. relist_tells (told_by e e.core) kind ∙ go kind)
+pub relisted_is_told : (e : Endpoint) (core : Core) → e.core ≡ core → ListsDeadlines e (list_of_deadlines (told_by e core))
+relisted_is_told e core is = subst (λ phase. ListsDeadlines e (list_of_deadlines (told_by e phase))) is (λ kind. relist_tells (told_by e e.core) kind ∙ go kind)
   where
     go : (kind : DeadlineKind) → deadline_by_kind (told_by e e.core) kind ≡ deadline_in_phase e kind
     go AcknowledgementDelay = refl

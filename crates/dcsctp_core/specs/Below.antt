@@ -7,7 +7,7 @@ use Rattle.dcsctp_transfer.specs.types.declared.association.Held.{Held}
 use Rattle.dcsctp_transfer.specs.types.declared.options.Options.{Options}
 use Rattle.dcsctp_transfer.specs.types.declared.message.Message.{Message}
 use Rattle.dcsctp_transfer.specs.spec.endpoint.Event.{Event}
-use Rattle.dcsctp_transfer.specs.spec.endpoint.Endpoint.{Endpoint, held_in}
+use Rattle.dcsctp_transfer.specs.spec.endpoint.Endpoint.{Endpoint, held_by_core}
 use Rattle.dcsctp_transfer.specs.spec.endpoint.Outcome.{Outcome, still}
 use Rattle.dcsctp_transfer.specs.spec.endpoint.DataOutcomes.{FastRetransmits, taken_to}
 use Rattle.dcsctp_transfer.specs.spec.endpoint.TransferMoves.{lost_all}
@@ -27,9 +27,9 @@ ChangesQueues Changes None old new = new ≡ old
 ChangesQueues Changes (Some transfer) old new = (after : Transfer) × (new ≡ state_with old after) × Changes transfer after
 
 -- That is so, or nothing has changed.
-abbrev pub ChangesWhere : Bool → (Transfer → Transfer → Type 0) → Option Transfer → State → State → Type 0
-ChangesWhere true Changes found old new = ChangesQueues Changes found old new
-ChangesWhere false Changes found old new = new ≡ old
+abbrev pub ChangesOrKeeps : Bool → (Transfer → Transfer → Type 0) → Option Transfer → State → State → Type 0
+ChangesOrKeeps true Changes found old new = ChangesQueues Changes found old new
+ChangesOrKeeps false Changes found old new = new ≡ old
 
 -- The first of the messages that are ready is taken at this moment, if one is ready.
 abbrev pub TakesFirst : Options → ℕ → Option Message → Transfer → Transfer → Type 0
@@ -43,8 +43,8 @@ TakesReady options moment transfer old result new =
     (after : Transfer) × (new ≡ state_with old after) × TakesFirst options moment result transfer after
 
 -- All that is in flight is lost, at this moment.
-abbrev pub LosesAt : ℕ → Transfer → Transfer → Type 0
-LosesAt now old new = new ≡ lost_all now old
+abbrev pub LosesAllInFlight : ℕ → Transfer → Transfer → Type 0
+LosesAllInFlight now old new = new ≡ lost_all now old
 
 -- All of a packet was handled, at this moment.
 abbrev pub EndsPacketInQueues : ℕ → Transfer → Transfer → Type 0
@@ -71,8 +71,8 @@ abbrev pub GoesAtOnce : Endpoint → Option Held → Option Transfer → Outcome
 GoesAtOnce e (Some held) (Some transfer) o = FastRetransmits (has_fast_retransmit transfer.retransmission) e held transfer o
 GoesAtOnce e held transfer o = o ≡ still e
 
-abbrev pub AtOnceAt : {R : Type 0} → View R → Outcome → Type 0
-AtOnceAt view o = GoesAtOnce view.endpoint (held_in view.endpoint.core) view.endpoint.queues.transfer o
+abbrev pub FlushesAtOnce : {R : Type 0} → View R → Outcome → Type 0
+FlushesAtOnce view o = GoesAtOnce view.endpoint (held_by_core view.endpoint.core) view.endpoint.queues.transfer o
 
 -- is an acknowledgement due to the peer, if it is known?
 abbrev pub is_peer_acknowledgement_due : Option Transfer → Bool

@@ -15,14 +15,14 @@ use Rattle.dcsctp_transfer.specs.spec.queues.SendQueue.{SendQueueState, has_queu
 use Rattle.dcsctp_transfer.specs.spec.queues.Transfer.{Transfer, is_none_ready, may_give}
 use Rattle.dcsctp_transfer.specs.spec.queues.Items.{is_first_abandoned}
 use Rattle.dcsctp_transfer.specs.spec.queues.Retransmission.{can_send, outstanding_count}
-use Rattle.dcsctp_transfer.specs.spec.endpoint.Endpoint.{Endpoint, Timers, heartbeats_begun, held_in, own_tag}
+use Rattle.dcsctp_transfer.specs.spec.endpoint.Endpoint.{Endpoint, Timers, heartbeats_begun, held_by_core, own_tag}
 use Rattle.dcsctp_transfer.specs.types.declared.association.Held.{Held}
 use Rattle.dcsctp_transfer.specs.spec.endpoint.Outcome.{packet_counted}
-use Rattle.dcsctp_transfer.specs.spec.endpoint.BegunResets.{BegunReset, last_assigned_tsn, begun_in, request_contents, after_begun, streams_within, queue_requesting, transfer_reset_begun}
-use Rattle.dcsctp_transfer.specs.spec.endpoint.FlushOutcomes.{may_be_asked, filling_event, Answer, answer_contents, filled, asked, flush_of, packets_allowed, Ask, first_ask, wants_sack, IsAnswerOfQueues, timers_with, IsFlushAnswer, AreFlushAnswers, is_none, later_ask, draft_to, forward_where}
+use Rattle.dcsctp_transfer.specs.spec.endpoint.BegunResets.{BegunReset, last_assigned_tsn, begun_if_connected, request_contents, after_begun, streams_within, queue_requesting, transfer_reset_begun}
+use Rattle.dcsctp_transfer.specs.spec.endpoint.FlushOutcomes.{may_be_asked, filling_event, Answer, answer_contents, filled_draft, asked_outcome, flush_of, packets_allowed, Ask, first_ask, wants_sack, IsAnswerOfQueues, timers_with, IsFlushAnswer, AreFlushAnswers, is_none, later_ask, draft_to, forward_moment}
 use Rattle.dcsctp_transfer.specs.api.Calls.{user_event}
-use Rattle.dcsctp_transfer.specs.Filling.{FillsDataPacket, TellsFilling, FillsRequestedSack, is_sack_wanted}
-use Rattle.dcsctp_transfer.specs.Forwarding.{MakesForwardTsn, TellsAbandoning}
+use Rattle.dcsctp_transfer.specs.Filling.{FillsDataPacket, AddsFirstOfFilling, FillsRequestedSack, is_sack_wanted}
+use Rattle.dcsctp_transfer.specs.Forwarding.{MakesForwardTsn, AddsFirstOfAbandoning}
 use Rattle.dcsctp_core.specs.declared.context.Context.{Context}
 use Rattle.dcsctp_core.specs.declared.state.State.{State}
 use Rattle.dcsctp_core.specs.Reconfiguring.{tcb_changed}
@@ -55,16 +55,16 @@ state_with state transfer = tcb_changed (λ tcb. record tcb { transfer = transfe
 
 -- What was received is acknowledged, if that is asked for.
 abbrev pub AcknowledgesInQueues : Option Transfer → Bool → State → Building → State → Building → Type 0
-AcknowledgesInQueues None along old packet new filled = (new ≡ old) × (filled ≡ packet)
-AcknowledgesInQueues (Some transfer) along old packet new filled =
-    (after : Transfer) × (new ≡ state_with old after) × FillsRequestedSack (is_sack_wanted along transfer) transfer packet after filled
+AcknowledgesInQueues None along old packet new filled_draft = (new ≡ old) × (filled_draft ≡ packet)
+AcknowledgesInQueues (Some transfer) along old packet new filled_draft =
+    (after : Transfer) × (new ≡ state_with old after) × FillsRequestedSack (is_sack_wanted along transfer) transfer packet after filled_draft
 
 -- Messages may have been abandoned, if the peer is known; if a FORWARD-TSN was made, the result says when the next one may be.
 abbrev pub ForwardsInQueues : ℕ → Option Transfer → SendQueueState → List (Event (List ℕ)) → Building → State → State → SendQueueState → List (Event (List ℕ)) → Building → Option ℕ → Type 0
-ForwardsInQueues now None waiting events packet old new left telling filled next =
-    (new ≡ old) × (left ≡ waiting) × (telling ≡ events) × (filled ≡ packet) × (next ≡ None)
-ForwardsInQueues now (Some transfer) waiting events packet old new left telling filled next =
-    (after : Transfer) × (new ≡ state_with old after) × MakesForwardTsn now transfer waiting events packet after left telling filled next
+ForwardsInQueues now None waiting events packet old new left telling filled_draft next =
+    (new ≡ old) × (left ≡ waiting) × (telling ≡ events) × (filled_draft ≡ packet) × (next ≡ None)
+ForwardsInQueues now (Some transfer) waiting events packet old new left telling filled_draft next =
+    (after : Transfer) × (new ≡ state_with old after) × MakesForwardTsn now transfer waiting events packet after left telling filled_draft next
 
 -- Without a peer, and where nothing waits and nothing is outstanding, there is no data.
 abbrev pub HasNoData : SendQueueState → Option Transfer → Type 0
@@ -99,19 +99,19 @@ can_queues_send (Some transfer) = can_send transfer.retransmission
 -- ---- one packet of it
 
 -- the heartbeat interval starts again if data went in
-abbrev pub timers_where : Bool → Endpoint → Timers
-timers_where true e = heartbeats_begun e (own_tag e.core) e.timers
-timers_where false e = e.timers
+abbrev pub timers_if_filled : Bool → Endpoint → Timers
+timers_if_filled true e = heartbeats_begun e (own_tag e.core) e.timers
+timers_if_filled false e = e.timers
 
 -- What abandons messages was put into a packet, if that may go now, and nothing else has moved.
 abbrev pub ForwardsNow : {R : Type 0} → Bool → Transfer → View R → Building → View R → Building → Type 0
-ForwardsNow false transfer old packet new filled = (new ≡ old) × (filled ≡ packet)
-ForwardsNow true transfer old packet new filled =
+ForwardsNow false transfer old packet new filled_draft = (new ≡ old) × (filled_draft ≡ packet)
+ForwardsNow true transfer old packet new filled_draft =
     (next : Option ℕ) × (after : Transfer) × (left : SendQueueState)
-    × MakesForwardTsn old.endpoint.moment transfer old.endpoint.queues.queue old.events packet after left new.events filled next
+    × MakesForwardTsn old.endpoint.moment transfer old.endpoint.queues.queue old.events packet after left new.events filled_draft next
     × (new ≡ record old {
       endpoint = record old.endpoint {
-        no_forward_tsn_before = forward_where next old.endpoint.no_forward_tsn_before;
+        no_forward_tsn_before = forward_moment next old.endpoint.no_forward_tsn_before;
         queues = record { queue = left; transfer = Some after };
       };
       events = new.events;
@@ -122,30 +122,30 @@ abbrev pub is_in_time : Endpoint → Bool
 is_in_time e = nat_le e.no_forward_tsn_before e.moment
 
 -- What abandons messages was put into a packet, no sooner than it may.
-abbrev pub ForwardsAt : {R : Type 0} → Option Transfer → View R → Building → View R → Building → Type 0
-ForwardsAt None old packet new filled = (new ≡ old) × (filled ≡ packet)
-ForwardsAt (Some transfer) old packet new filled = ForwardsNow (is_in_time old.endpoint) transfer old packet new filled
+abbrev pub ForwardsInTime : {R : Type 0} → Option Transfer → View R → Building → View R → Building → Type 0
+ForwardsInTime None old packet new filled_draft = (new ≡ old) × (filled_draft ≡ packet)
+ForwardsInTime (Some transfer) old packet new filled_draft = ForwardsNow (is_in_time old.endpoint) transfer old packet new filled_draft
 
 -- A reset was begun if none is outstanding, one is ready and it fits. Its request is in the packet, and nothing else has changed.
 abbrev pub FillsResetRequest : {R : Type 0} → Option Transfer → View R → Building → View R → Building → Type 0
-FillsResetRequest None old packet new filled = (new ≡ old) × (filled ≡ packet)
-FillsResetRequest (Some transfer) old packet new filled =
+FillsResetRequest None old packet new filled_draft = (new ≡ old) × (filled_draft ≡ packet)
+FillsResetRequest (Some transfer) old packet new filled_draft =
     (begun : Option BegunReset) × (left : SendQueueState)
-    × (begun ≡ begun_in old.endpoint.options.follow_rfc (may_be_asked old.endpoint.core old.endpoint.options.follow_rfc) (bytes_remaining packet) (last_assigned_tsn transfer.retransmission) old.endpoint.queues.queue)
+    × (begun ≡ begun_if_connected old.endpoint.options.follow_rfc (may_be_asked old.endpoint.core old.endpoint.options.follow_rfc) (bytes_remaining packet) (last_assigned_tsn transfer.retransmission) old.endpoint.queues.queue)
     × (left ≡ queue_requesting (streams_within (bytes_remaining packet)) begun old.endpoint.queues.queue)
-    × (filled ≡ record packet { body = packet.body ++ flat_map chunk_bytes (map chunk_out (request_contents begun)) })
+    × (filled_draft ≡ record packet { body = packet.body ++ flat_map chunk_bytes (map chunk_out (request_contents begun)) })
     × (new ≡ record old {
       endpoint = record (after_begun begun old.endpoint) { queues = record { queue = left; transfer = Some (transfer_reset_begun begun transfer) } };
     })
 
 -- A packet was filled with data, and nothing else has moved.
 abbrev pub FillsPacketData : {R : Type 0} → Option Transfer → View R → Building → View R → Building → Type 0
-FillsPacketData None old packet new filled = (new ≡ old) × (filled ≡ packet)
-FillsPacketData (Some transfer) old packet new filled =
+FillsPacketData None old packet new filled_draft = (new ≡ old) × (filled_draft ≡ packet)
+FillsPacketData (Some transfer) old packet new filled_draft =
     (any : Bool) × (after : Transfer) × (left : SendQueueState)
-    × FillsDataPacket old.endpoint.moment transfer old.endpoint.queues.queue old.events packet after left new.events filled any
+    × FillsDataPacket old.endpoint.moment transfer old.endpoint.queues.queue old.events packet after left new.events filled_draft any
     × (new ≡ record old {
-      endpoint = record old.endpoint { timers = timers_where any old.endpoint; queues = record { queue = left; transfer = Some after } };
+      endpoint = record old.endpoint { timers = timers_if_filled any old.endpoint; queues = record { queue = left; transfer = Some after } };
       events = new.events;
     })
 
@@ -162,65 +162,65 @@ pub record FillsAskedPacket {R : Type 0} (ask : Ask) (old : View R) (draft : Emi
   pub endpoint : new.endpoint ≡ answer.after
   pub events : new.events ≡ old.events ++ map (user_event (ports_of old.endpoint.options)) (map filling_event answer.told)
   pub rest : new ≡ record old { endpoint = new.endpoint; events = new.events }
-  pub packet : filled_packet ≡ packet_for old.endpoint.options (filled draft (answer_contents answer))
+  pub packet : filled_packet ≡ packet_for old.endpoint.options (filled_draft draft (answer_contents answer))
 
 -- The turn of a packet that is asked to be filled was cut.
-pub record AskCut {R : Type 0} (ask : Ask) (old : View R) (draft : Emission) (events : List (Event (List ℕ))) : Type 0 where
+pub record CutsAsk {R : Type 0} (ask : Ask) (old : View R) (draft : Emission) (events : List (Event (List ℕ))) : Type 0 where
   pub answer : Answer
   pub allowed : IsFlushAnswer ask old.endpoint draft answer
   -- what was added of it
   pub front : List (Event Emission)
   pub rest : List (Event Emission)
-  pub parts : (asked old.endpoint draft answer).events ≡ front ++ rest
+  pub parts : (asked_outcome old.endpoint draft answer).events ≡ front ++ rest
   pub added : events ≡ old.events ++ map (user_event (ports_of old.endpoint.options)) front
 
 -- whatever the machine calls the chunks that the packet holds
 abbrev pub FillsWith : {R E : Type 0} → Ask → Building → Context R → Result (Unit {0}) E → Context R → Building → Type 0
 FillsWith ask packet old result new filled_packet =
     ByResult (λ done. (draft : Emission) → packet ≡ packet_for old.options draft → FillsAskedPacket ask (view_of old) draft (view_of new) filled_packet)
-    ((draft : Emission) → packet ≡ packet_for old.options draft → AskCut ask (view_of old) draft (view_of new).events) result
+    ((draft : Emission) → packet ≡ packet_for old.options draft → CutsAsk ask (view_of old) draft (view_of new).events) result
 
 -- Its turn took place; the result says whether the packet was sent.
 pub record AsksFor {R : Type 0} (stream : R → Stream) (ask : Ask) (old : View R) (draft : Emission) (is_sent : Bool) (new : View R) : Type 0 where
   pub answer : Answer
   pub allowed : IsFlushAnswer ask old.endpoint draft answer
-  pub goes : is_sent ≡ not (is_none (filled draft (answer_contents answer)).packet.contents)
-  pub moves : Moves stream old (asked old.endpoint draft answer) new
+  pub goes : is_sent ≡ not (is_none (filled_draft draft (answer_contents answer)).packet.contents)
+  pub moves : Moves stream old (asked_outcome old.endpoint draft answer) new
 
 abbrev pub AsksWith : {R E : Type 0} → (R → Stream) → Ask → Building → Context R → Result Bool E → Context R → Type 0
 AsksWith stream ask packet old result new =
     ByResult (λ is_sent. (draft : Emission) → packet ≡ packet_for old.options draft → AsksFor stream ask (view_of old) draft is_sent (view_of new))
-    ((draft : Emission) → packet ≡ packet_for old.options draft → AskCut ask (view_of old) draft (view_of new).events) result
+    ((draft : Emission) → packet ≡ packet_for old.options draft → CutsAsk ask (view_of old) draft (view_of new).events) result
 
 -- If an allocation failed for data, the first events of some such filling were added.
-abbrev pub TellsData : {R : Type 0} → Option Transfer → View R → Building → View R → Type 0
-TellsData None old packet new = new.events ≡ old.events
-TellsData (Some transfer) old packet new =
-    TellsFilling old.endpoint.moment (bytes_remaining packet) transfer old.endpoint.queues.queue old.events new.events
+abbrev pub AddsFirstOfData : {R : Type 0} → Option Transfer → View R → Building → View R → Type 0
+AddsFirstOfData None old packet new = new.events ≡ old.events
+AddsFirstOfData (Some transfer) old packet new =
+    AddsFirstOfFilling old.endpoint.moment (bytes_remaining packet) transfer old.endpoint.queues.queue old.events new.events
 
 -- What fills a packet with data does, by whether an allocation failed.
 abbrev pub TriesData : {R E : Type 0} → Building → Context R → Result (Unit {0}) E → Context R → Building → Type 0
-TriesData packet old result new filled =
-    ByResult (λ done. FillsPacketData (transfer_of old.state) (view_of old) packet (view_of new) filled)
-    (TellsData (transfer_of old.state) (view_of old) packet (view_of new)) result
+TriesData packet old result new filled_draft =
+    ByResult (λ done. FillsPacketData (transfer_of old.state) (view_of old) packet (view_of new) filled_draft)
+    (AddsFirstOfData (transfer_of old.state) (view_of old) packet (view_of new)) result
 
 -- If an allocation failed for a FORWARD-TSN, the first events about messages that are abandoned were added; the packet may be made
 -- at this moment.
-abbrev pub TellsForward : {R : Type 0} → Option Transfer → View R → View R → Type 0
-TellsForward None old new = new.events ≡ old.events
-TellsForward (Some transfer) old new =
-    (is_in_time old.endpoint ≡ true) × TellsAbandoning old.endpoint.moment transfer old.endpoint.queues.queue old.events new.events
+abbrev pub AddsFirstOfForward : {R : Type 0} → Option Transfer → View R → View R → Type 0
+AddsFirstOfForward None old new = new.events ≡ old.events
+AddsFirstOfForward (Some transfer) old new =
+    (is_in_time old.endpoint ≡ true) × AddsFirstOfAbandoning old.endpoint.moment transfer old.endpoint.queues.queue old.events new.events
 
 -- The FORWARD-TSN, by whether an allocation failed.
 abbrev pub TriesForward : {R E : Type 0} → Building → Context R → Result (Unit {0}) E → Context R → Building → Type 0
-TriesForward packet old result new filled =
-    ByResult (λ done. ForwardsAt (transfer_of old.state) (view_of old) packet (view_of new) filled)
-    (TellsForward (transfer_of old.state) (view_of old) (view_of new)) result
+TriesForward packet old result new filled_draft =
+    ByResult (λ done. ForwardsInTime (transfer_of old.state) (view_of old) packet (view_of new) filled_draft)
+    (AddsFirstOfForward (transfer_of old.state) (view_of old) (view_of new)) result
 
 -- What begins a reset, by whether an allocation failed.
 abbrev pub TriesReset : {R E : Type 0} → Building → Context R → Result (Unit {0}) E → Context R → Building → Type 0
-TriesReset packet old result new filled =
-    ByResult (λ done. FillsResetRequest (transfer_of old.state) (view_of old) packet (view_of new) filled)
+TriesReset packet old result new filled_draft =
+    ByResult (λ done. FillsResetRequest (transfer_of old.state) (view_of old) packet (view_of new) filled_draft)
     ((view_of new).events ≡ (view_of old).events) result
 
 -- ---- as many as may be
@@ -232,7 +232,7 @@ pub record FlushesFor {R : Type 0} (stream : R → Stream) (ask : Ask) (count : 
   pub moves : Moves stream old (flush_of old.endpoint draft answers) new
 
 -- The same, cut.
-pub record FlushCut {R : Type 0} (ask : Ask) (count : ℕ) (old : View R) (draft : Emission) (events : List (Event (List ℕ))) : Type 0 where
+pub record CutsFlush {R : Type 0} (ask : Ask) (count : ℕ) (old : View R) (draft : Emission) (events : List (Event (List ℕ))) : Type 0 where
   pub answers : List Answer
   pub allowed : AreFlushAnswers ask count old.endpoint draft answers
   pub front : List (Event Emission)
@@ -241,20 +241,20 @@ pub record FlushCut {R : Type 0} (ask : Ask) (count : ℕ) (old : View R) (draft
   pub added : events ≡ old.events ++ map (user_event (ports_of old.endpoint.options)) front
 
 -- by whether an allocation failed
-abbrev pub FlushesBy : {R E : Type 0} → (R → Stream) → Ask → ℕ → Emission → View R → Result (Unit {0}) E → View R → Type 0
-FlushesBy stream ask count draft old result new =
-    ByResult (λ done. FlushesFor stream ask count old draft new) (FlushCut ask count old draft new.events) result
+abbrev pub FlushesOrFails : {R E : Type 0} → (R → Stream) → Ask → ℕ → Emission → View R → Result (Unit {0}) E → View R → Type 0
+FlushesOrFails stream ask count draft old result new =
+    ByResult (λ done. FlushesFor stream ask count old draft new) (CutsFlush ask count old draft new.events) result
 
 -- Later packets of it, to the peer.
-abbrev pub FurtherAt : {R E : Type 0} → (R → Stream) → ℕ → Context R → Result (Unit {0}) E → Context R → Type 0
-FurtherAt stream count old result new =
-    (held : Held) → held_in (core_of old.state) ≡ Some held → FlushesBy stream later_ask count (draft_to held) (view_of old) result (view_of new)
+abbrev pub FlushesFurther : {R E : Type 0} → (R → Stream) → ℕ → Context R → Result (Unit {0}) E → Context R → Type 0
+FlushesFurther stream count old result new =
+    (held : Held) → held_by_core (core_of old.state) ≡ Some held → FlushesOrFails stream later_ask count (draft_to held) (view_of old) result (view_of new)
 
 -- A flush to the peer, whose first packet is this one, however the machine names the chunks that it holds.
 abbrev pub Flushes : {R E : Type 0} → (R → Stream) → Building → Context R → Result (Unit {0}) E → Context R → Type 0
 Flushes stream packet old result new =
-    (draft : Emission) → packet ≡ packet_for old.options draft → (held : Held) → held_in (core_of old.state) ≡ Some held
-    → FlushesBy stream first_ask (packets_allowed old.options.max_burst (endpoint_of old).core) draft (view_of old) result (view_of new)
+    (draft : Emission) → packet ≡ packet_for old.options draft → (held : Held) → held_by_core (core_of old.state) ≡ Some held
+    → FlushesOrFails stream first_ask (packets_allowed old.options.max_burst (endpoint_of old).core) draft (view_of old) result (view_of new)
 
 -- Its bytes are one more event, and it is counted.
 abbrev pub sent_as_built : {R : Type 0} → Building → View R → View R
@@ -265,9 +265,9 @@ sent_as_built packet view =
           ++ sent (packet_bytes_of packet.with_checksum (header_bytes packet.source_port packet.destination_port packet.verification_tag) packet.body) ∷ [];
     }
 
-abbrev pub sent_where : {R : Type 0} → Bool → Building → View R → View R
-sent_where true packet view = sent_as_built packet view
-sent_where false packet view = view
+abbrev pub sent_if_filled : {R : Type 0} → Bool → Building → View R → View R
+sent_if_filled true packet view = sent_as_built packet view
+sent_if_filled false packet view = view
 
 -- It is empty, or no longer than it may be.
 abbrev pub KeepsSize : Building → Type 0
@@ -276,5 +276,5 @@ KeepsSize packet = (packet.body ≡ []) ⊎ (common_header_size + length packet.
 -- A packet that isn't empty was sent; or an allocation failed, and nothing has changed.
 abbrev pub SendsUnlessEmpty : {R E : Type 0} → Building → Context R → Result Bool E → Context R → Type 0
 SendsUnlessEmpty packet old result new =
-    ByResult (λ is_sent. (is_sent ≡ not (is_none packet.body)) × (view_of new ≡ sent_where is_sent packet (view_of old)))
+    ByResult (λ is_sent. (is_sent ≡ not (is_none packet.body)) × (view_of new ≡ sent_if_filled is_sent packet (view_of old)))
     (view_of new ≡ view_of old) result

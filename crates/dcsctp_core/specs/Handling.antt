@@ -10,7 +10,7 @@ use Rattle.dcsctp_transfer.specs.types.ByResult.{ByResult}
 use Rattle.dcsctp_transfer.specs.types.Settings.{packet_size_limit}
 use Rattle.dcsctp_transfer.specs.types.Sizes.{common_header_size}
 use Rattle.dcsctp_transfer.specs.spec.Packet.{Content, Emission}
-use Rattle.dcsctp_transfer.specs.spec.endpoint.Endpoint.{Endpoint, held_in, may_answer}
+use Rattle.dcsctp_transfer.specs.spec.endpoint.Endpoint.{Endpoint, held_by_core, may_answer}
 use Rattle.dcsctp_transfer.specs.spec.endpoint.Event.{Event, sent, aborted}
 use Rattle.dcsctp_transfer.specs.spec.endpoint.Event as events
 use Rattle.dcsctp_transfer.specs.spec.endpoint.Outcome.{Outcome, still, packet_counted, reports, emits, answers_with, to_peer}
@@ -22,7 +22,7 @@ use Rattle.dcsctp_transfer.specs.spec.endpoint.EndOutcomes.{close_outcome}
 use Rattle.dcsctp_core.specs.declared.following.Following.{Following}
 use Rattle.dcsctp_core.specs.declared.following.Following.TheVariants.{NextChunk, PacketEnd, DroppedRest}
 use Rattle.dcsctp_core.specs.declared.context.Context.{Context}
-use Rattle.dcsctp_core.specs.View.{View, core_of, endpoint_of, view_of, Moves, CutTurn}
+use Rattle.dcsctp_core.specs.View.{View, core_of, endpoint_of, view_of, Moves, CutsTurn}
 
 -- ---- a turn, or an allocation that failed
 
@@ -44,7 +44,7 @@ TriesDrawing stream turn old result new =
 abbrev pub TakesTurn : {R E : Type 0} → (R → Stream) → (View R → Outcome) → Context R → Result (Unit {0}) E → Context R → Type 0
 TakesTurn stream turn old result new =
     ByResult (λ done. Moves stream (view_of old) (turn (view_of old)) (view_of new))
-    (CutTurn (view_of old) (turn (view_of old)) (view_of new).events) result
+    (CutsTurn (view_of old) (turn (view_of old)) (view_of new).events) result
 
 -- A turn with more than one possible outcome took place; or an allocation failed, and the first of its events may have been
 -- added.
@@ -53,14 +53,14 @@ pub record TakesPossibleTurn {R : Type 0} (stream : R → Stream) (Turn : View R
   pub turn : Turn old outcome
   pub moves : Moves stream old outcome new
 
-pub record CutIn {R : Type 0} (Turn : View R → Outcome → Type 0) (old : View R) (events : List (Event (List ℕ))) : Type 0 where
+pub record CutsSomeTurn {R : Type 0} (Turn : View R → Outcome → Type 0) (old : View R) (events : List (Event (List ℕ))) : Type 0 where
   pub outcome : Outcome
   pub turn : Turn old outcome
-  pub cut : CutTurn old outcome events
+  pub cut : CutsTurn old outcome events
 
 abbrev pub TakesOne : {R E : Type 0} → (R → Stream) → (View R → Outcome → Type 0) → Context R → Result (Unit {0}) E → Context R → Type 0
 TakesOne stream Turn old result new =
-    ByResult (λ done. TakesPossibleTurn stream Turn (view_of old) (view_of new)) (CutIn Turn (view_of old) (view_of new).events) result
+    ByResult (λ done. TakesPossibleTurn stream Turn (view_of old) (view_of new)) (CutsSomeTurn Turn (view_of old) (view_of new).events) result
 
 -- ---- a chunk's turn, with what follows in its packet
 
@@ -78,7 +78,7 @@ pub record IsHandledTurn {R : Type 0} (stream : R → Stream) (old : View R) (ou
 abbrev pub HandlesTurn : {R E : Type 0} → (R → Stream) → (View R → Outcome) → Context R → Result Following E → Context R → Type 0
 HandlesTurn stream turn old result new =
     ByResult (λ next. IsHandledTurn stream (view_of old) (turn (view_of old)) next (view_of new))
-    (CutTurn (view_of old) (turn (view_of old)) (view_of new).events) result
+    (CutsTurn (view_of old) (turn (view_of old)) (view_of new).events) result
 
 -- The turn took place; or an allocation failed, and nothing has changed.
 abbrev pub HandlesWholeTurn : {R E : Type 0} → (R → Stream) → (View R → Outcome) → Context R → Result Following E → Context R → Type 0
@@ -86,7 +86,7 @@ HandlesWholeTurn stream turn old result new =
     ByResult (λ next. IsHandledTurn stream (view_of old) (turn (view_of old)) next (view_of new)) (view_of new ≡ view_of old) result
 
 -- the same for a chunk's turn with more than one possible outcome
-pub record HandlesIn {R : Type 0} (stream : R → Stream) (Turn : View R → Outcome → Type 0) (old : View R) (next : Following) (new : View R) : Type 0 where
+pub record HandlesSomeTurn {R : Type 0} (stream : R → Stream) (Turn : View R → Outcome → Type 0) (old : View R) (next : Following) (new : View R) : Type 0 where
   pub outcome : Outcome
   pub turn : Turn old outcome
   pub moves : Moves stream old outcome new
@@ -94,13 +94,13 @@ pub record HandlesIn {R : Type 0} (stream : R → Stream) (Turn : View R → Out
 
 abbrev pub HandlesPossibleTurn : {R E : Type 0} → (R → Stream) → (View R → Outcome → Type 0) → Context R → Result Following E → Context R → Type 0
 HandlesPossibleTurn stream Turn old result new =
-    ByResult (λ next. HandlesIn stream Turn (view_of old) next (view_of new)) (CutIn Turn (view_of old) (view_of new).events) result
+    ByResult (λ next. HandlesSomeTurn stream Turn (view_of old) next (view_of new)) (CutsSomeTurn Turn (view_of old) (view_of new).events) result
 
 -- ---- the turns of what all handlers share
 
 -- What waits is sent.
-abbrev pub FlushAt : {R : Type 0} → View R → Outcome → Type 0
-FlushAt view o = FlushTurn view.endpoint o
+abbrev pub SendsQueued : {R : Type 0} → View R → Outcome → Type 0
+SendsQueued view o = FlushTurn view.endpoint o
 
 -- One packet more was counted.
 abbrev pub arrival_turn : {R : Type 0} → View R → Outcome
@@ -148,7 +148,7 @@ emitted_to (Some held) chunk view = chunk_emitted (held.capabilities.zero_checks
 -- changed.
 abbrev pub EmitsToPeer : {R E : Type 0} → ChunkContent → Context R → Result (Unit {0}) E → Context R → Type 0
 EmitsToPeer chunk old result new =
-    ByResult (λ done. view_of new ≡ emitted_to (held_in (core_of old.state)) chunk (view_of old)) (view_of new ≡ view_of old) result
+    ByResult (λ done. view_of new ≡ emitted_to (held_by_core (core_of old.state)) chunk (view_of old)) (view_of new ≡ view_of old) result
 
 -- A shutdown waits for the association to open.
 abbrev pub asked_turn : {R : Type 0} → View R → Outcome
@@ -173,5 +173,5 @@ answered_to true (Some held) chunk view = answer_counted (emitted_to (Some held)
 -- That is so; or an allocation failed, and nothing has changed.
 abbrev pub AnswersPeer : {R E : Type 0} → ChunkContent → Context R → Result (Unit {0}) E → Context R → Type 0
 AnswersPeer chunk old result new =
-    ByResult (λ done. view_of new ≡ answered_to (may_answer (endpoint_of old)) (held_in (core_of old.state)) chunk (view_of old))
+    ByResult (λ done. view_of new ≡ answered_to (may_answer (endpoint_of old)) (held_by_core (core_of old.state)) chunk (view_of old))
     (view_of new ≡ view_of old) result

@@ -32,9 +32,9 @@ abbrev pub is_before : Entry → Entry → Bool
 is_before entry other = nat_lt entry.moment other.moment || (nat_eq entry.moment other.moment && nat_lt (rank entry.kind) (rank other.kind))
 
 -- the deadline of a kind
-abbrev pub listed : DeadlineKind → List Entry → Option ℕ
-listed kind [] = None
-listed kind (entry ∷ entries) = if is_same_kind kind entry.kind then Some entry.moment else listed kind entries
+abbrev pub listed_deadline : DeadlineKind → List Entry → Option ℕ
+listed_deadline kind [] = None
+listed_deadline kind (entry ∷ entries) = if is_same_kind kind entry.kind then Some entry.moment else listed_deadline kind entries
 
 -- the place of the first entry of a kind; how many entries there are if none is of it
 abbrev pub entry_place : DeadlineKind → List Entry → ℕ
@@ -52,9 +52,9 @@ without kind [] = []
 without kind (entry ∷ entries) = if is_same_kind kind entry.kind then without kind entries else entry ∷ without kind entries
 
 -- the entries with one more, in its place
-abbrev pub placed : Entry → List Entry → List Entry
-placed new [] = new ∷ []
-placed new (entry ∷ entries) = if is_before new entry then new ∷ placed entry entries else entry ∷ placed new entries
+abbrev pub entries_with_one : Entry → List Entry → List Entry
+entries_with_one new [] = new ∷ []
+entries_with_one new (entry ∷ entries) = if is_before new entry then new ∷ entries_with_one entry entries else entry ∷ entries_with_one new entries
 
 -- the first entries, but for the one at a place
 abbrev pub besides : ℕ → ℕ → List Entry → List Entry
@@ -62,11 +62,11 @@ besides place count entries = take place entries ++ drop (place + 1) (take count
 
 abbrev pub with_entry : DeadlineKind → Option ℕ → List Entry → List Entry
 with_entry kind None entries = entries
-with_entry kind (Some moment) entries = placed (record { moment = moment; kind = kind }) entries
+with_entry kind (Some moment) entries = entries_with_one (record { moment = moment; kind = kind }) entries
 
 -- the list once the deadline of a kind is this one
-abbrev pub set_in : DeadlineKind → Option ℕ → List Entry → List Entry
-set_in kind deadline entries = with_entry kind deadline (without kind entries)
+abbrev pub list_with_deadline : DeadlineKind → Option ℕ → List Entry → List Entry
+list_with_deadline kind deadline entries = with_entry kind deadline (without kind entries)
 
 -- None of these is of the kind.
 abbrev pub IsAbsent : DeadlineKind → List Entry → Type 0
@@ -100,14 +100,14 @@ IsListing [] = Unit {0}
 IsListing (entry ∷ entries) = IsEarliestEntry entry entries × IsListing entries
 
 -- What `set` does to the deadlines: that of the kind is the new one, and the others stay.
-abbrev pub SetTells : Type 0
-SetTells =
+abbrev pub SetKeepsOthers : Type 0
+SetKeepsOthers =
     (kind other : DeadlineKind) (deadline : Option ℕ) (entries : List Entry) → IsListing entries
-    → listed other (set_in kind deadline entries) ≡ (if is_same_kind other kind then deadline else listed other entries)
+    → listed_deadline other (list_with_deadline kind deadline entries) ≡ (if is_same_kind other kind then deadline else listed_deadline other entries)
 
 -- the list of what the timers say
-abbrev pub relisted : RunningDeadlines → List Entry
-relisted told =
+abbrev pub list_of_deadlines : RunningDeadlines → List Entry
+list_of_deadlines told =
     with_entry T2 told.t2 (with_entry T1 told.t1 (with_entry Reconfiguration told.reconfiguration (with_entry HeartbeatTimeout told.heartbeat_timeout
     (with_entry HeartbeatInterval told.heartbeat_interval (with_entry Retransmission told.retransmission (with_entry AcknowledgementDelay told.acknowledgement_delay []))))))
 
@@ -122,5 +122,5 @@ deadline_by_kind told T1 = told.t1
 deadline_by_kind told T2 = told.t2
 
 -- It holds what each timer says, and nothing else.
-abbrev pub RelistTells : Type 0
-RelistTells = (told : RunningDeadlines) (kind : DeadlineKind) → listed kind (relisted told) ≡ deadline_by_kind told kind
+abbrev pub ListsEachTimer : Type 0
+ListsEachTimer = (told : RunningDeadlines) (kind : DeadlineKind) → listed_deadline kind (list_of_deadlines told) ≡ deadline_by_kind told kind

@@ -1,6 +1,6 @@
 -- The phases of an open association, as the code moves them (RFC 9260, section 9.2).
 use Rattle.std.specs.Prelude.{ℕ, Option}
-use Rattle.dcsctp_transfer.specs.spec.endpoint.TransferMoves.{timed_by}
+use Rattle.dcsctp_transfer.specs.spec.endpoint.TransferMoves.{timed_transfer}
 use Rattle.dcsctp_core.specs.declared.state.State.{State}
 use Rattle.dcsctp_core.specs.declared.state.State.TheVariants.{CookieEchoed, Open}
 use Rattle.dcsctp_core.specs.declared.state.OpenPhase.{OpenPhase}
@@ -20,15 +20,15 @@ pending_from (Open opened) = Open (record opened { phase = ShutdownPending })
 pending_from state = state
 
 -- the phase once T2 has come to this moment
-abbrev pub t2_told_in : ℕ → OpenPhase → OpenPhase
-t2_told_in moment (ShutdownSent sent) = ShutdownSent (record sent { t2_shutdown = timer_after moment sent.t2_shutdown })
-t2_told_in moment (ShutdownAckSent sent) = ShutdownAckSent (record sent { t2_shutdown = timer_after moment sent.t2_shutdown })
-t2_told_in moment phase = phase
+abbrev pub phase_with_t2_told : ℕ → OpenPhase → OpenPhase
+phase_with_t2_told moment (ShutdownSent sent) = ShutdownSent (record sent { t2_shutdown = timer_after moment sent.t2_shutdown })
+phase_with_t2_told moment (ShutdownAckSent sent) = ShutdownAckSent (record sent { t2_shutdown = timer_after moment sent.t2_shutdown })
+phase_with_t2_told moment phase = phase
 
-abbrev pub t2_told : ℕ → State → State
-t2_told moment (Open opened) = Open (record opened { phase = t2_told_in moment opened.phase })
-t2_told moment state = state
+abbrev pub state_after_t2 : ℕ → State → State
+state_after_t2 moment (Open opened) = Open (record opened { phase = phase_with_t2_told moment opened.phase })
+state_after_t2 moment state = state
 
 -- the association once a round trip was taken into account
 abbrev pub with_round_trip : Option ℕ → State → State
-with_round_trip round_trip state = tcb_changed (λ tcb. record tcb { transfer = timed_by round_trip tcb.transfer }) state
+with_round_trip round_trip state = tcb_changed (λ tcb. record tcb { transfer = timed_transfer round_trip tcb.transfer }) state

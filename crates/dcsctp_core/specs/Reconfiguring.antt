@@ -24,16 +24,16 @@ abbrev pub without_retry : TransmissionControlBlock → TransmissionControlBlock
 without_retry tcb = record tcb { reset_request = option_map tried_again tcb.reset_request }
 
 -- Our outstanding request takes the next number in place of its own. It is the one before, once more.
-abbrev pub renumbered_by : Option ResetRequest → TransmissionControlBlock → TransmissionControlBlock
-renumbered_by None tcb = tcb
-renumbered_by (Some request) tcb =
+abbrev pub tcb_renumbered : Option ResetRequest → TransmissionControlBlock → TransmissionControlBlock
+tcb_renumbered None tcb = tcb
+tcb_renumbered (Some request) tcb =
     record tcb {
       next_outgoing_reset_req_seq_nbr = next_number tcb.next_outgoing_reset_req_seq_nbr;
       reset_request = Some (record request { number = tcb.next_outgoing_reset_req_seq_nbr; is_new = false });
     }
 
 abbrev pub request_renumbered : TransmissionControlBlock → TransmissionControlBlock
-request_renumbered tcb = renumbered_by tcb.reset_request tcb
+request_renumbered tcb = tcb_renumbered tcb.reset_request tcb
 
 -- the request once its timer has come to this moment
 abbrev pub request_at_moment : ℕ → ResetRequest → ResetRequest
@@ -45,8 +45,8 @@ reconfiguration_at_moment moment tcb = record tcb { reset_request = option_map (
 -- ---- of a state
 
 -- the outstanding request
-abbrev pub request_in : State → Option ResetRequest
-request_in state = own_request (tcb_of state)
+abbrev pub request_of_state : State → Option ResetRequest
+request_of_state state = own_request (tcb_of state)
 
 -- the state with its association as this makes it
 abbrev pub tcb_changed : (TransmissionControlBlock → TransmissionControlBlock) → State → State

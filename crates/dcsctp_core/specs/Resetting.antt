@@ -9,9 +9,9 @@ use Rattle.dcsctp_transfer.specs.spec.association.FlushChanges.{reset_request}
 use Rattle.dcsctp_transfer.specs.spec.Reconfiguration.{RequestedReset}
 use Rattle.dcsctp_transfer.specs.spec.queues.SendQueue.{SendQueueState}
 use Rattle.dcsctp_transfer.specs.spec.queues.Transfer.{Transfer}
-use Rattle.dcsctp_transfer.specs.spec.endpoint.Endpoint.{OutstandingRequest, held_in}
-use Rattle.dcsctp_transfer.specs.spec.endpoint.Timers.{RunningTimer, started}
-use Rattle.dcsctp_transfer.specs.spec.endpoint.BegunResets.{BegunReset, streams_within, last_assigned_tsn, begun_in, request_contents, queue_requesting, transfer_reset_begun, held_begun, reconfiguration_settings}
+use Rattle.dcsctp_transfer.specs.spec.endpoint.Endpoint.{OutstandingRequest, held_by_core}
+use Rattle.dcsctp_transfer.specs.spec.endpoint.Timers.{RunningTimer, started_timer}
+use Rattle.dcsctp_transfer.specs.spec.endpoint.BegunResets.{BegunReset, streams_within, last_assigned_tsn, begun_if_connected, request_contents, queue_requesting, transfer_reset_begun, held_begun, reconfiguration_settings}
 use Rattle.dcsctp_core.specs.declared.resetting.RequestStart.{RequestStart}
 use Rattle.dcsctp_core.specs.declared.state.State.{State}
 use Rattle.dcsctp_core.specs.declared.state.State.TheVariants.{Closed, CookieWait, CookieEchoed, Open}
@@ -50,7 +50,7 @@ request_begun (Some begun) request = Some (record { last_tsn = begun.reset.last_
 
 abbrev pub timer_begun : Option BegunReset → ℕ → Option Transfer → Option RunningTimer → Option RunningTimer
 timer_begun None now transfer timer = timer
-timer_begun (Some begun) now transfer timer = started now (reconfiguration_settings transfer)
+timer_begun (Some begun) now transfer timer = started_timer now (reconfiguration_settings transfer)
 
 -- This was begun, and nothing else has moved.
 pub record BeginsOwnReset (now : ℕ) (begun : Option BegunReset) (old new : TransmissionControlBlock) : Type 0 where
@@ -77,28 +77,28 @@ pub record StartsReset (start : RequestStart) (streams : List ℕ) (old : Transm
 -- A reset was begun, or none was.
 pub record BeginsReset (start : RequestStart) (queue : SendQueueState) (old : TransmissionControlBlock) (packet : Building) (left : SendQueueState) (new : TransmissionControlBlock) (filled : Building) : Type 0 where
   pub begun : Option BegunReset
-  pub is : begun ≡ begun_in start.is_new (Some (held_of old)) (bytes_remaining packet) (last_assigned_tsn old.transfer.retransmission) queue
+  pub is : begun ≡ begun_if_connected start.is_new (Some (held_of old)) (bytes_remaining packet) (last_assigned_tsn old.transfer.retransmission) queue
   pub begins : BeginsOwnReset start.now begun old new
   pub packet_is : filled ≡ with_request begun packet
   pub hands_out : left ≡ queue_requesting (streams_within (bytes_remaining packet)) begun queue
 
 -- ---- of a state
 
-abbrev pub BeginsIn : ℕ → Option BegunReset → State → State → Type 0
-BeginsIn now begun Closed new = new ≡ Closed
-BeginsIn now begun (CookieWait wait) new = new ≡ CookieWait wait
-BeginsIn now begun (CookieEchoed echoed) new =
+abbrev pub BeginsInState : ℕ → Option BegunReset → State → State → Type 0
+BeginsInState now begun Closed new = new ≡ Closed
+BeginsInState now begun (CookieWait wait) new = new ≡ CookieWait wait
+BeginsInState now begun (CookieEchoed echoed) new =
     (tcb : TransmissionControlBlock) × BeginsOwnReset now begun echoed.tcb tcb × (new ≡ CookieEchoed (record echoed { tcb = tcb }))
-BeginsIn now begun (Open opened) new = (tcb : TransmissionControlBlock) × BeginsOwnReset now begun opened.tcb tcb × (new ≡ Open (record opened { tcb = tcb }))
+BeginsInState now begun (Open opened) new = (tcb : TransmissionControlBlock) × BeginsOwnReset now begun opened.tcb tcb × (new ≡ Open (record opened { tcb = tcb }))
 
-pub record BeginsWhere (start : RequestStart) (transfer : Transfer) (queue : SendQueueState) (old : State) (packet : Building) (left : SendQueueState) (new : State) (filled : Building) : Type 0 where
+pub record BeginsIfAllowed (start : RequestStart) (transfer : Transfer) (queue : SendQueueState) (old : State) (packet : Building) (left : SendQueueState) (new : State) (filled : Building) : Type 0 where
   pub begun : Option BegunReset
-  pub is : begun ≡ begun_in start.is_new (held_in (core_of old)) (bytes_remaining packet) (last_assigned_tsn transfer.retransmission) queue
-  pub begins : BeginsIn start.now begun old new
+  pub is : begun ≡ begun_if_connected start.is_new (held_by_core (core_of old)) (bytes_remaining packet) (last_assigned_tsn transfer.retransmission) queue
+  pub begins : BeginsInState start.now begun old new
   pub packet_is : filled ≡ with_request begun packet
   pub hands_out : left ≡ queue_requesting (streams_within (bytes_remaining packet)) begun queue
 
 -- Nothing happens if the peer isn't known.
 abbrev pub BeginsResetInQueues : RequestStart → Option Transfer → SendQueueState → State → Building → SendQueueState → State → Building → Type 0
 BeginsResetInQueues start None queue old packet left new filled = (new ≡ old) × (left ≡ queue) × (filled ≡ packet)
-BeginsResetInQueues start (Some transfer) queue old packet left new filled = BeginsWhere start transfer queue old packet left new filled
+BeginsResetInQueues start (Some transfer) queue old packet left new filled = BeginsIfAllowed start transfer queue old packet left new filled

@@ -7,7 +7,7 @@ use Rattle.dcsctp_transfer.specs.spec.endpoint.OwnTimers.{acknowledgement_delay,
 use Rattle.dcsctp_core.specs.declared.deadlines.DeadlineKind.{DeadlineKind}
 use Rattle.dcsctp_core.specs.declared.deadlines.DeadlineKind.TheVariants.{AcknowledgementDelay, Retransmission, HeartbeatInterval, HeartbeatTimeout, Reconfiguration, T1, T2}
 use Rattle.dcsctp_core.specs.declared.deadlines.Entry.{Entry}
-use Rattle.dcsctp_core.specs.Listing.{is_same_kind, listed, first_moment, with_entry}
+use Rattle.dcsctp_core.specs.Listing.{is_same_kind, listed_deadline, first_moment, with_entry}
 
 -- the kind of a timer's deadline
 abbrev pub kind_of : Timer → DeadlineKind
@@ -37,12 +37,12 @@ listed_open e =
 
 -- The list has exactly the running deadlines that count in the phase.
 abbrev pub ListsDeadlines : Endpoint → List Entry → Type 0
-ListsDeadlines e entries = (kind : DeadlineKind) → listed kind entries ≡ deadline_in_phase e kind
+ListsDeadlines e entries = (kind : DeadlineKind) → listed_deadline kind entries ≡ deadline_in_phase e kind
 
 -- a deadline, but not before the present moment; the last moment if there is none
-abbrev pub next_by : ℕ → Option ℕ → ℕ
-next_by moment None = max_nanos
-next_by moment (Some deadline) = max deadline moment
+abbrev pub next_deadline : ℕ → Option ℕ → ℕ
+next_deadline moment None = max_nanos
+next_deadline moment (Some deadline) = max deadline moment
 
 -- Is the first deadline later than a moment, or is there none?
 abbrev pub is_deadline_later : ℕ → Option ℕ → Bool

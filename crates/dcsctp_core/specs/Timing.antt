@@ -9,33 +9,33 @@ use Rattle.dcsctp_transfer.specs.spec.endpoint.TimeTurns.{Timer, deadline, has_c
 use Rattle.dcsctp_transfer.specs.spec.endpoint.Turn.{Turn}
 use Rattle.dcsctp_core.specs.declared.context.Context.{Context}
 use Rattle.dcsctp_core.specs.View.{View, view_of}
-use Rattle.dcsctp_core.specs.Handling.{TakesPossibleTurn, CutIn}
+use Rattle.dcsctp_core.specs.Handling.{TakesPossibleTurn, CutsSomeTurn}
 use Rattle.dcsctp_core.specs.declared.expiry.Expiry.{Expiry}
 use Rattle.dcsctp_core.specs.declared.expiry.Expiry.TheVariants.{NotDue, Again, GaveUp}
 use Rattle.dcsctp_core.specs.declared.state.State.{State}
 use Rattle.dcsctp_core.specs.declared.state.State.TheVariants.{Closed, CookieWait, CookieEchoed, Open}
 
 -- what is said of a timer that runs
-abbrev pub expiry_where : Bool → Bool → Expiry
-expiry_where true true = Again
-expiry_where true false = GaveUp
-expiry_where false restarts = NotDue
+abbrev pub expiry_if_due : Bool → Bool → Expiry
+expiry_if_due true true = Again
+expiry_if_due true false = GaveUp
+expiry_if_due false restarts = NotDue
 
 -- what is said of a timer, if it runs
 abbrev pub expiry_of : ℕ → Option RunningTimer → Expiry
 expiry_of moment None = NotDue
-expiry_of moment (Some timer) = expiry_where (is_timer_expired moment timer) (is_restarted timer)
+expiry_of moment (Some timer) = expiry_if_due (is_timer_expired moment timer) (is_restarted timer)
 
 -- a timer once this moment has come
 abbrev pub timer_after : ℕ → TimerModel → TimerModel
 timer_after moment timer = record timer { running = running_after moment timer.running }
 
 -- the state once T1 has come to this moment
-abbrev pub t1_told : ℕ → State → State
-t1_told moment Closed = Closed
-t1_told moment (CookieWait wait) = CookieWait (record wait { t1_init = timer_after moment wait.t1_init })
-t1_told moment (CookieEchoed echoed) = CookieEchoed (record echoed { t1_cookie = timer_after moment echoed.t1_cookie })
-t1_told moment (Open opened) = Open opened
+abbrev pub state_after_t1 : ℕ → State → State
+state_after_t1 moment Closed = Closed
+state_after_t1 moment (CookieWait wait) = CookieWait (record wait { t1_init = timer_after moment wait.t1_init })
+state_after_t1 moment (CookieEchoed echoed) = CookieEchoed (record echoed { t1_cookie = timer_after moment echoed.t1_cookie })
+state_after_t1 moment (Open opened) = Open opened
 
 -- the view with this endpoint, if a timer has expired
 abbrev pub where_expired : {R : Type 0} → Bool → Endpoint → View R → View R
@@ -61,4 +61,4 @@ ExpiresAlways stream timer old false new = (is_timer_due (view_of old).endpoint 
 abbrev pub Expires : {R E : Type 0} → (R → Stream) → Timer → Context R → Result Bool E → Context R → Type 0
 Expires stream timer old result new =
     ByResult (λ is_expired. ExpiresAlways stream timer old is_expired new)
-    ((is_timer_due (view_of old).endpoint timer ≡ true) × CutIn (ExpiryTurn timer) (view_of old) (view_of new).events) result
+    ((is_timer_due (view_of old).endpoint timer ≡ true) × CutsSomeTurn (ExpiryTurn timer) (view_of old) (view_of new).events) result

@@ -17,11 +17,11 @@ use Rattle.dcsctp_transfer.specs.types.queues.Messages.{MessageContent, message_
 use Rattle.dcsctp_transfer.specs.spec.endpoint.Outcome.{Outcome, count_up}
 use Rattle.dcsctp_transfer.specs.spec.endpoint.Following.{next_chunk}
 use Rattle.dcsctp_transfer.specs.spec.association.HandshakeChanges.{new_held}
-use Rattle.dcsctp_transfer.specs.spec.association.Effect.{drawn_in}
+use Rattle.dcsctp_transfer.specs.spec.association.Effect.{drawn_pairs}
 use Rattle.dcsctp_transfer.specs.spec.endpoint.CallTurns.{Transition, after_all, words_of, effects_of, events_of}
 use Rattle.dcsctp_transfer.specs.types.Settings.{ports_of}
 use Rattle.dcsctp_transfer.specs.api.Events.{event_content}
-use Rattle.dcsctp_transfer.specs.api.Calls.{user_event, Drawn}
+use Rattle.dcsctp_transfer.specs.api.Calls.{user_event, DrawsWords}
 use Rattle.dcsctp_core.specs.declared.state.State.{State}
 use Rattle.dcsctp_core.specs.declared.state.State.TheVariants.{Closed, CookieWait, CookieEchoed, Open}
 use Rattle.dcsctp_core.specs.declared.state.OpenPhase as phase_types
@@ -73,26 +73,26 @@ held_of tcb =
     }
 
 -- the phase of an open association
-abbrev pub phase_in : phase_types.OpenPhase → OpenPhase
-phase_in phases.Established = established
-phase_in phases.ShutdownPending = shutdown_pending
-phase_in (phases.ShutdownSent sent) = shutdown_sent
-phase_in phases.ShutdownReceived = shutdown_received
-phase_in (phases.ShutdownAckSent sent) = shutdown_ack_sent
+abbrev pub phase_of_open : phase_types.OpenPhase → OpenPhase
+phase_of_open phases.Established = established
+phase_of_open phases.ShutdownPending = shutdown_pending
+phase_of_open (phases.ShutdownSent sent) = shutdown_sent
+phase_of_open phases.ShutdownReceived = shutdown_received
+phase_of_open (phases.ShutdownAckSent sent) = shutdown_ack_sent
 
 -- T2 belongs to two of them.
-abbrev pub t2_in : phase_types.OpenPhase → Option RunningTimer
-t2_in phases.Established = None
-t2_in phases.ShutdownPending = None
-t2_in (phases.ShutdownSent sent) = sent.t2_shutdown.running
-t2_in phases.ShutdownReceived = None
-t2_in (phases.ShutdownAckSent sent) = sent.t2_shutdown.running
+abbrev pub t2_of_phase : phase_types.OpenPhase → Option RunningTimer
+t2_of_phase phases.Established = None
+t2_of_phase phases.ShutdownPending = None
+t2_of_phase (phases.ShutdownSent sent) = sent.t2_shutdown.running
+t2_of_phase phases.ShutdownReceived = None
+t2_of_phase (phases.ShutdownAckSent sent) = sent.t2_shutdown.running
 
 abbrev pub core_of : State → Core
 core_of Closed = closed
 core_of (CookieWait wait) = cookie_wait wait.my
 core_of (CookieEchoed echoed) = cookie_echoed echoed.tcb.my (held_of echoed.tcb) echoed.cookie.items
-core_of (Open opened) = open_in (phase_in opened.phase) opened.tcb.my (held_of opened.tcb)
+core_of (Open opened) = open_in (phase_of_open opened.phase) opened.tcb.my (held_of opened.tcb)
 
 -- the association, once the peer is known
 abbrev pub tcb_of : State → Option TransmissionControlBlock
@@ -108,12 +108,12 @@ established_from (CookieWait wait) = CookieWait wait
 established_from (CookieEchoed echoed) = Open (record { phase = phases.Established; tcb = echoed.tcb })
 established_from (Open opened) = Open opened
 
-abbrev pub tie_in : Option TransmissionControlBlock → ℕ
-tie_in None = 0
-tie_in (Some tcb) = tcb.tie_tag
+abbrev pub tie_tag_of : Option TransmissionControlBlock → ℕ
+tie_tag_of None = 0
+tie_tag_of (Some tcb) = tcb.tie_tag
 
 abbrev pub tie_of : State → ℕ
-tie_of state = tie_in (tcb_of state)
+tie_of state = tie_tag_of (tcb_of state)
 
 abbrev pub t1_of : State → Option RunningTimer
 t1_of Closed = None
@@ -125,7 +125,7 @@ abbrev pub t2_of : State → Option RunningTimer
 t2_of Closed = None
 t2_of (CookieWait wait) = None
 t2_of (CookieEchoed echoed) = None
-t2_of (Open opened) = t2_in opened.phase
+t2_of (Open opened) = t2_of_phase opened.phase
 
 -- our outstanding request, and the timer by which it is sent again
 abbrev pub own_request : Option TransmissionControlBlock → Option ResetRequest
@@ -152,12 +152,12 @@ abbrev pub IsNew : Options → Pair → Peer → ℕ → TransmissionControlBloc
 IsNew options own peer tie tcb =
     IsMade own peer tie (new_transfer options peer.capabilities own.first_tsn peer.pair.first_tsn peer.a_rwnd) tcb
 
-abbrev pub transfer_in : Option TransmissionControlBlock → Option Transfer
-transfer_in None = None
-transfer_in (Some tcb) = Some tcb.transfer
+abbrev pub transfer_of_tcb : Option TransmissionControlBlock → Option Transfer
+transfer_of_tcb None = None
+transfer_of_tcb (Some tcb) = Some tcb.transfer
 
 abbrev pub transfer_of : State → Option Transfer
-transfer_of state = transfer_in (tcb_of state)
+transfer_of state = transfer_of_tcb (tcb_of state)
 
 -- What isn't kept in the parts is as in a socket that was just made.
 abbrev pub endpoint_of : {R : Type 0} → Context R → Endpoint
@@ -228,8 +228,8 @@ pub record Moves {R : Type 0} (stream : R → Stream) (old : View R) (outcome : 
   pub endpoint : new.endpoint ≡ outcome.after
   pub events : new.events ≡ old.events ++ map (user_event (ports_of old.endpoint.options)) outcome.events
   pub words : new.words ≡ old.words ++ outcome.words
-  pub pairs : new.pairs ≡ old.pairs ++ drawn_in outcome.effects
-  pub drawn : Drawn (stream old.generator) outcome.words (stream new.generator)
+  pub pairs : new.pairs ≡ old.pairs ++ drawn_pairs outcome.effects
+  pub drawn : DrawsWords (stream old.generator) outcome.words (stream new.generator)
 
 -- several turns, one after another
 abbrev pub MovesAll : {R : Type 0} → (R → Stream) → View R → List Transition → View R → Type 0
@@ -251,6 +251,6 @@ abbrev pub CallMoves : {R : Type 0} → (R → Stream) → View R → List Trans
 CallMoves stream old turns new = MovesAll stream (call_start old) turns new
 
 -- The turn was cut by an allocation that failed, after it had added that many of its events.
-pub record CutTurn {R : Type 0} (old : View R) (outcome : Outcome) (events : List (Event (List ℕ))) : Type 0 where
+pub record CutsTurn {R : Type 0} (old : View R) (outcome : Outcome) (events : List (Event (List ℕ))) : Type 0 where
   pub count : ℕ
   pub added : events ≡ old.events ++ take count (map (user_event (ports_of old.endpoint.options)) outcome.events)

@@ -154,7 +154,7 @@ impl<R: Rng> Context<R> {
     ghost use Rattle.dcsctp_transfer.specs.types.declared.word.Word.TheVariants.{U32, U64};
     ghost use Rattle.dcsctp_transfer.specs.spec.endpoint.Endpoint.{may_answer, secret_with};
     ghost use Rattle.dcsctp_transfer.specs.spec.endpoint.Outcome.{packet_counted};
-    ghost use Rattle.dcsctp_transfer.specs.spec.endpoint.EndOutcomes.{left_by};
+    ghost use Rattle.dcsctp_transfer.specs.spec.endpoint.EndOutcomes.{left_messages};
     ghost use Rattle.dcsctp_transfer.specs.spec.endpoint.MessageOutcomes.{awaits_opening};
     ghost use Rattle.dcsctp_transfer.specs.types.queues.Messages.{message_content};
     ghost use Rattle.dcsctp_transfer.specs.wire.Content.{chunk_content};
@@ -163,7 +163,7 @@ impl<R: Rng> Context<R> {
     ghost use Rattle.dcsctp_transfer.specs.types.Sizes.{common_header_size};
     ghost use Rattle.dcsctp_transfer.specs.spec.endpoint.TimeTurns.{own_timer};
     ghost use Rattle.dcsctp_transfer.specs.spec.endpoint.OwnTimers.{heartbeat_interval, heartbeat_timeout, reconfiguration, retransmission};
-    ghost use Rattle.dcsctp_transfer.specs.spec.endpoint.HeartbeatOutcomes.{interval_expired, beating, timeout_outcome, answered, heartbeat_round_trip, is_exhausted};
+    ghost use Rattle.dcsctp_transfer.specs.spec.endpoint.HeartbeatOutcomes.{interval_expired, beating, timeout_outcome, endpoint_answered, heartbeat_round_trip, is_exhausted};
     ghost use Rattle.dcsctp_transfer.specs.spec.endpoint.CookieEchoOutcomes.{is_tag_over, is_foreign};
     ghost use Rattle.dcsctp_transfer.specs.spec.endpoint.Timers.{running_deadline};
     ghost use Rattle.dcsctp_core.specs.Timing.{where_expired, is_timer_due, ExpiresAlways};
@@ -486,7 +486,7 @@ impl<R: Rng> Context<R> {
     /// `Options::follow_rfc` its first answer measures a round trip (RFC 9260, section 8.3).
     pub fn end_heartbeat(&mut self)
         ensures { view_of self.new ≡ record (view_of self.old) {
-          endpoint = answered
+          endpoint = endpoint_answered
               (endpoint_of self.old);
         } }
     {
@@ -622,7 +622,7 @@ impl<R: Rng> Context<R> {
     // Drops the association. With `Options::follow_rfc` the messages that are ready can still be taken, for
     // their data was acknowledged.
     fn drop_association(&mut self)
-        ensures left { map message_content self.new.left.items ≡ left_by self.old.options
+        ensures left { map message_content self.new.left.items ≡ left_messages self.old.options
             (transfer_of self.old.state) (map message_content self.old.left.items) }
         ensures view { view_of self.new ≡ association_dropped (view_of self.old)
             (map message_content self.new.left.items) }

@@ -2,7 +2,7 @@
 //! `advance_time` handles no timer before it. The last call of a socket has made the list. No call allocates.
 
 ghost use Rattle.std.specs.Prelude.{◌≡◌, ◌≤◌, ◌<◌, ◌+◌, ◌-◌, nat_lt, length, take, drop};
-ghost use Rattle.dcsctp_core.specs.Listing.{is_before, is_same_kind, besides, entry_place, placed, rank, AllBelow, BeginsAfter, EndsBefore, IsAbsent, IsListing, RelistTells, SetTells};
+ghost use Rattle.dcsctp_core.specs.Listing.{is_before, is_same_kind, besides, entry_place, entries_with_one, rank, AllBelow, BeginsAfter, EndsBefore, IsAbsent, IsListing, ListsEachTimer, SetKeepsOthers};
 
 use dcsctp_transfer::api::SocketTime;
 use std::marker::Model;
@@ -176,7 +176,7 @@ fn put(entries: &mut [Entry; 7], count: usize, gap: usize, moment: SocketTime, k
     requires listing { IsListing (besides gap count entries.old) }
     requires absent { IsAbsent kind (besides gap count entries.old) }
     ensures placed { take count entries.new
-        ≡ placed (record { moment = moment; kind = kind }) (besides gap count entries.old) }
+        ≡ entries_with_one (record { moment = moment; kind = kind }) (besides gap count entries.old) }
     ensures all { length entries.new ≡ 7 }
 {
     let new = Entry { moment, kind };
@@ -191,7 +191,7 @@ fn put_later(entries: &mut [Entry; 7], count: usize, moment: SocketTime, kind: D
     requires listing { IsListing (take count entries.old) }
     requires below { AllBelow (rank kind) (take count entries.old) }
     ensures placed { take (count + 1) entries.new
-        ≡ placed (record { moment = moment; kind = kind }) (take count entries.old) }
+        ≡ entries_with_one (record { moment = moment; kind = kind }) (take count entries.old) }
     ensures all { length entries.new ≡ 7 }
 {
     let new = Entry { moment, kind };
@@ -224,7 +224,7 @@ impl Model for Deadlines {
 
 impl Deadlines {
     ghost use Rattle.std.specs.Prelude.{◌≡◌, ◌+◌, []};
-    ghost use Rattle.dcsctp_core.specs.Listing.{listed, first_moment, rank, set_in, with_entry, AllBelow, IsListing};
+    ghost use Rattle.dcsctp_core.specs.Listing.{listed_deadline, first_moment, rank, list_with_deadline, with_entry, AllBelow, IsListing};
 
     /// No deadline runs.
     #[inline(always)]
@@ -243,7 +243,7 @@ impl Deadlines {
 
     /// The deadline of a kind, if it runs.
     pub fn get(&self, kind: DeadlineKind) -> Option<SocketTime>
-        ensures { result ≡ listed kind self.now }
+        ensures { result ≡ listed_deadline kind self.now }
     {
         let place = place_of(&self.entries, self.count, kind);
         if place < self.count {
@@ -265,7 +265,7 @@ impl Deadlines {
 
     /// From now on the timer of a kind runs until this deadline, or it runs no longer. The others are kept.
     pub fn set(&mut self, kind: DeadlineKind, deadline: Option<SocketTime>)
-        ensures { self.new ≡ set_in kind deadline self.old }
+        ensures { self.new ≡ list_with_deadline kind deadline self.old }
     {
         let place = place_of(&self.entries, self.count, kind);
         match deadline {
@@ -309,10 +309,10 @@ impl Deadlines {
 
 /// A law: `set` changes the deadline of its kind alone.
 pub fn set_tells()
-    ensures { SetTells }
+    ensures { SetKeepsOthers }
 {}
 
 /// A law: a list that was made of what timers say has that of each timer, and nothing else.
 pub fn relist_tells()
-    ensures { RelistTells }
+    ensures { ListsEachTimer }
 {}

@@ -3,11 +3,11 @@
 ghost use Rattle.std.specs.Prelude.{◌≡◌, ◌&&◌, ◌||◌, false, Some, IsOk};
 ghost use Rattle.dcsctp_transfer.specs.spec.endpoint.Endpoint.{is_cookie_echoed};
 ghost use Rattle.dcsctp_transfer.specs.spec.queues.SendQueue.{has_queued_data};
-ghost use Rattle.dcsctp_transfer.specs.spec.endpoint.FlushOutcomes.{packets_allowed, first_ask, later_ask, forward_where};
+ghost use Rattle.dcsctp_transfer.specs.spec.endpoint.FlushOutcomes.{packets_allowed, first_ask, later_ask, forward_moment};
 ghost use Rattle.dcsctp_core.specs.View.{core_of, transfer_of, endpoint_of, view_of};
-ghost use Rattle.dcsctp_core.specs.Below.{AtOnceAt};
-ghost use Rattle.dcsctp_core.specs.Flushing.{Flushes, FurtherAt, AsksWith, FillsWith, TriesForward, TriesReset, TriesData, HasNoData, HasNoReset, NeedsNone, can_queues_send, SendsUnlessEmpty, KeepsSize};
-ghost use Rattle.dcsctp_core.specs.Handling.{TakesOne, FlushAt};
+ghost use Rattle.dcsctp_core.specs.Below.{FlushesAtOnce};
+ghost use Rattle.dcsctp_core.specs.Flushing.{Flushes, FlushesFurther, AsksWith, FillsWith, TriesForward, TriesReset, TriesData, HasNoData, HasNoReset, NeedsNone, can_queues_send, SendsUnlessEmpty, KeepsSize};
+ghost use Rattle.dcsctp_core.specs.Handling.{TakesOne, SendsQueued};
 
 use crate::context::Context;
 use crate::resetting::RequestStart;
@@ -49,7 +49,7 @@ impl<R: Rng> Context<R> {
     ///
     /// `Err`: an allocation failed; the first of its events may already have been added.
     pub fn send_buffered_packets(&mut self) -> Result<(), AllocError>
-        ensures { TakesOne R.stream FlushAt self.old result self.new }
+        ensures { TakesOne R.stream SendsQueued self.old result self.new }
     {
         let Some(tcb) = self.state.tcb() else {
             return Ok(());
@@ -88,7 +88,7 @@ impl<R: Rng> Context<R> {
     ///
     /// `Err`: an allocation failed, and no event was added.
     pub fn send_at_once(&mut self) -> Result<(), AllocError>
-        ensures { TakesOne R.stream AtOnceAt self.old result self.new }
+        ensures { TakesOne R.stream FlushesAtOnce self.old result self.new }
     {
         let Some(tcb) = self.state.tcb_mut() else {
             return Ok(());
@@ -104,7 +104,7 @@ impl<R: Rng> Context<R> {
 
     // Sends at most that many packets to the peer, until one is still empty after it was filled.
     fn send_further(&mut self, allowed: u32) -> Result<(), AllocError>
-        ensures { FurtherAt R.stream allowed self.old result self.new }
+        ensures { FlushesFurther R.stream allowed self.old result self.new }
     {
         let mut left = allowed;
         while 0 < left {
@@ -206,7 +206,7 @@ impl<R: Rng> Context<R> {
     fn delay_forward_tsn(&mut self, next: Option<SocketTime>)
         ensures { view_of self.new ≡ record (view_of self.old) {
           endpoint = record (endpoint_of self.old) {
-            no_forward_tsn_before = forward_where next self.old.no_forward_tsn_before;
+            no_forward_tsn_before = forward_moment next self.old.no_forward_tsn_before;
           };
         } }
     {

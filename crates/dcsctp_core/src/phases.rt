@@ -6,9 +6,9 @@ ghost use Rattle.std.specs.Option.{option_map};
 ghost use Rattle.dcsctp_transfer.specs.spec.endpoint.BegunResets.{rto_of};
 ghost use Rattle.dcsctp_transfer.specs.spec.endpoint.ShutdownOutcomes.{is_all_acknowledged, is_all_passed};
 ghost use Rattle.dcsctp_transfer.specs.spec.endpoint.Timers.{running_deadline};
-ghost use Rattle.dcsctp_core.specs.Phases.{pending_from, phase_set, t2_told, t2_told_in, with_round_trip};
+ghost use Rattle.dcsctp_core.specs.Phases.{pending_from, phase_set, state_after_t2, phase_with_t2_told, with_round_trip};
 ghost use Rattle.dcsctp_core.specs.Timing.{expiry_of};
-ghost use Rattle.dcsctp_core.specs.View.{t2_in, t2_of, transfer_of};
+ghost use Rattle.dcsctp_core.specs.View.{t2_of_phase, t2_of, transfer_of};
 
 use crate::expiry::{Expiry, expire};
 use crate::state::{OpenPhase, OpenState, State};
@@ -18,7 +18,7 @@ use std::time::Duration;
 impl OpenPhase {
     // When T2 expires next, in `ShutdownSent` and `ShutdownAckSent`; none elsewhere.
     fn t2_deadline(&self) -> Option<SocketTime>
-        ensures { result ≡ running_deadline (t2_in self.now) }
+        ensures { result ≡ running_deadline (t2_of_phase self.now) }
     {
         match self {
             OpenPhase::Established | OpenPhase::ShutdownPending | OpenPhase::ShutdownReceived => {
@@ -31,8 +31,8 @@ impl OpenPhase {
 
     // Advances T2 to this moment. In another phase nothing is due.
     fn expire_t2(&mut self, now: SocketTime) -> Expiry
-        ensures answer { result ≡ expiry_of now (t2_in self.old) }
-        ensures left { self.new ≡ t2_told_in now self.old }
+        ensures answer { result ≡ expiry_of now (t2_of_phase self.old) }
+        ensures left { self.new ≡ phase_with_t2_told now self.old }
     {
         match self {
             OpenPhase::Established | OpenPhase::ShutdownPending | OpenPhase::ShutdownReceived => {
@@ -132,7 +132,7 @@ impl State {
     /// another phase nothing is due. Allocates nothing.
     pub fn expire_t2(&mut self, now: SocketTime) -> Expiry
         ensures answer { result ≡ expiry_of now (t2_of self.old) }
-        ensures left { self.new ≡ t2_told now self.old }
+        ensures left { self.new ≡ state_after_t2 now self.old }
     {
         match self {
             State::Closed | State::CookieWait(_) | State::CookieEchoed(_) => Expiry::NotDue,

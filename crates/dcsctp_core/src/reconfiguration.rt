@@ -2,7 +2,7 @@
 //! 5.1.1).
 
 ghost use Rattle.std.specs.Prelude.{◌≡◌};
-ghost use Rattle.dcsctp_transfer.specs.spec.endpoint.Timers.{running_deadline, expires_at};
+ghost use Rattle.dcsctp_transfer.specs.spec.endpoint.Timers.{running_deadline, is_expired_timer};
 ghost use Rattle.dcsctp_core.specs.Reconfiguring.{is_unanswered, without_retry, request_renumbered, reconfiguration_at_moment};
 ghost use Rattle.dcsctp_core.specs.View.{timer_of};
 
@@ -13,7 +13,7 @@ impl TransmissionControlBlock {
     // Advances the timer of the outstanding request to the present moment, and returns whether it expires. If
     // so, it runs again.
     pub(crate) fn expire_reconfiguration(&mut self, now: SocketTime) -> bool
-        ensures answer { result ≡ expires_at now (timer_of self.old.reset_request) }
+        ensures answer { result ≡ is_expired_timer now (timer_of self.old.reset_request) }
         ensures left { self.new ≡ reconfiguration_at_moment now self.old }
     {
         match &mut self.reset_request {

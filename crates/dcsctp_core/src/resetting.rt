@@ -6,7 +6,7 @@ ghost use Rattle.std.specs.Int.{w16, to_be_bytes};
 ghost use Rattle.dcsctp_transfer.specs.wire.Spelling.{chunk_bytes};
 ghost use Rattle.dcsctp_transfer.specs.wire_build.Building.{bytes_remaining};
 ghost use Rattle.dcsctp_transfer.specs.spec.queues.OwnResets.{ready_streams};
-ghost use Rattle.dcsctp_transfer.specs.spec.endpoint.Timers.{started};
+ghost use Rattle.dcsctp_transfer.specs.spec.endpoint.Timers.{started_timer};
 ghost use Rattle.dcsctp_transfer.specs.types.Ids.{stream_numbers};
 ghost use Rattle.dcsctp_transfer.specs.spec.Reconfiguration.{number_answered};
 ghost use Rattle.dcsctp_transfer.specs.spec.Packet.{chunk_out};
@@ -97,7 +97,7 @@ fn put_request(
 // twice the last one, and with `Options::follow_rfc` no longer than the retransmission timer's. It never stops by
 // itself (RFC 6525, section 5.1.1).
 pub(crate) fn reconfiguration_timer(transfer: &Transfer, now: SocketTime) -> Timer
-    ensures { result.running ≡ started now (reconfiguration_settings (Some transfer.now)) }
+    ensures { result.running ≡ started_timer now (reconfiguration_settings (Some transfer.now)) }
 {
     let rto = transfer.rto();
     let mut timer = Timer::new(

@@ -2,7 +2,7 @@
 
 ghost use Rattle.std.specs.Prelude.{◌≡◌, Some};
 ghost use Rattle.dcsctp_transfer.specs.types.declared.association.Held.{Held};
-ghost use Rattle.dcsctp_transfer.specs.spec.endpoint.Endpoint.{established, held_in};
+ghost use Rattle.dcsctp_transfer.specs.spec.endpoint.Endpoint.{established, held_by_core};
 ghost use Rattle.dcsctp_transfer.specs.spec.Handover.{readiness_of, readiness_open};
 ghost use Rattle.dcsctp_transfer.specs.spec.Soundness.{AreQueuesSound};
 ghost use Rattle.dcsctp_transfer.specs.spec.queues.Incoming.{AreInOrder};
@@ -52,7 +52,7 @@ impl<R> Context<R> {
 
     // Why its parts can't be handed over, whatever the phase of the association.
     fn readiness_of_parts(&self) -> HandoverReadiness
-        ensures reasons { (held : Held) → held_in (endpoint_of self.now).core ≡ Some held
+        ensures reasons { (held : Held) → held_by_core (endpoint_of self.now).core ≡ Some held
             → result.0 ≡ readiness_open (endpoint_of self.now) established held }
         ensures streams { AreInOrder (incoming_streams (endpoint_of self.now)) }
         ensures below { AreQueuesSound (endpoint_of self.now) }

@@ -112,13 +112,13 @@ pub enum State {
 impl OpenPhase {
     ghost use Rattle.std.specs.Prelude.{◌≡◌};
     ghost use Rattle.dcsctp_transfer.specs.spec.endpoint.Endpoint.{phase_of};
-    ghost use Rattle.dcsctp_transfer.specs.spec.endpoint.MessageOutcomes.{is_shutting_in};
+    ghost use Rattle.dcsctp_transfer.specs.spec.endpoint.MessageOutcomes.{is_phase_shutting_down};
     ghost use Rattle.dcsctp_transfer.specs.api.Calls.{open_state};
-    ghost use Rattle.dcsctp_core.specs.View.{phase_in};
+    ghost use Rattle.dcsctp_core.specs.View.{phase_of_open};
 
     /// The phase as a user sees it.
     fn phase(&self) -> Phase
-        ensures { result ≡ phase_of (phase_in self.now) }
+        ensures { result ≡ phase_of (phase_of_open self.now) }
     {
         match self {
             OpenPhase::Established => Phase::Established,
@@ -131,7 +131,7 @@ impl OpenPhase {
 
     /// Is the association being shut down?
     fn is_shutting_down(&self) -> bool
-        ensures { result ≡ is_shutting_in (phase_in self.now) }
+        ensures { result ≡ is_phase_shutting_down (phase_of_open self.now) }
     {
         match self {
             OpenPhase::Established => false,
@@ -142,7 +142,7 @@ impl OpenPhase {
 
     /// The state as a user sees it.
     fn socket_state(&self) -> SocketState
-        ensures { result ≡ open_state (phase_in self.now) }
+        ensures { result ≡ open_state (phase_of_open self.now) }
     {
         match self {
             OpenPhase::Established => SocketState::Connected,
@@ -166,7 +166,7 @@ impl State {
     ghost use Rattle.std.specs.Borrow.{sem};
     ghost use Rattle.dcsctp_core.specs.View.{core_of, tcb_of, t1_of, transfer_of, established_from};
     ghost use Rattle.dcsctp_core.specs.Lending.{LendsTcb};
-    ghost use Rattle.dcsctp_core.specs.Timing.{expiry_of, t1_told};
+    ghost use Rattle.dcsctp_core.specs.Timing.{expiry_of, state_after_t1};
 
     /// The association, once the peer is known; `None` before. Allocates nothing.
     pub fn tcb(&self) -> Option<&TransmissionControlBlock>
@@ -325,7 +325,7 @@ impl State {
     /// nothing is due. Allocates nothing.
     pub fn expire_t1(&mut self, now: SocketTime) -> Expiry
         ensures answer { result ≡ expiry_of now (t1_of self.old) }
-        ensures left { self.new ≡ t1_told now self.old }
+        ensures left { self.new ≡ state_after_t1 now self.old }
     {
         match self {
             State::Closed => Expiry::NotDue,

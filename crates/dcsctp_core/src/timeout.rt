@@ -1,11 +1,11 @@
 //! The deadlines of a socket by its timers, and what its list of them says.
 
 ghost use Rattle.std.specs.Prelude.{◌≡◌, [], true};
-ghost use Rattle.dcsctp_transfer.specs.spec.endpoint.Turn.{clock_at};
-ghost use Rattle.dcsctp_transfer.specs.spec.endpoint.TimeTurns.{deadline, next_moment, own_timer, t1_timer, t2_timer, timers_in, NoneIsDue};
+ghost use Rattle.dcsctp_transfer.specs.spec.endpoint.Turn.{with_clock};
+ghost use Rattle.dcsctp_transfer.specs.spec.endpoint.TimeTurns.{deadline, next_moment, own_timer, t1_timer, t2_timer, handled_timers, NoneIsDue};
 ghost use Rattle.dcsctp_transfer.specs.spec.endpoint.OwnTimers.{acknowledgement_delay, reconfiguration, retransmission};
 ghost use Rattle.dcsctp_core.specs.View.{core_of, endpoint_of};
-ghost use Rattle.dcsctp_core.specs.Timeout.{is_deadline_later, is_quiet, listed_open, next_by, ListsDeadlines};
+ghost use Rattle.dcsctp_core.specs.Timeout.{is_deadline_later, is_quiet, listed_open, next_deadline, ListsDeadlines};
 
 use crate::context::Context;
 use crate::deadlines::{DeadlineKind, Deadlines};
@@ -110,7 +110,7 @@ pub fn poll_timeout<R: Rng>(context: &Context<R>, deadlines: &Deadlines) -> Sock
 
 // A deadline, but not before the present moment; the last moment if there is none.
 fn not_before(moment: SocketTime, deadline: Option<SocketTime>) -> SocketTime
-    ensures { result ≡ next_by moment deadline }
+    ensures { result ≡ next_deadline moment deadline }
 {
     match deadline {
         None => SocketTime::infinite_future(),
@@ -124,8 +124,8 @@ fn not_before(moment: SocketTime, deadline: Option<SocketTime>) -> SocketTime
 pub fn is_quiet<R: Rng>(context: &Context<R>, deadlines: &Deadlines, now: SocketTime) -> bool
     requires { ListsDeadlines (endpoint_of context.now) deadlines.now }
     ensures answer { result ≡ is_quiet (core_of context.now.state) now deadlines.now }
-    ensures quiet { result ≡ true → NoneIsDue (clock_at now (endpoint_of context.now))
-        (timers_in (core_of context.now.state)) }
+    ensures quiet { result ≡ true → NoneIsDue (with_clock now (endpoint_of context.now))
+        (handled_timers (core_of context.now.state)) }
 {
     match context.state {
         State::Closed => is_later(now, deadlines.first()),

@@ -1,7 +1,7 @@
 //! An association with a peer (RFC 9260, section 14.2).
 
 ghost use Rattle.std.specs.Prelude.{◌≡◌, ◌==◌, ◌+◌, ◌<◌, ◌^◌, Some, bit_or, is_some, length, IfOk};
-ghost use Rattle.dcsctp_transfer.specs.types.Readiness.{reason_where, pending_stream_reset_request};
+ghost use Rattle.dcsctp_transfer.specs.types.Readiness.{reason_if_true, pending_stream_reset_request};
 ghost use Rattle.dcsctp_transfer.specs.types.Settings.{IsValid};
 ghost use Rattle.dcsctp_transfer.specs.spec.Soundness.{IsSoundTransfer};
 ghost use Rattle.dcsctp_transfer.specs.spec.queues.Chunks.{chunk_said};
@@ -196,7 +196,7 @@ impl TransmissionControlBlock {
     /// flight goes along.
     pub fn get_handover_readiness(&self, with_outstanding_data: bool) -> HandoverReadiness
         ensures reasons { result.0
-            ≡ bit_or (reason_where (is_some self.now.reset_request) pending_stream_reset_request)
+            ≡ bit_or (reason_if_true (is_some self.now.reset_request) pending_stream_reset_request)
             (transfer_readiness with_outstanding_data self.now.transfer) }
         ensures sound { IsSoundTransfer self.now.transfer }
     {

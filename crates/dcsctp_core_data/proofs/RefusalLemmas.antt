@@ -6,10 +6,10 @@ use Rattle.dcsctp_core.specs.types.declared.association.Held.{Held}
 use Rattle.dcsctp_core.specs.types.declared.kinds.ErrorKind.TheVariants.{ProtocolViolation}
 use Rattle.dcsctp_core.specs.types.Settings.{ports_of}
 use Rattle.dcsctp_core.specs.spec.endpoint.Event.{error}
-use Rattle.dcsctp_core.specs.spec.endpoint.Endpoint.{Endpoint, held_in}
+use Rattle.dcsctp_core.specs.spec.endpoint.Endpoint.{Endpoint, held_by_core}
 use Rattle.dcsctp_core.specs.spec.endpoint.Outcome.{Outcome}
 use Rattle.dcsctp_core.specs.spec.endpoint.DataOutcomes.{no_user_data_text, no_user_data_outcome}
-use Rattle.dcsctp_core.specs.View.{View, Moves, CutTurn}
+use Rattle.dcsctp_core.specs.View.{View, Moves, CutsTurn}
 use Rattle.dcsctp_core.specs.Handling.{report_turn}
 use Rattle.dcsctp_core.proofs.Composing.{behind, Adds, Draws, moves_behind, moves_as, cut_after}
 use Rattle.dcsctp_core_data.specs.Data.{empty_data_outcome, empty_data_turn, no_user_data_turn}
@@ -28,12 +28,12 @@ told_draws stream a b moves = record { words = moves.words; pairs = moves.pairs 
 pub told_moves : {R : Type 0} (stream : R → Stream) (a b c : View R) (tsn : ℕ) → Moves stream a (report_turn ProtocolViolation no_user_data_text a) b → Moves stream b (empty_data_turn tsn b) c
     → Moves stream a (no_user_data_turn tsn a) c
 told_moves stream a b c tsn first second =
-    let here : Moves stream b (empty_data_outcome a.endpoint (held_in a.endpoint.core) tsn) c = subst (λ (e : Endpoint). Moves stream b (empty_data_outcome e (held_in e.core) tsn) c) first.endpoint second in
-    moves_as stream a c _ _ (told_is a.endpoint (held_in a.endpoint.core) tsn)
-    (moves_behind stream a b c [] (error ProtocolViolation no_user_data_text ∷ []) (empty_data_outcome a.endpoint (held_in a.endpoint.core) tsn) (told_adds stream a b first) (told_draws stream a b first) here)
+    let here : Moves stream b (empty_data_outcome a.endpoint (held_by_core a.endpoint.core) tsn) c = subst (λ (e : Endpoint). Moves stream b (empty_data_outcome e (held_by_core e.core) tsn) c) first.endpoint second in
+    moves_as stream a c _ _ (told_is a.endpoint (held_by_core a.endpoint.core) tsn)
+    (moves_behind stream a b c [] (error ProtocolViolation no_user_data_text ∷ []) (empty_data_outcome a.endpoint (held_by_core a.endpoint.core) tsn) (told_adds stream a b first) (told_draws stream a b first) here)
 
-pub told_cut : {R : Type 0} (stream : R → Stream) (a b c : View R) (tsn : ℕ) → Moves stream a (report_turn ProtocolViolation no_user_data_text a) b → c ≡ b → CutTurn a (no_user_data_turn tsn a) c.events
+pub told_cut : {R : Type 0} (stream : R → Stream) (a b c : View R) (tsn : ℕ) → Moves stream a (report_turn ProtocolViolation no_user_data_text a) b → c ≡ b → CutsTurn a (no_user_data_turn tsn a) c.events
 told_cut {R = R} stream a b c tsn first same =
-    cut_after a (no_user_data_turn tsn a) c.events (error ProtocolViolation no_user_data_text ∷ []) (empty_data_outcome a.endpoint (held_in a.endpoint.core) tsn).events
-    (ap (λ (o : Outcome). o.events) (told_is a.endpoint (held_in a.endpoint.core) tsn))
+    cut_after a (no_user_data_turn tsn a) c.events (error ProtocolViolation no_user_data_text ∷ []) (empty_data_outcome a.endpoint (held_by_core a.endpoint.core) tsn).events
+    (ap (λ (o : Outcome). o.events) (told_is a.endpoint (held_by_core a.endpoint.core) tsn))
     (ap (λ (v : View R). v.events) same ∙ (told_adds stream a b first).events)

@@ -5,9 +5,9 @@ use Rattle.dcsctp_core.specs.wire.Content.{no_user_data}
 use Rattle.dcsctp_core.specs.types.declared.association.Held.{Held}
 use Rattle.dcsctp_core.specs.spec.Packet.{error_of, plain}
 use Rattle.dcsctp_core.specs.spec.queues.Transfer.{Transfer}
-use Rattle.dcsctp_core.specs.spec.endpoint.Endpoint.{Endpoint, held_in}
+use Rattle.dcsctp_core.specs.spec.endpoint.Endpoint.{Endpoint, held_by_core}
 use Rattle.dcsctp_core.specs.spec.endpoint.Outcome.{Outcome, still}
-use Rattle.dcsctp_core.specs.spec.endpoint.DataOutcomes.{DataTurn, no_user_data_outcome, ForwardTurn, AnswersPacket, EndsBy}
+use Rattle.dcsctp_core.specs.spec.endpoint.DataOutcomes.{DataTurn, no_user_data_outcome, ForwardTurn, AnswersPacket, AcknowledgesPacket}
 use Rattle.dcsctp_core.specs.types.declared.arrivals.SkippedTo.{SkippedTo}
 use Rattle.dcsctp_core.specs.spec.queues.Arrivals.{Arrival}
 use Rattle.dcsctp_core_data.specs.declared.arrival.DataPart.{DataPart}
@@ -33,36 +33,36 @@ part_arrival part =
     }
 
 -- This data was received.
-abbrev pub DataAt : {R : Type 0} → Arrival → View R → Outcome → Type 0
-DataAt arrived view o = DataTurn view.endpoint arrived o
+abbrev pub ReceivesDataChunk : {R : Type 0} → Arrival → View R → Outcome → Type 0
+ReceivesDataChunk arrived view o = DataTurn view.endpoint arrived o
 
 -- If there is a peer, an ERROR is sent to it: its data has no payload.
 abbrev pub empty_data_outcome : Endpoint → Option Held → ℕ → Outcome
 empty_data_outcome e peer tsn = sent_to_peer e peer (plain (error_of (no_user_data tsn ∷ [])))
 
 abbrev pub empty_data_turn : {R : Type 0} → ℕ → View R → Outcome
-empty_data_turn tsn view = empty_data_outcome view.endpoint (held_in view.endpoint.core) tsn
+empty_data_turn tsn view = empty_data_outcome view.endpoint (held_by_core view.endpoint.core) tsn
 
 -- The error is reported to the user, and then sent to the peer, if it is known.
 abbrev pub no_user_data_turn : {R : Type 0} → ℕ → View R → Outcome
-no_user_data_turn tsn view = no_user_data_outcome view.endpoint (held_in view.endpoint.core) tsn
+no_user_data_turn tsn view = no_user_data_outcome view.endpoint (held_by_core view.endpoint.core) tsn
 
 -- A FORWARD-TSN or I-FORWARD-TSN with this new cumulative TSN was received, which names these messages.
-abbrev pub ForwardAt : {R : Type 0} → ℕ → List SkippedTo → View R → Outcome → Type 0
-ForwardAt tsn entries view o = ForwardTurn view.endpoint view.endpoint.queues.transfer tsn entries o
+abbrev pub ReceivesForwardTsn : {R : Type 0} → ℕ → List SkippedTo → View R → Outcome → Type 0
+ReceivesForwardTsn tsn entries view o = ForwardTurn view.endpoint view.endpoint.queues.transfer tsn entries o
 
 -- All of a packet was handled.
-abbrev pub EndsAt : {R : Type 0} → View R → Outcome → Type 0
-EndsAt view o = EndsBy view.endpoint view.endpoint.queues.transfer o
+abbrev pub EndsPacket : {R : Type 0} → View R → Outcome → Type 0
+EndsPacket view o = AcknowledgesPacket view.endpoint view.endpoint.queues.transfer o
 
 -- What was received is acknowledged at once, if the peer is known.
 abbrev pub AnswersData : Endpoint → Option Held → Option Transfer → Outcome → Type 0
 AnswersData e (Some held) (Some transfer) o = AnswersPacket e held transfer transfer.tracker o
 AnswersData e held transfer o = o ≡ still e
 
-abbrev pub AnswersAt : {R : Type 0} → View R → Outcome → Type 0
-AnswersAt view o = AnswersData view.endpoint (held_in view.endpoint.core) view.endpoint.queues.transfer o
+abbrev pub AcknowledgesData : {R : Type 0} → View R → Outcome → Type 0
+AcknowledgesData view o = AnswersData view.endpoint (held_by_core view.endpoint.core) view.endpoint.queues.transfer o
 
 -- That is so if an acknowledgement is due.
-abbrev pub AcknowledgesAt : {R E : Type 0} → (R → Stream) → Context R → Result (Unit {0}) E → Context R → Type 0
-AcknowledgesAt stream old result new = is_peer_acknowledgement_due (transfer_of old.state) ≡ true → TakesOne stream AnswersAt old result new
+abbrev pub AcknowledgesIfDue : {R E : Type 0} → (R → Stream) → Context R → Result (Unit {0}) E → Context R → Type 0
+AcknowledgesIfDue stream old result new = is_peer_acknowledgement_due (transfer_of old.state) ≡ true → TakesOne stream AcknowledgesData old result new

@@ -3,22 +3,22 @@ use Rattle.std.specs.Prelude.{ℕ, ◌-◌, ◌^◌, min, Bool, false, Option, N
 use Rattle.dcsctp_core.specs.spec.queues.Transfer.{Transfer}
 use Rattle.dcsctp_core.specs.spec.endpoint.Endpoint.{Endpoint, Core, open_in}
 use Rattle.dcsctp_core.specs.spec.endpoint.Outcome.{Outcome}
-use Rattle.dcsctp_core.specs.spec.endpoint.HeardShutdown.{may_have_sent, heeds_shutdown, ShutdownTurn}
+use Rattle.dcsctp_core.specs.spec.endpoint.HeardShutdown.{may_have_sent, acknowledges_by_shutdown, ShutdownTurn}
 use Rattle.dcsctp_core.specs.View.{View}
 
 -- A SHUTDOWN with this cumulative TSN ack was received.
-abbrev pub ShutdownAt : {R : Type 0} → ℕ → View R → Outcome → Type 0
-ShutdownAt tsn view o = ShutdownTurn view.endpoint view.endpoint.core tsn o
+abbrev pub ReceivesShutdown : {R : Type 0} → ℕ → View R → Outcome → Type 0
+ReceivesShutdown tsn view o = ShutdownTurn view.endpoint view.endpoint.core tsn o
 
 -- May something be in flight?
-abbrev pub may_have_sent_in : Core → Bool
-may_have_sent_in (open_in phase my held) = may_have_sent phase
-may_have_sent_in core = false
+abbrev pub may_core_have_sent : Core → Bool
+may_core_have_sent (open_in phase my held) = may_have_sent phase
+may_core_have_sent core = false
 
 -- Does the TSN acknowledge?
-abbrev pub heeds_in : Endpoint → Core → Option Transfer → ℕ → Bool
-heeds_in e (open_in phase my held) (Some transfer) tsn = heeds_shutdown e.options phase transfer tsn
-heeds_in e core transfer tsn = false
+abbrev pub takes_shutdown_tsn : Endpoint → Core → Option Transfer → ℕ → Bool
+takes_shutdown_tsn e (open_in phase my held) (Some transfer) tsn = acknowledges_by_shutdown e.options phase transfer tsn
+takes_shutdown_tsn e core transfer tsn = false
 
 -- the last window that the peer reported, as the field of a SACK holds it
 abbrev pub window_of : Option Transfer → ℕ

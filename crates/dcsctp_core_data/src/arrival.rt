@@ -5,7 +5,7 @@ ghost use Rattle.dcsctp_core.specs.wire.Content.{data_content, i_data_content};
 ghost use Rattle.dcsctp_core.specs.spec.queues.Arrivals.{data_arrival, i_data_arrival};
 ghost use Rattle.dcsctp_core.specs.receive_reassembly.Streams.{chunk_of};
 ghost use Rattle.dcsctp_core.specs.Handling.{TakesOne};
-ghost use Rattle.dcsctp_core_data.specs.Data.{part_arrival, DataAt};
+ghost use Rattle.dcsctp_core_data.specs.Data.{part_arrival, ReceivesDataChunk};
 
 use crate::refusal::{refuse_empty, report_not_connected};
 use dcsctp_core::Context;
@@ -113,7 +113,7 @@ impl<'a> DataPart<'a> {
 ///
 /// `Err`: an allocation failed; the first of its events may already have been added.
 pub fn handle_data<R: Rng>(context: &mut Context<R>, part: DataPart<'_>) -> Result<(), AllocError>
-    ensures { TakesOne R.stream (DataAt (part_arrival part.entry)) context.old result context.new }
+    ensures { TakesOne R.stream (ReceivesDataChunk (part_arrival part.entry)) context.old result context.new }
 {
     if part.payload.is_empty() {
         return refuse_empty(context, part.tsn);

@@ -1,9 +1,9 @@
 //! FORWARD-TSN (RFC 3758, section 3.6) and I-FORWARD-TSN (RFC 8260, section 2.3.1) that are received.
 
 ghost use Rattle.std.specs.Prelude.{◌≡◌, IfOk};
-ghost use Rattle.dcsctp_core.specs.spec.queues.Arrivals.{skipped_in, messages_skipped_in};
+ghost use Rattle.dcsctp_core.specs.spec.queues.Arrivals.{named_skips, skipped_messages};
 ghost use Rattle.dcsctp_core.specs.Handling.{TakesOne};
-ghost use Rattle.dcsctp_core_data.specs.Data.{ForwardAt};
+ghost use Rattle.dcsctp_core_data.specs.Data.{ReceivesForwardTsn};
 
 use dcsctp_core::Context;
 use dcsctp_core::api::StreamId;
@@ -14,7 +14,7 @@ use std::alloc::{AllocError, Global};
 
 // What a FORWARD-TSN skips.
 fn skipped_in(alloc: Global, chunk: &ForwardTsnChunk<'_>) -> Result<Vec<SkippedTo>, AllocError>
-    ensures { IfOk result (λ skipped. skipped.items ≡ skipped_in chunk.now.skipped_streams.now) }
+    ensures { IfOk result (λ skipped. skipped.items ≡ named_skips chunk.now.skipped_streams.now) }
 {
     let mut skipped = Vec::new(alloc);
     for index in 0..chunk.skipped_stream_count() {
@@ -33,7 +33,7 @@ fn skipped_messages_in(
     chunk: &IForwardTsnChunk<'_>,
 ) -> Result<Vec<SkippedTo>, AllocError>
     ensures { IfOk result
-        (λ skipped. skipped.items ≡ messages_skipped_in chunk.now.skipped_streams.now) }
+        (λ skipped. skipped.items ≡ skipped_messages chunk.now.skipped_streams.now) }
 {
     let mut skipped = Vec::new(alloc);
     for index in 0..chunk.skipped_stream_count() {
@@ -56,7 +56,7 @@ pub fn handle_forward_tsn<R: Rng>(
     chunk: &ForwardTsnChunk<'_>,
 ) -> Result<(), AllocError>
     ensures { TakesOne R.stream
-        (ForwardAt chunk.now.new_cumulative_tsn (skipped_in chunk.now.skipped_streams.now))
+        (ReceivesForwardTsn chunk.now.new_cumulative_tsn (named_skips chunk.now.skipped_streams.now))
         context.old result context.new }
 {
     let Some(tcb) = context.state.tcb_mut() else {
@@ -75,8 +75,8 @@ pub fn handle_i_forward_tsn<R: Rng>(
     chunk: &IForwardTsnChunk<'_>,
 ) -> Result<(), AllocError>
     ensures { TakesOne R.stream
-        (ForwardAt chunk.now.new_cumulative_tsn
-        (messages_skipped_in chunk.now.skipped_streams.now)) context.old result context.new }
+        (ReceivesForwardTsn chunk.now.new_cumulative_tsn
+        (skipped_messages chunk.now.skipped_streams.now)) context.old result context.new }
 {
     let Some(tcb) = context.state.tcb_mut() else {
         return Ok(());

@@ -1,7 +1,7 @@
 //! The end of a packet: its data is acknowledged (RFC 9260, section 6.2).
 
 ghost use Rattle.dcsctp_core.specs.Handling.{TakesOne};
-ghost use Rattle.dcsctp_core_data.specs.Data.{EndsAt, AcknowledgesAt};
+ghost use Rattle.dcsctp_core_data.specs.Data.{EndsPacket, AcknowledgesIfDue};
 
 use dcsctp_core::{Context, take_spare};
 use rand_core::Rng;
@@ -11,7 +11,7 @@ use std::alloc::AllocError;
 //
 // `Err`: an allocation failed; the first of its events may already have been added.
 fn acknowledge<R: Rng>(context: &mut Context<R>) -> Result<(), AllocError>
-    ensures { AcknowledgesAt R.stream context.old result context.new }
+    ensures { AcknowledgesIfDue R.stream context.old result context.new }
 {
     match context.state.tcb() {
         None => {}
@@ -30,7 +30,7 @@ fn acknowledge<R: Rng>(context: &mut Context<R>) -> Result<(), AllocError>
 ///
 /// `Err`: an allocation failed; the first of its events may already have been added.
 pub fn end_packet<R: Rng>(context: &mut Context<R>) -> Result<(), AllocError>
-    ensures { TakesOne R.stream EndsAt context.old result context.new }
+    ensures { TakesOne R.stream EndsPacket context.old result context.new }
 {
     let Some(tcb) = context.state.tcb_mut() else {
         return Ok(());

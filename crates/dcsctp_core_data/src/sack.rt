@@ -2,10 +2,10 @@
 
 ghost use Rattle.std.specs.Prelude.{◌≡◌, ◌||◌, if◌then◌else◌};
 ghost use Rattle.dcsctp_core.specs.wire.Content.{sack_content};
-ghost use Rattle.dcsctp_core.specs.spec.endpoint.DataOutcomes.{no_tcb_text, heeds_window};
+ghost use Rattle.dcsctp_core.specs.spec.endpoint.DataOutcomes.{no_tcb_text, counts_as_probe_answer};
 ghost use Rattle.dcsctp_core.specs.View.{view_of, endpoint_of};
 ghost use Rattle.dcsctp_core.specs.Handling.{TakesOne, Tries, report_turn};
-ghost use Rattle.dcsctp_core_data.specs.Sacks.{SackAt, ProceedsWhereHeld, ResendsWhereHeld};
+ghost use Rattle.dcsctp_core_data.specs.Sacks.{ReceivesSack, ProceedsWhereHeld, ResendsWhereHeld};
 
 use dcsctp_core::Context;
 use dcsctp_core::api::ErrorKind;
@@ -32,7 +32,7 @@ fn report_no_tcb<R: Rng>(context: &mut Context<R>) -> Result<(), AllocError>
 // 9260, section 8.1). With `Options::follow_rfc` it also does if it answers a probe of a closed window
 // (section 6.1, rule A): one that is smaller than a packet.
 fn shows_peer(options: &Options, acknowledges: bool, window: u32) -> bool
-    ensures { result ≡ (acknowledges || heeds_window options.now window) }
+    ensures { result ≡ (acknowledges || counts_as_probe_answer options.now window) }
 {
     acknowledges || (options.follow_rfc && (window as usize) < packet_size_limit(options))
 }
@@ -82,7 +82,7 @@ pub fn handle_sack<R: Rng>(
     context: &mut Context<R>,
     chunk: &SackChunk<'_>,
 ) -> Result<(), AllocError>
-    ensures { TakesOne R.stream (SackAt (sack_content chunk.now)) context.old result context.new }
+    ensures { TakesOne R.stream (ReceivesSack (sack_content chunk.now)) context.old result context.new }
 {
     let Some(tcb) = context.state.tcb_mut() else {
         return report_no_tcb(context);

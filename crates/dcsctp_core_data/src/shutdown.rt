@@ -3,7 +3,7 @@
 ghost use Rattle.std.specs.Prelude.{◌≡◌, true};
 ghost use Rattle.dcsctp_core.specs.Handling.{TakesOne};
 ghost use Rattle.dcsctp_core.specs.View.{core_of, endpoint_of, transfer_of};
-ghost use Rattle.dcsctp_core_data.specs.Shutdown.{ShutdownAt, heeds_in, may_have_sent_in, window_of};
+ghost use Rattle.dcsctp_core_data.specs.Shutdown.{ReceivesShutdown, takes_shutdown_tsn, may_core_have_sent, window_of};
 
 use crate::sack::handle_sack;
 use dcsctp_core::wire::{SackChunk, ShutdownChunk};
@@ -15,7 +15,7 @@ use std::alloc::AllocError;
 // Does the TSN of a SHUTDOWN count in this phase? Once SHUTDOWN or SHUTDOWN ACK was sent, SACKs alone
 // acknowledge.
 fn may_have_sent(state: &State) -> bool
-    ensures { result ≡ may_have_sent_in (core_of state.now) }
+    ensures { result ≡ may_core_have_sent (core_of state.now) }
 {
     match state {
         State::Closed | State::CookieWait(_) | State::CookieEchoed(_) => false,
@@ -30,7 +30,7 @@ fn may_have_sent(state: &State) -> bool
 // Does a SHUTDOWN with this cumulative TSN ack acknowledge? Only with `Options::follow_rfc`.
 fn heeds_shutdown<R: Rng>(context: &Context<R>, cumulative_tsn_ack: u32) -> bool
     ensures { result
-        ≡ heeds_in (endpoint_of context.now) (core_of context.now.state)
+        ≡ takes_shutdown_tsn (endpoint_of context.now) (core_of context.now.state)
         (transfer_of context.now.state) cumulative_tsn_ack }
 {
     match context.state.tcb() {
@@ -61,9 +61,9 @@ fn acknowledge_and_receive<R: Rng>(
     context: &mut Context<R>,
     cumulative_tsn_ack: u32,
 ) -> Result<(), AllocError>
-    requires { heeds_in (endpoint_of context.old) (core_of context.old.state)
+    requires { takes_shutdown_tsn (endpoint_of context.old) (core_of context.old.state)
         (transfer_of context.old.state) cumulative_tsn_ack ≡ true }
-    ensures { TakesOne R.stream (ShutdownAt cumulative_tsn_ack) context.old result context.new }
+    ensures { TakesOne R.stream (ReceivesShutdown cumulative_tsn_ack) context.old result context.new }
 {
     let sack = SackChunk {
         cumulative_tsn_ack,
@@ -85,7 +85,7 @@ pub fn handle_shutdown<R: Rng>(
     context: &mut Context<R>,
     chunk: &ShutdownChunk,
 ) -> Result<(), AllocError>
-    ensures { TakesOne R.stream (ShutdownAt chunk.now.cumulative_tsn_ack) context.old result
+    ensures { TakesOne R.stream (ReceivesShutdown chunk.now.cumulative_tsn_ack) context.old result
         context.new }
 {
     let cumulative_tsn_ack = chunk.cumulative_tsn_ack;

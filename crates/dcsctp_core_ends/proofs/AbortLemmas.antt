@@ -11,18 +11,18 @@ use Rattle.dcsctp_core.specs.spec.endpoint.Event.{Event}
 use Rattle.dcsctp_core.specs.wire.Content.{abort_chunk}
 use Rattle.dcsctp_core.specs.spec.Packet.{Emission, abort}
 use Rattle.dcsctp_core.specs.spec.endpoint.Cause.{causes_of}
-use Rattle.dcsctp_core.specs.spec.endpoint.Endpoint.{Endpoint, Core, closed, cookie_wait, cookie_echoed, open_in, held_in}
+use Rattle.dcsctp_core.specs.spec.endpoint.Endpoint.{Endpoint, Core, closed, cookie_wait, cookie_echoed, open_in, held_by_core}
 use Rattle.dcsctp_core.specs.spec.endpoint.Outcome.{Outcome, fits, quiet, sends, emits}
 use Rattle.dcsctp_core.specs.spec.endpoint.Following.{dropped_rest}
 use Rattle.dcsctp_core.specs.spec.endpoint.EndOutcomes.{closed_after, ended_outcome, close_outcome, end_of, abort_to, abort_sent, aborting_outcome}
 use Rattle.dcsctp_core.specs.api.Calls.{is_closed}
-use Rattle.dcsctp_core.specs.View.{View, Moves, CutTurn}
+use Rattle.dcsctp_core.specs.View.{View, Moves, CutsTurn}
 use Rattle.dcsctp_core.specs.Handling.{emitted_to, sent_to_peer}
 use Rattle.dcsctp_core.proofs.Composing.{behind, moves_behind, moves_as, cut_after}
 use Rattle.dcsctp_core.proofs.EndLemmas.{close_where_open, ends_after_packet}
 use Rattle.dcsctp_core.proofs.SentLemmas.{told_moves}
 
-sent_is : (e : Endpoint) (core : Core) (reason : AbortReason) → abort_sent e core reason ≡ sent_to_peer e (held_in core) (abort false (causes_of reason))
+sent_is : (e : Endpoint) (core : Core) (reason : AbortReason) → abort_sent e core reason ≡ sent_to_peer e (held_by_core core) (abort false (causes_of reason))
 sent_is e closed reason = refl
 sent_is e (cookie_wait my) reason = refl
 sent_is e (cookie_echoed my held cookie) reason = refl
@@ -30,10 +30,10 @@ sent_is e (open_in phase my held) reason = refl
 
 -- An ABORT was sent to the peer, if it is known.
 pub abort_moves : {R : Type 0} (stream : R → Stream) (a b : View R) (reason : AbortReason)
-    → b ≡ emitted_to (held_in a.endpoint.core) (abort_chunk false (causes_of reason)) a → Moves stream a (abort_sent a.endpoint a.endpoint.core reason) b
+    → b ≡ emitted_to (held_by_core a.endpoint.core) (abort_chunk false (causes_of reason)) a → Moves stream a (abort_sent a.endpoint a.endpoint.core reason) b
 abort_moves stream a b reason here =
     moves_as stream a b _ _ (sent_is a.endpoint a.endpoint.core reason)
-    (told_moves stream a b (abort false (causes_of reason)) (held_in a.endpoint.core) here)
+    (told_moves stream a b (abort false (causes_of reason)) (held_by_core a.endpoint.core) here)
 
 same_core : (b : Bool) (e : Endpoint) (words : List Word) (emission : Emission) → (cond b (sends e words [] emission) (quiet e words [])).after.core ≡ e.core
 same_core true e words emission = refl
@@ -78,7 +78,7 @@ aborts stream a b c reason runs first second = aborts_in stream a b c reason a.e
 -- ---- in part
 
 cut_in : {R : Type 0} (stream : R → Stream) (a b : View R) (reason : AbortReason) (core : Core) (events : List (Event (List ℕ))) → is_closed core ≡ false
-    → Moves stream a (abort_sent a.endpoint core reason) b → events ≡ b.events → CutTurn a (aborting_outcome a.endpoint core reason) events
+    → Moves stream a (abort_sent a.endpoint core reason) b → events ≡ b.events → CutsTurn a (aborting_outcome a.endpoint core reason) events
 cut_in stream a b reason closed events is first same = absurd (cc)
 cut_in stream a b reason (cookie_wait my) events is first same =
     cut_after a (aborting_outcome a.endpoint (cookie_wait my) reason) events (abort_sent a.endpoint (cookie_wait my) reason).events (end_of reason ∷ []) refl (same ∙ first.events)
@@ -90,5 +90,5 @@ cut_in stream a b reason (open_in phase my held) events is first same =
     (same ∙ first.events)
 
 pub aborts_in_part : {R : Type 0} (stream : R → Stream) (a b c : View R) (reason : AbortReason) → is_closed a.endpoint.core ≡ false
-    → Moves stream a (abort_sent a.endpoint a.endpoint.core reason) b → c ≡ b → CutTurn a (aborting_outcome a.endpoint a.endpoint.core reason) c.events
+    → Moves stream a (abort_sent a.endpoint a.endpoint.core reason) b → c ≡ b → CutsTurn a (aborting_outcome a.endpoint a.endpoint.core reason) c.events
 aborts_in_part {R = R} stream a b c reason runs first same = cut_in stream a b reason a.endpoint.core c.events runs first (ap (λ (v : View R). v.events) same)

@@ -6,7 +6,7 @@ use Rattle.dcsctp_core.specs.spec.endpoint.Outcome.{Outcome, still}
 use Rattle.dcsctp_core.specs.spec.endpoint.ShutdownOutcomes.{shut_down_echoed, shut_down_outcome}
 use Rattle.dcsctp_core.specs.declared.context.Context.{Context}
 use Rattle.dcsctp_core.specs.types.ByResult.{ByResult}
-use Rattle.dcsctp_core.specs.View.{View, Moves, CutTurn, view_of}
+use Rattle.dcsctp_core.specs.View.{View, Moves, CutsTurn, view_of}
 use Rattle.dcsctp_core.specs.Handling.{TakesTurn, asked_turn}
 use Rattle.dcsctp_core.proofs.Composing.{moves_as}
 use Rattle.dcsctp_core_ends.specs.Shutdown.{pending_outcome, pending_turn, shut_down_turn}
@@ -32,5 +32,5 @@ waits stream old new is follows moves = moves_as stream old new (asked_turn old)
 pub begins : {R E : Type 0} (stream : R → Stream) (old : Context R) (result : Result (Unit {0}) E) (new : Context R) → is_cookie_echoed (view_of old).endpoint.core ≡ true
     → (view_of old).endpoint.options.follow_rfc ≡ false → TakesTurn stream pending_turn old result new → TakesTurn stream shut_down_turn old result new
 begins stream old result new is follows takes =
-    subst (λ (o : Outcome). ByResult (λ done. Moves stream (view_of old) o (view_of new)) (CutTurn (view_of old) o (view_of new).events) result)
+    subst (λ (o : Outcome). ByResult (λ done. Moves stream (view_of old) o (view_of new)) (CutsTurn (view_of old) o (view_of new).events) result)
     (begins_in (view_of old).endpoint (view_of old).endpoint.core is follows) takes

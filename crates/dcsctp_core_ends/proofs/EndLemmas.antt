@@ -8,7 +8,7 @@ use Rattle.dcsctp_core.specs.types.Settings.{ports_of}
 use Rattle.dcsctp_core.specs.spec.endpoint.Event.{Event, sent}
 use Rattle.dcsctp_core.specs.spec.endpoint.Event as events
 use Rattle.dcsctp_core.specs.spec.Packet.{Emission, shutdown_complete}
-use Rattle.dcsctp_core.specs.spec.endpoint.Endpoint.{Endpoint, Core, closed, cookie_wait, cookie_echoed, open_in, held_in}
+use Rattle.dcsctp_core.specs.spec.endpoint.Endpoint.{Endpoint, Core, closed, cookie_wait, cookie_echoed, open_in, held_by_core}
 use Rattle.dcsctp_core.specs.spec.endpoint.Outcome.{Outcome, quiet, sends, to_peer}
 use Rattle.dcsctp_core.specs.spec.endpoint.Following.{dropped_rest}
 use Rattle.dcsctp_core.specs.spec.endpoint.EndOutcomes.{closed_after, ended_outcome, close_outcome}
@@ -16,12 +16,12 @@ use Rattle.dcsctp_core.specs.spec.endpoint.ShutdownOutcomes.{completed_outcome}
 use Rattle.dcsctp_core.specs.api.Calls.{is_closed}
 use Rattle.dcsctp_core.specs.declared.following.Following.TheVariants.{DroppedRest}
 use Rattle.dcsctp_core.specs.Handling.{IsHandledTurn}
-use Rattle.dcsctp_core.specs.View.{View, Moves, CutTurn}
+use Rattle.dcsctp_core.specs.View.{View, Moves, CutsTurn}
 use Rattle.dcsctp_core.proofs.Composing.{behind, moves_behind, moves_as, cut_after}
 use Rattle.dcsctp_core.proofs.EndLemmas.{close_where_open}
 use Rattle.dcsctp_core_ends.specs.Shutdown.{to_held, is_open_core, sends_complete, complete_sent_turn, completed_turn}
 
-runs_with_peer : (core : Core) (held : Held) → held_in core ≡ Some held → is_closed core ≡ false
+runs_with_peer : (core : Core) (held : Held) → held_by_core core ≡ Some held → is_closed core ≡ false
 runs_with_peer closed held is = absurd (cc)
 runs_with_peer (cookie_wait my) held is = absurd (cc)
 runs_with_peer (cookie_echoed my own cookie) held is = refl
@@ -46,13 +46,13 @@ ends_after_sent stream a b c emission event runs first second =
 abbrev pub complete_to : Held → Emission
 complete_to held = to_peer held (shutdown_complete false)
 
-held_where_open : (core : Core) → is_open_core core ≡ true → (held : Held) × (held_in core ≡ Some held)
+held_where_open : (core : Core) → is_open_core core ≡ true → (held : Held) × (held_by_core core ≡ Some held)
 held_where_open closed opens = absurd (cc)
 held_where_open (cookie_wait my) opens = absurd (cc)
 held_where_open (cookie_echoed my own cookie) opens = absurd (cc)
 held_where_open (open_in phase my own) opens = (own, refl)
 
-completes_to : {R : Type 0} (stream : R → Stream) (a b c : View R) (held : Held) → held_in a.endpoint.core ≡ Some held
+completes_to : {R : Type 0} (stream : R → Stream) (a b c : View R) (held : Held) → held_by_core a.endpoint.core ≡ Some held
     → Moves stream a (sends a.endpoint [] [] (complete_to held)) b → Moves stream b (close_outcome b.endpoint b.endpoint.core events.closed) c
     → IsHandledTurn stream a (completed_turn a) DroppedRest c
 completes_to stream a b c held is first second =
@@ -67,9 +67,9 @@ completes stream a b c opens first second =
     completes_to stream a b c peer.0 peer.1 (subst (λ (p : Option Held). Moves stream a (to_held sends_complete a.endpoint p) b) peer.1 first) second
 
 pub completes_in_part : {R : Type 0} (stream : R → Stream) (a b c : View R) → is_open_core a.endpoint.core ≡ true → Moves stream a (complete_sent_turn a) b → c ≡ b
-    → CutTurn a (completed_turn a) c.events
+    → CutsTurn a (completed_turn a) c.events
 completes_in_part {R = R} stream a b c opens first same =
     let peer = held_where_open a.endpoint.core opens in
     let m : Moves stream a (sends_complete a.endpoint peer.0) b = subst (λ (p : Option Held). Moves stream a (to_held sends_complete a.endpoint p) b) peer.1 first in
-    subst (λ (p : Option Held). CutTurn a (to_held completed_outcome a.endpoint p) c.events) (sym peer.1)
+    subst (λ (p : Option Held). CutsTurn a (to_held completed_outcome a.endpoint p) c.events) (sym peer.1)
     (cut_after a (completed_outcome a.endpoint peer.0) c.events (sent (complete_to peer.0) ∷ []) (events.closed ∷ []) refl (ap (λ (v : View R). v.events) same ∙ m.events))

@@ -6,7 +6,7 @@ use Rattle.dcsctp_core.specs.wire.Spelling.{chunk_bytes}
 use Rattle.dcsctp_core.specs.types.declared.association.Held.{Held}
 use Rattle.dcsctp_core.specs.types.Settings.{packet_size_limit}
 use Rattle.dcsctp_core.specs.spec.Packet.{Content, chunk_out}
-use Rattle.dcsctp_core.specs.spec.endpoint.Endpoint.{Endpoint, held_in}
+use Rattle.dcsctp_core.specs.spec.endpoint.Endpoint.{Endpoint, held_by_core}
 use Rattle.dcsctp_core.specs.spec.endpoint.Outcome.{Outcome, still, sends, to_peer}
 use Rattle.dcsctp_core.specs.View.{View, Moves}
 use Rattle.dcsctp_core.specs.Handling.{emitted_to}
@@ -28,6 +28,6 @@ sent_to stream a b out content (Some held) is fits here =
 pub sent_to_held : {R : Type 0} (stream : R → Stream) (a b : View R) (out : Endpoint → Held → Outcome) (content : Content)
     → ((held : Held) → out a.endpoint held ≡ sends a.endpoint [] [] (to_peer held content))
     → nat_le (12 + length (chunk_bytes (chunk_out content))) (packet_size_limit a.endpoint.options) ≡ true
-    → b ≡ emitted_to (held_in a.endpoint.core) (chunk_out content) a
-    → Moves stream a (to_held out a.endpoint (held_in a.endpoint.core)) b
-sent_to_held stream a b out content is fits here = sent_to stream a b out content (held_in a.endpoint.core) is fits here
+    → b ≡ emitted_to (held_by_core a.endpoint.core) (chunk_out content) a
+    → Moves stream a (to_held out a.endpoint (held_by_core a.endpoint.core)) b
+sent_to_held stream a b out content is fits here = sent_to stream a b out content (held_by_core a.endpoint.core) is fits here

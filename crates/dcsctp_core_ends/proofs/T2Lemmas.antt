@@ -7,12 +7,12 @@ use Rattle.dcsctp_core.specs.spec.endpoint.Turn.{Turn}
 use Rattle.dcsctp_core.specs.spec.endpoint.ShutdownOutcomes.{t2_again_outcome}
 use Rattle.dcsctp_core.specs.declared.context.Context.{Context}
 use Rattle.dcsctp_core.specs.declared.expiry.Expiry.TheVariants.{Again}
-use Rattle.dcsctp_core.specs.Handling.{CutIn}
-use Rattle.dcsctp_core.specs.Timing.{expiry_where, expiry_of, ExpiryTurn, is_timer_due}
+use Rattle.dcsctp_core.specs.Handling.{CutsSomeTurn}
+use Rattle.dcsctp_core.specs.Timing.{expiry_if_due, expiry_of, ExpiryTurn, is_timer_due}
 use Rattle.dcsctp_core.specs.View.{view_of, endpoint_of, t2_of}
 use Rattle.dcsctp_core.proofs.Composing.{cut_first}
 
-again_both : (due restarts : Bool) → Again ≡ expiry_where due restarts → (due ≡ true) × (restarts ≡ true)
+again_both : (due restarts : Bool) → Again ≡ expiry_if_due due restarts → (due ≡ true) × (restarts ≡ true)
 again_both true true is = (refl, refl)
 again_both true false is = absurd (cc)
 again_both false restarts is = absurd (cc)
@@ -28,7 +28,7 @@ again_turn old is =
 
 -- Its packet wasn't sent again.
 pub t2_again_not : {R : Type 0} (old : Context R) (es : List (Event (List ℕ))) → Again ≡ expiry_of old.moment (t2_of old.state) → es ≡ (view_of old).events
-    → (is_timer_due (endpoint_of old) t2_timer ≡ true) × CutIn (ExpiryTurn t2_timer) (view_of old) es
+    → (is_timer_due (endpoint_of old) t2_timer ≡ true) × CutsSomeTurn (ExpiryTurn t2_timer) (view_of old) es
 t2_again_not old es is same = (
   (again_is old.moment (t2_of old.state) is).0,
   record {

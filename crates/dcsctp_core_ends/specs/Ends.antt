@@ -5,7 +5,7 @@ use Rattle.dcsctp_core.specs.types.declared.ends.AbortReason.{AbortReason}
 use Rattle.dcsctp_core.specs.spec.endpoint.Cause.{Cause}
 use Rattle.dcsctp_core.specs.spec.endpoint.Outcome.{Outcome}
 use Rattle.dcsctp_core.specs.spec.endpoint.EndOutcomes.{abort_outcome, abort_sent, aborting_outcome}
-use Rattle.dcsctp_core.specs.spec.endpoint.PlainOutcomes.{violation_at, error_outcome}
+use Rattle.dcsctp_core.specs.spec.endpoint.PlainOutcomes.{violation_by_core, error_outcome}
 use Rattle.dcsctp_core.specs.spec.Packet.{Content, plain}
 use Rattle.dcsctp_core.specs.spec.endpoint.Endpoint.{Core}
 use Rattle.dcsctp_core.specs.View.{View}
@@ -27,6 +27,6 @@ abbrev pub aborting_turn : {R : Type 0} → AbortReason → View R → Outcome
 aborting_turn reason view = aborting_outcome view.endpoint view.endpoint.core reason
 
 -- how a chunk breaks what was negotiated
-abbrev pub violation_in : Core → Content → Option Violation
-violation_in core (plain chunk) = violation_at core chunk
-violation_in core content = None
+abbrev pub violation_of_content : Core → Content → Option Violation
+violation_of_content core (plain chunk) = violation_by_core core chunk
+violation_of_content core content = None

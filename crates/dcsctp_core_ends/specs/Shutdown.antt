@@ -3,7 +3,7 @@ use Rattle.std.specs.Prelude.{ℕ, Bool, true, false, Option, None, Some, [], �
 use Rattle.dcsctp_core.specs.types.declared.association.Pair.{Pair}
 use Rattle.dcsctp_core.specs.types.declared.association.Held.{Held}
 use Rattle.dcsctp_core.specs.spec.Packet.{shutdown_complete}
-use Rattle.dcsctp_core.specs.spec.endpoint.Endpoint.{Endpoint, Core, cookie_echoed, open_in, OpenPhase, shutdown_pending, shutdown_sent, shutdown_received, held_in}
+use Rattle.dcsctp_core.specs.spec.endpoint.Endpoint.{Endpoint, Core, cookie_echoed, open_in, OpenPhase, shutdown_pending, shutdown_sent, shutdown_received, held_by_core}
 use Rattle.dcsctp_core.specs.spec.endpoint.Outcome.{Outcome, still, sends, to_peer}
 use Rattle.dcsctp_core.specs.spec.endpoint.EndOutcomes.{reflected_outcome}
 use Rattle.dcsctp_core.specs.spec.endpoint.ShutdownOutcomes.{sends_shutdown, sends_shutdown_ack, shutdown_is_sent, shutdown_ack_is_sent, step_outcome, step_from, t1_stopped, shut_down_outcome, shutdown_outcome, completed_outcome, shutdown_ack_outcome, shutdown_complete_outcome, shutdown_sent_again, shutdown_repeated}
@@ -16,16 +16,16 @@ to_held out e None = still e
 to_held out e (Some held) = out e held
 
 abbrev pub send_shutdown_turn : {R : Type 0} → View R → Outcome
-send_shutdown_turn view = to_held sends_shutdown view.endpoint (held_in view.endpoint.core)
+send_shutdown_turn view = to_held sends_shutdown view.endpoint (held_by_core view.endpoint.core)
 
 abbrev pub send_shutdown_ack_turn : {R : Type 0} → View R → Outcome
-send_shutdown_ack_turn view = to_held sends_shutdown_ack view.endpoint (held_in view.endpoint.core)
+send_shutdown_ack_turn view = to_held sends_shutdown_ack view.endpoint (held_by_core view.endpoint.core)
 
 abbrev pub sends_complete : Endpoint → Held → Outcome
 sends_complete e held = sends e [] [] (to_peer held (shutdown_complete false))
 
 abbrev pub complete_sent_turn : {R : Type 0} → View R → Outcome
-complete_sent_turn view = to_held sends_complete view.endpoint (held_in view.endpoint.core)
+complete_sent_turn view = to_held sends_complete view.endpoint (held_by_core view.endpoint.core)
 
 -- It is sent with the T bit under this tag.
 abbrev pub complete_reflected_turn : {R : Type 0} → ℕ → View R → Outcome
@@ -77,7 +77,7 @@ abbrev pub shutdown_turn : {R : Type 0} → View R → Outcome
 shutdown_turn view = shutdown_outcome view.endpoint view.endpoint.core
 
 abbrev pub completed_turn : {R : Type 0} → View R → Outcome
-completed_turn view = to_held completed_outcome view.endpoint (held_in view.endpoint.core)
+completed_turn view = to_held completed_outcome view.endpoint (held_by_core view.endpoint.core)
 
 abbrev pub reflected_turn : {R : Type 0} → ℕ → View R → Outcome
 reflected_turn header view = reflected_outcome view.endpoint header
@@ -93,9 +93,9 @@ complete_turn view = shutdown_complete_outcome view.endpoint view.endpoint.core
 abbrev pub again_turn : {R : Type 0} → View R → Outcome
 again_turn view = shutdown_sent_again view.endpoint view.endpoint.core
 
-abbrev pub repeated_in : Endpoint → OpenPhase → Pair → Held → Outcome
-repeated_in e shutdown_sent my held = shutdown_repeated e held
-repeated_in e phase my held = still e
+abbrev pub repeated_by_phase : Endpoint → OpenPhase → Pair → Held → Outcome
+repeated_by_phase e shutdown_sent my held = shutdown_repeated e held
+repeated_by_phase e phase my held = still e
 
 abbrev pub shutdown_answer_turn : {R : Type 0} → View R → Outcome
-shutdown_answer_turn view = where_open repeated_in view.endpoint view.endpoint.core
+shutdown_answer_turn view = where_open repeated_by_phase view.endpoint view.endpoint.core

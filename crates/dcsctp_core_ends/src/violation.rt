@@ -2,10 +2,10 @@
 
 ghost use Rattle.std.specs.Prelude.{◌≡◌};
 ghost use Rattle.dcsctp_core.specs.wire.Content.{chunk_content};
-ghost use Rattle.dcsctp_core.specs.spec.Packet.{content_in};
+ghost use Rattle.dcsctp_core.specs.spec.Packet.{content_of_chunk};
 ghost use Rattle.dcsctp_core.specs.spec.endpoint.PlainOutcomes.{data_violation, i_data_violation, forward_tsn_violation, i_forward_tsn_violation};
 ghost use Rattle.dcsctp_core.specs.View.{core_of};
-ghost use Rattle.dcsctp_core_ends.specs.Ends.{violation_in};
+ghost use Rattle.dcsctp_core_ends.specs.Ends.{violation_of_content};
 
 use dcsctp_core::State;
 use dcsctp_core::types::{Capabilities, Violation};
@@ -63,7 +63,7 @@ fn i_forward_tsn_violation(capabilities: &Capabilities) -> Option<Violation>
 /// 8260 if and only if message interleaving is negotiated. Without partial reliability nothing is skipped.
 /// Allocates nothing.
 pub fn violation_of(state: &State, chunk: &Chunk<'_>) -> Option<Violation>
-    ensures { result ≡ violation_in (core_of state.now) (content_in (chunk_content chunk.now)) }
+    ensures { result ≡ violation_of_content (core_of state.now) (content_of_chunk (chunk_content chunk.now)) }
 {
     let tcb = state.tcb()?;
     match chunk {

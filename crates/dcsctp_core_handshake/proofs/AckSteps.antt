@@ -9,7 +9,7 @@ use Rattle.dcsctp_core.specs.types.declared.options.Options.{Options}
 use Rattle.dcsctp_core.specs.types.declared.association.Held.{Held}
 use Rattle.dcsctp_core.specs.types.Settings.{IsValid}
 use Rattle.dcsctp_core.specs.spec.endpoint.Event.{Event}
-use Rattle.dcsctp_core.specs.spec.endpoint.Endpoint.{Endpoint, held_in}
+use Rattle.dcsctp_core.specs.spec.endpoint.Endpoint.{Endpoint, held_by_core}
 use Rattle.dcsctp_core.specs.spec.endpoint.Outcome.{Outcome, still}
 use Rattle.dcsctp_core.specs.spec.endpoint.FlushOutcomes.{Answer, first_ask, flush_of, flush_answered, packets_allowed}
 use Rattle.dcsctp_core.proofs.spec_lemmas.AnswerLemmas.{any_answers}
@@ -19,11 +19,11 @@ use Rattle.dcsctp_core.specs.declared.state.State.{State}
 use Rattle.dcsctp_core.specs.declared.state.State.TheVariants.{Closed, CookieWait, CookieEchoed, Open}
 use Rattle.dcsctp_core.specs.declared.transmission_control_block.TransmissionControlBlock.{TransmissionControlBlock}
 use Rattle.dcsctp_core.specs.View.{View, core_of, tcb_of, held_of, view_of, endpoint_of}
-use Rattle.dcsctp_core.specs.Handling.{TakesPossibleTurn, CutIn}
-use Rattle.dcsctp_core.specs.Flushing.{empty_packet, packet_for, FlushesFor, FlushCut}
+use Rattle.dcsctp_core.specs.Handling.{TakesPossibleTurn, CutsSomeTurn}
+use Rattle.dcsctp_core.specs.Flushing.{empty_packet, packet_for, FlushesFor, CutsFlush}
 use Rattle.dcsctp_core.proofs.Moving.{moves_still}
 use Rattle.dcsctp_core.proofs.Composing.{cut_first, cut_after}
-use Rattle.dcsctp_core_handshake.specs.Echoes.{cookie_ack_to, acknowledges_by, peer_acknowledged, AcknowledgedAnswers, AcknowledgementAt}
+use Rattle.dcsctp_core_handshake.specs.Echoes.{cookie_ack_to, acknowledgement_with_flush, peer_acknowledged, AcknowledgedAnswers, AcknowledgesEcho}
 use Rattle.dcsctp_core_handshake.proofs.FlushSteps.{moves_flushed}
 
 -- ---- COOKIE ACK
@@ -45,7 +45,7 @@ ack_packet options held empty packet was added =
     ∙ ap (λ (body : List ℕ). record (empty_packet options (held.capabilities.zero_checksum_method.0 == 0) held.peer.tag) { body = body }) (sym (append-nil (chunk_bytes cookie_ack_chunk)))
 
 -- the peer of an association
-pub held_by_tcb : (state : State) (tcb : TransmissionControlBlock) → Some tcb ≡ tcb_of state → held_in (core_of state) ≡ Some (held_of tcb)
+pub held_by_tcb : (state : State) (tcb : TransmissionControlBlock) → Some tcb ≡ tcb_of state → held_by_core (core_of state) ≡ Some (held_of tcb)
 held_by_tcb Closed tcb kept = absurd (cc)
 held_by_tcb (CookieWait wait) tcb kept = absurd (cc)
 held_by_tcb (CookieEchoed echoed) tcb kept =
@@ -53,7 +53,7 @@ held_by_tcb (CookieEchoed echoed) tcb kept =
 held_by_tcb (Open opened) tcb kept =
     let same : opened.tcb ≡ tcb = cc in ap (λ (t : TransmissionControlBlock). Some (held_of t)) same
 
-pub none_by_tcb : (state : State) → None ≡ tcb_of state → held_in (core_of state) ≡ None
+pub none_by_tcb : (state : State) → None ≡ tcb_of state → held_by_core (core_of state) ≡ None
 none_by_tcb Closed kept = refl
 none_by_tcb (CookieWait wait) kept = refl
 none_by_tcb (CookieEchoed echoed) kept = absurd (cc)
@@ -64,17 +64,17 @@ any_acknowledged : (e : Endpoint) (peer : Option Held) → (answers : List Answe
 any_acknowledged e None = ([], refl)
 any_acknowledged e (Some held) = any_answers first_ask (packets_allowed e.options.max_burst e.core) e (cookie_ack_to held)
 
-pub ack_unmade : {R : Type 0} (old : Context R) → CutIn AcknowledgementAt (view_of old) (view_of old).events
+pub ack_unmade : {R : Type 0} (old : Context R) → CutsSomeTurn AcknowledgesEcho (view_of old) (view_of old).events
 ack_unmade old =
     let e : Endpoint = endpoint_of old in
-    let some = any_acknowledged e (held_in e.core) in
-    let o : Outcome = peer_acknowledged (flush_answered some.0) e (held_in e.core) in
+    let some = any_acknowledged e (held_by_core e.core) in
+    let o : Outcome = peer_acknowledged (flush_answered some.0) e (held_by_core e.core) in
     record { outcome = o; turn = (some.0, some.1, refl); cut = cut_first (view_of old) o (view_of old).events refl }
 
-pub ack_no_peer : {R : Type 0} (stream : R → Stream) (old : Context R) → None ≡ tcb_of old.state → TakesPossibleTurn stream AcknowledgementAt (view_of old) (view_of old)
+pub ack_no_peer : {R : Type 0} (stream : R → Stream) (old : Context R) → None ≡ tcb_of old.state → TakesPossibleTurn stream AcknowledgesEcho (view_of old) (view_of old)
 ack_no_peer stream old none =
     let e : Endpoint = endpoint_of old in
-    let nobody : held_in e.core ≡ None = none_by_tcb old.state none in
+    let nobody : held_by_core e.core ≡ None = none_by_tcb old.state none in
     record {
       outcome = still e;
       turn = ([], subst (λ (peer : Option Held). AcknowledgedAnswers e peer []) (sym nobody) refl, sym (ap (λ (peer : Option Held). peer_acknowledged (flush_answered []) e peer) nobody));
@@ -83,28 +83,28 @@ ack_no_peer stream old none =
 
 pub ack_done : {R : Type 0} (stream : R → Stream) (old : Context R) (tcb : TransmissionControlBlock) (new : View R) → Some tcb ≡ tcb_of old.state
     → FlushesFor stream first_ask (packets_allowed old.options.max_burst (core_of old.state)) (view_of old) (cookie_ack_to (held_of tcb)) new
-    → TakesPossibleTurn stream AcknowledgementAt (view_of old) new
+    → TakesPossibleTurn stream AcknowledgesEcho (view_of old) new
 ack_done stream old tcb new kept f =
     let e : Endpoint = endpoint_of old in
-    let holds : held_in (core_of old.state) ≡ Some (held_of tcb) = held_by_tcb old.state tcb kept in
+    let holds : held_by_core (core_of old.state) ≡ Some (held_of tcb) = held_by_tcb old.state tcb kept in
     record {
-      outcome = acknowledges_by (flush_answered f.answers) e (held_of tcb) [];
+      outcome = acknowledgement_with_flush (flush_answered f.answers) e (held_of tcb) [];
       turn = (f.answers, subst (λ (peer : Option Held). AcknowledgedAnswers e peer f.answers) (sym holds) f.allowed, sym (ap (λ (peer : Option Held). peer_acknowledged (flush_answered f.answers) e peer) holds));
       moves = moves_flushed stream (view_of old) new (flush_of e (cookie_ack_to (held_of tcb)) f.answers) f.moves;
     }
 
 pub ack_cut : {R : Type 0} (old : Context R) (tcb : TransmissionControlBlock) (events : List (Event (List ℕ))) → Some tcb ≡ tcb_of old.state
-    → FlushCut first_ask (packets_allowed old.options.max_burst (core_of old.state)) (view_of old) (cookie_ack_to (held_of tcb)) events
-    → CutIn AcknowledgementAt (view_of old) events
+    → CutsFlush first_ask (packets_allowed old.options.max_burst (core_of old.state)) (view_of old) (cookie_ack_to (held_of tcb)) events
+    → CutsSomeTurn AcknowledgesEcho (view_of old) events
 ack_cut old tcb events kept f =
     let e : Endpoint = endpoint_of old in
-    let holds : held_in (core_of old.state) ≡ Some (held_of tcb) = held_by_tcb old.state tcb kept in
+    let holds : held_by_core (core_of old.state) ≡ Some (held_of tcb) = held_by_tcb old.state tcb kept in
     record {
-      outcome = acknowledges_by (flush_answered f.answers) e (held_of tcb) [];
+      outcome = acknowledgement_with_flush (flush_answered f.answers) e (held_of tcb) [];
       turn = (f.answers, subst (λ (peer : Option Held). AcknowledgedAnswers e peer f.answers) (sym holds) f.allowed, sym (ap (λ (peer : Option Held). peer_acknowledged (flush_answered f.answers) e peer) holds));
-      cut = cut_after (view_of old) (acknowledges_by (flush_answered f.answers) e (held_of tcb) []) events f.front f.rest f.parts f.added;
+      cut = cut_after (view_of old) (acknowledgement_with_flush (flush_answered f.answers) e (held_of tcb) []) events f.front f.rest f.parts f.added;
     }
 
 -- the peer whose COOKIE ACK is awaited
-pub held_is_echoed : (state : State) (echoed : CookieEchoState) → state ≡ CookieEchoed echoed → held_in (core_of state) ≡ Some (held_of echoed.tcb)
-held_is_echoed state echoed is = ap (λ (s : State). held_in (core_of s)) is
+pub held_is_echoed : (state : State) (echoed : CookieEchoState) → state ≡ CookieEchoed echoed → held_by_core (core_of state) ≡ Some (held_of echoed.tcb)
+held_is_echoed state echoed is = ap (λ (s : State). held_by_core (core_of s)) is

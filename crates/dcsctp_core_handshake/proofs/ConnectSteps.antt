@@ -12,10 +12,10 @@ use Rattle.dcsctp_core.specs.spec.endpoint.HandshakeOutcomes.{awaits_init_ack, i
 use Rattle.dcsctp_core.specs.declared.context.Context.{Context}
 use Rattle.dcsctp_core.specs.declared.state.State.{State}
 use Rattle.dcsctp_core.specs.declared.state.State.TheVariants.{Closed}
-use Rattle.dcsctp_core.specs.api.Calls.{Drawn}
+use Rattle.dcsctp_core.specs.api.Calls.{DrawsWords}
 use Rattle.dcsctp_core.specs.View.{View, Moves, view_of, endpoint_of, core_of}
 use Rattle.dcsctp_core.specs.Drawing.{first_word, second_word}
-use Rattle.dcsctp_core.proofs.Moving.{Drawn-append}
+use Rattle.dcsctp_core.proofs.Moving.{DrawsWords-append}
 use Rattle.dcsctp_core_handshake.specs.Handshake.{MakesPair, send_init_turn, awaiting, connect_turn}
 
 -- Where there was no association, nothing of one is left to forget.
@@ -32,7 +32,7 @@ pair_drawn view generator word next mine =
 -- the INIT, where it fits or not
 sent_by : {R : Type 0} (stream : R → Stream) (old last : View R) (generator : R) (word next : ℕ) (mine : Pair) (emission : Emission) (fit : Bool)
     → awaiting old.endpoint mine ≡ awaits_init_ack old.endpoint mine
-    → Drawn (stream old.generator) (U32 word ∷ U32 next ∷ []) (stream generator)
+    → DrawsWords (stream old.generator) (U32 word ∷ U32 next ∷ []) (stream generator)
     → Moves stream (pair_drawn old generator word next mine) (if fit then sends old.endpoint [] [] emission else quiet old.endpoint [] []) last
     → Moves stream old (drawing mine (if fit then sends (awaits_init_ack old.endpoint mine) (U32 word ∷ U32 next ∷ []) [] emission
     else quiet (awaits_init_ack old.endpoint mine) (U32 word ∷ U32 next ∷ []) [])) (record last { endpoint = awaiting last.endpoint mine })
@@ -42,7 +42,7 @@ sent_by {R = R} stream old last generator word next mine emission true awaits dr
       events = m.events;
       words = m.words ∙ append-nil (old.words ++ U32 word ∷ U32 next ∷ []);
       pairs = m.pairs ∙ append-nil (old.pairs ++ mine ∷ []);
-      drawn = Drawn-append (stream old.generator) (stream generator) (stream last.generator) (U32 word ∷ U32 next ∷ []) [] drawn m.drawn;
+      drawn = DrawsWords-append (stream old.generator) (stream generator) (stream last.generator) (U32 word ∷ U32 next ∷ []) [] drawn m.drawn;
     }
 sent_by {R = R} stream old last generator word next mine emission false awaits drawn m =
     record {
@@ -50,7 +50,7 @@ sent_by {R = R} stream old last generator word next mine emission false awaits d
       events = m.events;
       words = m.words ∙ append-nil (old.words ++ U32 word ∷ U32 next ∷ []);
       pairs = m.pairs ∙ append-nil (old.pairs ++ mine ∷ []);
-      drawn = Drawn-append (stream old.generator) (stream generator) (stream last.generator) (U32 word ∷ U32 next ∷ []) [] drawn m.drawn;
+      drawn = DrawsWords-append (stream old.generator) (stream generator) (stream last.generator) (U32 word ∷ U32 next ∷ []) [] drawn m.drawn;
     }
 
 pub connects : {R : Type 0} (stream : R → Stream) (old mid last : Context R) (new : View R) (mine : Pair) → old.state ≡ Closed

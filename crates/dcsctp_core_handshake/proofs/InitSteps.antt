@@ -12,20 +12,20 @@ use Rattle.dcsctp_core.specs.types.declared.word.Word.TheVariants.{U32}
 use Rattle.dcsctp_core.specs.types.Settings.{packet_size_limit, IsValid}
 use Rattle.dcsctp_core.specs.spec.Packet.{Emission, Introduction, shutdown_ack}
 use Rattle.dcsctp_core.specs.spec.queues.Transfer.{Transfer, next_tsn_of}
-use Rattle.dcsctp_core.specs.spec.endpoint.Endpoint.{Endpoint, Core, open_in, shutdown_ack_sent, held_in, may_answer}
+use Rattle.dcsctp_core.specs.spec.endpoint.Endpoint.{Endpoint, Core, open_in, shutdown_ack_sent, held_by_core, may_answer}
 use Rattle.dcsctp_core.specs.spec.endpoint.Outcome.{Outcome, fits, sends, quiet, answering, drawing, to_peer}
 use Rattle.dcsctp_core.specs.spec.endpoint.HandshakeOutcomes.{init_outcome, init_answered, init_ack_emission, answer_outcome, tag_from, tsn_gap}
 use Rattle.dcsctp_core.specs.spec.endpoint.ShutdownOutcomes.{sends_shutdown_ack}
 use Rattle.dcsctp_core_ends.specs.Shutdown.{to_held, send_shutdown_ack_turn}
 use Rattle.dcsctp_core.specs.declared.context.Context.{Context}
 use Rattle.dcsctp_core.specs.declared.transmission_control_block.TransmissionControlBlock.{TransmissionControlBlock}
-use Rattle.dcsctp_core.specs.api.Calls.{Drawn}
-use Rattle.dcsctp_core.specs.View.{View, Moves, view_of, tcb_of, tie_in, transfer_in, held_of}
+use Rattle.dcsctp_core.specs.api.Calls.{DrawsWords}
+use Rattle.dcsctp_core.specs.View.{View, Moves, view_of, tcb_of, tie_tag_of, transfer_of_tcb, held_of}
 use Rattle.dcsctp_core.specs.Drawing.{first_word, second_word}
 use Rattle.dcsctp_core.specs.Handling.{answer_counted}
-use Rattle.dcsctp_core.proofs.Moving.{moves_still, Drawn-append}
+use Rattle.dcsctp_core.proofs.Moving.{moves_still, DrawsWords-append}
 use Rattle.dcsctp_core.proofs.SentLemmas.{answering_moves}
-use Rattle.dcsctp_core_handshake.specs.Handshake.{MakesPair, init_turn, init_reply_turn, init_answer_turn, renewed_pair_where, renewed_turn}
+use Rattle.dcsctp_core_handshake.specs.Handshake.{MakesPair, init_turn, init_reply_turn, init_answer_turn, renewed_pair_if_connected, renewed_turn}
 use Rattle.dcsctp_core_handshake.proofs.AckSteps.{held_by_tcb}
 
 ack_fits : (e : Endpoint) (held : Held) → IsValid e.options → fits e (to_peer held shutdown_ack) ≡ true
@@ -39,7 +39,7 @@ repeats_ack {R = R} stream old new theirs mine held valid is m =
     let word : ℕ = first_word (stream old.generator) in
     let next : ℕ = second_word (stream old.generator) in
     let sent : Outcome = sends_shutdown_ack e held in
-    let out : Moves stream old sent new = subst (λ (core : Core). Moves stream old (to_held sends_shutdown_ack e (held_in core)) new) is m in
+    let out : Moves stream old sent new = subst (λ (core : Core). Moves stream old (to_held sends_shutdown_ack e (held_by_core core)) new) is m in
     subst (λ (core : Core). Moves stream old (init_outcome e theirs core word next) new) (sym is)
     (subst (λ (b : Bool). Moves stream old (cond b sent (quiet e [] [])) new) (sym (ack_fits e held valid)) out)
 
@@ -51,7 +51,7 @@ pair_drawn view generator word mine = record view { generator = generator; words
 
 -- ... what goes out is the turn of the draw
 sent_drawn : {R : Type 0} (stream : R → Stream) (old new : View R) (generator : R) (word : ℕ) (mine : Pair) (emission : Emission) (fit : Bool)
-    → Drawn (stream old.generator) (U32 word ∷ []) (stream generator)
+    → DrawsWords (stream old.generator) (U32 word ∷ []) (stream generator)
     → Moves stream (pair_drawn old generator word mine) (if fit then sends old.endpoint [] [] emission else quiet old.endpoint [] []) new
     → Moves stream old (drawing mine (if fit then sends old.endpoint (U32 word ∷ []) [] emission else quiet old.endpoint (U32 word ∷ []) [])) new
 sent_drawn {R = R} stream old new generator word mine emission true drawn m =
@@ -60,7 +60,7 @@ sent_drawn {R = R} stream old new generator word mine emission true drawn m =
       events = m.events;
       words = m.words ∙ append-nil (old.words ++ U32 word ∷ []);
       pairs = m.pairs ∙ append-nil (old.pairs ++ mine ∷ []);
-      drawn = Drawn-append (stream old.generator) (stream generator) (stream new.generator) (U32 word ∷ []) [] drawn m.drawn;
+      drawn = DrawsWords-append (stream old.generator) (stream generator) (stream new.generator) (U32 word ∷ []) [] drawn m.drawn;
     }
 sent_drawn {R = R} stream old new generator word mine emission false drawn m =
     record {
@@ -68,7 +68,7 @@ sent_drawn {R = R} stream old new generator word mine emission false drawn m =
       events = m.events;
       words = m.words ∙ append-nil (old.words ++ U32 word ∷ []);
       pairs = m.pairs ∙ append-nil (old.pairs ++ mine ∷ []);
-      drawn = Drawn-append (stream old.generator) (stream generator) (stream new.generator) (U32 word ∷ []) [] drawn m.drawn;
+      drawn = DrawsWords-append (stream old.generator) (stream generator) (stream new.generator) (U32 word ∷ []) [] drawn m.drawn;
     }
 
 -- The pair's first TSN is far from the next one of the association.
@@ -93,10 +93,10 @@ renews {R = R} stream old mid new theirs tcb mine is pair made m =
     (refl, made.goes_on) (subst (λ (w : View R). Moves stream w (init_answer_turn theirs mine tcb.tie_tag w) new) here m) in
     let tied : Moves stream v (drawing mine (answer_outcome e theirs (U32 word ∷ []) mine e.tie)) new =
     subst (λ (tie : ℕ). Moves stream v (drawing mine (answer_outcome e theirs (U32 word ∷ []) mine tie)) new)
-    (ap (λ (t : Option TransmissionControlBlock). tie_in t) is) sent in
-    subst (λ (held : Option Held). Moves stream v (renewed_pair_where e held theirs word) new) (sym (held_by_tcb old.state tcb is))
+    (ap (λ (t : Option TransmissionControlBlock). tie_tag_of t) is) sent in
+    subst (λ (held : Option Held). Moves stream v (renewed_pair_if_connected e held theirs word) new) (sym (held_by_tcb old.state tcb is))
     (subst (λ (own : Pair). Moves stream v (drawing own (answer_outcome e theirs (U32 word ∷ []) own e.tie)) new)
-    (pair ∙ ap (λ (t : Option TransmissionControlBlock). pair_after (transfer_in t) word) is) tied)
+    (pair ∙ ap (λ (t : Option TransmissionControlBlock). pair_after (transfer_of_tcb t) word) is) tied)
 
 -- ---- by whether it may be answered
 

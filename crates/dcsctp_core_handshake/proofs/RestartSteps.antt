@@ -12,19 +12,19 @@ use Rattle.dcsctp_core.specs.types.Settings.{IsValid, ports_of}
 use Rattle.dcsctp_core.specs.spec.Cookie.{Cookie}
 use Rattle.dcsctp_core.specs.spec.endpoint.Event.{Event, sent, error}
 use Rattle.dcsctp_core.specs.spec.Packet.{emission_bytes}
-use Rattle.dcsctp_core.specs.spec.endpoint.Endpoint.{Endpoint, Core, closed, cookie_wait, cookie_echoed, open_in, established, shutdown_pending, shutdown_sent, shutdown_received, shutdown_ack_sent, held_in}
+use Rattle.dcsctp_core.specs.spec.endpoint.Endpoint.{Endpoint, Core, closed, cookie_wait, cookie_echoed, open_in, established, shutdown_pending, shutdown_sent, shutdown_received, shutdown_ack_sent, held_by_core}
 use Rattle.dcsctp_core.specs.spec.endpoint.Outcome.{Outcome, packet_counted, reports}
 use Rattle.dcsctp_core.specs.spec.endpoint.FlushOutcomes.{Answer, FlushKind, flush_answered, is_none}
-use Rattle.dcsctp_core.specs.spec.endpoint.CookieEchoOutcomes.{shutting_down_text, shutting_down_emission, refused_restart_outcome, restart_by, restart_by_where, queues_begun, EstablishAnswers, RestartAnswers}
+use Rattle.dcsctp_core.specs.spec.endpoint.CookieEchoOutcomes.{shutting_down_text, shutting_down_emission, refused_restart_outcome, restart_with_flush, restart_with_flush_by_core, queues_begun, EstablishAnswers, RestartAnswers}
 use Rattle.dcsctp_core.specs.declared.context.Context.{Context}
 use Rattle.dcsctp_core.specs.declared.following.Following.TheVariants.{NextChunk, DroppedRest}
 use Rattle.dcsctp_core.specs.declared.transmission_control_block.TransmissionControlBlock.{TransmissionControlBlock}
-use Rattle.dcsctp_core.specs.View.{View, Moves, CutTurn, tcb_of, held_of, view_of, endpoint_of}
+use Rattle.dcsctp_core.specs.View.{View, Moves, CutsTurn, tcb_of, held_of, view_of, endpoint_of}
 use Rattle.dcsctp_core.specs.Drawing.{long_word}
-use Rattle.dcsctp_core.specs.Handling.{TakesPossibleTurn, IsHandledTurn, HandlesIn, report_turn}
-use Rattle.dcsctp_core.specs.Flushing.{empty_packet, packet_for, sent_where}
+use Rattle.dcsctp_core.specs.Handling.{TakesPossibleTurn, IsHandledTurn, HandlesSomeTurn, report_turn}
+use Rattle.dcsctp_core.specs.Flushing.{empty_packet, packet_for, sent_if_filled}
 use Rattle.dcsctp_core.proofs.Composing.{cut_first, cut_after}
-use Rattle.dcsctp_core_handshake.specs.Echoes.{RestartAt, RestartWhereAt, awaits_complete, refused_restart_to, refused_restart_turn}
+use Rattle.dcsctp_core_handshake.specs.Echoes.{RestartsAssociation, RestartsUnlessShuttingDown, awaits_complete, refused_restart_to, refused_restart_turn}
 use Rattle.dcsctp_core_handshake.proofs.AckSteps.{held_by_tcb}
 use Rattle.dcsctp_core_handshake.proofs.FlushSteps.{flush_following}
 
@@ -78,12 +78,12 @@ refusal_packet options held causes empty first packet cause was one two =
 
 -- It is sent.
 refusal_sent : {R : Type 0} (old mid : View R) (held : Held) (packet : Building) (is_sent : Bool) → packet ≡ packet_for old.endpoint.options (shutting_down_emission held)
-    → is_sent ≡ not (is_none packet.body) → mid ≡ sent_where is_sent packet old
+    → is_sent ≡ not (is_none packet.body) → mid ≡ sent_if_filled is_sent packet old
     → mid ≡ record old { endpoint = packet_counted old.endpoint; events = old.events ++ sent (emission_bytes (ports_of old.endpoint.options) (shutting_down_emission held)) ∷ [] }
 unfolding other_bytes
 refusal_sent {R = R} old mid held packet is_sent packed goes is =
     let some : is_sent ≡ true = goes ∙ ap (λ (p : Building). not (is_none p.body)) packed in
-    is ∙ ap (λ (b : Bool). sent_where b packet old) some ∙ ap (λ (p : Building). sent_where true p old) packed
+    is ∙ ap (λ (b : Bool). sent_if_filled b packet old) some ∙ ap (λ (p : Building). sent_if_filled true p old) packed
 
 -- ---- a restart is refused
 
@@ -103,7 +103,7 @@ refused_moves {R = R} stream old mid new held is m =
 
 pub refuses : {R : Type 0} (stream : R → Stream) (old : Context R) (tcb : TransmissionControlBlock) (mid new : View R) (packet : Building) (is_sent : Bool)
     → Some tcb ≡ tcb_of old.state → packet ≡ packet_for old.options (shutting_down_emission (held_of tcb))
-    → is_sent ≡ not (is_none packet.body) → mid ≡ sent_where is_sent packet (view_of old)
+    → is_sent ≡ not (is_none packet.body) → mid ≡ sent_if_filled is_sent packet (view_of old)
     → Moves stream mid (report_turn WrongSequence shutting_down_text mid) new
     → IsHandledTurn stream (view_of old) (refused_restart_turn (view_of old)) DroppedRest new
 refuses {R = R} stream old tcb mid new packet is_sent kept packed goes is m =
@@ -115,23 +115,23 @@ refuses {R = R} stream old tcb mid new packet is_sent kept packed goes is m =
 -- Its error wasn't reported.
 pub refuses_cut : {R : Type 0} (old : Context R) (tcb : TransmissionControlBlock) (mid : View R) (es : List (Event (List ℕ))) (packet : Building) (is_sent : Bool)
     → Some tcb ≡ tcb_of old.state → packet ≡ packet_for old.options (shutting_down_emission (held_of tcb))
-    → is_sent ≡ not (is_none packet.body) → mid ≡ sent_where is_sent packet (view_of old) → es ≡ mid.events
-    → CutTurn (view_of old) (refused_restart_turn (view_of old)) es
+    → is_sent ≡ not (is_none packet.body) → mid ≡ sent_if_filled is_sent packet (view_of old) → es ≡ mid.events
+    → CutsTurn (view_of old) (refused_restart_turn (view_of old)) es
 refuses_cut {R = R} old tcb mid es packet is_sent kept packed goes is same =
     let e : Endpoint = endpoint_of old in
     let held : Held = held_of tcb in
-    subst (λ (peer : Option Held). CutTurn (view_of old) (refused_restart_to e peer) es) (sym (held_by_tcb old.state tcb kept))
+    subst (λ (peer : Option Held). CutsTurn (view_of old) (refused_restart_to e peer) es) (sym (held_by_tcb old.state tcb kept))
     (cut_after (view_of old) (refused_restart_outcome e held) es (sent (shutting_down_emission held) ∷ []) (error WrongSequence shutting_down_text ∷ []) refl
     (same ∙ ap (λ (v : View R). v.events) (refusal_sent (view_of old) mid held packet is_sent packed goes is)))
 
-pub refusal_unmade : {R : Type 0} (old : View R) (es : List (Event (List ℕ))) → es ≡ old.events → CutTurn old (refused_restart_turn old) es
+pub refusal_unmade : {R : Type 0} (old : View R) (es : List (Event (List ℕ))) → es ≡ old.events → CutsTurn old (refused_restart_turn old) es
 refusal_unmade old es same = cut_first old (refused_restart_turn old) es same
 
 -- ---- where an association is open
 
 -- A SHUTDOWN ACK waits: the restart is refused.
 refused_where : (flush : FlushKind) (e : Endpoint) (cookie : Cookie) (tie : ℕ) (core : Core) → awaits_complete core ≡ true
-    → RestartAnswers e cookie tie core [] × (refused_restart_to e (held_in core) ≡ restart_by_where flush e cookie tie core)
+    → RestartAnswers e cookie tie core [] × (refused_restart_to e (held_by_core core) ≡ restart_with_flush_by_core flush e cookie tie core)
 refused_where flush e cookie tie closed waits = absurd (cc)
 refused_where flush e cookie tie (cookie_wait mine) waits = absurd (cc)
 refused_where flush e cookie tie (cookie_echoed mine held echoed) waits = absurd (cc)
@@ -143,7 +143,7 @@ refused_where flush e cookie tie (open_in shutdown_ack_sent mine held) waits = (
 
 -- None does: the association is restarted.
 anew_where : (flush : FlushKind) (e : Endpoint) (cookie : Cookie) (tie : ℕ) (core : Core) (answers : List Answer) → awaits_complete core ≡ false → EstablishAnswers e cookie (queues_begun e cookie) tie answers
-    → RestartAnswers e cookie tie core answers × (restart_by flush e cookie tie ≡ restart_by_where flush e cookie tie core)
+    → RestartAnswers e cookie tie core answers × (restart_with_flush flush e cookie tie ≡ restart_with_flush_by_core flush e cookie tie core)
 anew_where flush e cookie tie closed answers waits h = (h, refl)
 anew_where flush e cookie tie (cookie_wait mine) answers waits h = (h, refl)
 anew_where flush e cookie tie (cookie_echoed mine held echoed) answers waits h = (h, refl)
@@ -153,12 +153,12 @@ anew_where flush e cookie tie (open_in shutdown_sent mine held) answers waits h 
 anew_where flush e cookie tie (open_in shutdown_received mine held) answers waits h = (h, refl)
 anew_where flush e cookie tie (open_in shutdown_ack_sent mine held) answers waits h = absurd (cc)
 
-anew_turn : {R : Type 0} (stream : R → Stream) (old : View R) (cookie : Cookie) (o : Outcome) → awaits_complete old.endpoint.core ≡ false → RestartAt stream cookie old o → RestartWhereAt stream cookie old o
+anew_turn : {R : Type 0} (stream : R → Stream) (old : View R) (cookie : Cookie) (o : Outcome) → awaits_complete old.endpoint.core ≡ false → RestartsAssociation stream cookie old o → RestartsUnlessShuttingDown stream cookie old o
 anew_turn stream old cookie o waits turn =
     let here = anew_where (flush_answered turn.0) old.endpoint cookie (long_word (stream old.generator)) old.endpoint.core turn.0 waits turn.1 in (turn.0, here.0, turn.2 ∙ here.1)
 
 pub restarts_anew : {R : Type 0} (stream : R → Stream) (old new : View R) (cookie : Cookie) → awaits_complete old.endpoint.core ≡ false
-    → TakesPossibleTurn stream (RestartAt stream cookie) old new → HandlesIn stream (RestartWhereAt stream cookie) old NextChunk new
+    → TakesPossibleTurn stream (RestartsAssociation stream cookie) old new → HandlesSomeTurn stream (RestartsUnlessShuttingDown stream cookie) old NextChunk new
 restarts_anew stream old new cookie waits t =
     record {
       outcome = t.outcome;

@@ -15,7 +15,7 @@ use Rattle.dcsctp_core.specs.spec.endpoint.Following.{dropped_rest}
 use Rattle.dcsctp_core.specs.spec.association.CookieEchoChanges.{stale_error}
 use Rattle.dcsctp_core.specs.spec.endpoint.CookieEchoOutcomes.{refused_echo_outcome, stale_text}
 use Rattle.dcsctp_core.specs.declared.following.Following.TheVariants.{DroppedRest}
-use Rattle.dcsctp_core.specs.View.{View, Moves, CutTurn}
+use Rattle.dcsctp_core.specs.View.{View, Moves, CutsTurn}
 use Rattle.dcsctp_core.specs.Handling.{IsHandledTurn, chunk_emitted}
 use Rattle.dcsctp_core.proofs.Composing.{moves_behind, cut_first, cut_after}
 use Rattle.dcsctp_core.proofs.SentLemmas.{emitted_where}
@@ -67,12 +67,12 @@ tells_peer {R = R} stream old mid new tag follows first second =
     (record { moves = told_after stream old mid new tag first second; following = refl })
 
 -- An allocation failed for the event,
-pub untold : {R : Type 0} (old : View R) (tag : ℕ) (es : List (Event (List ℕ))) → es ≡ old.events → CutTurn old (stale_turn tag old) es
+pub untold : {R : Type 0} (old : View R) (tag : ℕ) (es : List (Event (List ℕ))) → es ≡ old.events → CutsTurn old (stale_turn tag old) es
 untold old tag es same = cut_first old (stale_turn tag old) es same
 
 -- or for the packet after it.
 pub unsent : {R : Type 0} (stream : R → Stream) (old mid : View R) (tag : ℕ) (es : List (Event (List ℕ))) → old.endpoint.options.follow_rfc ≡ true
-    → Moves stream old (refused_echo_outcome old.endpoint stale_text) mid → es ≡ mid.events → CutTurn old (stale_turn tag old) es
+    → Moves stream old (refused_echo_outcome old.endpoint stale_text) mid → es ≡ mid.events → CutsTurn old (stale_turn tag old) es
 unsent {R = R} stream old mid tag es follows first same =
-    subst (λ (b : Bool). CutTurn old (stale_by b old.endpoint tag) es) (sym follows)
+    subst (λ (b : Bool). CutsTurn old (stale_by b old.endpoint tag) es) (sym follows)
     (cut_after old (sending old.endpoint tag) es told (emits old.endpoint [] (stale_to tag)).events refl (same ∙ first.events))

@@ -6,30 +6,30 @@ use Rattle.dcsctp_core.specs.types.declared.association.Pair.{Pair}
 use Rattle.dcsctp_core.specs.types.declared.association.Held.{Held}
 use Rattle.dcsctp_core.specs.spec.endpoint.Event.{Event}
 use Rattle.dcsctp_core.specs.spec.endpoint.Endpoint.{Endpoint, Core, cookie_wait, cookie_echoed}
-use Rattle.dcsctp_core.specs.spec.endpoint.Timers.{RunningTimer, is_timer_expired, is_restarted, going_on}
+use Rattle.dcsctp_core.specs.spec.endpoint.Timers.{RunningTimer, is_timer_expired, is_restarted, continued_timer}
 use Rattle.dcsctp_core.specs.spec.endpoint.Outcome.{Outcome, still, emits}
 use Rattle.dcsctp_core.specs.spec.endpoint.TimeTurns.{deadline_of, has_come, has_restart, t1_timer}
 use Rattle.dcsctp_core.specs.spec.endpoint.Turn.{ActTurn}
 use Rattle.dcsctp_core.specs.spec.association.Acts.{t1_expires}
 use Rattle.dcsctp_core.specs.spec.endpoint.FlushOutcomes.{Answer, flush_answered}
 use Rattle.dcsctp_core.specs.spec.endpoint.HandshakeOutcomes.{init_emission}
-use Rattle.dcsctp_core.specs.spec.endpoint.TimerOutcomes.{t1_goes_on, again_by, AgainAnswers, t1_gives_up_outcome}
+use Rattle.dcsctp_core.specs.spec.endpoint.TimerOutcomes.{endpoint_with_t1_continued, send_again_with_flush, AgainAnswers, t1_gives_up_outcome}
 use Rattle.dcsctp_core.specs.spec.endpoint.Timers.{running_after}
 use Rattle.dcsctp_core.specs.declared.context.Context.{Context}
 use Rattle.dcsctp_core.specs.declared.expiry.Expiry.TheVariants.{Again, GaveUp}
 use Rattle.dcsctp_core.specs.declared.state.State.{State}
 use Rattle.dcsctp_core.specs.declared.state.State.TheVariants.{Closed, CookieWait, CookieEchoed, Open}
-use Rattle.dcsctp_core.specs.Handling.{TakesPossibleTurn, CutIn}
-use Rattle.dcsctp_core.specs.Timing.{expiry_where, expiry_of, t1_told, ExpiryTurn, is_timer_due}
+use Rattle.dcsctp_core.specs.Handling.{TakesPossibleTurn, CutsSomeTurn}
+use Rattle.dcsctp_core.specs.Timing.{expiry_if_due, expiry_of, state_after_t1, ExpiryTurn, is_timer_due}
 use Rattle.dcsctp_core.specs.View.{View, Moves, view_of, endpoint_of, core_of, t1_of}
 use Rattle.dcsctp_core.proofs.Composing.{cut_first}
 use Rattle.dcsctp_core.proofs.Moving.{moves_still}
-use Rattle.dcsctp_core_handshake.specs.Handshake.{echo_by, EchoAt}
-use Rattle.dcsctp_core_handshake.specs.Timing.{AgainAt}
+use Rattle.dcsctp_core_handshake.specs.Handshake.{echo_with_flush, EchoesCookie}
+use Rattle.dcsctp_core_handshake.specs.Timing.{RepeatsHandshakePacket}
 
 -- ---- what T1 is
 
-again_both : (due restarts : Bool) → Again ≡ expiry_where due restarts → (due ≡ true) × (restarts ≡ true)
+again_both : (due restarts : Bool) → Again ≡ expiry_if_due due restarts → (due ≡ true) × (restarts ≡ true)
 again_both true true is = (refl, refl)
 again_both true false is = absurd (cc)
 again_both false restarts is = absurd (cc)
@@ -43,15 +43,15 @@ goes_on false restarts timer next d r = absurd (cc)
 pub record IsAgain (moment : ℕ) (t1 : Option RunningTimer) : Type 0 where
   pub due : has_come moment (deadline_of t1) ≡ true
   pub restarts : has_restart t1 ≡ true
-  pub running : running_after moment t1 ≡ option_map (going_on moment) t1
+  pub running : running_after moment t1 ≡ option_map (continued_timer moment) t1
 
 again_is : (moment : ℕ) (t1 : Option RunningTimer) → Again ≡ expiry_of moment t1 → IsAgain moment t1
 again_is moment None is = absurd (cc)
 again_is moment (Some timer) is =
     let both : (is_timer_expired moment timer ≡ true) × (is_restarted timer ≡ true) = again_both (is_timer_expired moment timer) (is_restarted timer) is in
-    record { due = both.0; restarts = both.1; running = goes_on (is_timer_expired moment timer) (is_restarted timer) timer (going_on moment timer) both.0 both.1 }
+    record { due = both.0; restarts = both.1; running = goes_on (is_timer_expired moment timer) (is_restarted timer) timer (continued_timer moment timer) both.0 both.1 }
 
-gave_up_both : (due restarts : Bool) → GaveUp ≡ expiry_where due restarts → (due ≡ true) × (restarts ≡ false)
+gave_up_both : (due restarts : Bool) → GaveUp ≡ expiry_if_due due restarts → (due ≡ true) × (restarts ≡ false)
 gave_up_both true true is = absurd (cc)
 gave_up_both true false is = (refl, refl)
 gave_up_both false restarts is = absurd (cc)
@@ -65,58 +65,58 @@ gave_up_is moment (Some timer) is = gave_up_both (is_timer_expired moment timer)
 
 -- a turn of it, by the association
 pub again_turn : {R : Type 0} (view : View R) (core : Core) (answers : List Answer) → view.endpoint.core ≡ core → AgainAnswers view.endpoint core answers
-    → AgainAt view (again_by (flush_answered answers) view.endpoint core)
+    → RepeatsHandshakePacket view (send_again_with_flush (flush_answered answers) view.endpoint core)
 again_turn view core answers is allowed = (
   answers,
   subst (λ (c : Core). AgainAnswers view.endpoint c answers) (sym is) allowed,
-  ap (again_by (flush_answered answers) view.endpoint) (sym is),
+  ap (send_again_with_flush (flush_answered answers) view.endpoint) (sym is),
 )
 
 -- where nothing is awaited
 pub again_nothing : {R : Type 0} (stream : R → Stream) (view : View R) (core : Core) → view.endpoint.core ≡ core → AgainAnswers view.endpoint core []
-    → again_by (flush_answered []) view.endpoint core ≡ still view.endpoint → TakesPossibleTurn stream AgainAt view view
+    → send_again_with_flush (flush_answered []) view.endpoint core ≡ still view.endpoint → TakesPossibleTurn stream RepeatsHandshakePacket view view
 again_nothing stream view core is allowed nothing =
     record {
-      outcome = again_by (flush_answered []) view.endpoint core;
+      outcome = send_again_with_flush (flush_answered []) view.endpoint core;
       turn = again_turn view core [] is allowed;
       moves = subst (λ (o : Outcome). Moves stream view o view) (sym nothing) (moves_still stream view);
     }
 
 -- the INIT
 pub again_init : {R : Type 0} (stream : R → Stream) (old new : View R) (mine : Pair) → old.endpoint.core ≡ cookie_wait mine
-    → Moves stream old (emits old.endpoint [] (init_emission old.endpoint mine)) new → TakesPossibleTurn stream AgainAt old new
+    → Moves stream old (emits old.endpoint [] (init_emission old.endpoint mine)) new → TakesPossibleTurn stream RepeatsHandshakePacket old new
 again_init stream old new mine is m = record { outcome = emits old.endpoint [] (init_emission old.endpoint mine); turn = again_turn old (cookie_wait mine) [] is refl; moves = m }
 
-pub again_init_cut : {R : Type 0} (old new : View R) (mine : Pair) → old.endpoint.core ≡ cookie_wait mine → new ≡ old → CutIn AgainAt old new.events
+pub again_init_cut : {R : Type 0} (old new : View R) (mine : Pair) → old.endpoint.core ≡ cookie_wait mine → new ≡ old → CutsSomeTurn RepeatsHandshakePacket old new.events
 again_init_cut {R = R} old new mine is same =
     let o : Outcome = emits old.endpoint [] (init_emission old.endpoint mine) in
     record { outcome = o; turn = again_turn old (cookie_wait mine) [] is refl; cut = cut_first old o new.events (ap (λ (v : View R). v.events) same) }
 
 -- the COOKIE ECHO
-echo_is : {R : Type 0} (old : View R) (mine : Pair) (held : Held) (cookie : List ℕ) (o : Outcome) → old.endpoint.core ≡ cookie_echoed mine held cookie → EchoAt old o → AgainAt old o
+echo_is : {R : Type 0} (old : View R) (mine : Pair) (held : Held) (cookie : List ℕ) (o : Outcome) → old.endpoint.core ≡ cookie_echoed mine held cookie → EchoesCookie old o → RepeatsHandshakePacket old o
 echo_is old mine held cookie o is turn = (
   turn.0,
   turn.1,
-  turn.2 ∙ ap (echo_by (flush_answered turn.0) old.endpoint) is ∙ ap (again_by (flush_answered turn.0) old.endpoint) (sym is),
+  turn.2 ∙ ap (echo_with_flush (flush_answered turn.0) old.endpoint) is ∙ ap (send_again_with_flush (flush_answered turn.0) old.endpoint) (sym is),
 )
 
 pub again_echo : {R : Type 0} (stream : R → Stream) (old new : View R) (mine : Pair) (held : Held) (cookie : List ℕ) → old.endpoint.core ≡ cookie_echoed mine held cookie
-    → TakesPossibleTurn stream EchoAt old new → TakesPossibleTurn stream AgainAt old new
+    → TakesPossibleTurn stream EchoesCookie old new → TakesPossibleTurn stream RepeatsHandshakePacket old new
 again_echo stream old new mine held cookie is t = record { outcome = t.outcome; turn = echo_is old mine held cookie t.outcome is t.turn; moves = t.moves }
 
 pub again_echo_cut : {R : Type 0} (old : View R) (es : List (Event (List ℕ))) (mine : Pair) (held : Held) (cookie : List ℕ) → old.endpoint.core ≡ cookie_echoed mine held cookie
-    → CutIn EchoAt old es → CutIn AgainAt old es
+    → CutsSomeTurn EchoesCookie old es → CutsSomeTurn RepeatsHandshakePacket old es
 again_echo_cut old es mine held cookie is t = record { outcome = t.outcome; turn = echo_is old mine held cookie t.outcome is t.turn; cut = t.cut }
 
 -- ---- the turn of T1
 
 -- the socket once T1 was advanced to the moment
 abbrev pub told : {R : Type 0} → Context R → Context R
-told old = record old { state = t1_told old.moment old.state }
+told old = record old { state = state_after_t1 old.moment old.state }
 
 -- T1 runs again there.
 told_at : {R : Type 0} (old : Context R) (state : State) → Again ≡ expiry_of old.moment (t1_of state)
-    → endpoint_of (record old { state = t1_told old.moment state }) ≡ t1_goes_on (endpoint_of (record old { state = state }))
+    → endpoint_of (record old { state = state_after_t1 old.moment state }) ≡ endpoint_with_t1_continued (endpoint_of (record old { state = state }))
 told_at old Closed is = absurd (cc)
 told_at old (CookieWait wait) is =
     let e : Endpoint = endpoint_of (record old { state = CookieWait wait }) in
@@ -127,20 +127,20 @@ told_at old (CookieEchoed echoed) is =
 told_at old (Open opened) is = absurd (cc)
 
 -- the turn of a packet that is sent again there
-again_expiry : {R : Type 0} (old : Context R) (o : Outcome) → Again ≡ expiry_of old.moment (t1_of old.state) → AgainAt (view_of (told old)) o → ExpiryTurn t1_timer (view_of old) o
+again_expiry : {R : Type 0} (old : Context R) (o : Outcome) → Again ≡ expiry_of old.moment (t1_of old.state) → RepeatsHandshakePacket (view_of (told old)) o → ExpiryTurn t1_timer (view_of old) o
 again_expiry old o is turn =
     let e : Endpoint = endpoint_of old in
-    let here : endpoint_of (told old) ≡ t1_goes_on e = told_at old old.state is in
+    let here : endpoint_of (told old) ≡ endpoint_with_t1_continued e = told_at old old.state is in
     let answers : List Answer = turn.0 in
     let at_true : ActTurn e (t1_expires true) o = (
       answers,
       subst (λ (x : Endpoint). AgainAnswers x x.core answers) here turn.1,
-      turn.2 ∙ ap (λ (x : Endpoint). again_by (flush_answered answers) x x.core) here,
+      turn.2 ∙ ap (λ (x : Endpoint). send_again_with_flush (flush_answered answers) x x.core) here,
     ) in
     subst (λ (b : Bool). ActTurn e (t1_expires b) o) (sym (again_is old.moment (t1_of old.state) is).restarts) at_true
 
 pub t1_again : {R : Type 0} (stream : R → Stream) (old : Context R) (new : View R) → Again ≡ expiry_of old.moment (t1_of old.state)
-    → TakesPossibleTurn stream AgainAt (view_of (told old)) new → (is_timer_due (endpoint_of old) t1_timer ≡ true) × TakesPossibleTurn stream (ExpiryTurn t1_timer) (view_of old) new
+    → TakesPossibleTurn stream RepeatsHandshakePacket (view_of (told old)) new → (is_timer_due (endpoint_of old) t1_timer ≡ true) × TakesPossibleTurn stream (ExpiryTurn t1_timer) (view_of old) new
 t1_again stream old new is t =
     let m = t.moves in (
       (again_is old.moment (t1_of old.state) is).due,
@@ -152,7 +152,7 @@ t1_again stream old new is t =
     )
 
 pub t1_again_cut : {R : Type 0} (old : Context R) (es : List (Event (List ℕ))) → Again ≡ expiry_of old.moment (t1_of old.state)
-    → CutIn AgainAt (view_of (told old)) es → (is_timer_due (endpoint_of old) t1_timer ≡ true) × CutIn (ExpiryTurn t1_timer) (view_of old) es
+    → CutsSomeTurn RepeatsHandshakePacket (view_of (told old)) es → (is_timer_due (endpoint_of old) t1_timer ≡ true) × CutsSomeTurn (ExpiryTurn t1_timer) (view_of old) es
 t1_again_cut old es is t = (
   (again_is old.moment (t1_of old.state) is).due,
   record {
@@ -165,7 +165,7 @@ t1_again_cut old es is t = (
 -- ---- the handshake is given up
 
 gives_up_at : {R : Type 0} (stream : R → Stream) (old : Context R) (state : State) (new : View R) → GaveUp ≡ expiry_of old.moment (t1_of state)
-    → Moves stream (view_of (record old { state = t1_told old.moment state })) (t1_gives_up_outcome (endpoint_of (record old { state = t1_told old.moment state })) (core_of (t1_told old.moment state))) new
+    → Moves stream (view_of (record old { state = state_after_t1 old.moment state })) (t1_gives_up_outcome (endpoint_of (record old { state = state_after_t1 old.moment state })) (core_of (state_after_t1 old.moment state))) new
     → Moves stream (view_of (record old { state = state })) (t1_gives_up_outcome (endpoint_of (record old { state = state })) (core_of state)) new
 gives_up_at stream old Closed new is m = absurd (cc)
 gives_up_at stream old (CookieWait wait) new is m = record { endpoint = m.endpoint; events = m.events; words = m.words; pairs = m.pairs; drawn = m.drawn }
@@ -191,7 +191,7 @@ t1_gave_up stream old new is m = (
 )
 
 pub t1_kept : {R : Type 0} (old : Context R) (es : List (Event (List ℕ))) → GaveUp ≡ expiry_of old.moment (t1_of old.state) → es ≡ (view_of old).events
-    → (is_timer_due (endpoint_of old) t1_timer ≡ true) × CutIn (ExpiryTurn t1_timer) (view_of old) es
+    → (is_timer_due (endpoint_of old) t1_timer ≡ true) × CutsSomeTurn (ExpiryTurn t1_timer) (view_of old) es
 t1_kept old es is same = (
   (gave_up_is old.moment (t1_of old.state) is).0,
   record {

@@ -8,12 +8,12 @@ use Rattle.dcsctp_core.specs.spec.endpoint.Event.{Event, connected, connection_r
 use Rattle.dcsctp_core.specs.spec.Packet.{Emission, cookie_ack}
 use Rattle.dcsctp_core.specs.spec.queues.Transfer.{Transfer, EndpointQueues, new_transfer, transfer_kept}
 use Rattle.dcsctp_core.specs.declared.transmission_control_block.TransmissionControlBlock.{TransmissionControlBlock}
-use Rattle.dcsctp_core.specs.spec.endpoint.Endpoint.{Endpoint, Core, closed, cookie_wait, cookie_echoed, open_in, established, shutdown_ack_sent, held_in, stopped_timers, heartbeats_begun, errors_begun}
-use Rattle.dcsctp_core.specs.spec.endpoint.Outcome.{Outcome, still, noting, behind, emits}
+use Rattle.dcsctp_core.specs.spec.endpoint.Endpoint.{Endpoint, Core, closed, cookie_wait, cookie_echoed, open_in, established, shutdown_ack_sent, held_by_core, stopped_timers, heartbeats_begun, errors_begun}
+use Rattle.dcsctp_core.specs.spec.endpoint.Outcome.{Outcome, still, with_effects_first, behind, emits}
 use Rattle.dcsctp_core.specs.spec.association.Effect.{connects, identity_of}
 use Rattle.dcsctp_core.specs.spec.endpoint.FlushOutcomes.{Answer, FlushAnswers, FlushKind, flush_answered}
 use Rattle.dcsctp_core.specs.spec.endpoint.HandshakeOutcomes.{connected_after}
-use Rattle.dcsctp_core.specs.spec.endpoint.CookieEchoOutcomes.{refused_echo_outcome, stale_text, refused_restart_outcome, restart_by_where, RestartAnswers, established_by, window_by_cookie, queues_with, queues_kept, queue_where, queues_begun, queues_collided, establish_by, EstablishAnswers}
+use Rattle.dcsctp_core.specs.spec.endpoint.CookieEchoOutcomes.{refused_echo_outcome, stale_text, refused_restart_outcome, restart_with_flush_by_core, RestartAnswers, endpoint_established, window_by_cookie, queues_with, queues_kept, queue_if_kept, queues_begun, queues_collided, establish_with_flush, EstablishAnswers}
 use Rattle.dcsctp_core.specs.spec.association.CookieEchoChanges.{held_by_cookie, stale_error}
 use Rattle.dcsctp_core.specs.spec.endpoint.Following.{dropped_rest}
 use Rattle.dcsctp_core.specs.View.{View, held_of, request_of, timer_of}
@@ -27,22 +27,22 @@ cookie_ack_to held =
     record { with_checksum = held.capabilities.zero_checksum_method.0 == 0; packet = record { tag = held.peer.tag; contents = cookie_ack ∷ [] } }
 
 -- these events, and a flush that begins with this packet
-abbrev pub acknowledges_by : FlushKind → Endpoint → Held → List (Event Emission) → Outcome
-acknowledges_by flush e held events = flush e [] events (held.capabilities.zero_checksum_method.0 == 0) held.peer.tag (cookie_ack ∷ [])
+abbrev pub acknowledgement_with_flush : FlushKind → Endpoint → Held → List (Event Emission) → Outcome
+acknowledgement_with_flush flush e held events = flush e [] events (held.capabilities.zero_checksum_method.0 == 0) held.peer.tag (cookie_ack ∷ [])
 
 -- to the peer, if it is known
 abbrev pub peer_acknowledged : FlushKind → Endpoint → Option Held → Outcome
 peer_acknowledged flush e None = still e
-peer_acknowledged flush e (Some held) = acknowledges_by flush e held []
+peer_acknowledged flush e (Some held) = acknowledgement_with_flush flush e held []
 
 abbrev pub AcknowledgedAnswers : Endpoint → Option Held → List Answer → Type 0
 AcknowledgedAnswers e None answers = answers ≡ []
 AcknowledgedAnswers e (Some held) answers = FlushAnswers e (cookie_ack_to held) answers
 
-abbrev pub AcknowledgementAt : {R : Type 0} → View R → Outcome → Type 0
-AcknowledgementAt view o =
-    (answers : List Answer) × AcknowledgedAnswers view.endpoint (held_in view.endpoint.core) answers
-    × (o ≡ peer_acknowledged (flush_answered answers) view.endpoint (held_in view.endpoint.core))
+abbrev pub AcknowledgesEcho : {R : Type 0} → View R → Outcome → Type 0
+AcknowledgesEcho view o =
+    (answers : List Answer) × AcknowledgedAnswers view.endpoint (held_by_core view.endpoint.core) answers
+    × (o ≡ peer_acknowledged (flush_answered answers) view.endpoint (held_by_core view.endpoint.core))
 
 -- ---- a cookie that makes an association
 
@@ -78,7 +78,7 @@ unheld e =
 
 -- the endpoint that holds a cookie's association; what waits to be sent stays
 abbrev pub established_with : Endpoint → Cookie → ℕ → Endpoint
-established_with e cookie tie = established_by e cookie (queues_with e cookie (queue_where false e cookie)) tie
+established_with e cookie tie = endpoint_established e cookie (queues_with e cookie (queue_if_kept false e cookie)) tie
 
 -- what was sent, once it goes to a cookie's addressee; nothing if there was no peer
 abbrev pub transfer_over : Endpoint → Cookie → Option Transfer → Transfer
@@ -91,61 +91,61 @@ queues_over e cookie = record e.queues { transfer = Some (transfer_over e cookie
 
 -- The same, made of the existing association.
 abbrev pub taken_over : Endpoint → Cookie → ℕ → Endpoint
-taken_over e cookie tie = established_by e cookie (queues_over e cookie) tie
+taken_over e cookie tie = endpoint_established e cookie (queues_over e cookie) tie
 
 -- An association is made of a cookie, with these queues and after these events. The tie tag is the word that the generator gives
 -- next.
-abbrev pub AssociationAt : {R : Type 0} → (R → Stream) → Cookie → EndpointQueues → List (Event Emission) → View R → Outcome → Type 0
-AssociationAt stream cookie queues events view o =
+abbrev pub MakesAssociation : {R : Type 0} → (R → Stream) → Cookie → EndpointQueues → List (Event Emission) → View R → Outcome → Type 0
+MakesAssociation stream cookie queues events view o =
     let tie : ℕ = long_word (stream view.generator) in
     (answers : List Answer) × EstablishAnswers view.endpoint cookie queues tie answers
-    × (o ≡ establish_by (flush_answered answers) view.endpoint cookie queues tie events)
+    × (o ≡ establish_with_flush (flush_answered answers) view.endpoint cookie queues tie events)
 
 -- What waits to be sent is kept.
-abbrev pub EstablishAt : {R : Type 0} → (R → Stream) → Cookie → View R → Outcome → Type 0
-EstablishAt stream cookie view o =
-    AssociationAt stream cookie (queues_with view.endpoint cookie (queue_where false view.endpoint cookie)) (connected ∷ []) view o
+abbrev pub EstablishesAssociation : {R : Type 0} → (R → Stream) → Cookie → View R → Outcome → Type 0
+EstablishesAssociation stream cookie view o =
+    MakesAssociation stream cookie (queues_with view.endpoint cookie (queue_if_kept false view.endpoint cookie)) (connected ∷ []) view o
 
 -- That is so where there was no association, unless its numbers start again by the RFC.
-abbrev pub EstablishNewAt : {R : Type 0} → (R → Stream) → Cookie → View R → Outcome → Type 0
-EstablishNewAt stream cookie view o = AssociationAt stream cookie (queues_kept view.endpoint cookie) (connected ∷ []) view o
+abbrev pub EstablishesFirst : {R : Type 0} → (R → Stream) → Cookie → View R → Outcome → Type 0
+EstablishesFirst stream cookie view o = MakesAssociation stream cookie (queues_kept view.endpoint cookie) (connected ∷ []) view o
 
 -- instead of the existing one
-abbrev pub ReplaceAt : {R : Type 0} → (R → Stream) → Cookie → View R → Outcome → Type 0
-ReplaceAt stream cookie view o = AssociationAt stream cookie (queues_begun view.endpoint cookie) (connected ∷ []) view o
+abbrev pub ReplacesAssociation : {R : Type 0} → (R → Stream) → Cookie → View R → Outcome → Type 0
+ReplacesAssociation stream cookie view o = MakesAssociation stream cookie (queues_begun view.endpoint cookie) (connected ∷ []) view o
 
 -- What was sent goes to its peer.
-abbrev pub OutlastAt : {R : Type 0} → (R → Stream) → Cookie → View R → Outcome → Type 0
-OutlastAt stream cookie view o = AssociationAt stream cookie (queues_over view.endpoint cookie) (connected ∷ []) view o
+abbrev pub OutlastsAssociation : {R : Type 0} → (R → Stream) → Cookie → View R → Outcome → Type 0
+OutlastsAssociation stream cookie view o = MakesAssociation stream cookie (queues_over view.endpoint cookie) (connected ∷ []) view o
 
 -- since both sides began at the same time
-abbrev pub CollideAt : {R : Type 0} → (R → Stream) → Cookie → View R → Outcome → Type 0
-CollideAt stream cookie view o =
-    AssociationAt stream cookie (queues_collided view.endpoint view.endpoint.core cookie) (connected ∷ []) view o
+abbrev pub CollidesWithPeer : {R : Type 0} → (R → Stream) → Cookie → View R → Outcome → Type 0
+CollidesWithPeer stream cookie view o =
+    MakesAssociation stream cookie (queues_collided view.endpoint view.endpoint.core cookie) (connected ∷ []) view o
 
 -- since the peer has restarted
-abbrev pub RestartAt : {R : Type 0} → (R → Stream) → Cookie → View R → Outcome → Type 0
-RestartAt stream cookie view o = AssociationAt stream cookie (queues_begun view.endpoint cookie) (connection_restarted ∷ connected ∷ []) view o
+abbrev pub RestartsAssociation : {R : Type 0} → (R → Stream) → Cookie → View R → Outcome → Type 0
+RestartsAssociation stream cookie view o = MakesAssociation stream cookie (queues_begun view.endpoint cookie) (connection_restarted ∷ connected ∷ []) view o
 
 -- ---- the others
 
 -- a cookie of the existing association: the answer goes to the peer
-abbrev pub maintained_by : FlushKind → Endpoint → Core → Outcome
-maintained_by flush e closed = still e
-maintained_by flush e (cookie_wait mine) = still e
-maintained_by flush e (cookie_echoed mine held echoed) =
-    noting (connects (identity_of mine held) ∷ []) (acknowledges_by flush (connected_after e mine held) held (connected ∷ []))
-maintained_by flush e (open_in phase mine held) = acknowledges_by flush e held []
+abbrev pub maintained_with_flush : FlushKind → Endpoint → Core → Outcome
+maintained_with_flush flush e closed = still e
+maintained_with_flush flush e (cookie_wait mine) = still e
+maintained_with_flush flush e (cookie_echoed mine held echoed) =
+    with_effects_first (connects (identity_of mine held) ∷ []) (acknowledgement_with_flush flush (connected_after e mine held) held (connected ∷ []))
+maintained_with_flush flush e (open_in phase mine held) = acknowledgement_with_flush flush e held []
 
 abbrev pub MaintainedAnswers : Endpoint → Core → List Answer → Type 0
 MaintainedAnswers e (cookie_echoed mine held echoed) answers = FlushAnswers (connected_after e mine held) (cookie_ack_to held) answers
 MaintainedAnswers e (open_in phase mine held) answers = FlushAnswers e (cookie_ack_to held) answers
 MaintainedAnswers e core answers = answers ≡ []
 
-abbrev pub MaintainAt : {R : Type 0} → View R → Outcome → Type 0
-MaintainAt view o =
+abbrev pub MaintainsAssociation : {R : Type 0} → View R → Outcome → Type 0
+MaintainsAssociation view o =
     (answers : List Answer) × MaintainedAnswers view.endpoint view.endpoint.core answers
-    × (o ≡ maintained_by (flush_answered answers) view.endpoint view.endpoint.core)
+    × (o ≡ maintained_with_flush (flush_answered answers) view.endpoint view.endpoint.core)
 
 -- A SHUTDOWN ACK waits for its answer.
 abbrev pub awaits_complete : Core → Bool
@@ -153,11 +153,11 @@ awaits_complete (open_in shutdown_ack_sent mine held) = true
 awaits_complete core = false
 
 -- A restart, unless a SHUTDOWN ACK waits for its answer.
-abbrev pub RestartWhereAt : {R : Type 0} → (R → Stream) → Cookie → View R → Outcome → Type 0
-RestartWhereAt stream cookie view o =
+abbrev pub RestartsUnlessShuttingDown : {R : Type 0} → (R → Stream) → Cookie → View R → Outcome → Type 0
+RestartsUnlessShuttingDown stream cookie view o =
     let tie : ℕ = long_word (stream view.generator) in
     (answers : List Answer) × RestartAnswers view.endpoint cookie tie view.endpoint.core answers
-    × (o ≡ restart_by_where (flush_answered answers) view.endpoint cookie tie view.endpoint.core)
+    × (o ≡ restart_with_flush_by_core (flush_answered answers) view.endpoint cookie tie view.endpoint.core)
 
 -- to the peer, if it is known
 abbrev pub refused_restart_to : Endpoint → Option Held → Outcome
@@ -165,7 +165,7 @@ refused_restart_to e None = still e
 refused_restart_to e (Some held) = refused_restart_outcome e held
 
 abbrev pub refused_restart_turn : {R : Type 0} → View R → Outcome
-refused_restart_turn view = refused_restart_to view.endpoint (held_in view.endpoint.core)
+refused_restart_turn view = refused_restart_to view.endpoint (held_by_core view.endpoint.core)
 
 -- A COOKIE ECHO is refused with this text.
 abbrev pub refuse_turn : {R : Type 0} → List ℕ → View R → Outcome
@@ -180,11 +180,11 @@ abbrev pub stale_sent_turn : {R : Type 0} → ℕ → View R → Outcome
 stale_sent_turn tag view = emits view.endpoint [] (stale_to tag)
 
 -- A stale cookie of a peer with this tag is reported to the user; by the RFC to the peer, too.
-abbrev pub stale_told : Endpoint → ℕ → Outcome
-stale_told e tag =
+abbrev pub stale_outcome_for_peer : Endpoint → ℕ → Outcome
+stale_outcome_for_peer e tag =
     if e.options.follow_rfc
     then record (behind [] (error ParseFailed stale_text ∷ []) (emits e [] (stale_to tag))) { following = dropped_rest }
     else refused_echo_outcome e stale_text
 
 abbrev pub stale_turn : {R : Type 0} → ℕ → View R → Outcome
-stale_turn tag view = stale_told view.endpoint tag
+stale_turn tag view = stale_outcome_for_peer view.endpoint tag

@@ -6,11 +6,11 @@ use Rattle.dcsctp_core.specs.types.declared.association.Pair.{Pair}
 use Rattle.dcsctp_core.specs.types.declared.options.Options.{Options}
 use Rattle.dcsctp_core.specs.types.declared.word.Word.TheVariants.{U32}
 use Rattle.dcsctp_core.specs.types.ByResult.{ByResult}
-use Rattle.dcsctp_core.specs.types.Offer.{offer_of, negotiated}
+use Rattle.dcsctp_core.specs.types.Offer.{offer_of, negotiated_capabilities}
 use Rattle.dcsctp_core.specs.spec.Packet.{Introduction}
-use Rattle.dcsctp_core.specs.spec.endpoint.Endpoint.{Endpoint, Core, closed, cookie_wait, cookie_echoed, open_in, held_in, may_answer}
+use Rattle.dcsctp_core.specs.spec.endpoint.Endpoint.{Endpoint, Core, closed, cookie_wait, cookie_echoed, open_in, held_by_core, may_answer}
 use Rattle.dcsctp_core.specs.spec.endpoint.Outcome.{Outcome, still, emits}
-use Rattle.dcsctp_core.specs.spec.endpoint.HandshakeOutcomes.{tag_from, pair_from, init_outcome, init_answered, renewed_pair_outcome, answer_outcome, awaits_init_ack, connect_outcome, init_emission, send_echo_by, accepted_init_ack_by, abort_emission, refused_init_ack_outcome, InitAckAnswers, InitAckTurn, CookieAckTurn}
+use Rattle.dcsctp_core.specs.spec.endpoint.HandshakeOutcomes.{tag_from, pair_from, init_outcome, init_answered, renewed_pair_outcome, answer_outcome, awaits_init_ack, connect_outcome, init_emission, send_echo_with_flush, accept_init_ack_with_flush, abort_emission, refused_init_ack_outcome, InitAckAnswers, InitAckTurn, CookieAckTurn}
 use Rattle.dcsctp_core.specs.spec.endpoint.CookieEchoOutcomes.{CookieEchoTurn}
 use Rattle.dcsctp_core.specs.spec.endpoint.FlushOutcomes.{Answer, FlushKind, flush_answered}
 use Rattle.dcsctp_core.specs.spec.endpoint.TimerOutcomes.{AgainAnswers}
@@ -49,9 +49,9 @@ DrawsPair stream old result new =
 abbrev pub init_answer_turn : {R : Type 0} → Introduction → Pair → ℕ → View R → Outcome
 init_answer_turn theirs mine tie view = answer_outcome view.endpoint theirs [] mine tie
 
-abbrev pub renewed_pair_where : Endpoint → Option Held → Introduction → ℕ → Outcome
-renewed_pair_where e None theirs word = still e
-renewed_pair_where e (Some held) theirs word = renewed_pair_outcome e theirs word
+abbrev pub renewed_pair_if_connected : Endpoint → Option Held → Introduction → ℕ → Outcome
+renewed_pair_if_connected e None theirs word = still e
+renewed_pair_if_connected e (Some held) theirs word = renewed_pair_outcome e theirs word
 
 -- where there is no association, with the words that the generator gives next
 abbrev pub closed_turn : {R : Type 0} → (R → Stream) → Introduction → View R → Outcome
@@ -68,7 +68,7 @@ init_turn stream theirs view =
 
 -- while an association is open, with the word that the generator gives next
 abbrev pub renewed_turn : {R : Type 0} → (R → Stream) → Introduction → View R → Outcome
-renewed_turn stream theirs view = renewed_pair_where view.endpoint (held_in view.endpoint.core) theirs (first_word (stream view.generator))
+renewed_turn stream theirs view = renewed_pair_if_connected view.endpoint (held_by_core view.endpoint.core) theirs (first_word (stream view.generator))
 
 -- ---- connect
 
@@ -95,36 +95,36 @@ abbrev pub init_ack_refusal_turn : {R : Type 0} → ℕ → View R → Outcome
 init_ack_refusal_turn tag view = refused_init_ack_outcome view.endpoint tag
 
 -- The cookie that is echoed, if one is, is sent in front of a flush.
-abbrev pub echo_by : FlushKind → Endpoint → Core → Outcome
-echo_by flush e closed = still e
-echo_by flush e (cookie_wait mine) = still e
-echo_by flush e (cookie_echoed mine held cookie) = send_echo_by flush e [] held.peer.tag cookie
-echo_by flush e (open_in phase mine held) = still e
+abbrev pub echo_with_flush : FlushKind → Endpoint → Core → Outcome
+echo_with_flush flush e closed = still e
+echo_with_flush flush e (cookie_wait mine) = still e
+echo_with_flush flush e (cookie_echoed mine held cookie) = send_echo_with_flush flush e [] held.peer.tag cookie
+echo_with_flush flush e (open_in phase mine held) = still e
 
-abbrev pub EchoAt : {R : Type 0} → View R → Outcome → Type 0
-EchoAt view o =
-    (answers : List Answer) × AgainAnswers view.endpoint view.endpoint.core answers × (o ≡ echo_by (flush_answered answers) view.endpoint view.endpoint.core)
+abbrev pub EchoesCookie : {R : Type 0} → View R → Outcome → Type 0
+EchoesCookie view o =
+    (answers : List Answer) × AgainAnswers view.endpoint view.endpoint.core answers × (o ≡ echo_with_flush (flush_answered answers) view.endpoint view.endpoint.core)
 
 -- the peer that an INIT ACK shows
 abbrev pub peer_by_init_ack : Options → Introduction → Peer
-peer_by_init_ack options theirs = record { pair = theirs.pair; a_rwnd = theirs.window; capabilities = negotiated (offer_of options) theirs.offer }
+peer_by_init_ack options theirs = record { pair = theirs.pair; a_rwnd = theirs.window; capabilities = negotiated_capabilities (offer_of options) theirs.offer }
 
 -- An INIT ACK of this peer shows the association, and its cookie is echoed. The tie tag is the word that the generator gives next.
-abbrev pub AcceptanceAt : {R : Type 0} → (R → Stream) → Pair → Introduction → List ℕ → View R → Outcome → Type 0
-AcceptanceAt stream mine theirs cookie view o =
+abbrev pub AcceptsInitAck : {R : Type 0} → (R → Stream) → Pair → Introduction → List ℕ → View R → Outcome → Type 0
+AcceptsInitAck stream mine theirs cookie view o =
     let tie : ℕ = long_word (stream view.generator) in
     (answers : List Answer) × InitAckAnswers view.endpoint theirs (Some cookie) (cookie_wait mine) tie answers
-    × (o ≡ accepted_init_ack_by (flush_answered answers) view.endpoint mine theirs (Some cookie) tie)
+    × (o ≡ accept_init_ack_with_flush (flush_answered answers) view.endpoint mine theirs (Some cookie) tie)
 
 -- An INIT ACK with this cookie was received.
-abbrev pub InitAckAt : {R : Type 0} → Introduction → Option (List ℕ) → View R → Outcome → Type 0
-InitAckAt theirs cookie view o = InitAckTurn view.endpoint theirs cookie o
+abbrev pub ReceivesInitAck : {R : Type 0} → Introduction → Option (List ℕ) → View R → Outcome → Type 0
+ReceivesInitAck theirs cookie view o = InitAckTurn view.endpoint theirs cookie o
 
 -- ---- COOKIE ACK and COOKIE ECHO
 
-abbrev pub CookieAckAt : {R : Type 0} → View R → Outcome → Type 0
-CookieAckAt view o = CookieAckTurn view.endpoint o
+abbrev pub ReceivesCookieAck : {R : Type 0} → View R → Outcome → Type 0
+ReceivesCookieAck view o = CookieAckTurn view.endpoint o
 
 -- A COOKIE ECHO of these bytes was received in a packet with this header tag.
-abbrev pub CookieEchoAt : {R : Type 0} → ℕ → List ℕ → View R → Outcome → Type 0
-CookieEchoAt header bytes view o = CookieEchoTurn view.endpoint header bytes o
+abbrev pub ReceivesCookieEcho : {R : Type 0} → ℕ → List ℕ → View R → Outcome → Type 0
+ReceivesCookieEcho header bytes view o = CookieEchoTurn view.endpoint header bytes o

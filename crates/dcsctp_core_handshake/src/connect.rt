@@ -4,13 +4,13 @@ ghost use Rattle.std.specs.Prelude.{◌≡◌, false, None, IsOk};
 ghost use Rattle.std.specs.Duration.{as_nanos};
 ghost use Rattle.dcsctp_core.specs.wire.Content.{init_content};
 ghost use Rattle.dcsctp_core.specs.spec.endpoint.Endpoint.{t1_settings};
-ghost use Rattle.dcsctp_core.specs.spec.endpoint.Timers.{started};
-ghost use Rattle.dcsctp_core.specs.spec.Packet.{introduction_in, cookie_in};
+ghost use Rattle.dcsctp_core.specs.spec.endpoint.Timers.{started_timer};
+ghost use Rattle.dcsctp_core.specs.spec.Packet.{introduction_of_init, first_cookie};
 ghost use Rattle.dcsctp_core.specs.spec.endpoint.HandshakeOutcomes.{implementation_of};
 ghost use Rattle.dcsctp_core.specs.api.Calls.{is_closed};
 ghost use Rattle.dcsctp_core.specs.View.{t2_of, core_of, view_of, endpoint_of};
 ghost use Rattle.dcsctp_core.specs.Handling.{Tries, TriesDrawing, TakesTurn, TakesOne, HandlesPossibleTurn};
-ghost use Rattle.dcsctp_core_handshake.specs.Handshake.{send_init_turn, awaiting, connect_turn, missing_cookie_turn, init_ack_refusal_turn, EchoAt, AcceptanceAt, InitAckAt, CookieAckAt, peer_by_init_ack};
+ghost use Rattle.dcsctp_core_handshake.specs.Handshake.{send_init_turn, awaiting, connect_turn, missing_cookie_turn, init_ack_refusal_turn, EchoesCookie, AcceptsInitAck, ReceivesInitAck, ReceivesCookieAck, peer_by_init_ack};
 
 use crate::init::draw_pair;
 use crate::parameters::{introduction, state_cookie};
@@ -33,7 +33,7 @@ use std::time::Duration;
 /// T1-init or T1-cookie, started now.
 fn started_t1(options: &Options, now: SocketTime, duration: Duration) -> Timer
     ensures { result ≡ record {
-      running = started now (t1_settings options.now (as_nanos duration));
+      running = started_timer now (t1_settings options.now (as_nanos duration));
       settings = t1_settings options.now (as_nanos duration);
     } }
 {
@@ -146,7 +146,7 @@ fn implementation_of(cookie: &[u8]) -> SctpImplementation
 ///
 /// `Err`: an allocation failed; the first of its events may already have been added.
 pub(crate) fn send_cookie_echo<R: Rng>(context: &mut Context<R>) -> Result<(), AllocError>
-    ensures { TakesOne R.stream EchoAt context.old result context.new }
+    ensures { TakesOne R.stream EchoesCookie context.old result context.new }
 {
     let State::CookieEchoed(echoed) = &context.state else {
         return Ok(());
@@ -166,7 +166,7 @@ pub(crate) fn send_cookie_echo<R: Rng>(context: &mut Context<R>) -> Result<(), A
 
 /// The peer that an INIT ACK shows.
 fn peer_by_init_ack(options: &Options, init_ack: &InitChunk<'_>) -> Peer
-    ensures { result ≡ peer_by_init_ack options.now (introduction_in (init_content init_ack.now)) }
+    ensures { result ≡ peer_by_init_ack options.now (introduction_of_init (init_content init_ack.now)) }
 {
     let offered = Capabilities::from_parameters(
         init_ack.nbr_outbound_streams,
@@ -193,7 +193,7 @@ fn echo_cookie<R: Rng>(
     cookie: &[u8],
 ) -> Result<(), AllocError>
     requires { t2_of context.old.state ≡ None }
-    ensures { TakesOne R.stream (AcceptanceAt R.stream my (introduction_in
+    ensures { TakesOne R.stream (AcceptsInitAck R.stream my (introduction_of_init
         (init_content init_ack.now)) cookie.now) context.old result context.new }
 {
     let peer = peer_by_init_ack(&context.options, init_ack);
@@ -227,8 +227,8 @@ pub fn handle_init_ack<R: Rng>(
     context: &mut Context<R>,
     init_ack: &InitChunk<'_>,
 ) -> Result<Following, AllocError>
-    ensures { HandlesPossibleTurn R.stream (InitAckAt (introduction_in (init_content init_ack.now))
-        (cookie_in (init_content init_ack.now).parameters)) context.old result context.new }
+    ensures { HandlesPossibleTurn R.stream (ReceivesInitAck (introduction_of_init (init_content init_ack.now))
+        (first_cookie (init_content init_ack.now).parameters)) context.old result context.new }
 {
     let my = match &context.state {
         State::CookieWait(wait) => wait.my,
@@ -253,7 +253,7 @@ pub fn handle_init_ack<R: Rng>(
 ///
 /// `Err`: an allocation failed; the first of its events may already have been added.
 pub fn handle_cookie_ack<R: Rng>(context: &mut Context<R>) -> Result<(), AllocError>
-    ensures { TakesOne R.stream CookieAckAt context.old result context.new }
+    ensures { TakesOne R.stream ReceivesCookieAck context.old result context.new }
 {
     match context.state {
         State::CookieEchoed(_) => {

@@ -6,8 +6,8 @@ ghost use Rattle.dcsctp_core.specs.spec.endpoint.Cause.{stale_cookie};
 ghost use Rattle.dcsctp_core.specs.api.Cookie.{cookie_of};
 ghost use Rattle.dcsctp_core.specs.View.{core_of, transfer_of, view_of, endpoint_of};
 ghost use Rattle.dcsctp_core.specs.Handling.{Tries, TakesOne, HandlesTurn, HandlesPossibleTurn};
-ghost use Rattle.dcsctp_core_handshake.specs.Handshake.{CookieEchoAt};
-ghost use Rattle.dcsctp_core_handshake.specs.Echoes.{awaits_complete, holding, unheld, established_with, transfer_over, taken_over, AcknowledgementAt, EstablishAt, EstablishNewAt, OutlastAt, CollideAt, ReplaceAt, RestartAt, MaintainAt, RestartWhereAt, refuse_turn, stale_sent_turn, stale_turn, refused_restart_turn};
+ghost use Rattle.dcsctp_core_handshake.specs.Handshake.{ReceivesCookieEcho};
+ghost use Rattle.dcsctp_core_handshake.specs.Echoes.{awaits_complete, holding, unheld, established_with, transfer_over, taken_over, AcknowledgesEcho, EstablishesAssociation, EstablishesFirst, OutlastsAssociation, CollidesWithPeer, ReplacesAssociation, RestartsAssociation, MaintainsAssociation, RestartsUnlessShuttingDown, refuse_turn, stale_sent_turn, stale_turn, refused_restart_turn};
 
 use crate::cookie_resolution::{
     CookieResolution, outlasts, own_by_cookie, peer_by_cookie, resolve_now,
@@ -26,7 +26,7 @@ use std::collections::VecDeque;
 ///
 /// `Err`: an allocation failed; the first of its events may already have been added.
 fn send_cookie_ack<R: Rng>(context: &mut Context<R>) -> Result<(), AllocError>
-    ensures { TakesOne R.stream AcknowledgementAt context.old result context.new }
+    ensures { TakesOne R.stream AcknowledgesEcho context.old result context.new }
 {
     let Some(tcb) = context.state.tcb() else {
         return Ok(());
@@ -123,7 +123,7 @@ fn take_over<R: Rng>(context: &mut Context<R>, cookie: &StateCookie, tie_tag: u6
 ///
 /// `Err`: an allocation failed; the first of its events may already have been added.
 fn establish<R: Rng>(context: &mut Context<R>, cookie: &StateCookie) -> Result<(), AllocError>
-    ensures { TakesOne R.stream (EstablishAt R.stream (cookie_of cookie.now)) context.old result
+    ensures { TakesOne R.stream (EstablishesAssociation R.stream (cookie_of cookie.now)) context.old result
         context.new }
 {
     let tie_tag = context.draw_u64()?;
@@ -137,7 +137,7 @@ fn establish<R: Rng>(context: &mut Context<R>, cookie: &StateCookie) -> Result<(
 ///
 /// `Err`: an allocation failed; the first of its events may already have been added.
 fn replace<R: Rng>(context: &mut Context<R>, cookie: &StateCookie) -> Result<(), AllocError>
-    ensures { TakesOne R.stream (ReplaceAt R.stream (cookie_of cookie.now)) context.old result
+    ensures { TakesOne R.stream (ReplacesAssociation R.stream (cookie_of cookie.now)) context.old result
         context.new }
 {
     context.send_queue.reset();
@@ -149,7 +149,7 @@ fn replace<R: Rng>(context: &mut Context<R>, cookie: &StateCookie) -> Result<(),
 ///
 /// `Err`: an allocation failed; the first of its events may already have been added.
 fn outlast<R: Rng>(context: &mut Context<R>, cookie: &StateCookie) -> Result<(), AllocError>
-    ensures { TakesOne R.stream (OutlastAt R.stream (cookie_of cookie.now)) context.old result
+    ensures { TakesOne R.stream (OutlastsAssociation R.stream (cookie_of cookie.now)) context.old result
         context.new }
 {
     let tie_tag = context.draw_u64()?;
@@ -164,7 +164,7 @@ fn outlast<R: Rng>(context: &mut Context<R>, cookie: &StateCookie) -> Result<(),
 ///
 /// `Err`: an allocation failed; the first of its events may already have been added.
 fn collide<R: Rng>(context: &mut Context<R>, cookie: &StateCookie) -> Result<(), AllocError>
-    ensures { TakesOne R.stream (CollideAt R.stream (cookie_of cookie.now)) context.old result
+    ensures { TakesOne R.stream (CollidesWithPeer R.stream (cookie_of cookie.now)) context.old result
         context.new }
 {
     if outlasts(context, cookie) {
@@ -178,7 +178,7 @@ fn collide<R: Rng>(context: &mut Context<R>, cookie: &StateCookie) -> Result<(),
 ///
 /// `Err`: an allocation failed; the first of its events may already have been added.
 fn establish_new<R: Rng>(context: &mut Context<R>, cookie: &StateCookie) -> Result<(), AllocError>
-    ensures { TakesOne R.stream (EstablishNewAt R.stream (cookie_of cookie.now)) context.old result
+    ensures { TakesOne R.stream (EstablishesFirst R.stream (cookie_of cookie.now)) context.old result
         context.new }
 {
     if context.options.follow_rfc {
@@ -192,7 +192,7 @@ fn establish_new<R: Rng>(context: &mut Context<R>, cookie: &StateCookie) -> Resu
 ///
 /// `Err`: an allocation failed; the first of its events may already have been added.
 fn restart<R: Rng>(context: &mut Context<R>, cookie: &StateCookie) -> Result<(), AllocError>
-    ensures { TakesOne R.stream (RestartAt R.stream (cookie_of cookie.now)) context.old result
+    ensures { TakesOne R.stream (RestartsAssociation R.stream (cookie_of cookie.now)) context.old result
         context.new }
 {
     context.events.add(SocketEvent::OnConnectionRestarted())?;
@@ -252,7 +252,7 @@ fn restart_where_open<R: Rng>(
     context: &mut Context<R>,
     cookie: &StateCookie,
 ) -> Result<Following, AllocError>
-    ensures { HandlesPossibleTurn R.stream (RestartWhereAt R.stream (cookie_of cookie.now))
+    ensures { HandlesPossibleTurn R.stream (RestartsUnlessShuttingDown R.stream (cookie_of cookie.now))
         context.old result context.new }
 {
     if awaits_complete(&context.state) {
@@ -266,7 +266,7 @@ fn restart_where_open<R: Rng>(
 ///
 /// `Err`: an allocation failed; the first of its events may already have been added.
 fn maintain<R: Rng>(context: &mut Context<R>) -> Result<(), AllocError>
-    ensures { TakesOne R.stream MaintainAt context.old result context.new }
+    ensures { TakesOne R.stream MaintainsAssociation context.old result context.new }
 {
     match context.state {
         State::CookieEchoed(_) => {
@@ -292,7 +292,7 @@ pub fn handle_cookie_echo<R: Rng>(
     header_tag: u32,
     chunk: &CookieEchoChunk<'_>,
 ) -> Result<Following, AllocError>
-    ensures { HandlesPossibleTurn R.stream (CookieEchoAt header_tag chunk.now.cookie.now)
+    ensures { HandlesPossibleTurn R.stream (ReceivesCookieEcho header_tag chunk.now.cookie.now)
         context.old result context.new }
 {
     let cookie = match StateCookie::from_bytes(chunk.cookie) {

@@ -6,7 +6,7 @@ ghost use Rattle.dcsctp_core.specs.spec.association.CookieEchoChanges.{resolve};
 ghost use Rattle.dcsctp_core.specs.spec.endpoint.CookieEchoOutcomes.{resolved_now};
 ghost use Rattle.dcsctp_core.specs.api.Cookie.{cookie_of};
 ghost use Rattle.dcsctp_core.specs.View.{core_of, tie_of, endpoint_of};
-ghost use Rattle.dcsctp_core_handshake.specs.Resolution.{resolution_of, peer_by_cookie, outlasts_at};
+ghost use Rattle.dcsctp_core_handshake.specs.Resolution.{resolution_of, peer_by_cookie, outlasts_while_echoed};
 
 use dcsctp_core::api::{Options, Pair, StateCookie};
 use dcsctp_core::{Context, Peer, State};
@@ -38,12 +38,12 @@ pub enum CookieResolution {
 }
 
 impl CookieResolution {
-    ghost use Rattle.dcsctp_core.specs.spec.association.CookieEchoChanges.{aged};
+    ghost use Rattle.dcsctp_core.specs.spec.association.CookieEchoChanges.{aged_resolution};
 
     // The case of a cookie that is stale, or isn't. A stale one makes no association; where none would be made its
     // age is no matter.
     fn aged(self, is_stale: bool) -> CookieResolution
-        ensures { resolution_of result ≡ aged is_stale (resolution_of self) }
+        ensures { resolution_of result ≡ aged_resolution is_stale (resolution_of self) }
     {
         if !is_stale {
             return self;
@@ -113,7 +113,7 @@ pub fn resolve(
 /// `Options::follow_rfc` it does if nothing was acknowledged, no request to reset streams was begun, and our own pair is
 /// the same (RFC 9260, section 5.2.4, action B). Allocates nothing.
 pub fn outlasts<R: Rng>(context: &Context<R>, cookie: &StateCookie) -> bool
-    ensures { result ≡ outlasts_at (endpoint_of context.now) (core_of context.now.state)
+    ensures { result ≡ outlasts_while_echoed (endpoint_of context.now) (core_of context.now.state)
         (cookie_of cookie.now) }
 {
     let State::CookieEchoed(echoed) = &context.state else {

@@ -1,7 +1,7 @@
 //! INIT (RFC 9260, sections 5.1, 5.2.1 and 5.2.2).
 
 ghost use Rattle.dcsctp_core.specs.wire.Content.{init_content};
-ghost use Rattle.dcsctp_core.specs.spec.Packet.{introduction_in};
+ghost use Rattle.dcsctp_core.specs.spec.Packet.{introduction_of_init};
 ghost use Rattle.dcsctp_core.specs.Handling.{Tries, TriesDrawing};
 ghost use Rattle.dcsctp_core_handshake.specs.Handshake.{DrawsTag, DrawsPair, init_answer_turn, closed_turn, init_reply_turn, init_turn, renewed_turn};
 
@@ -46,7 +46,7 @@ fn send_init_ack<R: Rng>(
     tie_tag: u64,
 ) -> Result<(), AllocError>
     ensures { Tries R.stream
-        (init_answer_turn (introduction_in (init_content init.now)) pair tie_tag)
+        (init_answer_turn (introduction_of_init (init_content init.now)) pair tie_tag)
         context.old result context.new }
 {
     let peer_capabilities = Capabilities::from_parameters(
@@ -79,7 +79,7 @@ fn send_init_ack<R: Rng>(
 // `Err`: an allocation failed, and nothing has changed but the random words that were drawn.
 fn answer_anew<R: Rng>(context: &mut Context<R>, init: &InitChunk<'_>) -> Result<(), AllocError>
     ensures { TriesDrawing R.stream
-        (renewed_turn R.stream (introduction_in (init_content init.now)))
+        (renewed_turn R.stream (introduction_of_init (init_content init.now)))
         context.old result context.new }
 {
     match context.state.tcb() {
@@ -100,7 +100,7 @@ fn answer_anew<R: Rng>(context: &mut Context<R>, init: &InitChunk<'_>) -> Result
 // `Err`: an allocation failed, and nothing has changed but the random words that were drawn.
 fn answer_closed<R: Rng>(context: &mut Context<R>, init: &InitChunk<'_>) -> Result<(), AllocError>
     ensures { TriesDrawing R.stream
-        (closed_turn R.stream (introduction_in (init_content init.now)))
+        (closed_turn R.stream (introduction_of_init (init_content init.now)))
         context.old result context.new }
 {
     let pair = draw_pair(context)?;
@@ -113,7 +113,7 @@ fn answer_closed<R: Rng>(context: &mut Context<R>, init: &InitChunk<'_>) -> Resu
 // Answers an INIT. `Err`: an allocation failed, and nothing has changed but the random words that were drawn.
 fn answer_init<R: Rng>(context: &mut Context<R>, init: &InitChunk<'_>) -> Result<(), AllocError>
     ensures { TriesDrawing R.stream
-        (init_reply_turn R.stream (introduction_in (init_content init.now)))
+        (init_reply_turn R.stream (introduction_of_init (init_content init.now)))
         context.old result context.new }
 {
     match &context.state {
@@ -147,7 +147,7 @@ fn answer_init<R: Rng>(context: &mut Context<R>, init: &InitChunk<'_>) -> Result
 ///
 /// `Err`: an allocation failed, and nothing has changed but the random words that were drawn.
 pub fn handle_init<R: Rng>(context: &mut Context<R>, init: &InitChunk<'_>) -> Result<(), AllocError>
-    ensures { TriesDrawing R.stream (init_turn R.stream (introduction_in (init_content init.now)))
+    ensures { TriesDrawing R.stream (init_turn R.stream (introduction_of_init (init_content init.now)))
         context.old result context.new }
 {
     if !context.may_answer() {

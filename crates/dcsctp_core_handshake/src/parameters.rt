@@ -4,7 +4,7 @@ ghost use Rattle.std.specs.Prelude.{◌≡◌, ◌<◌, ◌^◌, ◌++◌, map, 
 ghost use Rattle.std.specs.Option.{option_map};
 ghost use Rattle.dcsctp_core.specs.wire.Content.{parameter_content, init_content};
 ghost use Rattle.dcsctp_core.specs.types.Offer.{offer_of, offer_parameters, announced_extensions};
-ghost use Rattle.dcsctp_core.specs.spec.Packet.{introduction_out, cookie_parameters, cookie_in};
+ghost use Rattle.dcsctp_core.specs.spec.Packet.{introduction_out, cookie_parameters, first_cookie};
 
 use dcsctp_core::api::{Options, Pair};
 use dcsctp_core::wire::{InitChunk, Parameter, chunk_type};
@@ -88,7 +88,7 @@ pub(crate) fn introduction<'a>(
 
 /// The cookie: the first State Cookie counts.
 pub(crate) fn state_cookie<'a>(parameters: &[Parameter<'a>]) -> Option<&'a [u8]>
-    ensures { option_map (λ bytes. bytes.now) result ≡ cookie_in (map parameter_content
+    ensures { option_map (λ bytes. bytes.now) result ≡ first_cookie (map parameter_content
         parameters.now) }
 {
     for parameter in parameters {

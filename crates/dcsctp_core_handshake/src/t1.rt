@@ -5,7 +5,7 @@ ghost use Rattle.std.specs.Prelude.{string_bytes};
 ghost use Rattle.dcsctp_core.specs.spec.endpoint.TimeTurns.{t1_timer};
 ghost use Rattle.dcsctp_core.specs.Handling.{Tries, TakesOne};
 ghost use Rattle.dcsctp_core.specs.Timing.{Expires};
-ghost use Rattle.dcsctp_core_handshake.specs.Timing.{AgainAt, abandon_turn, give_up_turn};
+ghost use Rattle.dcsctp_core_handshake.specs.Timing.{RepeatsHandshakePacket, abandon_turn, give_up_turn};
 
 use crate::connect::{send_cookie_echo, send_init};
 use crate::texts::{NO_COOKIE_ACK, NO_INIT_ACK};
@@ -17,7 +17,7 @@ use std::alloc::AllocError;
 // Sends the packet again that isn't answered yet, if it fits `mtu`: INIT, or COOKIE ECHO in front of a flush.
 // `Err`: an allocation failed; the first of its events may already have been added.
 fn send_again<R: Rng>(context: &mut Context<R>) -> Result<(), AllocError>
-    ensures { TakesOne R.stream AgainAt context.old result context.new }
+    ensures { TakesOne R.stream RepeatsHandshakePacket context.old result context.new }
 {
     match &context.state {
         State::CookieWait(wait) => {

@@ -3,7 +3,7 @@ use Rattle.std.specs.Prelude.{List}
 use Rattle.dcsctp_core.specs.wire.Content.{ParameterContent}
 use Rattle.dcsctp_core.specs.spec.endpoint.Endpoint.{Endpoint, Core, cookie_echoed, open_in}
 use Rattle.dcsctp_core.specs.spec.endpoint.Outcome.{Outcome, still}
-use Rattle.dcsctp_core.specs.spec.endpoint.HeartbeatOutcomes.{heartbeat_outcome, info_in, counter_of, heartbeat_ack_outcome, beat}
+use Rattle.dcsctp_core.specs.spec.endpoint.HeartbeatOutcomes.{heartbeat_outcome, first_heartbeat_info, counter_of, heartbeat_ack_outcome, beat}
 use Rattle.dcsctp_core.specs.View.{View}
 
 -- A HEARTBEAT with these parameters was received.
@@ -12,7 +12,7 @@ heartbeat_turn parameters view = heartbeat_outcome view.endpoint view.endpoint.c
 
 -- A HEARTBEAT ACK with these parameters was received.
 abbrev pub heartbeat_ack_turn : {R : Type 0} → List ParameterContent → View R → Outcome
-heartbeat_ack_turn parameters view = heartbeat_ack_outcome view.endpoint (counter_of (info_in parameters))
+heartbeat_ack_turn parameters view = heartbeat_ack_outcome view.endpoint (counter_of (first_heartbeat_info parameters))
 
 -- The next HEARTBEAT is sent, if the peer is known.
 abbrev pub beat_outcome : Endpoint → Core → Outcome

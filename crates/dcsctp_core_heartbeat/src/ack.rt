@@ -3,7 +3,7 @@
 ghost use Rattle.std.specs.Prelude.{◌≡◌, map};
 ghost use Rattle.std.specs.Option.{option_map};
 ghost use Rattle.dcsctp_core.specs.wire.Content.{parameter_content};
-ghost use Rattle.dcsctp_core.specs.spec.endpoint.HeartbeatOutcomes.{info_in, counter_of, invalid_info_text};
+ghost use Rattle.dcsctp_core.specs.spec.endpoint.HeartbeatOutcomes.{first_heartbeat_info, counter_of, invalid_info_text};
 ghost use Rattle.dcsctp_core.specs.Handling.{Tries, report_turn};
 ghost use Rattle.dcsctp_core_heartbeat.specs.Heartbeats.{heartbeat_ack_turn};
 
@@ -18,7 +18,7 @@ const INVALID_INFO: &str = "Failed to parse HEARTBEAT-ACK; Invalid info paramete
 // What the HEARTBEAT carried: the first Heartbeat Info counts.
 fn heartbeat_info<'a>(parameters: &[Parameter<'a>]) -> Option<&'a [u8]>
     ensures { option_map (λ bytes. bytes.now) result
-        ≡ info_in (map parameter_content parameters.now) }
+        ≡ first_heartbeat_info (map parameter_content parameters.now) }
 {
     for parameter in parameters {
         if let Parameter::HeartbeatInfo { info } = parameter {
@@ -30,7 +30,7 @@ fn heartbeat_info<'a>(parameters: &[Parameter<'a>]) -> Option<&'a [u8]>
 
 // The counter that the HEARTBEAT carried, in four bytes.
 fn counter_in(parameters: &[Parameter<'_>]) -> Option<u32>
-    ensures { result ≡ counter_of (info_in (map parameter_content parameters.now)) }
+    ensures { result ≡ counter_of (first_heartbeat_info (map parameter_content parameters.now)) }
 {
     match heartbeat_info(parameters) {
         Some(info) if info.len() == 4 => Some(u32_at(info, 0)),

@@ -7,19 +7,19 @@ use Rattle.dcsctp_core.specs.spec.endpoint.Event.{Event}
 use Rattle.dcsctp_core.specs.types.Settings.{ports_of}
 use Rattle.dcsctp_core.specs.spec.endpoint.Endpoint.{Endpoint}
 use Rattle.dcsctp_core.specs.spec.endpoint.Outcome.{Outcome, then_outcome}
-use Rattle.dcsctp_core.specs.spec.endpoint.MessageOutcomes.{MessageRefusal, sending_refusal, Sending, RefusedMessage, refused_where, refused_from, queue_by, queue_one, queue_all, takes_any}
+use Rattle.dcsctp_core.specs.spec.endpoint.MessageOutcomes.{MessageRefusal, sending_refusal, Sending, RefusedMessage, refused_message_at_place, refused_from, queue_unless_refused, queue_one, queue_all, takes_any}
 use Rattle.dcsctp_core.specs.api.declared.errors.SendError.{SendError}
-use Rattle.dcsctp_core.specs.api.Messages.{refused_in}
-use Rattle.dcsctp_core.specs.View.{View, Moves, CutTurn}
+use Rattle.dcsctp_core.specs.api.Messages.{refused_messages}
+use Rattle.dcsctp_core.specs.View.{View, Moves, CutsTurn}
 use Rattle.dcsctp_core.proofs.Composing.{Adds, cut_behind, cut_after, cut_longer}
 use Rattle.dcsctp_core.proofs.FlushLemmas.{moves_next}
 use Rattle.dcsctp_core.proofs.Moving.{moves_still}
 use Rattle.dcsctp_core_messages.specs.declared.queueing.QueuedAll.{QueuedAll}
-use Rattle.dcsctp_core_messages.specs.Sending.{NotedAt, AreQueued}
+use Rattle.dcsctp_core_messages.specs.Sending.{RecordsAnswer, AreQueued}
 
 -- ---- the options stay
 
-by_options : (e : Endpoint) (message : Sending) (refusal : Option MessageRefusal) → (queue_by e message refusal).after.options ≡ e.options
+by_options : (e : Endpoint) (message : Sending) (refusal : Option MessageRefusal) → (queue_unless_refused e message refusal).after.options ≡ e.options
 by_options e message None = refl
 by_options e message (Some refusal) = refl
 
@@ -33,7 +33,7 @@ all_options e (message ∷ messages) = all_options (queue_one e message).after m
 -- ---- a turn that was cut, after another one
 
 pub cut_next : {R : Type 0} (stream : R → Stream) (a b : View R) (o p : Outcome) (events : List (Event (List ℕ))) → o.after.options ≡ a.endpoint.options
-    → Moves stream a o b → CutTurn b p events → CutTurn a (then_outcome o p) events
+    → Moves stream a o b → CutsTurn b p events → CutsTurn a (then_outcome o p) events
 cut_next stream a b o p events same m cut =
     let added : Adds a o.events b = record { ports = ap (λ (e : Endpoint). ports_of e.options) m.endpoint ∙ ap ports_of same; events = m.events } in
     let all = cut_behind a b [] o.events p events added cut in
@@ -42,7 +42,7 @@ cut_next stream a b o p events same m cut =
 -- ---- one message of some
 
 -- an allocation failed after it
-pub one_stopped : {R : Type 0} (stream : R → Stream) (message : Sending) (here next : View R) → Moves stream here (queue_one here.endpoint message) next → CutTurn here (queue_one here.endpoint message) next.events
+pub one_stopped : {R : Type 0} (stream : R → Stream) (message : Sending) (here next : View R) → Moves stream here (queue_one here.endpoint message) next → CutsTurn here (queue_one here.endpoint message) next.events
 one_stopped stream message here next m =
     let one : Outcome = queue_one here.endpoint message in
     cut_after here one next.events one.events [] (sym (append-nil one.events)) m.events
@@ -51,15 +51,15 @@ one_stopped stream message here next m =
 
 -- What is left of these messages completes the whole, whatever becomes of it.
 pub record GoesOn {R : Type 0} (stream : R → Stream) (all : List Sending) (start : View R) (place : ℕ) (queued : QueuedAll) (left : List Sending) (here : View R) : Type 0 where
-  pub refused : refused_in queued.refused.items ++ refused_from place here.endpoint left ≡ refused_from 0 start.endpoint all
+  pub refused : refused_messages queued.refused.items ++ refused_from place here.endpoint left ≡ refused_from 0 start.endpoint all
   pub taken : (queued.has_taken || takes_any here.endpoint left) ≡ takes_any start.endpoint all
   pub moves : (new : View R) → Moves stream here (queue_all here.endpoint left) new → Moves stream start (queue_all start.endpoint all) new
-  pub cuts : (events : List (Event (List ℕ))) → CutTurn here (queue_all here.endpoint left) events → CutTurn start (queue_all start.endpoint all) events
+  pub cuts : (events : List (Event (List ℕ))) → CutsTurn here (queue_all here.endpoint left) events → CutsTurn start (queue_all start.endpoint all) events
 
 pub goes_from_start : {R : Type 0} (stream : R → Stream) (all : List Sending) (start : View R) (queued : QueuedAll) → queued.refused.items ≡ [] → queued.has_taken ≡ false → GoesOn stream all start 0 queued all start
 goes_from_start stream all start queued none not_taken =
     record {
-      refused = ap (λ (errors : List (ℕ × SendError)). refused_in errors ++ refused_from 0 start.endpoint all) none;
+      refused = ap (λ (errors : List (ℕ × SendError)). refused_messages errors ++ refused_from 0 start.endpoint all) none;
       taken = ap (λ (b : Bool). b || takes_any start.endpoint all) not_taken;
       moves = λ new m. m;
       cuts = λ events cut. cut;
@@ -76,25 +76,25 @@ module _ {R : Type 0} (stream : R → Stream) (all : List Sending) (start : View
       (subst (λ (e : Endpoint). Moves stream next (queue_all e left) new) m.endpoint n))
 
   next_cuts : (next : View R) → Moves stream here (queue_one here.endpoint message) next
-      → (events : List (Event (List ℕ))) → CutTurn next (queue_all next.endpoint left) events → CutTurn start (queue_all start.endpoint all) events
+      → (events : List (Event (List ℕ))) → CutsTurn next (queue_all next.endpoint left) events → CutsTurn start (queue_all start.endpoint all) events
   next_cuts next m events cut =
       let one : Outcome = queue_one here.endpoint message in
       g.cuts events (cut_next stream here next one (queue_all one.after left) events (one_options here.endpoint message) m
-      (subst (λ (e : Endpoint). CutTurn next (queue_all e left) events) m.endpoint cut))
+      (subst (λ (e : Endpoint). CutsTurn next (queue_all e left) events) m.endpoint cut))
 
   or_true : (b c : Bool) → (b || (true || c)) ≡ true
   or_true true c = refl
   or_true false c = refl
 
   goes_where : (refusal : Option MessageRefusal) → refusal ≡ sending_refusal here.endpoint message → (queued_then : QueuedAll) (next : View R)
-      → NotedAt place refusal queued queued_then → Moves stream here (queue_one here.endpoint message) next → GoesOn stream all start (place + 1) queued_then left next
+      → RecordsAnswer place refusal queued queued_then → Moves stream here (queue_one here.endpoint message) next → GoesOn stream all start (place + 1) queued_then left next
   goes_where None none queued_then next noted m =
       let after : Endpoint = (queue_one here.endpoint message).after in
       record {
         refused =
-            ap (λ (errors : List (ℕ × SendError)). refused_in errors ++ refused_from (place + 1) next.endpoint left) noted.0
-            ∙ ap (λ (e : Endpoint). refused_in queued.refused.items ++ refused_from (place + 1) e left) m.endpoint
-            ∙ ap (λ (r : Option MessageRefusal). refused_in queued.refused.items ++ (refused_where place r ++ refused_from (place + 1) after left)) none
+            ap (λ (errors : List (ℕ × SendError)). refused_messages errors ++ refused_from (place + 1) next.endpoint left) noted.0
+            ∙ ap (λ (e : Endpoint). refused_messages queued.refused.items ++ refused_from (place + 1) e left) m.endpoint
+            ∙ ap (λ (r : Option MessageRefusal). refused_messages queued.refused.items ++ (refused_message_at_place place r ++ refused_from (place + 1) after left)) none
             ∙ g.refused;
         taken =
             ap (λ (b : Bool). b || takes_any next.endpoint left) noted.1
@@ -110,9 +110,9 @@ module _ {R : Type 0} (stream : R → Stream) (all : List Sending) (start : View
       record {
         refused =
             ap (λ (names : List RefusedMessage). names ++ refused_from (place + 1) next.endpoint left) noted.0
-            ∙ append_assoc (refused_in queued.refused.items) (named ∷ []) (refused_from (place + 1) next.endpoint left)
-            ∙ ap (λ (e : Endpoint). refused_in queued.refused.items ++ (named ∷ refused_from (place + 1) e left)) m.endpoint
-            ∙ ap (λ (r : Option MessageRefusal). refused_in queued.refused.items ++ (refused_where place r ++ refused_from (place + 1) after left)) some
+            ∙ append_assoc (refused_messages queued.refused.items) (named ∷ []) (refused_from (place + 1) next.endpoint left)
+            ∙ ap (λ (e : Endpoint). refused_messages queued.refused.items ++ (named ∷ refused_from (place + 1) e left)) m.endpoint
+            ∙ ap (λ (r : Option MessageRefusal). refused_messages queued.refused.items ++ (refused_message_at_place place r ++ refused_from (place + 1) after left)) some
             ∙ g.refused;
         taken =
             ap (λ (b : Bool). b || takes_any next.endpoint left) noted.1
@@ -123,12 +123,12 @@ module _ {R : Type 0} (stream : R → Stream) (all : List Sending) (start : View
         cuts = next_cuts next m;
       }
 
-  pub goes_next : (queued_then : QueuedAll) (next : View R) → NotedAt place (sending_refusal here.endpoint message) queued queued_then
+  pub goes_next : (queued_then : QueuedAll) (next : View R) → RecordsAnswer place (sending_refusal here.endpoint message) queued queued_then
       → Moves stream here (queue_one here.endpoint message) next → GoesOn stream all start (place + 1) queued_then left next
   goes_next queued_then next noted m = goes_where (sending_refusal here.endpoint message) refl queued_then next noted m
 
   -- an allocation failed within the message
-  pub goes_cut : (events : List (Event (List ℕ))) → CutTurn here (queue_one here.endpoint message) events → CutTurn start (queue_all start.endpoint all) events
+  pub goes_cut : (events : List (Event (List ℕ))) → CutsTurn here (queue_one here.endpoint message) events → CutsTurn start (queue_all start.endpoint all) events
   goes_cut events cut =
       let one : Outcome = queue_one here.endpoint message in
       g.cuts events (cut_longer here one (queue_all here.endpoint (message ∷ left)) (queue_all one.after left).events events refl cut)
@@ -143,7 +143,7 @@ pub goes_done : {R : Type 0} (stream : R → Stream) (all : List Sending) (start
 goes_done stream all start place queued left here none h =
     let g : GoesOn stream all start place queued [] here = subst (λ (l : List Sending). GoesOn stream all start place queued l here) none h in
     record {
-      refused = sym (append-nil (refused_in queued.refused.items)) ∙ g.refused;
+      refused = sym (append-nil (refused_messages queued.refused.items)) ∙ g.refused;
       taken = or_false queued.has_taken ∙ g.taken;
       moves = g.moves here (moves_still stream here);
     }

@@ -6,7 +6,7 @@ use Rattle.dcsctp_core.specs.types.queues.Messages.{MessageContent, message_cont
 use Rattle.dcsctp_core.specs.spec.queues.Transfer.{Transfer}
 use Rattle.dcsctp_core.specs.spec.endpoint.Endpoint.{Endpoint}
 use Rattle.dcsctp_core.specs.spec.endpoint.Outcome.{Outcome, still}
-use Rattle.dcsctp_core.specs.spec.endpoint.DataOutcomes.{with_transfer, TakeWhere, TakeLeft, TakeTurn, ready_where}
+use Rattle.dcsctp_core.specs.spec.endpoint.DataOutcomes.{with_transfer, TakesFirstReady, TakeLeft, TakeTurn, ready_or_left}
 use Rattle.dcsctp_core.specs.api.Messages.{IsFirstMessage}
 use Rattle.dcsctp_core.specs.declared.context.Context.{Context}
 use Rattle.dcsctp_core.specs.declared.state.State.{State}
@@ -20,7 +20,7 @@ use Rattle.dcsctp_core_messages.specs.Taking.{TakesNextOf}
 record Takes (e : Endpoint) (transfer after : Transfer) (result : Option Message) : Type 0 where
   first : IsFirstMessage transfer.reassembly.incoming.ready result
   outcome : Outcome
-  turn : TakeWhere e transfer transfer.reassembly.incoming.ready outcome
+  turn : TakesFirstReady e transfer transfer.reassembly.incoming.ready outcome
   after_is : outcome.after ≡ with_transfer e after
 
 takes_where : (e : Endpoint) (transfer after : Transfer) (result : Option Message) → e ≡ with_transfer e transfer → TakesFirst e.options e.moment result transfer after → Takes e transfer after result
@@ -28,14 +28,14 @@ takes_where e transfer after None same h =
     record {
       first = h.0;
       outcome = still e;
-      turn = subst (λ (messages : List MessageContent). TakeWhere e transfer messages (still e)) (sym h.0) refl;
+      turn = subst (λ (messages : List MessageContent). TakesFirstReady e transfer messages (still e)) (sym h.0) refl;
       after_is = same ∙ ap (with_transfer e) (sym h.1);
     }
 takes_where e transfer after (Some message) same h =
     record {
       first = (after.reassembly.incoming.ready, h.0);
       outcome = still (with_transfer e after);
-      turn = subst (λ (messages : List MessageContent). TakeWhere e transfer messages (still (with_transfer e after))) (sym h.0) (ap (λ (t : Transfer). still (with_transfer e t)) h.1);
+      turn = subst (λ (messages : List MessageContent). TakesFirstReady e transfer messages (still (with_transfer e after))) (sym h.0) (ap (λ (t : Transfer). still (with_transfer e t)) h.1);
       after_is = refl;
     }
 
@@ -44,7 +44,7 @@ some_taken : {R : Type 0} (old : Context R) (state : State) (result : Option Mes
 some_taken {R = R} old state result transfer after holds same taken =
     let e : Endpoint = endpoint_of old in
     record {
-      first = subst (λ (t : Option Transfer). IsFirstMessage (ready_where e.left t) result) (sym holds) taken.first;
+      first = subst (λ (t : Option Transfer). IsFirstMessage (ready_or_left e.left t) result) (sym holds) taken.first;
       outcome = taken.outcome;
       turn = subst (λ (t : Option Transfer). TakeTurn e t taken.outcome) (sym holds) taken.turn;
       is = below_view old state transfer after holds same ∙ ap (λ (x : Endpoint). let v : View R = record (view_of old) { endpoint = x } in v) (sym taken.after_is);
@@ -98,7 +98,7 @@ left_next {R = R} old result new holds items rest =
     let e : Endpoint = endpoint_of old in
     let taken : TakesOfLeft e (map message_content new) result = takes_left e result old.left.items new refl items rest in
     record {
-      first = subst (λ (t : Option Transfer). IsFirstMessage (ready_where e.left t) result) (sym holds) taken.first;
+      first = subst (λ (t : Option Transfer). IsFirstMessage (ready_or_left e.left t) result) (sym holds) taken.first;
       outcome = taken.outcome;
       turn = subst (λ (t : Option Transfer). TakeTurn e t taken.outcome) (sym holds) taken.turn;
       is = ap (λ (x : Endpoint). let v : View R = record (view_of old) { endpoint = x } in v) (sym taken.after_is);

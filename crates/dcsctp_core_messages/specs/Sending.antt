@@ -11,10 +11,10 @@ use Rattle.dcsctp_core.specs.spec.endpoint.Outcome.{Outcome, still, quiet}
 use Rattle.dcsctp_core.specs.spec.endpoint.MessageOutcomes.{MessageRefusal, sending_refusal, refusal_events, Sending, message_queued, queue_one, queue_all, refused_from, takes_any, SendTurn}
 use Rattle.dcsctp_core.specs.api.declared.errors.BatchSendError.{BatchSendError}
 use Rattle.dcsctp_core.specs.api.declared.errors.SendError.{SendError}
-use Rattle.dcsctp_core.specs.api.Messages.{refusal_of, refusal_in, refused_in, IsBatchAnswer}
+use Rattle.dcsctp_core.specs.api.Messages.{refusal_of, refusal_of_answer, refused_messages, IsBatchAnswer}
 use Rattle.dcsctp_core.specs.declared.context.Context.{Context}
-use Rattle.dcsctp_core.specs.View.{View, view_of, Moves, CutTurn}
-use Rattle.dcsctp_core.specs.Handling.{TakesPossibleTurn, CutIn, TakesOne, FlushAt}
+use Rattle.dcsctp_core.specs.View.{View, view_of, Moves, CutsTurn}
+use Rattle.dcsctp_core.specs.Handling.{TakesPossibleTurn, CutsSomeTurn, TakesOne, SendsQueued}
 use Rattle.dcsctp_core_messages.specs.declared.queueing.QueuedAll.{QueuedAll}
 
 -- ---- a message that is refused
@@ -40,54 +40,54 @@ abbrev pub Queues : {R E : Type 0} → (R → Stream) → Sending → Context R 
 Queues stream message old result new =
     ByResult (λ refused. (option_map refusal_of refused ≡ sending_refusal (view_of old).endpoint message)
     × Moves stream (view_of old) (queue_one (view_of old).endpoint message) (view_of new))
-    (CutTurn (view_of old) (queue_one (view_of old).endpoint message) (view_of new).events) result
+    (CutsTurn (view_of old) (queue_one (view_of old).endpoint message) (view_of new).events) result
 
 -- It is recorded whether the message of this place was refused.
-abbrev pub NotedAt : ℕ → Option MessageRefusal → QueuedAll → QueuedAll → Type 0
-NotedAt place None old new = (new.refused.items ≡ old.refused.items) × (new.has_taken ≡ true)
-NotedAt place (Some refusal) old new =
-    (refused_in new.refused.items ≡ refused_in old.refused.items ++ record { place = place; refusal = refusal } ∷ [])
+abbrev pub RecordsAnswer : ℕ → Option MessageRefusal → QueuedAll → QueuedAll → Type 0
+RecordsAnswer place None old new = (new.refused.items ≡ old.refused.items) × (new.has_taken ≡ true)
+RecordsAnswer place (Some refusal) old new =
+    (refused_messages new.refused.items ≡ refused_messages old.refused.items ++ record { place = place; refusal = refusal } ∷ [])
     × (new.has_taken ≡ old.has_taken)
 
 -- The message of this place was taken or refused, and that was recorded. Or an allocation failed, and the first of its events may
 -- have been added.
-abbrev pub QueuesAt : {R E : Type 0} → (R → Stream) → ℕ → Sending → QueuedAll → Context R → Result (Unit {0}) E → QueuedAll → Context R → Type 0
-QueuesAt stream place message queued old result queued_then new =
-    ByResult (λ done. NotedAt place (sending_refusal (view_of old).endpoint message) queued queued_then
+abbrev pub QueuesAndRecords : {R E : Type 0} → (R → Stream) → ℕ → Sending → QueuedAll → Context R → Result (Unit {0}) E → QueuedAll → Context R → Type 0
+QueuesAndRecords stream place message queued old result queued_then new =
+    ByResult (λ done. RecordsAnswer place (sending_refusal (view_of old).endpoint message) queued queued_then
     × Moves stream (view_of old) (queue_one (view_of old).endpoint message) (view_of new))
-    (CutTurn (view_of old) (queue_one (view_of old).endpoint message) (view_of new).events) result
+    (CutsTurn (view_of old) (queue_one (view_of old).endpoint message) (view_of new).events) result
 
 -- Each of these was taken or refused.
 pub record AreQueued {R : Type 0} (stream : R → Stream) (messages : List Sending) (old : View R) (queued : QueuedAll) (new : View R) : Type 0 where
-  pub refused : refused_in queued.refused.items ≡ refused_from 0 old.endpoint messages
+  pub refused : refused_messages queued.refused.items ≡ refused_from 0 old.endpoint messages
   pub taken : queued.has_taken ≡ takes_any old.endpoint messages
   pub moves : Moves stream old (queue_all old.endpoint messages) new
 
 abbrev pub QueuesAll : {R E : Type 0} → (R → Stream) → List Sending → Context R → Result QueuedAll E → Context R → Type 0
 QueuesAll stream messages old result new =
     ByResult (λ queued. AreQueued stream messages (view_of old) queued (view_of new))
-    (CutTurn (view_of old) (queue_all (view_of old).endpoint messages) (view_of new).events) result
+    (CutsTurn (view_of old) (queue_all (view_of old).endpoint messages) (view_of new).events) result
 
 -- ---- send and send_many
 
-abbrev pub SendAt : {R : Type 0} → List Sending → View R → Outcome → Type 0
-SendAt messages view o = SendTurn view.endpoint messages o
+abbrev pub SendsMessages : {R : Type 0} → List Sending → View R → Outcome → Type 0
+SendsMessages messages view o = SendTurn view.endpoint messages o
 
 -- The message was sent or refused; or an allocation failed, and the first of its events may have been added.
 abbrev pub SendsOne : {R E : Type 0} → (R → Stream) → Sending → Context R → Result (Result (Unit {0}) SendError) E → Context R → Type 0
 SendsOne stream message old result new =
-    ByResult (λ answer. (refusal_in answer ≡ sending_refusal (view_of old).endpoint message)
-    × TakesPossibleTurn stream (SendAt (message ∷ [])) (view_of old) (view_of new))
-    (CutIn (SendAt (message ∷ [])) (view_of old) (view_of new).events) result
+    ByResult (λ answer. (refusal_of_answer answer ≡ sending_refusal (view_of old).endpoint message)
+    × TakesPossibleTurn stream (SendsMessages (message ∷ [])) (view_of old) (view_of new))
+    (CutsSomeTurn (SendsMessages (message ∷ [])) (view_of old) (view_of new).events) result
 
 -- the same for several
 abbrev pub SendsAll : {R E : Type 0} → (R → Stream) → List Sending → Context R → Result (Result (Unit {0}) BatchSendError) E → Context R → Type 0
 SendsAll stream messages old result new =
     ByResult (λ answer. IsBatchAnswer (refused_from 0 (view_of old).endpoint messages) answer
-    × TakesPossibleTurn stream (SendAt messages) (view_of old) (view_of new))
-    (CutIn (SendAt messages) (view_of old) (view_of new).events) result
+    × TakesPossibleTurn stream (SendsMessages messages) (view_of old) (view_of new))
+    (CutsSomeTurn (SendsMessages messages) (view_of old) (view_of new).events) result
 
 -- What waits was sent, if it was to; else nothing has changed.
-abbrev pub FlushesWhere : {R E : Type 0} → (R → Stream) → Bool → Context R → Result (Unit {0}) E → Context R → Type 0
-FlushesWhere stream true old result new = TakesOne stream FlushAt old result new
-FlushesWhere stream false old result new = ByResult (λ done. view_of new ≡ view_of old) ⊥ result
+abbrev pub FlushesIfAsked : {R E : Type 0} → (R → Stream) → Bool → Context R → Result (Unit {0}) E → Context R → Type 0
+FlushesIfAsked stream true old result new = TakesOne stream SendsQueued old result new
+FlushesIfAsked stream false old result new = ByResult (λ done. view_of new ≡ view_of old) ⊥ result

@@ -4,7 +4,7 @@ ghost use Rattle.std.specs.Prelude.{◌<◌, vec_len, map};
 ghost use Rattle.dcsctp_core.specs.types.queues.Messages.{message_content};
 ghost use Rattle.dcsctp_core.specs.spec.endpoint.MessageOutcomes.{sending_of};
 ghost use Rattle.dcsctp_core.specs.Handling.{Tries};
-ghost use Rattle.dcsctp_core_messages.specs.Sending.{queued_turn, Queues, QueuesAt, QueuesAll};
+ghost use Rattle.dcsctp_core_messages.specs.Sending.{queued_turn, Queues, QueuesAndRecords, QueuesAll};
 
 use crate::refusal::{refusal, tell_refusal};
 use dcsctp_core::Context;
@@ -70,7 +70,7 @@ fn queue_at<R: Rng>(
     options: &SendOptions,
     queued: &mut QueuedAll,
 ) -> Result<(), AllocError>
-    ensures { QueuesAt R.stream place (sending_of options.now (message_content message)) queued.old
+    ensures { QueuesAndRecords R.stream place (sending_of options.now (message_content message)) queued.old
         context.old result queued.new context.new }
 {
     match queue_message(context, message, options)? {

@@ -7,7 +7,7 @@ ghost use Rattle.dcsctp_core.specs.spec.endpoint.PreparedResets.{reset_refusal};
 ghost use Rattle.dcsctp_core.specs.api.Resets.{reset_refusal_of};
 ghost use Rattle.dcsctp_core.specs.View.{endpoint_of};
 ghost use Rattle.dcsctp_core.specs.Handling.{TakesOne};
-ghost use Rattle.dcsctp_core_messages.specs.Resetting.{OneAt, SomeAt, ResetsOwnStreams};
+ghost use Rattle.dcsctp_core_messages.specs.Resetting.{PreparesOneStream, PreparesSomeStreams, ResetsOwnStreams};
 
 use dcsctp_core::Context;
 use dcsctp_core::api::{ResetStreamsError, StreamId};
@@ -54,7 +54,7 @@ fn refusal<R: Rng>(context: &Context<R>) -> Option<ResetStreamsError>
 // Prepares a stream for its reset. `Err`: an allocation failed; the first of its events may already have been
 // added.
 fn prepare_stream<R: Rng>(context: &mut Context<R>, stream_id: StreamId) -> Result<(), AllocError>
-    ensures { TakesOne R.stream (OneAt stream_id.0) context.old result context.new }
+    ensures { TakesOne R.stream (PreparesOneStream stream_id.0) context.old result context.new }
 {
     context
         .send_queue
@@ -67,7 +67,7 @@ fn prepare_streams<R: Rng>(
     context: &mut Context<R>,
     stream_ids: &[StreamId],
 ) -> Result<(), AllocError>
-    ensures { TakesOne R.stream (SomeAt (stream_numbers stream_ids.now)) context.old result
+    ensures { TakesOne R.stream (PreparesSomeStreams (stream_numbers stream_ids.now)) context.old result
         context.new }
 {
     for stream_id in stream_ids {

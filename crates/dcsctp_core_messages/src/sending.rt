@@ -3,8 +3,8 @@
 ghost use Rattle.std.specs.Prelude.{map};
 ghost use Rattle.dcsctp_core.specs.types.queues.Messages.{message_content};
 ghost use Rattle.dcsctp_core.specs.spec.endpoint.MessageOutcomes.{sending_of};
-ghost use Rattle.dcsctp_core.specs.api.Messages.{refused_in, IsBatchAnswer};
-ghost use Rattle.dcsctp_core_messages.specs.Sending.{SendsOne, SendsAll, FlushesWhere};
+ghost use Rattle.dcsctp_core.specs.api.Messages.{refused_messages, IsBatchAnswer};
+ghost use Rattle.dcsctp_core_messages.specs.Sending.{SendsOne, SendsAll, FlushesIfAsked};
 
 use crate::queueing::{QueuedAll, queue_message, queue_messages};
 use dcsctp_core::Context;
@@ -54,7 +54,7 @@ pub fn do_send_many<R: Rng>(
 // What waits is sent, if a message was taken. `Err`: an allocation failed; the first of its events may
 // already have been added.
 fn flush_where<R: Rng>(context: &mut Context<R>, has_taken: bool) -> Result<(), AllocError>
-    ensures { FlushesWhere R.stream has_taken context.old result context.new }
+    ensures { FlushesIfAsked R.stream has_taken context.old result context.new }
 {
     if has_taken {
         return context.send_buffered_packets();
@@ -64,7 +64,7 @@ fn flush_where<R: Rng>(context: &mut Context<R>, has_taken: bool) -> Result<(), 
 
 // The result if these messages were refused.
 fn batch_answer(refused: Vec<(usize, SendError)>) -> Result<(), BatchSendError>
-    ensures { IsBatchAnswer (refused_in refused.items) result }
+    ensures { IsBatchAnswer (refused_messages refused.items) result }
 {
     if refused.is_empty() {
         return Ok(());

@@ -11,9 +11,9 @@ use Rattle.dcsctp_core.specs.types.declared.association.Pair.{Pair}
 use Rattle.dcsctp_core.specs.types.declared.association.Held.{Held}
 use Rattle.dcsctp_core.specs.spec.endpoint.Event.{Event, streams_reset_performed}
 use Rattle.dcsctp_core.specs.spec.Packet.{Emission}
-use Rattle.dcsctp_core.specs.spec.Reconfiguration.{RequestState, RequestedReset, ResetParameter, outgoing_reset_request, incoming_reset_request, reconfiguration_response, other_reset_parameter, reset_parameter_content, reset_parameter_in}
-use Rattle.dcsctp_core.specs.spec.association.Effect.{Effect, draws, sends, holds, connects, ends, begins, gives_up, completes, fails, accepts, performs, renews, resumes, drawn_in}
-use Rattle.dcsctp_core.specs.spec.association.ResetChanges.{RequestPlace, again, next, astray, request_place, RequestOutcome, accepted_request, outgoing_by, incoming_by, Informed, is_outstanding, informed_where, HandledParameters, after_request, after_answer, work_parameters, work_chunk, informed_by}
+use Rattle.dcsctp_core.specs.spec.Reconfiguration.{RequestState, RequestedReset, ResetParameter, outgoing_reset_request, incoming_reset_request, reconfiguration_response, other_reset_parameter, reset_parameter_content, reset_parameter_of}
+use Rattle.dcsctp_core.specs.spec.association.Effect.{Effect, draws, sends, holds, connects, ends, begins, gives_up, completes, fails, accepts, performs, renews, resumes, drawn_pairs}
+use Rattle.dcsctp_core.specs.spec.association.ResetChanges.{RequestPlace, again, next, astray, request_place, RequestOutcome, accepted_request, outgoing_by_place, incoming_by_place, AnswerResult, is_outstanding, result_if_outstanding, HandledParameters, after_request, after_answer, parameters_outcome, reset_chunk_outcome, result_of_answer}
 use Rattle.dcsctp_core.specs.spec.endpoint.FlushOutcomes.{is_none}
 use Rattle.dcsctp_core.specs.spec.endpoint.ResetOutcomes.{has_reset, answers_in_progress, reset_events, handled_part, is_in_progress, own_answer, in_progress_among, has_completed}
 use Rattle.dcsctp_core_resets.specs.declared.requests.Treatment.{Treatment}
@@ -85,7 +85,7 @@ told_both theirs own (begins number ∷ front) rest = told_both theirs own front
 told_both theirs own (gives_up number ∷ front) rest = told_both theirs own front rest
 told_both theirs own (resumes link first last ∷ front) rest = told_both theirs own front rest
 
-drawn_both : (front rest : List Effect) → drawn_in front ≡ [] → drawn_in rest ≡ [] → drawn_in (front ++ rest) ≡ []
+drawn_both : (front rest : List Effect) → drawn_pairs front ≡ [] → drawn_pairs rest ≡ [] → drawn_pairs (front ++ rest) ≡ []
 drawn_both [] rest none more = more
 drawn_both (draws pair ∷ front) rest none more = absurd (cc)
 drawn_both (performs peer number ∷ front) rest none more = drawn_both front rest none more
@@ -139,7 +139,7 @@ or_one false = refl
 rests_one : (state : RequestState) (parameter : ResetParameter) (w : HandledRequests)
     → in_progress_among w.outstanding (parameter ∷ []) ≡ false → is_outgoing parameter ≡ false
     → ((my : Pair) (base : Held) (rest : List ResetParameter)
-    → work_parameters my state w.has_worked (held_now base w) (parameter ∷ rest) ≡ work_parameters my state w.has_worked (held_now base w) rest)
+    → parameters_outcome my state w.has_worked (held_now base w) (parameter ∷ rest) ≡ parameters_outcome my state w.has_worked (held_now base w) rest)
     → HandlesParameter state parameter w w
 rests_one state parameter w other requests whole =
     record {
@@ -193,8 +193,8 @@ own_is None number is = absurd (cc)
 own_is (Some own) number is = ap (λ (n : ℕ). Some n) (let same : own ≡ number = grind (arith, nat_tests) in same)
 
 response_whole : (result : ReconfigurationResponseResult) (my : Pair) (state : RequestState) (number : ℕ) (w : HandledRequests) (base : Held) (rest : List ResetParameter)
-    → after_answer (informed_by my (held_now base w) number result) (work_parameters my state w.has_worked (informed_by my (held_now base w) number result).held rest)
-    ≡ behind_these (informed_by my (held_now base w) number result).effects [] (work_parameters my state (with_result result w).has_worked (held_now base (with_result result w)) rest)
+    → after_answer (result_of_answer my (held_now base w) number result) (parameters_outcome my state w.has_worked (result_of_answer my (held_now base w) number result).held rest)
+    ≡ behind_these (result_of_answer my (held_now base w) number result).effects [] (parameters_outcome my state (with_result result w).has_worked (held_now base (with_result result w)) rest)
 response_whole SuccessNothingToDo my state number w base rest = refl
 response_whole SuccessPerformed my state number w base rest = refl
 response_whole Denied my state number w base rest = refl
@@ -225,10 +225,10 @@ response_by : (b : Bool) (state : RequestState) (number : ℕ) (result : Reconfi
     → HandlesParameter state (reconfiguration_response number result) w (with_response b result w)
 response_by false state number result w is =
     rests_one state (reconfiguration_response number result) w (another_answers w.outstanding number result is) refl
-    (λ my base rest. ap (λ (b : Bool). let first : Informed = informed_where my (held_now base w) number result b in after_answer first (work_parameters my state w.has_worked first.held rest)) is)
+    (λ my base rest. ap (λ (b : Bool). let first : AnswerResult = result_if_outstanding my (held_now base w) number result b in after_answer first (parameters_outcome my state w.has_worked first.held rest)) is)
 response_by true state number result w is =
     record {
-      effects = λ my base. (informed_by my (held_now base w) number result).effects;
+      effects = λ my base. (result_of_answer my (held_now base w) number result).effects;
       responses = [];
       are = refl;
       added = ap (λ rs. rs.items) (result_keeps result w).0 ∙ sym (append-nil w.responses.items);
@@ -236,7 +236,7 @@ response_by true state number result w is =
       has = result_has result w ∙ or_not w.has_worked false refl;
       brings = brings_answer number result refl (own_is w.outstanding number is) refl (λ my base. refl) refl;
       whole = λ my base rest.
-          ap (λ (b : Bool). let first : Informed = informed_where my (held_now base w) number result b in after_answer first (work_parameters my state w.has_worked first.held rest)) is
+          ap (λ (b : Bool). let first : AnswerResult = result_if_outstanding my (held_now base w) number result b in after_answer first (parameters_outcome my state w.has_worked first.held rest)) is
           ∙ response_whole result my state number w base rest;
     }
 
@@ -247,29 +247,29 @@ response_one state number result w new is =
 
 one_response : (number : ℕ) (answer : ReconfigurationResponseResult) (old new : HandledRequests) (h : Responds number answer old new) → AreResponses (h.response ∷ [])
 one_response number answer old new h =
-    ap (λ (c : ParameterContent). reset_parameter_content (reset_parameter_in c) ∷ []) h.says ∙ ap (λ (c : ParameterContent). c ∷ []) (sym h.says)
+    ap (λ (c : ParameterContent). reset_parameter_content (reset_parameter_of c) ∷ []) h.says ∙ ap (λ (c : ParameterContent). c ∷ []) (sym h.says)
 
 -- it says this
 response_says : (number : ℕ) (answer : ReconfigurationResponseResult) (old new : HandledRequests) (h : Responds number answer old new)
     → reset_parameters (h.response ∷ []) ≡ reconfiguration_response number answer ∷ []
-response_says number answer old new h = ap (λ (c : ParameterContent). reset_parameter_in c ∷ []) h.says
+response_says number answer old new h = ap (λ (c : ParameterContent). reset_parameter_of c ∷ []) h.says
 
 -- a request that was answered, and what comes after it
 answered_then : (my : Pair) (state : RequestState) (has : Bool) (base : Held) (number : ℕ) (a : AnsweredRequest) (first : RequestOutcome) (responses : List ResetParameter) (rest : List ResetParameter)
     → AnswersAs base a first → responses ≡ reconfiguration_response number a.result ∷ []
-    → after_request number first (work_parameters my state has first.held rest) ≡ behind_these first.effects responses (work_parameters my state has (held_with base a.last) rest)
+    → after_request number first (parameters_outcome my state has first.held rest) ≡ behind_these first.effects responses (parameters_outcome my state has (held_with base a.last) rest)
 answered_then my state has base number a first responses rest h says =
-    ap (λ (held : Held). after_request number first (work_parameters my state has held rest)) h.held
-    ∙ ap (λ (result : ReconfigurationResponseResult). behind_these first.effects (reconfiguration_response number result ∷ []) (work_parameters my state has (held_with base a.last) rest)) h.result
-    ∙ ap (λ (rs : List ResetParameter). behind_these first.effects rs (work_parameters my state has (held_with base a.last) rest)) (sym says)
+    ap (λ (held : Held). after_request number first (parameters_outcome my state has held rest)) h.held
+    ∙ ap (λ (result : ReconfigurationResponseResult). behind_these first.effects (reconfiguration_response number result ∷ []) (parameters_outcome my state has (held_with base a.last) rest)) h.result
+    ∙ ap (λ (rs : List ResetParameter). behind_these first.effects rs (parameters_outcome my state has (held_with base a.last) rest)) (sym says)
 
 pub outgoing_one : (state : RequestState) (number answered : ℕ) (reset : RequestedReset) (old between new : HandledRequests) (a : AnsweredRequest) → old.has_worked ≡ false
-    → ((base : Held) → AnswersAs base a (outgoing_by (held_with base old.last) number state (request_place old.last.number number)))
+    → ((base : Held) → AnswersAs base a (outgoing_by_place (held_with base old.last) number state (request_place old.last.number number)))
     → Responds number a.result old between → new.responses ≡ between.responses → new.last ≡ a.last → new.treatment ≡ a.treatment → new.has_worked ≡ true → SameOwn between new → new.is_refused ≡ between.is_refused
     → HandlesParameter state (outgoing_reset_request number answered reset) old new
 outgoing_one state number answered reset old between new a fresh answers h responses last treatment has own refused =
     let after : Held → Held = held_out old.outstanding in
-    let first : Held → RequestOutcome = λ base. outgoing_by (held_with (after base) old.last) number state (request_place old.last.number number) in
+    let first : Held → RequestOutcome = λ base. outgoing_by_place (held_with (after base) old.last) number state (request_place old.last.number number) in
     let same : SameOwn old new = own_then old between new h.own own in
     record {
       effects = λ my base. (first base).effects;
@@ -283,27 +283,27 @@ outgoing_one state number answered reset old between new a fresh answers h respo
           (subst (IsTreatment a.treatment (first base).effects) (sym (response_says number a.result old between h)) ((answers (after base)).treats number)))
           (outgoing_answers old.outstanding number answered reset);
       whole = λ my base rest.
-          ap (λ (b : Bool). work_parameters my state b (held_with (after base) old.last) (outgoing_reset_request number answered reset ∷ rest)) fresh
+          ap (λ (b : Bool). parameters_outcome my state b (held_with (after base) old.last) (outgoing_reset_request number answered reset ∷ rest)) fresh
           ∙ answered_then my state true (after base) number a (first base) (reset_parameters (h.response ∷ [])) rest (answers (after base)) (response_says number a.result old between h)
-          ∙ ap (λ (b : Bool). behind_these (first base).effects (reset_parameters (h.response ∷ [])) (work_parameters my state b (held_with (after base) a.last) rest)) (sym has)
-          ∙ ap (λ (l : LastRequest). behind_these (first base).effects (reset_parameters (h.response ∷ [])) (work_parameters my state new.has_worked (held_with (after base) l) rest)) (sym last)
-          ∙ ap (λ (o : Option ℕ). behind_these (first base).effects (reset_parameters (h.response ∷ [])) (work_parameters my state new.has_worked (held_out o (held_with base new.last)) rest)) (sym same.outstanding);
+          ∙ ap (λ (b : Bool). behind_these (first base).effects (reset_parameters (h.response ∷ [])) (parameters_outcome my state b (held_with (after base) a.last) rest)) (sym has)
+          ∙ ap (λ (l : LastRequest). behind_these (first base).effects (reset_parameters (h.response ∷ [])) (parameters_outcome my state new.has_worked (held_with (after base) l) rest)) (sym last)
+          ∙ ap (λ (o : Option ℕ). behind_these (first base).effects (reset_parameters (h.response ∷ [])) (parameters_outcome my state new.has_worked (held_out o (held_with base new.last)) rest)) (sym same.outstanding);
     }
 
 -- No stream is reset for an incoming request, and none is in progress.
 incoming_treats : (held : Held) (number : ℕ) (place : RequestPlace)
-    → IsTreatment Nothing (incoming_by held number place).effects (reconfiguration_response number (incoming_by held number place).result ∷ [])
+    → IsTreatment Nothing (incoming_by_place held number place).effects (reconfiguration_response number (incoming_by_place held number place).result ∷ [])
 incoming_treats held number again = record { has = refl; waits = refl; told = λ theirs own. refl; drawn = refl }
 incoming_treats held number next = record { has = refl; waits = refl; told = λ theirs own. refl; drawn = refl }
 incoming_treats held number astray = record { has = refl; waits = refl; told = λ theirs own. refl; drawn = refl }
 
 pub incoming_one : (state : RequestState) (number : ℕ) (streams : List ℕ) (old between new : HandledRequests) (a : AnsweredRequest)
-    → ((base : Held) → AnswersAs base a (incoming_by (held_with base old.last) number (request_place old.last.number number)))
+    → ((base : Held) → AnswersAs base a (incoming_by_place (held_with base old.last) number (request_place old.last.number number)))
     → Responds number a.result old between → new.responses ≡ between.responses → new.last ≡ a.last → new.treatment ≡ between.treatment → new.has_worked ≡ between.has_worked → SameOwn between new
     → new.is_refused ≡ between.is_refused → HandlesParameter state (incoming_reset_request number streams) old new
 incoming_one state number streams old between new a answers h responses last treatment has own refused =
     let after : Held → Held = held_out old.outstanding in
-    let first : Held → RequestOutcome = λ base. incoming_by (held_with (after base) old.last) number (request_place old.last.number number) in
+    let first : Held → RequestOutcome = λ base. incoming_by_place (held_with (after base) old.last) number (request_place old.last.number number) in
     let same : SameOwn old new = own_then old between new h.own own in
     record {
       effects = λ my base. (first base).effects;
@@ -319,9 +319,9 @@ incoming_one state number streams old between new a answers h responses last tre
           (incoming_answers old.outstanding number streams);
       whole = λ my base rest.
           answered_then my state old.has_worked (after base) number a (first base) (reset_parameters (h.response ∷ [])) rest (answers (after base)) (response_says number a.result old between h)
-          ∙ ap (λ (b : Bool). behind_these (first base).effects (reset_parameters (h.response ∷ [])) (work_parameters my state b (held_with (after base) a.last) rest)) (sym (has ∙ h.has_worked))
-          ∙ ap (λ (l : LastRequest). behind_these (first base).effects (reset_parameters (h.response ∷ [])) (work_parameters my state new.has_worked (held_with (after base) l) rest)) (sym last)
-          ∙ ap (λ (o : Option ℕ). behind_these (first base).effects (reset_parameters (h.response ∷ [])) (work_parameters my state new.has_worked (held_out o (held_with base new.last)) rest)) (sym same.outstanding);
+          ∙ ap (λ (b : Bool). behind_these (first base).effects (reset_parameters (h.response ∷ [])) (parameters_outcome my state b (held_with (after base) a.last) rest)) (sym (has ∙ h.has_worked))
+          ∙ ap (λ (l : LastRequest). behind_these (first base).effects (reset_parameters (h.response ∷ [])) (parameters_outcome my state new.has_worked (held_with (after base) l) rest)) (sym last)
+          ∙ ap (λ (o : Option ℕ). behind_these (first base).effects (reset_parameters (h.response ∷ [])) (parameters_outcome my state new.has_worked (held_out o (held_with base new.last)) rest)) (sym same.outstanding);
     }
 
 -- The first outgoing request is handled.
@@ -356,8 +356,8 @@ pub record Progress (state : RequestState) (last : LastRequest) (start : Option 
   pub own : OwnStands start front w
   pub part : (rest : List ResetParameter) → handled_part false (front ++ rest) ≡ front ++ handled_part w.has_worked rest
   pub whole : (my : Pair) (base : Held) (rest : List ResetParameter)
-      → work_parameters my state false (held_out start (held_with base last)) (front ++ rest)
-      ≡ behind_these (effects my base) (reset_parameters w.responses.items) (work_parameters my state w.has_worked (held_now base w) rest)
+      → parameters_outcome my state false (held_out start (held_with base last)) (front ++ rest)
+      ≡ behind_these (effects my base) (reset_parameters w.responses.items) (parameters_outcome my state w.has_worked (held_now base w) rest)
 
 nothing_asked : (start : Option ℕ) → own_answer start start (in_progress_among start []) false ≡ outcomes.unanswered
 nothing_asked None = refl
@@ -379,11 +379,11 @@ none_so_far state last start refused w none is =
       own = awaited refl (sym (nothing_asked start)) (λ streams. refl);
       part = λ rest. refl;
       whole = λ my base rest.
-          ap (λ (ps : List Parameter). behind_these [] (reset_parameters ps) (work_parameters my state false (held_out start (held_with base last)) rest)) (sym none);
+          ap (λ (ps : List Parameter). behind_these [] (reset_parameters ps) (parameters_outcome my state false (held_out start (held_with base last)) rest)) (sym none);
     })
 
 said_append : (xs ys : List Parameter) → reset_parameters (xs ++ ys) ≡ reset_parameters xs ++ reset_parameters ys
-said_append xs ys = ap (λ (cs : List ParameterContent). map reset_parameter_in cs) (map-append parameter_content xs ys) ∙ map-append reset_parameter_in (map parameter_content xs) (map parameter_content ys)
+said_append xs ys = ap (λ (cs : List ParameterContent). map reset_parameter_of cs) (map-append parameter_content xs ys) ∙ map-append reset_parameter_of (map parameter_content xs) (map parameter_content ys)
 
 both_responses : (xs ys : List Parameter) → AreResponses xs → AreResponses ys → AreResponses (xs ++ ys)
 both_responses xs ys first second =
@@ -471,7 +471,7 @@ closes b false a answer t theirs streams silent fresh =
 record Tells (answer : OwnAnswer) (effects : List Effect) : Type 0 where
   has : has_reset effects ≡ false
   told : (theirs streams : List ℕ) → reset_events theirs streams effects ≡ own_events answer streams
-  drawn : drawn_in effects ≡ []
+  drawn : drawn_pairs effects ≡ []
 
 then_ended : (old : HandledRequests) (answer : OwnAnswer) (es fs : List Effect) (xs : List ResetParameter) → TreatsBoth old es xs → ((streams : List ℕ) → own_events old.own streams ≡ [])
     → (old.has_worked ≡ false → old.treatment ≡ Nothing) → Tells answer fs → TreatsBoth (own_answer_ended answer old) (es ++ fs) xs
@@ -495,11 +495,11 @@ then_awaited old es xs first silent =
       waits = first.waits;
       told = λ theirs streams. ap (reset_events theirs streams) (append-nil es) ∙ first.told theirs streams
           ∙ quietly old.is_own_first old.own old.treatment theirs streams (silent streams) ∙ sym (quietly old.is_own_first own.InProgress old.treatment theirs streams refl);
-      drawn = ap drawn_in (append-nil es) ∙ first.drawn;
+      drawn = ap drawn_pairs (append-nil es) ∙ first.drawn;
     }
 
 then_result : (result : ReconfigurationResponseResult) (my : Pair) (held : Held) (number : ℕ) (old : HandledRequests) (es : List Effect) (xs : List ResetParameter) → TreatsBoth old es xs
-    → ((streams : List ℕ) → own_events old.own streams ≡ []) → (old.has_worked ≡ false → old.treatment ≡ Nothing) → TreatsBoth (with_result result old) (es ++ (informed_by my held number result).effects) xs
+    → ((streams : List ℕ) → own_events old.own streams ≡ []) → (old.has_worked ≡ false → old.treatment ≡ Nothing) → TreatsBoth (with_result result old) (es ++ (result_of_answer my held number result).effects) xs
 then_result SuccessNothingToDo my held number old es xs first silent fresh = then_ended old own.Performed es _ xs first silent fresh (record { has = refl; told = λ theirs streams. refl; drawn = refl })
 then_result SuccessPerformed my held number old es xs first silent fresh = then_ended old own.Performed es _ xs first silent fresh (record { has = refl; told = λ theirs streams. refl; drawn = refl })
 then_result Denied my held number old es xs first silent fresh = then_ended old own.Failed es _ xs first silent fresh (record { has = refl; told = λ theirs streams. refl; drawn = refl })
@@ -525,7 +525,7 @@ treats_more start front parameter old new effects my base es xs ys first fresh o
 treats_more start front parameter old new effects my base es xs ys first fresh own (brings_answer number result is awaits now brings none) =
     subst (λ (w : HandledRequests). TreatsBoth w (es ++ effects my base) (xs ++ ys)) (sym now)
     (subst (λ (fs : List Effect). TreatsBoth (with_result result old) (es ++ fs) (xs ++ ys)) (sym (brings my base))
-    (subst (TreatsBoth (with_result result old) (es ++ (informed_by my (held_now base old) number result).effects)) (sym (append-nil xs) ∙ ap (λ (more : List ResetParameter). xs ++ more) (sym none))
+    (subst (TreatsBoth (with_result result old) (es ++ (result_of_answer my (held_now base old) number result).effects)) (sym (append-nil xs) ∙ ap (λ (more : List ResetParameter). xs ++ more) (sym none))
     (then_result result my (held_now base old) number old es xs first (silent_of start front old number own awaits) fresh)))
 
 result_worked : (result : ReconfigurationResponseResult) (w : HandledRequests) → ((with_result result w).has_worked ≡ w.has_worked) × ((with_result result w).treatment ≡ w.treatment)
@@ -642,11 +642,11 @@ one_more state last start front parameter old new first done step =
           ∙ ap (λ (ps : List ResetParameter). front ++ ps) (part_one old.has_worked parameter new.has_worked rest first step.has)
           ∙ sym (append_assoc front (parameter ∷ []) (handled_part new.has_worked rest));
       whole = λ my base rest.
-          ap (λ (ps : List ResetParameter). work_parameters my state false (held_out start (held_with base last)) ps) (append_assoc front (parameter ∷ []) rest)
+          ap (λ (ps : List ResetParameter). parameters_outcome my state false (held_out start (held_with base last)) ps) (append_assoc front (parameter ∷ []) rest)
           ∙ done.whole my base (parameter ∷ rest)
           ∙ ap (λ (w : HandledParameters). behind_these (done.effects my base) (reset_parameters old.responses.items) w) (step.whole my base rest)
-          ∙ behind_both (done.effects my base) (step.effects my base) (reset_parameters old.responses.items) (reset_parameters step.responses) (work_parameters my state new.has_worked (held_now base new) rest)
-          ∙ ap (λ (ps : List ResetParameter). behind_these (done.effects my base ++ step.effects my base) ps (work_parameters my state new.has_worked (held_now base new) rest))
+          ∙ behind_both (done.effects my base) (step.effects my base) (reset_parameters old.responses.items) (reset_parameters step.responses) (parameters_outcome my state new.has_worked (held_now base new) rest)
+          ∙ ap (λ (ps : List ResetParameter). behind_these (done.effects my base ++ step.effects my base) ps (parameters_outcome my state new.has_worked (held_now base new) rest))
           (sym (said_append old.responses.items step.responses) ∙ ap (λ (ps : List Parameter). reset_parameters ps) (sym step.added));
     }
 
@@ -695,7 +695,7 @@ left_at_end start front w (ended number is none kind first) = none ∙ ended_lef
 -- ---- a chunk
 
 -- a chunk that has a parameter
-chunk_of : (my : Pair) (state : RequestState) (held : Held) (parameters : List ResetParameter) → is_none parameters ≡ false → work_chunk my state held parameters ≡ work_parameters my state false held parameters
+chunk_of : (my : Pair) (state : RequestState) (held : Held) (parameters : List ResetParameter) → is_none parameters ≡ false → reset_chunk_outcome my state held parameters ≡ parameters_outcome my state false held parameters
 chunk_of my state held [] some = absurd (cc)
 chunk_of my state held (parameter ∷ parameters) some = refl
 
@@ -721,7 +721,7 @@ all_worked state last start parameters w done some taken =
       left = left_at_end start parameters w done.own;
       whole = λ my base.
           chunk_of my state (held_out start (held_with base last)) parameters some
-          ∙ ap (λ (ps : List ResetParameter). work_parameters my state false (held_out start (held_with base last)) ps) (sym (append-nil parameters))
+          ∙ ap (λ (ps : List ResetParameter). parameters_outcome my state false (held_out start (held_with base last)) ps) (sym (append-nil parameters))
           ∙ done.whole my base []
           ∙ bring_all (done.effects my base) (reset_parameters w.responses.items) (held_now base w)
           ∙ ap (λ (b : Bool). record { held = held_now base w; effects = done.effects my base; answers = reset_parameters w.responses.items; is_refused = b }) (sym taken);
@@ -733,7 +733,7 @@ all_worked state last start parameters w done some taken =
 
 -- A second outgoing request is an error.
 second_outgoing : (my : Pair) (state : RequestState) (has : Bool) (held : Held) (parameter : ResetParameter) (rest : List ResetParameter) → has ≡ true → is_outgoing parameter ≡ true
-    → work_parameters my state has held (parameter ∷ rest) ≡ record { held = held; effects = []; answers = []; is_refused = true }
+    → parameters_outcome my state has held (parameter ∷ rest) ≡ record { held = held; effects = []; answers = []; is_refused = true }
 second_outgoing my state true held (outgoing_reset_request number answered reset) rest has is = refl
 second_outgoing my state false held (outgoing_reset_request number answered reset) rest has is = absurd (cc)
 second_outgoing my state has held (incoming_reset_request number streams) rest worked is = absurd (cc)

@@ -8,9 +8,9 @@ use Rattle.dcsctp_core.specs.types.declared.association.Pair.{Pair}
 use Rattle.dcsctp_core.specs.types.declared.association.Held.{Held}
 use Rattle.dcsctp_core.specs.spec.endpoint.Event.{Event, incoming_stream_reset, streams_reset_failed, streams_reset_performed}
 use Rattle.dcsctp_core.specs.spec.Packet.{Emission}
-use Rattle.dcsctp_core.specs.spec.Reconfiguration.{RequestState, early, due, renewed, ResetParameter, outgoing_reset_request, reconfiguration_response, reset_parameter_content, reset_parameter_in}
-use Rattle.dcsctp_core.specs.spec.association.Effect.{Effect, drawn_in}
-use Rattle.dcsctp_core.specs.spec.association.ResetChanges.{RequestOutcome, with_last, informed_by, HandledParameters, work_parameters, work_chunk}
+use Rattle.dcsctp_core.specs.spec.Reconfiguration.{RequestState, early, due, renewed, ResetParameter, outgoing_reset_request, reconfiguration_response, reset_parameter_content, reset_parameter_of}
+use Rattle.dcsctp_core.specs.spec.association.Effect.{Effect, drawn_pairs}
+use Rattle.dcsctp_core.specs.spec.association.ResetChanges.{RequestOutcome, with_last, result_of_answer, HandledParameters, parameters_outcome, reset_chunk_outcome}
 use Rattle.dcsctp_core.specs.spec.association.ResetChanges as changes
 use Rattle.dcsctp_core.specs.spec.endpoint.ResetOutcomes.{has_reset, answers_in_progress, handled_part, own_answer, in_progress_among, reset_events}
 use Rattle.dcsctp_core.specs.spec.endpoint.ResetOutcomes as outcomes
@@ -29,10 +29,10 @@ use Rattle.dcsctp_core_resets.specs.declared.requests.HandledRequests.{HandledRe
 -- ---- parameters
 
 abbrev pub parameter_said : Parameter → ResetParameter
-parameter_said parameter = reset_parameter_in (parameter_content parameter)
+parameter_said parameter = reset_parameter_of (parameter_content parameter)
 
 abbrev pub reset_parameters : List Parameter → List ResetParameter
-reset_parameters parameters = map reset_parameter_in (map parameter_content parameters)
+reset_parameters parameters = map reset_parameter_of (map parameter_content parameters)
 
 abbrev pub is_outgoing : ResetParameter → Bool
 is_outgoing (outgoing_reset_request number answered reset) = true
@@ -82,7 +82,7 @@ pub record IsTreatment (treatment : Treatment) (effects : List Effect) (answers 
   pub has : has_reset effects ≡ is_performed treatment
   pub waits : answers_in_progress answers ≡ is_treatment_deferred treatment
   pub told : (theirs own : List ℕ) → reset_events theirs own effects ≡ treated_events treatment theirs
-  pub drawn : drawn_in effects ≡ []
+  pub drawn : drawn_pairs effects ≡ []
 
 -- An answer of the code is that of the machine, whatever the request's number.
 pub record AnswersAs (base : Held) (a : AnsweredRequest) (b : RequestOutcome) : Type 0 where
@@ -179,7 +179,7 @@ pub record TreatsBoth (worked : HandledRequests) (effects : List Effect) (answer
   pub has : has_reset effects ≡ is_performed worked.treatment
   pub waits : answers_in_progress answers ≡ is_treatment_deferred worked.treatment
   pub told : (theirs streams : List ℕ) → reset_events theirs streams effects ≡ both_answer_events worked.is_own_first worked.own worked.treatment theirs streams
-  pub drawn : drawn_in effects ≡ []
+  pub drawn : drawn_pairs effects ≡ []
 
 -- What a parameter brings: nothing, what becomes of a request of the peer, or what becomes of our own.
 pub data Brings (parameter : ResetParameter) (old new : HandledRequests) (effects : Pair → Held → List Effect) (answers : List ResetParameter) : Type 0 where
@@ -188,7 +188,7 @@ pub data Brings (parameter : ResetParameter) (old new : HandledRequests) (effect
   brings_request : old.has_worked ≡ false → new.has_worked ≡ true → SameOwn old new → ((my : Pair) (base : Held) → IsTreatment new.treatment (effects my base) answers)
       → in_progress_among old.outstanding (parameter ∷ []) ≡ false → Brings parameter old new effects answers
   brings_answer : (number : ℕ) (result : ReconfigurationResponseResult) → parameter ≡ reconfiguration_response number result → old.outstanding ≡ Some number → new ≡ with_result result old
-      → ((my : Pair) (base : Held) → effects my base ≡ (informed_by my (held_now base old) number result).effects) → answers ≡ [] → Brings parameter old new effects answers
+      → ((my : Pair) (base : Held) → effects my base ≡ (result_of_answer my (held_now base old) number result).effects) → answers ≡ [] → Brings parameter old new effects answers
 
 -- A parameter was handled: whatever comes after it, the machine continues from what the code keeps.
 pub record HandlesParameter (state : RequestState) (parameter : ResetParameter) (old new : HandledRequests) : Type 0 where
@@ -200,8 +200,8 @@ pub record HandlesParameter (state : RequestState) (parameter : ResetParameter) 
   pub has : new.has_worked ≡ (old.has_worked || is_outgoing parameter)
   pub brings : Brings parameter old new effects (reset_parameters responses)
   pub whole : (my : Pair) (base : Held) (rest : List ResetParameter)
-      → work_parameters my state old.has_worked (held_now base old) (parameter ∷ rest)
-      ≡ behind_these (effects my base) (reset_parameters responses) (work_parameters my state new.has_worked (held_now base new) rest)
+      → parameters_outcome my state old.has_worked (held_now base old) (parameter ∷ rest)
+      ≡ behind_these (effects my base) (reset_parameters responses) (parameters_outcome my state new.has_worked (held_now base new) rest)
 
 -- All were handled.
 pub record HandlesParameters (state : RequestState) (last : LastRequest) (outstanding : Option ℕ) (parameters : List ResetParameter) (worked : HandledRequests) : Type 0 where
@@ -211,5 +211,5 @@ pub record HandlesParameters (state : RequestState) (last : LastRequest) (outsta
   pub own : own_kind worked.own ≡ own_answer outstanding worked.outstanding (in_progress_among outstanding (handled_part false parameters)) (is_completed worked.own)
   pub left : worked.outstanding ≡ left_out (own_kind worked.own) outstanding
   pub whole : (my : Pair) (base : Held)
-      → work_chunk my state (held_out outstanding (held_with base last)) parameters
+      → reset_chunk_outcome my state (held_out outstanding (held_with base last)) parameters
       ≡ record { held = held_now base worked; effects = effects my base; answers = reset_parameters worked.responses.items; is_refused = worked.is_refused }

@@ -4,15 +4,15 @@ ghost use Rattle.std.specs.Prelude.{◌≡◌, ◌&&◌, if◌then◌else◌, fa
 ghost use Rattle.std.specs.Option.{option_map};
 ghost use Rattle.dcsctp_core.specs.types.Ids.{stream_numbers};
 ghost use Rattle.dcsctp_core.specs.spec.Reconfiguration.{early};
-ghost use Rattle.dcsctp_core.specs.spec.endpoint.ResetOutcomes.{is_same_list, is_request_reached, is_renewal, renewable_by, state_by, reset_refusal_text, ResetsTransferStreams};
-ghost use Rattle.dcsctp_core.specs.Reconfiguring.{request_in, tcb_changed};
+ghost use Rattle.dcsctp_core.specs.spec.endpoint.ResetOutcomes.{is_same_list, is_request_reached, is_renewal, renewable_reset, state_if_renewed, reset_refusal_text, ResetsTransferStreams};
+ghost use Rattle.dcsctp_core.specs.Reconfiguring.{request_of_state, tcb_changed};
 ghost use Rattle.dcsctp_core.specs.Answering.{request_ended};
 ghost use Rattle.dcsctp_core.specs.View.{endpoint_of, performed_reset, tcb_of, transfer_of, view_of};
 ghost use Rattle.dcsctp_core.specs.Below.{ChangesQueues};
 ghost use Rattle.dcsctp_core.specs.Handling.{TakesOne, Tries, report_turn};
 ghost use Rattle.dcsctp_core_resets.specs.declared.requests.Treatment.TheVariants.{Performed, Renewed};
 ghost use Rattle.dcsctp_core_resets.specs.Requests.{AreResponses, in_state, reset_parameters};
-ghost use Rattle.dcsctp_core_resets.specs.Resets.{CarriesOut, DefersReset, DefersTo, Finishes, KeepsRenewable, RecordsRenewable, ReConfigAt, RetriesIn, SettlesRequest, ReportsEvent, TreatsReset, WorksFor, asked_at, heeded_at, asked_number, responses_turn, state_for, wanted_by};
+ghost use Rattle.dcsctp_core_resets.specs.Resets.{CarriesOut, DefersReset, DefersTo, Finishes, KeepsRenewable, RecordsRenewable, ReceivesReConfig, RetriesIfConnected, SettlesRequest, ReportsEvent, TreatsReset, HandlesForConnection, view_asked, view_without_errors, asked_number, responses_turn, state_for, reset_of_request};
 
 use crate::reading::{numbers_of, requested, streams_of};
 use crate::requests::{
@@ -37,7 +37,7 @@ fn is_reached(
     request: Option<OutgoingSsnResetRequestParameter<'_>>,
 ) -> bool
     ensures { result
-        ≡ is_request_reached (Some tcb.now.transfer) (option_map wanted_by request.entry) }
+        ≡ is_request_reached (Some tcb.now.transfer) (option_map reset_of_request request.entry) }
 {
     match request {
         None => true,
@@ -56,7 +56,7 @@ fn are_same(one: &[u16], other: &[u16]) -> bool
 
 // Does it say that it isn't the request before, once more?
 fn says_new(request: &OutgoingSsnResetRequestParameter<'_>) -> bool
-    ensures { result ≡ (wanted_by request.now).is_new }
+    ensures { result ≡ (reset_of_request request.now).is_new }
 {
     request.response_seq_nbr == request.request_seq_nbr.wrapping_sub(1)
 }
@@ -69,10 +69,10 @@ fn is_again(
     request: &OutgoingSsnResetRequestParameter<'_>,
     streams: &[u16],
 ) -> bool
-    requires { streams.now ≡ (wanted_by request.now).streams }
+    requires { streams.now ≡ (reset_of_request request.now).streams }
     ensures { result
         ≡ is_renewal (performed_reset (Some old.now)) last (Some (asked_number request.now))
-        (Some (wanted_by request.now)) }
+        (Some (reset_of_request request.now)) }
 {
     if old.number != last || request.request_seq_nbr != last.wrapping_add(1) {
         return false;
@@ -91,7 +91,7 @@ fn is_renewal(
     request: &OutgoingSsnResetRequestParameter<'_>,
 ) -> Result<bool, AllocError>
     ensures { IfOk result (λ is. is ≡ is_renewal (performed_reset kept.now) last
-        (Some (asked_number request.now)) (Some (wanted_by request.now))) }
+        (Some (asked_number request.now)) (Some (reset_of_request request.now))) }
 {
     match kept {
         None => Ok(false),
@@ -111,7 +111,7 @@ fn may_be_renewed(
     request: Option<OutgoingSsnResetRequestParameter<'_>>,
 ) -> Result<bool, AllocError>
     ensures { IfOk result (λ is. is ≡ (follows && is_renewal (performed_reset kept.now) last
-        (option_map asked_number request.entry) (option_map wanted_by request.entry))) }
+        (option_map asked_number request.entry) (option_map reset_of_request request.entry))) }
 {
     if !follows {
         return Ok(false);
@@ -124,7 +124,7 @@ fn may_be_renewed(
 
 // What a request finds, by whether all has come that was sent before it.
 fn state_where(is_reached: bool, is_renewed: bool) -> RequestState
-    ensures { in_state result ≡ (if is_reached then state_by is_renewed else early) }
+    ensures { in_state result ≡ (if is_reached then state_if_renewed is_renewed else early) }
 {
     if !is_reached {
         RequestState::Early
@@ -147,7 +147,7 @@ fn state_of(
 ) -> Result<RequestState, AllocError>
     ensures { IfOk result
         (λ state. in_state state ≡ state_for follows (performed_reset kept.now) (Some tcb.now)
-        (option_map asked_number request.entry) (option_map wanted_by request.entry)) }
+        (option_map asked_number request.entry) (option_map reset_of_request request.entry)) }
 {
     let last = tcb.last_processed_req_seq_nbr;
     let is_renewed = may_be_renewed(alloc, kept, follows, last, request)?;
@@ -163,7 +163,7 @@ fn decide(
     follows: bool,
     parameters: &[Parameter<'_>],
 ) -> Result<HandledRequests, AllocError>
-    ensures { IfOk result (λ worked. WorksFor follows (performed_reset kept.now) (Some tcb.now)
+    ensures { IfOk result (λ worked. HandlesForConnection follows (performed_reset kept.now) (Some tcb.now)
         (reset_parameters parameters.now) worked) }
 {
     let last = LastRequest {
@@ -182,8 +182,8 @@ fn renewable_of<R: Rng>(
     request: Option<OutgoingSsnResetRequestParameter<'_>>,
 ) -> Result<Option<PerformedReset>, AllocError>
     ensures { IfOk result
-        (λ kept. performed_reset kept ≡ renewable_by (endpoint_of context.now) last
-        (option_map asked_number request.entry) (option_map wanted_by request.entry)) }
+        (λ kept. performed_reset kept ≡ renewable_reset (endpoint_of context.now) last
+        (option_map asked_number request.entry) (option_map reset_of_request request.entry)) }
 {
     let Some(request) = request else {
         return Ok(None);
@@ -233,7 +233,7 @@ fn keep_renewable<R: Rng>(
 
 // Keeps the last request of the peer, if it is known.
 fn keep_last<R: Rng>(context: &mut Context<R>, last: LastRequest)
-    ensures { view_of context.new ≡ asked_at last (view_of context.old) }
+    ensures { view_of context.new ≡ view_asked last (view_of context.old) }
 {
     match context.state.tcb_mut() {
         None => {}
@@ -280,7 +280,7 @@ fn perform<R: Rng>(
     context: &mut Context<R>,
     request: &OutgoingSsnResetRequestParameter<'_>,
 ) -> Result<(), AllocError>
-    ensures { TreatsReset Performed (Some (wanted_by request.now)) context.old result context.new }
+    ensures { TreatsReset Performed (Some (reset_of_request request.now)) context.old result context.new }
 {
     let streams = streams_of(context.alloc, request)?;
     reset_streams(&mut context.state, &streams)?;
@@ -296,7 +296,7 @@ fn reset_again<R: Rng>(
     context: &mut Context<R>,
     request: &OutgoingSsnResetRequestParameter<'_>,
 ) -> Result<(), AllocError>
-    ensures { TreatsReset Renewed (Some (wanted_by request.now)) context.old result context.new }
+    ensures { TreatsReset Renewed (Some (reset_of_request request.now)) context.old result context.new }
 {
     let streams = streams_of(context.alloc, request)?;
     reset_streams(&mut context.state, &streams)?;
@@ -308,7 +308,7 @@ fn defer<R: Rng>(
     context: &mut Context<R>,
     request: &OutgoingSsnResetRequestParameter<'_>,
 ) -> Result<(), AllocError>
-    ensures { DefersReset (wanted_by request.now) context.old result context.new }
+    ensures { DefersReset (reset_of_request request.now) context.old result context.new }
 {
     let streams = streams_of(context.alloc, request)?;
     defer_reset(
@@ -325,7 +325,7 @@ fn carry_out_reset<R: Rng>(
     request: Option<OutgoingSsnResetRequestParameter<'_>>,
     treatment: Treatment,
 ) -> Result<(), AllocError>
-    ensures { TreatsReset treatment (option_map wanted_by request.entry) context.old result
+    ensures { TreatsReset treatment (option_map reset_of_request request.entry) context.old result
         context.new }
 {
     match request {
@@ -343,7 +343,7 @@ fn carry_out_reset<R: Rng>(
 
 // Our outstanding request is in progress: it waits to be sent again.
 fn retry_reset(state: &mut State, now: SocketTime)
-    ensures { RetriesIn now (tcb_of state.old) state.old state.new }
+    ensures { RetriesIfConnected now (tcb_of state.old) state.old state.new }
 {
     match state.tcb_mut() {
         None => {}
@@ -353,7 +353,7 @@ fn retry_reset(state: &mut State, now: SocketTime)
 
 // Our outstanding request has ended. Returns it, if there was one.
 fn end_reset(state: &mut State) -> Option<ResetRequest>
-    ensures answer { result ≡ request_in state.old }
+    ensures answer { result ≡ request_of_state state.old }
     ensures left { state.new ≡ tcb_changed request_ended state.old }
 {
     match state.tcb_mut() {
@@ -365,7 +365,7 @@ fn end_reset(state: &mut State) -> Option<ResetRequest>
 // Our own request was answered. With `Options::follow_rfc` that shows that the peer is there, so no error
 // counts (RFC 9260, section 8.1).
 fn heed_answer<R: Rng>(context: &mut Context<R>)
-    ensures { view_of context.new ≡ heeded_at (view_of context.old) }
+    ensures { view_of context.new ≡ view_without_errors (view_of context.old) }
 {
     if context.options.follow_rfc {
         context.reset_errors();
@@ -425,7 +425,7 @@ fn carry_out<R: Rng>(
     request: Option<OutgoingSsnResetRequestParameter<'_>>,
     worked: &HandledRequests,
 ) -> Result<(), AllocError>
-    ensures { CarriesOut worked.now (option_map wanted_by request.entry) context.old result
+    ensures { CarriesOut worked.now (option_map reset_of_request request.entry) context.old result
         context.new }
 {
     let told = settle(context, worked.own);
@@ -503,7 +503,7 @@ fn handle_parameters<R: Rng>(
     context: &mut Context<R>,
     parameters: &[Parameter<'_>],
 ) -> Result<(), AllocError>
-    ensures { TakesOne R.stream (ReConfigAt (reset_parameters parameters.now)) context.old result
+    ensures { TakesOne R.stream (ReceivesReConfig (reset_parameters parameters.now)) context.old result
         context.new }
 {
     let Some(tcb) = context.state.tcb() else {
@@ -545,7 +545,7 @@ pub fn handle_re_config<R: Rng>(
     context: &mut Context<R>,
     chunk: &ReConfigChunk<'_>,
 ) -> Result<(), AllocError>
-    ensures { TakesOne R.stream (ReConfigAt (reset_parameters chunk.now.parameters.items))
+    ensures { TakesOne R.stream (ReceivesReConfig (reset_parameters chunk.now.parameters.items))
         context.old result context.new }
 {
     handle_parameters(context, &chunk.parameters)

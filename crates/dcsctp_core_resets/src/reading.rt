@@ -3,10 +3,10 @@
 ghost use Rattle.std.specs.Prelude.{◌≡◌, IfOk};
 ghost use Rattle.std.specs.Option.{option_map};
 ghost use Rattle.dcsctp_core.specs.types.Ids.{stream_numbers};
-ghost use Rattle.dcsctp_core.specs.spec.Reconfiguration.{reset_streams_in};
-ghost use Rattle.dcsctp_core.specs.spec.endpoint.ResetOutcomes.{requested_in, request_number_in};
+ghost use Rattle.dcsctp_core.specs.spec.Reconfiguration.{streams_of_bytes};
+ghost use Rattle.dcsctp_core.specs.spec.endpoint.ResetOutcomes.{first_reset_request, first_request_number};
 ghost use Rattle.dcsctp_core_resets.specs.Requests.{reset_parameters};
-ghost use Rattle.dcsctp_core_resets.specs.Resets.{asked_number, wanted_by};
+ghost use Rattle.dcsctp_core_resets.specs.Resets.{asked_number, reset_of_request};
 
 use dcsctp_core::api::StreamId;
 use dcsctp_core::wire::{OutgoingSsnResetRequestParameter, Parameter};
@@ -16,9 +16,9 @@ use std::alloc::{AllocError, Global};
 pub(crate) fn requested<'a>(
     parameters: &[Parameter<'a>],
 ) -> Option<OutgoingSsnResetRequestParameter<'a>>
-    ensures wanted { option_map wanted_by result ≡ requested_in (reset_parameters parameters.now) }
+    ensures wanted { option_map reset_of_request result ≡ first_reset_request (reset_parameters parameters.now) }
     ensures number { option_map asked_number result
-        ≡ request_number_in (reset_parameters parameters.now) }
+        ≡ first_request_number (reset_parameters parameters.now) }
 {
     for parameter in parameters {
         if let Parameter::OutgoingSsnResetRequest(request) = parameter {
@@ -34,7 +34,7 @@ pub(crate) fn streams_of(
     request: &OutgoingSsnResetRequestParameter<'_>,
 ) -> Result<Vec<StreamId>, AllocError>
     ensures { IfOk result
-        (λ streams. stream_numbers streams.items ≡ reset_streams_in request.now.streams.now) }
+        (λ streams. stream_numbers streams.items ≡ streams_of_bytes request.now.streams.now) }
 {
     let mut streams = Vec::new(alloc);
     for index in 0..request.stream_count() {
@@ -48,7 +48,7 @@ pub(crate) fn numbers_of(
     alloc: Global,
     request: &OutgoingSsnResetRequestParameter<'_>,
 ) -> Result<Vec<u16>, AllocError>
-    ensures { IfOk result (λ numbers. numbers.items ≡ (wanted_by request.now).streams) }
+    ensures { IfOk result (λ numbers. numbers.items ≡ (reset_of_request request.now).streams) }
 {
     let mut numbers = Vec::new(alloc);
     for index in 0..request.stream_count() {

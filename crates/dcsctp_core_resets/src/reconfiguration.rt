@@ -8,7 +8,7 @@ ghost use Rattle.dcsctp_core.specs.Handling.{Tries};
 ghost use Rattle.dcsctp_core.specs.Timing.{Expires};
 ghost use Rattle.dcsctp_core.specs.Reconfiguring.{request_renumbered, tcb_changed};
 ghost use Rattle.dcsctp_core.specs.View.{endpoint_of, outstanding_of};
-ghost use Rattle.dcsctp_core_resets.specs.Repeating.{request_chunk, EmitsRequest, number_by, renumbered_where, repeated_turn, unless_turn};
+ghost use Rattle.dcsctp_core_resets.specs.Repeating.{request_chunk, EmitsRequest, number_if_new, renumbered_if_sent, repeated_turn, unless_turn};
 
 use dcsctp_core::wire::{Chunk, OutgoingSsnResetRequestParameter, Parameter, ReConfigChunk};
 use dcsctp_core::{
@@ -33,7 +33,7 @@ fn last_tsn_of(request: &ResetRequest) -> u32
 
 // The number under which the request is sent: its own, or the next one.
 fn number_of(tcb: &TransmissionControlBlock, request: &ResetRequest, is_renewed: bool) -> u32
-    ensures { result ≡ number_by is_renewed request.now.number tcb.now.next_outgoing_reset_req_seq_nbr }
+    ensures { result ≡ number_if_new is_renewed request.now.number tcb.now.next_outgoing_reset_req_seq_nbr }
 {
     if is_renewed {
         tcb.next_outgoing_reset_req_seq_nbr
@@ -70,7 +70,7 @@ fn renumber(state: &mut State)
 
 // It does if it was sent under that number.
 fn renumber_where(state: &mut State, is_sent: bool, is_renewed: bool)
-    ensures { state.new ≡ renumbered_where is_sent is_renewed state.old }
+    ensures { state.new ≡ renumbered_if_sent is_sent is_renewed state.old }
 {
     if is_sent && is_renewed {
         renumber(state);

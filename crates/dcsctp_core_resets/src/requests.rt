@@ -3,7 +3,7 @@
 
 ghost use Rattle.std.specs.Prelude.{◌≡◌, ◌&&◌, false, OnOk, IfOk};
 ghost use Rattle.dcsctp_core.specs.types.declared.association.Held.{Held};
-ghost use Rattle.dcsctp_core.specs.spec.association.ResetChanges.{outgoing_by, incoming_by, is_outstanding};
+ghost use Rattle.dcsctp_core.specs.spec.association.ResetChanges.{outgoing_by_place, incoming_by_place, is_outstanding};
 ghost use Rattle.dcsctp_core.specs.spec.association.ResetChanges as changes;
 ghost use Rattle.dcsctp_core_resets.specs.Requests.{AnswersAs, Responds, HandlesParameter, HandlesParameters, held_with, in_place, in_state, is_outgoing, own_answer_ended, reset_parameters, parameter_said, with_response};
 
@@ -195,7 +195,7 @@ fn is_due(state: RequestState) -> bool
 // The last request again is answered as before; one in progress is handled again.
 fn repeated(last: LastRequest, is_reached: bool) -> AnsweredRequest
     ensures { (base : Held)
-        → AnswersAs base result (changes.repeated (held_with base last) last.result is_reached) }
+        → AnswersAs base result (changes.repeated_request_outcome (held_with base last) last.result is_reached) }
 {
     match last.result {
         ReconfigurationResponseResult::InProgress => perform_or_defer(last.number, is_reached),
@@ -214,7 +214,7 @@ fn repeated(last: LastRequest, is_reached: bool) -> AnsweredRequest
 
 // A request whose number is neither the last nor the next is refused.
 fn refused(last: LastRequest) -> AnsweredRequest
-    ensures { (base : Held) → AnswersAs base result (changes.refused (held_with base last)) }
+    ensures { (base : Held) → AnswersAs base result (changes.refused_outcome (held_with base last)) }
 {
     AnsweredRequest {
         last,
@@ -226,7 +226,7 @@ fn refused(last: LastRequest) -> AnsweredRequest
 // How an Outgoing SSN Reset Request of this number is answered.
 fn answer_outgoing(last: LastRequest, number: u32, state: RequestState) -> AnsweredRequest
     ensures { (base : Held)
-        → AnswersAs base result (outgoing_by (held_with base last) number (in_state state)
+        → AnswersAs base result (outgoing_by_place (held_with base last) number (in_state state)
         (changes.request_place last.number number)) }
 {
     match place_of(last.number, number) {
@@ -238,7 +238,7 @@ fn answer_outgoing(last: LastRequest, number: u32, state: RequestState) -> Answe
 
 // How an Incoming SSN Reset Request of this number is answered: no stream is reset for it.
 fn answer_incoming(last: LastRequest, number: u32) -> AnsweredRequest
-    ensures { (base : Held) → AnswersAs base result (incoming_by (held_with base last) number
+    ensures { (base : Held) → AnswersAs base result (incoming_by_place (held_with base last) number
         (changes.request_place last.number number)) }
 {
     match place_of(last.number, number) {

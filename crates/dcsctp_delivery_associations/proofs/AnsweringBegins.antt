@@ -9,7 +9,7 @@ use Rattle.dcsctp_spec_lemmas.specs.spec.queues.Reassembly.{DeferralModel}
 use Rattle.dcsctp_spec_lemmas.specs.spec.endpoint.BegunResets.{BegunReset}
 use Rattle.dcsctp_delivery_directions.specs.Directions.{nothing_asked, Asking}
 use Rattle.dcsctp_delivery_associations.specs.Answered as answered
-use Rattle.dcsctp_delivery_associations.specs.Answered.{Requests, request_number_at, WantFrom, SenderHadPeer, WasJoined, AreAsked, IsRequestNumber, WerePerformed, IsInStep, StandsSo, AnswersRequests}
+use Rattle.dcsctp_delivery_associations.specs.Answered.{Requests, request_numbered, WantFrom, SenderHadPeer, WasJoined, AreAsked, IsRequestNumber, WerePerformed, IsInStep, StandsSo, AnswersRequests}
 use Rattle.dcsctp_delivery_associations.proofs.AnsweringRests.{after_new, performed_split, after_split, joined_later, asked_later}
 
 -- ---- it begins where it is expected
@@ -49,7 +49,7 @@ module _ (requests : ℕ → Requests) (mine : Option AssociationIdentity) (past
   new_joined = record { link = new; held = after_new (holds new) happened their_past noted; tag_is = refl; my_is = refl; some = some }
 
   module _ (first_is : (requests t).first ≡ new.peer.first_tsn) (my_is : (requests t).my ≡ new.peer)
-      (accept : number_to_accept later ≡ Some (request_number_at new.peer.first_tsn 0)) (perform : number_to_perform later ≡ None) (empty : waits' ≡ None) where
+      (accept : number_to_accept later ≡ Some (request_numbered new.peer.first_tsn 0)) (perform : number_to_perform later ≡ None) (empty : waits' ≡ None) where
     performed_still : (tag : ℕ) → WasJoined later tag (requests tag).my → WerePerformed (requests tag) later
     performed_still tag was number has =
         elim (joined_when tag (requests tag).my was) [
@@ -73,8 +73,8 @@ module _ (requests : ℕ → Requests) (mine : Option AssociationIdentity) (past
           | inr here ↦ ne (ap (λ (p : Pair). p.tag) (same ∙ here.1) ∙ sym here.0)
         ]
 
-    accept_first : (l : List BegunReset) → l ≡ [] → number_to_accept later ≡ Some (request_number_at (requests t).first (length l))
-    accept_first l none = accept ∙ ap (λ (n : ℕ). Some (request_number_at n 0)) (sym first_is) ∙ ap (λ (l : List BegunReset). Some (request_number_at (requests t).first (length l))) (sym none)
+    accept_first : (l : List BegunReset) → l ≡ [] → number_to_accept later ≡ Some (request_numbered (requests t).first (length l))
+    accept_first l none = accept ∙ ap (λ (n : ℕ). Some (request_numbered n 0)) (sym first_is) ∙ ap (λ (l : List BegunReset). Some (request_numbered (requests t).first (length l))) (sym none)
 
     stands_none : (requests t).asking.requests ≡ [] → StandsSo (requests t) later waits'
     stands_none none = answered.in_step (answered.all_performed (accept_first (requests t).asking.requests none) perform empty (inl none))

@@ -13,7 +13,7 @@ use Rattle.dcsctp_delivery_receiving.specs.Clear.{IsOwn}
 use Rattle.dcsctp_delivery_sending.specs.Places as places
 use Rattle.dcsctp_delivery_turns.specs.PeerRequests.{WaitsFor}
 use Rattle.dcsctp_delivery_associations.specs.Answered as answered
-use Rattle.dcsctp_delivery_associations.specs.Answered.{Requests, request_number_at, IsInStep, StandsSo, AnswersRequests}
+use Rattle.dcsctp_delivery_associations.specs.Answered.{Requests, request_numbered, IsInStep, StandsSo, AnswersRequests}
 use Rattle.dcsctp_delivery_associations.proofs.RequestNumbers.{next_place}
 use Rattle.dcsctp_delivery_associations.proofs.AnsweringNewest.{due_there}
 use Rattle.dcsctp_delivery_associations.proofs.AnsweringRests.{stays_standing}
@@ -37,7 +37,7 @@ module _ (requests : ℕ → Requests) (mine : Option AssociationIdentity) (past
       → AnswersRequests requests mine past (Some link) (after_effects happened their_past) waits'
   defers_it begun left step has few expected accept perform is last =
       let due = due_there requests mine past link their_past waits begun a step has few expected in
-      let next : next_number begun.number ≡ request_number_at (requests link.peer.tag).first (suc due.place) = ap next_number due.at ∙ next_place (requests link.peer.tag).first due.place in
+      let next : next_number begun.number ≡ request_numbered (requests link.peer.tag).first (suc due.place) = ap next_number due.at ∙ next_place (requests link.peer.tag).first due.place in
       stands_at_link
       (answered.in_step
       (answered.in_progress due.newest due.earlier due.place due.is due.below due.want (accept ∙ ap Some next) (perform ∙ ap Some due.at)

@@ -10,7 +10,7 @@ use Rattle.dcsctp_delivery_sending.specs.Places as places
 use Rattle.dcsctp_delivery_directions.specs.Directions.{Asking, nothing_asked}
 use Rattle.dcsctp_delivery_turns.specs.Asking.{AreNumbered}
 use Rattle.dcsctp_delivery_associations.specs.Answered as answered
-use Rattle.dcsctp_delivery_associations.specs.Answered.{Requests, request_number_at, WantsSame, WantFrom, AreAsked, IsInStep, AnswersRequests}
+use Rattle.dcsctp_delivery_associations.specs.Answered.{Requests, request_numbered, WantsSame, WantFrom, AreAsked, IsInStep, AnswersRequests}
 use Rattle.dcsctp_delivery_associations.proofs.RequestNumbers.{same_place, newest_number, number_among, is_newest, want_later, wanted_at}
 
 -- It is the one at this place, from which on all want the same; none was known to be performed; and what waits, waits for it.
@@ -20,7 +20,7 @@ pub record IsDueAt (requests : Requests) (waits : Option DeferralModel) (begun :
   pub is : requests.asking.requests ≡ newest ∷ earlier
   pub place : ℕ
   pub below : place ≤ length earlier
-  pub at : begun.number ≡ request_number_at requests.first place
+  pub at : begun.number ≡ request_numbered requests.first place
   pub want : WantFrom place newest.reset requests.asking.requests
   pub wants : WantsSame begun.reset newest.reset
   pub own : IsOwn newest.reset waits
@@ -36,13 +36,13 @@ module _ (requests : Requests) (their_past : List Effect) (waits : Option Deferr
   all = requests.asking.requests
 
   -- The number of a request is that of a place of one.
-  under : (place : ℕ) → begun.number ≡ request_number_at requests.first place → place ≤ length all → place < length all
+  under : (place : ℕ) → begun.number ≡ request_numbered requests.first place → place ≤ length all → place < length all
   under place at le =
       let r = number_among requests.first all begun numbers has in
       let here : r.0 ≡ place = same_place requests.first r.0 place (sym r.2 ∙ at) (omega (arith, r.1, few)) (omega (arith, le, few)) in
       omega (arith, here, r.1)
 
-  due_at : (newest : BegunReset) (earlier : List BegunReset) (first place : ℕ) → all ≡ newest ∷ earlier → first ≤ place → place ≤ length all → begun.number ≡ request_number_at requests.first place → WantFrom first newest.reset all
+  due_at : (newest : BegunReset) (earlier : List BegunReset) (first place : ℕ) → all ≡ newest ∷ earlier → first ≤ place → place ≤ length all → begun.number ≡ request_numbered requests.first place → WantFrom first newest.reset all
       → IsOwn newest.reset waits → requests.asking.is_performed ≡ false → IsDueAt requests waits begun
   due_at newest earlier first place is le above at want own un =
       let long : length all ≡ suc (length earlier) = ap (λ (l : List BegunReset). length l) is in
@@ -62,8 +62,8 @@ module _ (requests : Requests) (their_past : List Effect) (waits : Option Deferr
       }
 
   -- No request has the number after the newest.
-  none_behind : number_to_accept their_past ≡ Some (request_number_at requests.first (length all)) → number_to_accept their_past ≡ Some begun.number → ⊥
-  none_behind is expected = (let same : begun.number ≡ request_number_at requests.first (length all) = cc in let below = under (length all) same (omega arith) in omega (arith, below))
+  none_behind : number_to_accept their_past ≡ Some (request_numbered requests.first (length all)) → number_to_accept their_past ≡ Some begun.number → ⊥
+  none_behind is expected = (let same : begun.number ≡ request_numbered requests.first (length all) = cc in let below = under (length all) same (omega arith) in omega (arith, below))
 
   pub due_in_step : IsInStep requests their_past waits → (number_to_accept their_past ≡ Some begun.number) ⊎ (number_to_perform their_past ≡ Some begun.number) → IsDueAt requests waits begun
   due_in_step (answered.all_performed number none empty is) (inl expected) = absurd (none_behind number expected)
@@ -87,7 +87,7 @@ module _ (requests : Requests) (their_past : List Effect) (waits : Option Deferr
   behind_where due ne = (let le = due.below in let other = ne_place in omega (arith, le, other))
     where
       ne_place : due.place ≢ length due.earlier
-      ne_place here = ne (due.at ∙ ap (request_number_at requests.first) here ∙ sym (newest_number requests.first due.newest due.earlier all due.is numbers))
+      ne_place here = ne (due.at ∙ ap (request_numbered requests.first) here ∙ sym (newest_number requests.first due.newest due.earlier all due.is numbers))
 
 pub due_there : (requests : ℕ → Requests) (mine : Option AssociationIdentity) (past : List Effect) (link : AssociationIdentity) (their_past : List Effect) (waits : Option DeferralModel) (begun : BegunReset)
     → AnswersRequests requests mine past (Some link) their_past waits → IsInStep (requests link.peer.tag) their_past waits → places.HasEntry begun (requests link.peer.tag).asking.requests

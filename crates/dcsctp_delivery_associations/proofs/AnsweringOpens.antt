@@ -6,10 +6,10 @@ use Rattle.dcsctp_spec_runs.specs.Past.{WasPerformed, HasEffect, number_to_accep
 use Rattle.dcsctp_spec_runs.specs.World.{after_effects}
 use Rattle.dcsctp_spec_lemmas.specs.spec.association.Effect.{AssociationIdentity, Effect, holds}
 use Rattle.dcsctp_spec_lemmas.specs.spec.queues.Reassembly.{DeferralModel}
-use Rattle.dcsctp_delivery_sending.specs.Places.{set_at}
+use Rattle.dcsctp_delivery_sending.specs.Places.{table_with}
 use Rattle.dcsctp_delivery_sending.proofs.Places.{set_same, set_other}
 use Rattle.dcsctp_delivery_directions.specs.Directions.{nothing_asked}
-use Rattle.dcsctp_delivery_associations.specs.Answered.{Requests, request_number_at, SenderHadPeer, WasJoined, AreAsked, WerePerformed, StandsSo, AnswersRequests}
+use Rattle.dcsctp_delivery_associations.specs.Answered.{Requests, request_numbered, SenderHadPeer, WasJoined, AreAsked, WerePerformed, StandsSo, AnswersRequests}
 use Rattle.dcsctp_delivery_associations.proofs.Growing.{set_all}
 use Rattle.dcsctp_delivery_associations.proofs.AnsweringRests.{same_requests}
 use Rattle.dcsctp_delivery_associations.proofs.AnsweringBegins.{IsNewTag, begins_expected}
@@ -20,7 +20,7 @@ module _ (requests : ℕ → Requests) (mine : Option AssociationIdentity) (past
     (a : AnswersRequests requests mine past theirs their_past waits) (none : fresh.asking ≡ nothing_asked) (not_mine : (link : AssociationIdentity) → mine ≡ Some link → link.my.tag ≢ t)
     (not_joined : (link : AssociationIdentity) → HasEffect (holds link) their_past → link.peer.tag ≢ t) where
   abbrev all : ℕ → Requests
-  all = set_at t fresh requests
+  all = table_with t fresh requests
 
   other : (tag : ℕ) → tag ≢ t → all tag ≡ requests tag
   other tag ne = set_other t tag fresh requests ne
@@ -41,7 +41,7 @@ module _ (requests : ℕ → Requests) (mine : Option AssociationIdentity) (past
       a.mine_apart link is tag ne (subst (λ (r : Requests). WasJoined their_past tag r.my) there was) (same ∙ ap (λ (r : Requests). r.my) there)
 
   -- Its requests may be of any pair.
-  pub with_fresh : AnswersRequests (set_at t fresh requests) mine past theirs their_past waits
+  pub with_fresh : AnswersRequests (table_with t fresh requests) mine past theirs their_past waits
   with_fresh =
       record {
         asked = set_all (λ n r. n ≢ 0 → (r.asking ≡ nothing_asked) ⊎ AreAsked r their_past) t fresh requests (λ some. inl none) (λ n ne. a.asked n);
@@ -74,11 +74,11 @@ IsCrossedOrAwaited requests mine new =
 pub opens_anew : (requests : ℕ → Requests) (mine : Option AssociationIdentity) (past : List Effect) (theirs : Option AssociationIdentity) (happened their_past : List Effect) (waits waits' : Option DeferralModel) (new : AssociationIdentity)
     → AnswersRequests requests mine past theirs their_past waits → new.peer.tag ≢ 0 → HasEffect (holds new) happened → ((link : AssociationIdentity) → HasEffect (holds link) happened → link ≡ new)
     → ((my : Pair) (number : ℕ) → WasPerformed my number happened → ⊥) → IsNewTag their_past new → IsCrossedOrAwaited (requests new.peer.tag) mine new
-    → number_to_accept (after_effects happened their_past) ≡ Some (request_number_at new.peer.first_tsn 0) → number_to_perform (after_effects happened their_past) ≡ None → waits' ≡ None
-    → AnswersRequests (set_at new.peer.tag (record { my = new.peer; first = new.peer.first_tsn; asking = (requests new.peer.tag).asking; is_interleaved = (requests new.peer.tag).is_interleaved }) requests)
+    → number_to_accept (after_effects happened their_past) ≡ Some (request_numbered new.peer.first_tsn 0) → number_to_perform (after_effects happened their_past) ≡ None → waits' ≡ None
+    → AnswersRequests (table_with new.peer.tag (record { my = new.peer; first = new.peer.first_tsn; asking = (requests new.peer.tag).asking; is_interleaved = (requests new.peer.tag).is_interleaved }) requests)
     mine past (Some new) (after_effects happened their_past) waits'
 opens_anew requests mine past theirs happened their_past waits waits' new a some noted only no_performs is_new (inl crossed) accept perform empty =
-    same_requests (set_at new.peer.tag fresh requests) requests mine past (Some new) (after_effects happened their_past) waits' (set_all (λ n r. r ≡ requests n) new.peer.tag fresh requests fresh_is (λ n ne. refl))
+    same_requests (table_with new.peer.tag fresh requests) requests mine past (Some new) (after_effects happened their_past) waits' (set_all (λ n r. r ≡ requests n) new.peer.tag fresh requests fresh_is (λ n ne. refl))
     (begins_expected requests mine past theirs happened their_past waits waits' new a some noted only no_performs is_new crossed.0 crossed.1 accept perform empty)
   where
     fresh : Requests
@@ -88,7 +88,7 @@ opens_anew requests mine past theirs happened their_past waits waits' new a some
     fresh_is =
         ap (λ (p : Pair). record fresh { my = p }) (sym crossed.1) ∙ ap (λ (n : ℕ). record fresh { my = (requests new.peer.tag).my; first = n }) (sym crossed.0)
 opens_anew requests mine past theirs happened their_past waits waits' new a some noted only no_performs is_new (inr awaited) accept perform empty =
-    begins_expected (set_at new.peer.tag fresh requests) mine past theirs happened their_past waits waits' new
+    begins_expected (table_with new.peer.tag fresh requests) mine past theirs happened their_past waits waits' new
     (with_fresh requests mine past theirs their_past waits new.peer.tag fresh a awaited.0 awaited.1 is_new) some noted only no_performs is_new
     (ap (λ (r : Requests). r.first) (set_same new.peer.tag fresh requests)) (ap (λ (r : Requests). r.my) (set_same new.peer.tag fresh requests)) accept perform empty
   where

@@ -9,12 +9,12 @@ use Rattle.dcsctp_spec_lemmas.specs.spec.association.FlushChanges.{next_number}
 use Rattle.dcsctp_spec_lemmas.specs.spec.queues.Reassembly.{DeferralModel}
 use Rattle.dcsctp_spec_lemmas.specs.spec.endpoint.BegunResets.{BegunReset}
 use Rattle.dcsctp_delivery_sending.specs.Places as places
-use Rattle.dcsctp_delivery_sending.specs.Places.{set_at}
+use Rattle.dcsctp_delivery_sending.specs.Places.{table_with}
 use Rattle.dcsctp_delivery_sending.proofs.Places.{decide, set_same}
 use Rattle.dcsctp_delivery_directions.specs.Directions.{nothing_asked, Asking}
 use Rattle.dcsctp_delivery_turns.specs.Asking.{AreNumbered}
 use Rattle.dcsctp_delivery_associations.specs.Answered as answered
-use Rattle.dcsctp_delivery_associations.specs.Answered.{Requests, request_number_at, SenderHadPeer, WasJoined, AreAsked, IsRequestNumber, WerePerformed, StandsSo, AnswersRequests}
+use Rattle.dcsctp_delivery_associations.specs.Answered.{Requests, request_numbered, SenderHadPeer, WasJoined, AreAsked, IsRequestNumber, WerePerformed, StandsSo, AnswersRequests}
 use Rattle.dcsctp_delivery_associations.proofs.Growing.{set_all}
 use Rattle.dcsctp_delivery_associations.proofs.RequestNumbers.{next_place, newest_number, number_among, number_behind, want_later}
 use Rattle.dcsctp_delivery_associations.proofs.AnsweringNewest.{IsDueAt, numbers_of}
@@ -34,7 +34,7 @@ module _ (requests : ℕ → Requests) (mine : Option AssociationIdentity) (past
   changed = record (requests t) { asking = record (requests t).asking { is_performed = true } }
 
   abbrev all : ℕ → Requests
-  all = set_at t changed requests
+  all = table_with t changed requests
 
   here_joined : WasJoined their_past t (requests t).my
   here_joined = subst (WasJoined their_past t) (sym (a.theirs_held link refl).1) (a.theirs_held link refl).0
@@ -111,7 +111,7 @@ module _ (requests : ℕ → Requests) (mine : Option AssociationIdentity) (past
       (answered.unaccepted due.newest due.earlier (suc due.place) due.is (omega (arith, behind)) (want_later due.place (suc due.place) due.newest.reset (requests t).asking.requests (omega arith) due.want) (accept ∙ ap Some next) perform empty
       due.unknown))
     where
-      next : next_number begun.number ≡ request_number_at (requests t).first (suc due.place)
+      next : next_number begun.number ≡ request_numbered (requests t).first (suc due.place)
       next = ap next_number due.at ∙ next_place (requests t).first due.place
 
       count : length (requests t).asking.requests ≡ suc (length due.earlier)
@@ -126,7 +126,7 @@ module _ (requests : ℕ → Requests) (mine : Option AssociationIdentity) (past
 
   -- It is known then that the newest was performed.
   pub performs_it : (earlier : List BegunReset) → (requests t).asking.requests ≡ begun ∷ earlier → WasPerformed link.peer begun.number happened → number_to_accept later ≡ Some (next_number begun.number) → number_to_perform later ≡ None → waits' ≡ None
-      → AnswersRequests (set_at t (record (requests t) { asking = record (requests t).asking { is_performed = true } }) requests) mine past (Some link) later waits'
+      → AnswersRequests (table_with t (record (requests t) { asking = record (requests t).asking { is_performed = true } }) requests) mine past (Some link) later waits'
   performs_it earlier top does accept perform empty =
       record {
         asked = set_all (λ n r. n ≢ 0 → (r.asking ≡ nothing_asked) ⊎ AreAsked r later) t changed requests (λ some. inr (here_asked (a.asked t some)))
@@ -152,7 +152,7 @@ module _ (requests : ℕ → Requests) (mine : Option AssociationIdentity) (past
             );
       }
     where
-      number_is : begun.number ≡ request_number_at (requests t).first (length earlier)
+      number_is : begun.number ≡ request_numbered (requests t).first (length earlier)
       number_is = newest_number (requests t).first begun earlier (requests t).asking.requests top numbers
 
       count : length (requests t).asking.requests ≡ suc (length earlier)
@@ -164,8 +164,8 @@ module _ (requests : ℕ → Requests) (mine : Option AssociationIdentity) (past
       first_same : (tag : ℕ) → (all tag).first ≡ (requests tag).first
       first_same tag = set_all (λ n r. r.first ≡ (requests n).first) t changed requests refl (λ n ne. refl) tag
 
-      at_newest : (place : ℕ) → suc place ≡ length (requests t).asking.requests → begun.number ≡ request_number_at (requests t).first place
-      at_newest place last = let same : length earlier ≡ place = omega (arith, last, count) in number_is ∙ ap (request_number_at (requests t).first) same
+      at_newest : (place : ℕ) → suc place ≡ length (requests t).asking.requests → begun.number ≡ request_numbered (requests t).first place
+      at_newest place last = let same : length earlier ≡ place = omega (arith, last, count) in number_is ∙ ap (request_numbered (requests t).first) same
 
       here_held : ((requests t).asking ≡ nothing_asked) ⊎ SenderHadPeer past t (requests t).my → SenderHadPeer past t (requests t).my
       here_held (inl none) = absurd (subst (λ (s : Asking). places.HasEntry begun s.requests) none has)

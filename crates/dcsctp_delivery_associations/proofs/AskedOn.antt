@@ -11,7 +11,7 @@ use Rattle.dcsctp_spec_lemmas.specs.spec.endpoint.BegunResets.{BegunReset}
 use Rattle.dcsctp_theorem_association.proofs.Growth.{after_within}
 use Rattle.dcsctp_delivery_directions.specs.Directions.{Asking, nothing_asked, all_ended}
 use Rattle.dcsctp_delivery_turns.specs.Asking.{AreNumbered}
-use Rattle.dcsctp_delivery_associations.specs.Answered.{Requests, request_number_at, WantFrom, SenderHadPeer, AreAsked, IsRequestNumber, IsInStep, all_performed, unaccepted, in_progress, StandsSo, in_step, plain}
+use Rattle.dcsctp_delivery_associations.specs.Answered.{Requests, request_numbered, WantFrom, SenderHadPeer, AreAsked, IsRequestNumber, IsInStep, all_performed, unaccepted, in_progress, StandsSo, in_step, plain}
 use Rattle.dcsctp_delivery_associations.proofs.RequestNumbers.{newest_number, want_beyond}
 
 pub held_later : (effects past : List Effect) (tag : ℕ) (my : Pair) → SenderHadPeer past tag my → SenderHadPeer (after_effects effects past) tag my
@@ -47,18 +47,18 @@ module _ (r : Requests) (their_past : List Effect) (a : (r.asking ≡ nothing_as
   no_place place is below = (let none : length r.asking.requests ≡ 0 = ap (λ (l : List BegunReset). length l) (none_of is) in omega (arith, below, none))
 
   -- Where no request is without an end, the newest was performed.
-  newest_was : (between : Asking) → MayEnd r their_past between → between.out ≡ 0 → r.is_interleaved ≡ true → (place : ℕ) → suc place ≡ length r.asking.requests → WasPerformed r.my (request_number_at r.first place) their_past
+  newest_was : (between : Asking) → MayEnd r their_past between → between.out ≡ 0 → r.is_interleaved ≡ true → (place : ℕ) → suc place ≡ length r.asking.requests → WasPerformed r.my (request_numbered r.first place) their_past
   newest_was between ends none interleaved place last = elim a [ inl is ↦ absurd (no_place place is (omega (arith, last))) | inr asked ↦ go asked between ends none ]
     where
       performed_last : (requests : List BegunReset) → r.asking.requests ≡ requests → AreAsked r their_past
-          → ((newest : BegunReset) (earlier : List BegunReset) → r.asking.requests ≡ newest ∷ earlier → WasPerformed r.my newest.number their_past) → WasPerformed r.my (request_number_at r.first place) their_past
+          → ((newest : BegunReset) (earlier : List BegunReset) → r.asking.requests ≡ newest ∷ earlier → WasPerformed r.my newest.number their_past) → WasPerformed r.my (request_numbered r.first place) their_past
       performed_last [] is asked performed = (let none' : length r.asking.requests ≡ 0 = ap (λ (l : List BegunReset). length l) is in absurd (omega (arith, last, none')))
       performed_last (begun ∷ earlier) is asked performed =
           let long : length r.asking.requests ≡ suc (length earlier) = ap (λ (l : List BegunReset). length l) is in
           let at : length earlier ≡ place = omega (arith, long, last) in
-          subst (λ (n : ℕ). WasPerformed r.my n their_past) (newest_number r.first begun earlier r.asking.requests is asked.numbers ∙ ap (request_number_at r.first) at) (performed begun earlier is)
+          subst (λ (n : ℕ). WasPerformed r.my n their_past) (newest_number r.first begun earlier r.asking.requests is asked.numbers ∙ ap (request_numbered r.first) at) (performed begun earlier is)
 
-      go : AreAsked r their_past → (between : Asking) → MayEnd r their_past between → between.out ≡ 0 → WasPerformed r.my (request_number_at r.first place) their_past
+      go : AreAsked r their_past → (between : Asking) → MayEnd r their_past between → between.out ≡ 0 → WasPerformed r.my (request_numbered r.first place) their_past
       go asked _ as_it_was none' = asked.ended interleaved none' place last
       go asked _ (has_ended performed) none' = performed_last r.asking.requests refl asked (performed interleaved)
 
@@ -88,7 +88,7 @@ module _ (r : Requests) (their_past : List Effect) (a : (r.asking ≡ nothing_as
       same = requests_same between ends
 
       ended : r.is_interleaved ≡ true → (more : List BegunReset) → asking.requests ≡ more ++ between.requests → asking.out ≡ length more + between.out → asking.out ≡ 0 → (place : ℕ) → suc place ≡ length asking.requests
-          → WasPerformed r.my (request_number_at r.first place) their_past
+          → WasPerformed r.my (request_numbered r.first place) their_past
       ended interleaved [] is count none place newest = newest_was between ends (omega (arith, count, none)) interleaved place (newest ∙ ap (λ (l : List BegunReset). length l) (is ∙ same))
       ended interleaved (begun ∷ more) is count none place newest = absurd (omega (arith, count, none))
 
@@ -109,11 +109,11 @@ module _ (r : Requests) (their_past : List Effect) (a : (r.asking ≡ nothing_as
               let all : asking.requests ≡ begun ∷ [] = is ∙ ap (λ (l : List BegunReset). begun ∷ l) (same ∙ none) in
               let one : begun ≡ newest = first_of (sym all ∙ top) in inr (subst (WantFrom 0 newest.reset) (sym all) (λ at. ap (λ (b : BegunReset). renewed_reset b.reset) one, tt))
           by_before (last ∷ rest) some =
-              let out = begins.out in inl (request_number_at r.first (length rest), newest_was between ends (omega (arith, count, out)) interleaved (length rest) (sym (ap (λ (l : List BegunReset). length l) some)))
+              let out = begins.out in inl (request_numbered r.first (length rest), newest_was between ends (omega (arith, count, out)) interleaved (length rest) (sym (ap (λ (l : List BegunReset). length l) some)))
       one_was interleaved (begun ∷ other ∷ more) is count newest earlier top = (let out = begins.out in absurd (omega (arith, count, out)))
 
       performed : r.is_interleaved ≡ true → asking.is_performed ≡ true → (more : List BegunReset) → asking.requests ≡ more ++ between.requests → (more ≡ [] → asking.is_performed ≡ between.is_performed)
-          → ((newest : BegunReset) (rest : List BegunReset) → more ≡ newest ∷ rest → asking.is_performed ≡ false) → (place : ℕ) → suc place ≡ length asking.requests → WasPerformed r.my (request_number_at r.first place) their_past
+          → ((newest : BegunReset) (rest : List BegunReset) → more ≡ newest ∷ rest → asking.is_performed ≡ false) → (place : ℕ) → suc place ≡ length asking.requests → WasPerformed r.my (request_numbered r.first place) their_past
       performed interleaved known [] is same' anew place newest =
           let long : length asking.requests ≡ length r.asking.requests = ap (λ (l : List BegunReset). length l) (is ∙ same) in
           elim a [
@@ -149,7 +149,7 @@ module _ (r : Requests) (their_past : List Effect) (a : (r.asking ≡ nothing_as
 
   -- `StandsSo` still holds, if the newest request counts as performed where the receiver's past says so.
   pub stands_on : (waits : Option DeferralModel) (between asking : Asking) → MayEnd r their_past between → MayBegin r.first between asking
-      → (r.is_interleaved ≡ true → (newest : BegunReset) (earlier : List BegunReset) → r.asking.requests ≡ newest ∷ earlier → WasPerformed r.my (request_number_at r.first (length earlier)) their_past → r.asking.is_performed ≡ true)
+      → (r.is_interleaved ≡ true → (newest : BegunReset) (earlier : List BegunReset) → r.asking.requests ≡ newest ∷ earlier → WasPerformed r.my (request_numbered r.first (length earlier)) their_past → r.asking.is_performed ≡ true)
       → StandsSo r their_past waits → StandsSo (after asking) their_past waits
   stands_on waits between asking ends begins known stands = by_more begins.more begins.is begins.same begins.anew begins.count stands
     where
@@ -158,7 +158,7 @@ module _ (r : Requests) (their_past : List Effect) (a : (r.asking ≡ nothing_as
 
       kept : asking.requests ≡ r.asking.requests → asking.is_performed ≡ r.asking.is_performed → IsInStep r their_past waits → IsInStep (after asking) their_past waits
       kept is performed (all_performed accept perform none which) =
-          all_performed (accept ∙ ap (λ (l : List BegunReset). Some (request_number_at r.first (length l))) (sym is)) perform none
+          all_performed (accept ∙ ap (λ (l : List BegunReset). Some (request_numbered r.first (length l))) (sym is)) perform none
           (elim which [ inl x ↦ inl (is ∙ x) | inr x ↦ inr (performed ∙ x) ])
       kept is performed (unaccepted newest earlier place requests below want accept perform none un) =
           unaccepted newest earlier place (is ∙ requests) below (subst (WantFrom place newest.reset) (sym is) want) accept perform none (performed ∙ un)
@@ -177,7 +177,7 @@ module _ (r : Requests) (their_past : List Effect) (a : (r.asking ≡ nothing_as
       anew : (begun : BegunReset) → asking.requests ≡ begun ∷ between.requests → asking.is_performed ≡ false → between.out ≡ 0 → r.is_interleaved ≡ true → IsInStep r their_past waits → IsInStep (after asking) their_past waits
       anew begun is un none interleaved (all_performed accept perform waits_none which) =
           unaccepted begun between.requests (length between.requests) is (omega arith) (subst (WantFrom (length between.requests) begun.reset) (sym is) (λ at. refl, want_beyond (length between.requests) begun.reset between.requests (omega arith)))
-          (accept ∙ ap (λ (l : List BegunReset). Some (request_number_at r.first (length l))) (sym same)) perform waits_none un
+          (accept ∙ ap (λ (l : List BegunReset). Some (request_numbered r.first (length l))) (sym same)) perform waits_none un
       anew begun is un none interleaved (unaccepted newest earlier place requests below want accept perform waits_none un') = was_performed none interleaved newest earlier requests un'
       anew begun is un none interleaved (in_progress newest earlier place requests below want accept perform own un') = was_performed none interleaved newest earlier requests un'
 

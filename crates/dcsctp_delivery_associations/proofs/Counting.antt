@@ -3,9 +3,9 @@ use Rattle.std.proofs.Common.{◌≡◌, ℕ, Bool, ◌≤◌, ◌+◌, List, []
 use Rattle.std.specs.Prelude.{◌==◌, if◌then◌else◌}
 use Rattle.std.proofs.lemmas.Bool.Decides.{eqb_tells}
 use Rattle.dcsctp_spec_lemmas.specs.spec.Packet.{Emission}
-use Rattle.dcsctp_delivery_sending.specs.ChunkCounts.{chunks_among, chunks_in, chunks_to}
+use Rattle.dcsctp_delivery_sending.specs.ChunkCounts.{chunks_among, chunks_among_packets, chunks_to}
 use Rattle.dcsctp_delivery_sending.proofs.ChunkCounts.{no_data_counts}
-use Rattle.dcsctp_delivery_directions.specs.Requests.{requests_among, requests_in, requests_to}
+use Rattle.dcsctp_delivery_directions.specs.Requests.{requests_among, requests_among_packets, requests_to}
 use Rattle.dcsctp_delivery_directions.proofs.RequestCounts.{no_data_requests}
 use Rattle.dcsctp_delivery_turns.specs.Addressed.{IsAddressed, AreAddressed}
 
@@ -22,7 +22,7 @@ one_counts tag p (inr to) =
     ]
 
 -- Packets that go to one tag, as far as they have data, count there.
-pub addressed_counts : (tag : ℕ) (packets : List Emission) → AreAddressed tag packets → chunks_in packets ≤ chunks_to tag packets
+pub addressed_counts : (tag : ℕ) (packets : List Emission) → AreAddressed tag packets → chunks_among_packets packets ≤ chunks_to tag packets
 addressed_counts tag [] are = omega arith
 addressed_counts tag (p ∷ packets) are = (let one = one_counts tag p are.0 in let rest = addressed_counts tag packets are.1 in omega (arith, one, rest))
 
@@ -37,6 +37,6 @@ one_asks tag p (inr to) =
     ]
 
 -- Packets that go to one tag, as far as they have requests, count there.
-pub addressed_requests : (tag : ℕ) (packets : List Emission) → AreAddressed tag packets → requests_in packets ≤ requests_to tag packets
+pub addressed_requests : (tag : ℕ) (packets : List Emission) → AreAddressed tag packets → requests_among_packets packets ≤ requests_to tag packets
 addressed_requests tag [] are = omega arith
 addressed_requests tag (p ∷ packets) are = (let one = one_asks tag p are.0 in let rest = addressed_requests tag packets are.1 in omega (arith, one, rest))

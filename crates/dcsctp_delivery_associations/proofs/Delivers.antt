@@ -8,27 +8,27 @@ use Rattle.dcsctp_spec_lemmas.specs.spec.Packet.{Emission}
 use Rattle.dcsctp_spec_lemmas.specs.spec.association.Effect.{Effect}
 use Rattle.dcsctp_spec_lemmas.specs.types.queues.Messages.{MessageContent}
 use Rattle.dcsctp_spec_lemmas.specs.spec.queues.SendQueue.{empty_queue}
-use Rattle.dcsctp_delivery_sending.specs.Places.{HasEntry, set_at}
+use Rattle.dcsctp_delivery_sending.specs.Places.{HasEntry, table_with}
 use Rattle.dcsctp_delivery_sending.specs.Log.{Message}
 use Rattle.dcsctp_delivery_sending.specs.ChunkCounts.{chunks_to}
 use Rattle.dcsctp_delivery_sending.specs.Marking.{IsMarked}
 use Rattle.dcsctp_delivery_sending.proofs.Places.{decide, set_same, at_below}
 use Rattle.dcsctp_delivery_receiving.specs.Ready.{AreDistinct, WasQueued, WereQueued}
-use Rattle.dcsctp_delivery_directions.specs.Directions.{nothing_asked, Delivered}
-use Rattle.dcsctp_delivery_directions.specs.Marking.{IsUnspent, DeliveredForGood}
+use Rattle.dcsctp_delivery_directions.specs.Directions.{nothing_asked, AreDelivered}
+use Rattle.dcsctp_delivery_directions.specs.Marking.{IsUnspent, AreDeliveredForGood}
 use Rattle.dcsctp_delivery_directions.proofs.ChunkCounts.{few_for_chunks}
 use Rattle.dcsctp_delivery_directions.proofs.Marking.{directions_deliver_for_good}
 use Rattle.dcsctp_delivery_turns.proofs.Beginnings.{fresh_at_zero}
 use Rattle.dcsctp_delivery_turns.proofs.Unbegun.{fresh_is_at_zero}
 use Rattle.dcsctp_delivery_turns.proofs.Runs.{senders_begin}
-use Rattle.dcsctp_delivery_associations.specs.Ends.{SendingEnd, joined, new_end, Ends, MarksLeft, Awaits, chunks_before, Between}
+use Rattle.dcsctp_delivery_associations.specs.Ends.{SendingEnd, direction_of_ends, new_end, Ends, MarksLeft, Awaits, chunks_before, Between}
 use Rattle.dcsctp_delivery_associations.specs.Laws.{AreEnds}
-use Rattle.dcsctp_delivery_associations.specs.Reads.{Read, Reading, nothing_read, with_key, messages_of}
+use Rattle.dcsctp_delivery_associations.specs.Reads.{ReadMessage, Reading, nothing_read, with_key, messages_of}
 use Rattle.dcsctp_delivery_associations.proofs.Growing.{AllFound, set_all}
 
 -- ---- lists of places, one for each tag, in one
 
-record Together (queued : List Message) (lists : ℕ → List ℕ) (reads : List Read) : Type 0 where
+record Together (queued : List Message) (lists : ℕ → List ℕ) (reads : List ReadMessage) : Type 0 where
   places : List ℕ
   were : WereQueued queued places (messages_of reads)
   once : AreDistinct places
@@ -46,20 +46,20 @@ taken : (queued : List Message) (list : List ℕ) (message : MessageContent) (me
 taken queued [] message messages were = absurd were
 taken queued (place ∷ others) message messages were = record { place = place; others = others; is = refl; was = were.0; were = were.1 }
 
-tag_first : (r : Read) (reads : List Read) → with_key r.tags.peer (r ∷ reads) ≡ r.message ∷ with_key r.tags.peer reads
+tag_first : (r : ReadMessage) (reads : List ReadMessage) → with_key r.tags.peer (r ∷ reads) ≡ r.message ∷ with_key r.tags.peer reads
 tag_first r reads = elim (eqb_tells r.tags.peer r.tags.peer) [ inl t ↦ ap (λ (b : Bool). if b then r.message ∷ with_key r.tags.peer reads else with_key r.tags.peer reads) t.0 | inr t ↦ absurd (t.1 refl) ]
 
-tag_rest : (tag : ℕ) (r : Read) (reads : List Read) → tag ≢ r.tags.peer → with_key tag (r ∷ reads) ≡ with_key tag reads
+tag_rest : (tag : ℕ) (r : ReadMessage) (reads : List ReadMessage) → tag ≢ r.tags.peer → with_key tag (r ∷ reads) ≡ with_key tag reads
 tag_rest tag r reads ne =
     elim (eqb_tells r.tags.peer tag) [ inl t ↦ absurd (ne (sym t.1)) | inr t ↦ ap (λ (b : Bool). if b then r.message ∷ with_key tag reads else with_key tag reads) t.0 ]
 
-together : (queued : List Message) (reads : List Read) (lists : ℕ → List ℕ) → ((tag : ℕ) → WereQueued queued (lists tag) (with_key tag reads)) → ((tag : ℕ) → AreDistinct (lists tag))
+together : (queued : List Message) (reads : List ReadMessage) (lists : ℕ → List ℕ) → ((tag : ℕ) → WereQueued queued (lists tag) (with_key tag reads)) → ((tag : ℕ) → AreDistinct (lists tag))
     → ((one other place : ℕ) → one ≢ other → HasEntry place (lists one) → HasEntry place (lists other) → ⊥) → Together queued lists reads
 together queued [] lists were distinct apart = record { places = []; were = tt; once = tt; from = λ place has. absurd has }
 together queued (r ∷ reads) lists were distinct apart =
     let first : Taken queued (lists r.tags.peer) r.message (with_key r.tags.peer reads) =
     taken queued (lists r.tags.peer) r.message (with_key r.tags.peer reads) (subst (WereQueued queued (lists r.tags.peer)) (tag_first r reads) (were r.tags.peer)) in
-    let rest : ℕ → List ℕ = set_at r.tags.peer first.others lists in
+    let rest : ℕ → List ℕ = table_with r.tags.peer first.others lists in
     let own : AreDistinct (first.place ∷ first.others) = subst AreDistinct first.is (distinct r.tags.peer) in
     let back : (tag place : ℕ) → HasEntry place (rest tag) → HasEntry place (lists tag) =
     set_all (λ tag l. (place : ℕ) → HasEntry place l → HasEntry place (lists tag)) r.tags.peer first.others lists (λ place has. subst (λ (l : List ℕ). HasEntry place l) (sym first.is) (inr has)) (λ tag ne place has. has) in
@@ -102,14 +102,14 @@ were_unmarked marks queued (place ∷ places) (content ∷ contents) found were 
 
 module _ (options : Options) (ends : Ends) (e : Endpoint) (queued : List Message) (past : List Effect) (packets : List Emission) (other : Endpoint) (their_past : List Effect) (reading : Reading)
     (h : Between options ends e queued past packets other their_past reading) (many : length queued < 2 ^ 64) (few : (tag : ℕ) → chunks_before (ends.former tag) packets + chunks_to (ends.latest tag) packets < 2 ^ 30) where
-  delivered : (tag : ℕ) → DeliveredForGood (joined (ends.sends tag) (ends.gets tag))
+  delivered : (tag : ℕ) → AreDeliveredForGood (direction_of_ends (ends.sends tag) (ends.gets tag))
   delivered tag =
       let fewer = h.sender.short tag in
       let short : length (ends.sends tag).queued < 2 ^ 64 = omega (arith, fewer, many) in
       let sent = h.sender.few tag in
       let went = few tag in
-      let assigned = few_for_chunks options (ends.firsts tag) options.max_receiver_window_buffer_size (joined (ends.sends tag) (ends.gets tag)) (h.runs tag) (h.small tag) short in
-      directions_deliver_for_good options (ends.firsts tag) options.max_receiver_window_buffer_size (joined (ends.sends tag) (ends.gets tag)) (h.runs tag) (h.small tag) (omega (arith, sent, went, assigned)) short
+      let assigned = few_for_chunks options (ends.firsts tag) options.max_receiver_window_buffer_size (direction_of_ends (ends.sends tag) (ends.gets tag)) (h.runs tag) (h.small tag) short in
+      directions_deliver_for_good options (ends.firsts tag) options.max_receiver_window_buffer_size (direction_of_ends (ends.sends tag) (ends.gets tag)) (h.runs tag) (h.small tag) (omega (arith, sent, went, assigned)) short
 
   lists : ℕ → List ℕ
   lists tag = (delivered tag).delivered.places
@@ -128,7 +128,7 @@ module _ (options : Options) (ends : Ends) (e : Endpoint) (queued : List Message
   apart : (one two place : ℕ) → one ≢ two → HasEntry place (lists one) → HasEntry place (lists two) → ⊥
   apart one two place ne has has' = elim (h.sender.pairs one two ne) [ inl l ↦ clash one two place l has has' | inr l ↦ clash two one place l has' has ]
 
-  pub ends_deliver : Delivered queued (messages_of reading.reads)
+  pub ends_deliver : AreDelivered queued (messages_of reading.reads)
   unfolding lists
   ends_deliver =
       let all = together queued reading.reads lists
@@ -181,7 +181,7 @@ ends_begin never_resets mine options =
         answers = record {
           asked = λ tag some. inl refl;
           asked_held = λ tag some. inl refl;
-          performed = λ tag joined. absurd joined.held;
+          performed = λ tag direction_of_ends. absurd direction_of_ends.held;
           apart = λ one two ne joined. absurd joined.held;
           mine_apart = λ link is. absurd (cc);
           joined = λ my number has. absurd (elim has [ inl none ↦ none | inr none ↦ none ]);

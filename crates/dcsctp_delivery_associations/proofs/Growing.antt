@@ -5,41 +5,41 @@ use Rattle.std.proofs.lemmas.List.{length-append}
 use Rattle.dcsctp_spec_lemmas.specs.spec.endpoint.Endpoint.{Endpoint}
 use Rattle.dcsctp_spec_lemmas.specs.spec.endpoint.Turn.{Input, arrival, refusal, packet_begins, chunk_input, packet_ends, act_input, user_sets, user_sends, user_resets, user_takes, timer_expires, time_passes, restores}
 use Rattle.dcsctp_spec_lemmas.specs.spec.endpoint.MessageOutcomes.{MessageRefusal, Sending, sending_refusal, queue_one}
-use Rattle.dcsctp_delivery_sending.specs.Places.{at_place, set_at}
+use Rattle.dcsctp_delivery_sending.specs.Places.{at_place, table_with}
 use Rattle.dcsctp_delivery_sending.specs.Log.{Message}
 use Rattle.dcsctp_delivery_sending.specs.Marking.{IsMarkOf, FindsMarked, AreMarked, IsMarked}
 use Rattle.dcsctp_delivery_sending.proofs.Places.{decide, set_same, set_other, at_new, at_old, at_cases, at_stays}
 use Rattle.dcsctp_delivery_sending.proofs.Packets.{at_more}
 use Rattle.dcsctp_delivery_sending.proofs.MarkingAll.{is_own, mark_then}
-use Rattle.dcsctp_delivery_turns.specs.Actions.{queued_where, queued_together, queued_after}
+use Rattle.dcsctp_delivery_turns.specs.Actions.{queued_unless_refused, queued_together, queued_after}
 
 -- ---- tables
 
 -- What holds of the new entry, and of the others as they were, holds of all.
-pub set_all : {A : Type 0} (P : ℕ → A → Type 0) (k : ℕ) (v : A) (f : ℕ → A) → P k v → ((t : ℕ) → t ≢ k → P t (f t)) → (t : ℕ) → P t (set_at k v f t)
+pub set_all : {A : Type 0} (P : ℕ → A → Type 0) (k : ℕ) (v : A) (f : ℕ → A) → P k v → ((t : ℕ) → t ≢ k → P t (f t)) → (t : ℕ) → P t (table_with k v f t)
 set_all P k v f here others t =
     elim (decide t k) [
-      | inl e ↦ subst (λ (n : ℕ). P n (set_at k v f n)) (sym e) (subst (P k) (sym (set_same k v f)) here)
+      | inl e ↦ subst (λ (n : ℕ). P n (table_with k v f n)) (sym e) (subst (P k) (sym (set_same k v f)) here)
       | inr ne ↦ subst (P t) (sym (set_other k t v f ne)) (others t ne)
     ]
 
 -- three tables
 pub set_three : {A : Type 0} {B : Type 0} {C : Type 0} (P : ℕ → A → B → C → Type 0) (k : ℕ) (u : A) (v : B) (w : C) (f : ℕ → A) (g : ℕ → B) (h : ℕ → C) → P k u v w → ((t : ℕ) → t ≢ k → P t (f t) (g t) (h t))
-    → (t : ℕ) → P t (set_at k u f t) (set_at k v g t) (set_at k w h t)
+    → (t : ℕ) → P t (table_with k u f t) (table_with k v g t) (table_with k w h t)
 set_three P k u v w f g h here others t =
     elim (decide t k) [
       | inl e ↦
-          subst (λ (n : ℕ). P n (set_at k u f n) (set_at k v g n) (set_at k w h n)) (sym e)
-          (subst (λ (x : _). P k x (set_at k v g k) (set_at k w h k)) (sym (set_same k u f))
-          (subst (λ (x : _). P k u x (set_at k w h k)) (sym (set_same k v g)) (subst (P k u v) (sym (set_same k w h)) here)))
+          subst (λ (n : ℕ). P n (table_with k u f n) (table_with k v g n) (table_with k w h n)) (sym e)
+          (subst (λ (x : _). P k x (table_with k v g k) (table_with k w h k)) (sym (set_same k u f))
+          (subst (λ (x : _). P k u x (table_with k w h k)) (sym (set_same k v g)) (subst (P k u v) (sym (set_same k w h)) here)))
       | inr ne ↦
-          subst (λ (x : _). P t x (set_at k v g t) (set_at k w h t)) (sym (set_other k t u f ne))
-          (subst (λ (x : _). P t (f t) x (set_at k w h t)) (sym (set_other k t v g ne)) (subst (P t (f t) (g t)) (sym (set_other k t w h ne)) (others t ne)))
+          subst (λ (x : _). P t x (table_with k v g t) (table_with k w h t)) (sym (set_other k t u f ne))
+          (subst (λ (x : _). P t (f t) x (table_with k w h t)) (sym (set_other k t v g ne)) (subst (P t (f t) (g t)) (sym (set_other k t w h ne)) (others t ne)))
     ]
 
 -- ---- what a turn queues
 
-where_adds : (why : Option MessageRefusal) (sending : Sending) (queued : List Message) → queued_where why sending queued ≡ queued_where why sending [] ++ queued
+where_adds : (why : Option MessageRefusal) (sending : Sending) (queued : List Message) → queued_unless_refused why sending queued ≡ queued_unless_refused why sending [] ++ queued
 where_adds None sending queued = refl
 where_adds (Some why) sending queued = refl
 
@@ -47,8 +47,8 @@ together_adds : (e : Endpoint) (sendings : List Sending) (queued : List Message)
 together_adds e [] queued = refl
 together_adds e (sending ∷ sendings) queued =
     let next : Endpoint = (queue_one e sending).after in
-    let one : List Message = queued_where (sending_refusal e sending) sending [] in
-    together_adds next sendings (queued_where (sending_refusal e sending) sending queued)
+    let one : List Message = queued_unless_refused (sending_refusal e sending) sending [] in
+    together_adds next sendings (queued_unless_refused (sending_refusal e sending) sending queued)
     ∙ ap (λ (l : List Message). queued_together next sendings [] ++ l) (where_adds (sending_refusal e sending) sending queued)
     ∙ sym (append_assoc (queued_together next sendings []) one queued) ∙ ap (λ (l : List Message). l ++ queued) (sym (together_adds next sendings one))
 

@@ -8,7 +8,7 @@ use Rattle.dcsctp_spec_lemmas.specs.spec.Packet.{Content, init, init_ack, cookie
 use Rattle.dcsctp_spec_lemmas.specs.spec.association.Effect.{Effect}
 use Rattle.dcsctp_spec_lemmas.specs.spec.queues.Tracker.{TrackerState}
 use Rattle.dcsctp_spec_runs.specs.Past.{HasEffect}
-use Rattle.dcsctp_spec_lemmas.specs.spec.endpoint.Event.{Event, packets_in}
+use Rattle.dcsctp_spec_lemmas.specs.spec.endpoint.Event.{Event, packets_of_events}
 use Rattle.dcsctp_delivery_directions.proofs.Requests.{packets_apart}
 use Rattle.dcsctp_delivery_sending.specs.Places.{HasEntry}
 use Rattle.dcsctp_delivery_directions.specs.Directions.{HasReached, DirectionRun}
@@ -17,7 +17,7 @@ use Rattle.dcsctp_delivery_turns.specs.Actions.{NoEnd, ReportsTo, AreReports}
 use Rattle.dcsctp_delivery_turns.specs.Reporting.{IsReachedBetween}
 use Rattle.dcsctp_delivery_turns.specs.Reports.{ReportsSo, AllReportSo, NoReports, ComesReported}
 use Rattle.dcsctp_delivery_turns.proofs.Reported.{all_more}
-use Rattle.dcsctp_delivery_associations.specs.Ends.{SendingEnd, ReceivingEnd, joined, HadTag, IsHeard, AreHeard, CameIn, CameBack}
+use Rattle.dcsctp_delivery_associations.specs.Ends.{SendingEnd, ReceivingEnd, direction_of_ends, HadTag, IsHeard, AreHeard, CameInPacket, CameBack}
 
 -- ---- what was reached stays reached
 
@@ -64,8 +64,8 @@ heard_both gets past [] more are are' = are'
 heard_both gets past (emission ∷ heard) more are are' = (are.0, heard_both gets past heard more are.1 are')
 
 -- So are the packets among more events.
-pub heard_all : (gets : ℕ → ReceivingEnd) (past : List Effect) (seen more : List (Event Emission)) → AreHeard gets past (packets_in seen) → AreHeard gets past (packets_in more) → AreHeard gets past (packets_in (seen ++ more))
-heard_all gets past seen more are are' = subst (AreHeard gets past) (sym (packets_apart seen more)) (heard_both gets past (packets_in seen) (packets_in more) are are')
+pub heard_all : (gets : ℕ → ReceivingEnd) (past : List Effect) (seen more : List (Event Emission)) → AreHeard gets past (packets_of_events seen) → AreHeard gets past (packets_of_events more) → AreHeard gets past (packets_of_events (seen ++ more))
+heard_all gets past seen more are are' = subst (AreHeard gets past) (sym (packets_apart seen more)) (heard_both gets past (packets_of_events seen) (packets_of_events more) are are')
 
 -- ---- packets of a turn
 
@@ -101,9 +101,9 @@ pub passed_reached : (first start : ℕ) (tracker : TrackerState) (tsn : ℕ) �
 passed_reached first start tracker tsn begun passed = record { number = passed.number; from = (let from = passed.from in omega (arith, begun, from)); to = passed.to; is = passed.is }
 
 -- The end of a run began with its first TSN.
-pub begun_with : (options : Options) (first size : ℕ) (sends : SendingEnd) (end : ReceivingEnd) → DirectionRun options first size (joined sends end)
+pub begun_with : (options : Options) (first size : ℕ) (sends : SendingEnd) (end : ReceivingEnd) → DirectionRun options first size (direction_of_ends sends end)
     → (end.first_tsn ≡ first) × ((first + (2 ^ 32 - 1)) % 2 ^ 32 ≤ end.tracker.cumulative)
-begun_with options first size sends end run = run_starts options first size (joined sends end) run
+begun_with options first size sends end run = run_starts options first size (direction_of_ends sends end) run
 
 -- ---- what comes back
 
@@ -123,7 +123,7 @@ silent_or_free gets past emission (inl none) = inl none
 silent_or_free gets past emission (inr (free, is)) = inr free
 
 -- A chunk of such a packet reports what was reached, or nothing.
-came_in : (gets : ℕ → ReceivingEnd) (past : List Effect) (heard : List Emission) (tag : ℕ) (content : Content) → tag ≢ 0 → AreHeard gets past heard → CameIn heard tag content
+came_in : (gets : ℕ → ReceivingEnd) (past : List Effect) (heard : List Emission) (tag : ℕ) (content : Content) → tag ≢ 0 → AreHeard gets past heard → CameInPacket heard tag content
     → ReportsSo (λ tsn. ⊥) content ⊎ ReportsSo (HasReached (gets tag).first_tsn (gets tag).tracker) content
 came_in gets past heard tag content some are came = go (one_heard gets past heard came.emission are came.was)
   where

@@ -5,7 +5,7 @@ use Rattle.dcsctp_spec_lemmas.specs.types.declared.options.Options.{Options}
 use Rattle.dcsctp_spec_lemmas.specs.types.queues.Messages.{MessageContent}
 use Rattle.dcsctp_spec_lemmas.specs.spec.endpoint.Endpoint.{Endpoint}
 use Rattle.dcsctp_spec_lemmas.specs.spec.Packet.{Emission}
-use Rattle.dcsctp_spec_lemmas.specs.spec.association.Effect.{AssociationIdentity, Effect, identity_in}
+use Rattle.dcsctp_spec_lemmas.specs.spec.association.Effect.{AssociationIdentity, Effect, identity_of_core}
 use Rattle.dcsctp_spec_lemmas.specs.spec.queues.Reassembly.{ReassemblyState}
 use Rattle.dcsctp_spec_lemmas.specs.spec.queues.Transfer.{EndpointQueues}
 use Rattle.dcsctp_delivery_sending.specs.Places.{HasEntry, at_place}
@@ -16,16 +16,16 @@ use Rattle.dcsctp_delivery_sending.proofs.HeldOn.{unlimited_on_at}
 use Rattle.dcsctp_delivery_receiving.specs.Ready.{WereQueued}
 use Rattle.dcsctp_delivery_directions.proofs.ChunkCounts.{few_for_chunks}
 use Rattle.dcsctp_delivery_directions.proofs.Directions.{directions_deliver}
-use Rattle.dcsctp_delivery_directions.specs.Directions.{Direction, assigned}
+use Rattle.dcsctp_delivery_directions.specs.Directions.{Direction, assigned_count}
 use Rattle.dcsctp_delivery_directions.specs.Requests.{requests_to}
 use Rattle.dcsctp_delivery_directions.proofs.RequestCounts.{requests_are_sent}
 use Rattle.dcsctp_delivery_directions.proofs.Forwards.{unlimited_forward_nothing}
 use Rattle.dcsctp_delivery_sending.specs.Losing.{AreUnlimited, AreUnlimitedOn}
 use Rattle.dcsctp_spec_lemmas.proofs.MarkedItemLemmas.{le_or_lt}
-use Rattle.dcsctp_delivery_order.specs.Delivered.{DeliveredInOrder, DeliveredWithoutGaps}
+use Rattle.dcsctp_delivery_order.specs.Delivered.{AreDeliveredInOrder, AreDeliveredWithoutGaps}
 use Rattle.dcsctp_delivery_order.specs.Queue.{IsOrderedOn, ComeInOrder, LeaveNoGap}
-use Rattle.dcsctp_delivery_order.specs.Streams.{DeliveredByStream, DeliveredOn}
-use Rattle.dcsctp_delivery_order.specs.Complete.{HasNothingLeft, DeliveredAllOn}
+use Rattle.dcsctp_delivery_order.specs.Streams.{AreDeliveredByStream, AreDeliveredOnStreams}
+use Rattle.dcsctp_delivery_order.specs.Complete.{HasNothingLeft, AreAllDelivered}
 use Rattle.dcsctp_delivery_order.proofs.PlainComplete.{plain_streams_arrive}
 use Rattle.dcsctp_delivery_order.proofs.Directions.{directions_deliver_in_order}
 use Rattle.dcsctp_delivery_order.proofs.PlainDirections.{plain_directions_deliver_in_order}
@@ -34,7 +34,7 @@ use Rattle.dcsctp_delivery_order.proofs.FewDirections.{plain_few_deliver_in_orde
 use Rattle.dcsctp_delivery_order.specs.PlainDirections.{FewOnEachStream}
 use Rattle.dcsctp_delivery_associations.proofs.FewMarks.{few_marks}
 use Rattle.dcsctp_delivery_order.proofs.PlainFront.{plain_streams_deliver_without_gaps, plain_directions_deliver_without_gaps}
-use Rattle.dcsctp_delivery_associations.specs.Ends.{ReceivingEnd, joined, Ends, sender_key, HadKind, IsOnlyOwn, BeginsAnew, Awaits, chunks_before, IsCurrentEnd, Between}
+use Rattle.dcsctp_delivery_associations.specs.Ends.{ReceivingEnd, direction_of_ends, Ends, sender_key, HadKind, IsOnlyOwn, NumbersFromZero, Awaits, chunks_before, IsCurrentEnd, Between}
 use Rattle.dcsctp_delivery_associations.specs.InOrder.{InterleavesUnder, IsReliableKept, AreThrough}
 use Rattle.dcsctp_delivery_associations.specs.Reads.{Reading, with_key}
 use Rattle.dcsctp_delivery_associations.proofs.Delivers.{were_unmarked}
@@ -77,7 +77,7 @@ order_unmarked marks queued id (place ∷ places) (content ∷ contents) found w
   order_unmarked marks queued id places contents found were.1 come.1,
 )
 
-abbrev in_order_unmarked : (marks queued : List Message) (contents : List MessageContent) → AllFound marks queued → DeliveredInOrder marks contents → DeliveredInOrder queued contents
+abbrev in_order_unmarked : (marks queued : List Message) (contents : List MessageContent) → AllFound marks queued → AreDeliveredInOrder marks contents → AreDeliveredInOrder queued contents
 in_order_unmarked marks queued contents found d =
     record {
       delivered = record { places = d.delivered.places; were_queued = were_unmarked marks queued d.delivered.places contents found d.delivered.were_queued; once = d.delivered.once };
@@ -134,7 +134,7 @@ no_gap_unmarked marks queued contents places id found were gap earlier later has
     let first = below_at earlier marks (let below = at_below later m.mark marks m.at in omega (arith, before, below)) in
     gap earlier later has (is_ordered marks queued id later found m on) (is_ordered marks queued id earlier found first on') before
 
-front_unmarked : (marks queued : List Message) (contents : List MessageContent) → AllFound marks queued → DeliveredWithoutGaps marks contents → DeliveredWithoutGaps queued contents
+front_unmarked : (marks queued : List Message) (contents : List MessageContent) → AllFound marks queued → AreDeliveredWithoutGaps marks contents → AreDeliveredWithoutGaps queued contents
 front_unmarked marks queued contents found d =
     record {
       ordered = in_order_unmarked marks queued contents found d.ordered;
@@ -143,7 +143,7 @@ front_unmarked marks queued contents found d =
 
 -- So does what is read of a stream.
 by_stream_unmarked : (keeps never_resets : ℕ → Bool) (marks queued : List Message) (contents : List MessageContent) → AllFound marks queued → ((id : ℕ) → never_resets id ≡ true → keeps id ≡ true)
-    → DeliveredByStream keeps marks contents → DeliveredByStream never_resets queued contents
+    → AreDeliveredByStream keeps marks contents → AreDeliveredByStream never_resets queued contents
 by_stream_unmarked keeps never_resets marks queued contents found kept d =
     record {
       ordered = in_order_unmarked marks queued contents found d.ordered;
@@ -152,7 +152,7 @@ by_stream_unmarked keeps never_resets marks queued contents found kept d =
     }
 
 abbrev on_unmarked : (keeps never_resets : ℕ → Bool) (marks queued : List Message) (contents : List MessageContent) → AllFound marks queued → ((id : ℕ) → never_resets id ≡ true → keeps id ≡ true)
-    → DeliveredOn keeps marks contents → DeliveredOn never_resets queued contents
+    → AreDeliveredOnStreams keeps marks contents → AreDeliveredOnStreams never_resets queued contents
 on_unmarked keeps never_resets marks queued contents found kept d =
     record {
       delivered = record { places = d.delivered.places; were_queued = were_unmarked marks queued d.delivered.places contents found d.delivered.were_queued; once = d.delivered.once };
@@ -160,7 +160,7 @@ on_unmarked keeps never_resets marks queued contents found kept d =
       no_gap = λ id never. no_gap_unmarked marks queued contents d.delivered.places id found d.delivered.were_queued (d.no_gap id (kept id never));
     }
 
-all_unmarked : (these : ℕ → Bool) (marks queued : List Message) (contents : List MessageContent) → AllFound marks queued → length marks ≡ length queued → DeliveredAllOn these marks contents → DeliveredAllOn these queued contents
+all_unmarked : (these : ℕ → Bool) (marks queued : List Message) (contents : List MessageContent) → AllFound marks queued → length marks ≡ length queued → AreAllDelivered these marks contents → AreAllDelivered these queued contents
 all_unmarked these marks queued contents found long d =
     record {
       on = on_unmarked these these marks queued contents found (λ id mine. mine) d.on;
@@ -170,19 +170,19 @@ all_unmarked these marks queued contents found long d =
 
 -- ---- one association
 
-pub nothing_in_order : (queued : List Message) (contents : List MessageContent) → contents ≡ [] → DeliveredInOrder queued contents
-nothing_in_order queued contents none = subst (DeliveredInOrder queued) (sym none) (record { delivered = record { places = []; were_queued = tt; once = tt }; in_order = λ id. tt })
+pub nothing_in_order : (queued : List Message) (contents : List MessageContent) → contents ≡ [] → AreDeliveredInOrder queued contents
+nothing_in_order queued contents none = subst (AreDeliveredInOrder queued) (sym none) (record { delivered = record { places = []; were_queued = tt; once = tt }; in_order = λ id. tt })
 
-pub nothing_before : (queued : List Message) (contents : List MessageContent) → contents ≡ [] → DeliveredWithoutGaps queued contents
+pub nothing_before : (queued : List Message) (contents : List MessageContent) → contents ≡ [] → AreDeliveredWithoutGaps queued contents
 nothing_before queued contents none =
-    subst (DeliveredWithoutGaps queued) (sym none)
+    subst (AreDeliveredWithoutGaps queued) (sym none)
     (record { ordered = record { delivered = record { places = []; were_queued = tt; once = tt }; in_order = λ id. tt }; no_gap = λ id earlier later has on on' before. absurd has })
 
-pub nothing_by_stream : (never_resets : ℕ → Bool) (queued : List Message) (contents : List MessageContent) → contents ≡ [] → DeliveredByStream never_resets queued contents
+pub nothing_by_stream : (never_resets : ℕ → Bool) (queued : List Message) (contents : List MessageContent) → contents ≡ [] → AreDeliveredByStream never_resets queued contents
 nothing_by_stream never_resets queued contents none =
     let d = nothing_before queued contents none in record { ordered = d.ordered; no_gap = λ id never are. d.no_gap id }
 
-pub nothing_on : (never_resets : ℕ → Bool) (queued : List Message) (contents : List MessageContent) → contents ≡ [] → DeliveredOn never_resets queued contents
+pub nothing_on : (never_resets : ℕ → Bool) (queued : List Message) (contents : List MessageContent) → contents ≡ [] → AreDeliveredOnStreams never_resets queued contents
 nothing_on never_resets queued contents none =
     let d = nothing_before queued contents none in record { delivered = d.ordered.delivered; in_order = λ id never. d.ordered.in_order id; no_gap = λ id never. d.no_gap id }
 
@@ -199,17 +199,17 @@ module _ (options : Options) (ends : Ends) (e : Endpoint) (queued : List Message
     short : length (ends.sends tag).queued < 2 ^ 64
     short = (let fewer = h.sender.short tag in omega (arith, fewer, many))
 
-    little : assigned (joined (ends.sends tag) (ends.gets tag)) < 2 ^ 31
+    little : assigned_count (direction_of_ends (ends.sends tag) (ends.gets tag)) < 2 ^ 31
     little =
         let sent = h.sender.few tag in
         let went = few tag in
-        let all = few_for_chunks options (ends.firsts tag) options.max_receiver_window_buffer_size (joined (ends.sends tag) (ends.gets tag)) (h.runs tag) (h.small tag) short in
+        let all = few_for_chunks options (ends.firsts tag) options.max_receiver_window_buffer_size (direction_of_ends (ends.sends tag) (ends.gets tag)) (h.runs tag) (h.small tag) short in
         omega (arith, sent, went, all)
 
   -- what the ends of this tag have
   module _ (tag : ℕ) where
     abbrev own : Direction
-    own = joined (ends.sends tag) (ends.gets tag)
+    own = direction_of_ends (ends.sends tag) (ends.gets tag)
 
     -- Nothing is read under the tag 0.
     none_at_zero : tag ≡ 0 → with_key tag reading.reads ≡ []
@@ -228,28 +228,28 @@ module _ (options : Options) (ends : Ends) (e : Endpoint) (queued : List Message
         let few' = h.sender.few_requests tag in
         is_empty (ends.sends tag).asking.requests (omega (arith, sent, few', none))
 
-    in_order_so : DeliveredInOrder (ends.sends tag).queued (ends.gets tag).read → DeliveredInOrder queued (with_key tag reading.reads)
-    in_order_so all = in_order_unmarked (ends.sends tag).queued queued (with_key tag reading.reads) (h.sender.marks tag) (subst (DeliveredInOrder (ends.sends tag).queued) (sym (h.receiver.were_read tag)) all)
+    in_order_so : AreDeliveredInOrder (ends.sends tag).queued (ends.gets tag).read → AreDeliveredInOrder queued (with_key tag reading.reads)
+    in_order_so all = in_order_unmarked (ends.sends tag).queued queued (with_key tag reading.reads) (h.sender.marks tag) (subst (AreDeliveredInOrder (ends.sends tag).queued) (sym (h.receiver.were_read tag)) all)
 
-    front_so : DeliveredWithoutGaps (ends.sends tag).queued (ends.gets tag).read → DeliveredWithoutGaps queued (with_key tag reading.reads)
-    front_so all = front_unmarked (ends.sends tag).queued queued (with_key tag reading.reads) (h.sender.marks tag) (subst (DeliveredWithoutGaps (ends.sends tag).queued) (sym (h.receiver.were_read tag)) all)
+    front_so : AreDeliveredWithoutGaps (ends.sends tag).queued (ends.gets tag).read → AreDeliveredWithoutGaps queued (with_key tag reading.reads)
+    front_so all = front_unmarked (ends.sends tag).queued queued (with_key tag reading.reads) (h.sender.marks tag) (subst (AreDeliveredWithoutGaps (ends.sends tag).queued) (sym (h.receiver.were_read tag)) all)
 
     -- Either nothing was read under the tag, or the sender had an association of it.
     by_begun : {P : Type 0} → (with_key tag reading.reads ≡ [] → P) → (tag ≢ 0 → HadKind past tag (ends.sends tag).queues.queue.is_interleaved → P) → P
     by_begun none had = elim (decide tag 0) [ inl zero ↦ none (none_at_zero zero) | inr some ↦ elim (h.sender.kinds tag some) [ inl waits ↦ none (none_awaited waits) | inr kind ↦ had some kind ] ]
 
-  pub ends_deliver_in_order : (tag : ℕ) → BeginsAnew e past tag → InterleavesUnder past tag → DeliveredInOrder queued (with_key tag reading.reads)
+  pub ends_deliver_in_order : (tag : ℕ) → NumbersFromZero e past tag → InterleavesUnder past tag → AreDeliveredInOrder queued (with_key tag reading.reads)
   ends_deliver_in_order tag anew interleaves =
       by_begun tag (nothing_in_order queued (with_key tag reading.reads))
       (λ some had. in_order_so tag
       (directions_deliver_in_order options (ends.firsts tag) options.max_receiver_window_buffer_size (own tag) (h.runs tag) (h.small tag) (little tag) (short tag)
       (sym (had.kind_is interleaves.0 interleaves.1 interleaves.2) ∙ interleaves.3) (h.numbered tag some anew)))
 
-  pub ends_deliver_by_stream : (tag : ℕ) → IsOnlyOwn past tag → InterleavesUnder past tag → DeliveredByStream ends.never_resets queued (with_key tag reading.reads)
+  pub ends_deliver_by_stream : (tag : ℕ) → IsOnlyOwn past tag → InterleavesUnder past tag → AreDeliveredByStream ends.never_resets queued (with_key tag reading.reads)
   ends_deliver_by_stream tag only interleaves =
       by_begun tag (nothing_by_stream ends.never_resets queued (with_key tag reading.reads))
       (λ some had. by_stream_unmarked (ends.sends tag).beginning.keeps ends.never_resets (ends.sends tag).queued queued (with_key tag reading.reads) (h.sender.marks tag) (h.kept tag some only)
-      (subst (DeliveredByStream (ends.sends tag).beginning.keeps (ends.sends tag).queued) (sym (h.receiver.were_read tag))
+      (subst (AreDeliveredByStream (ends.sends tag).beginning.keeps (ends.sends tag).queued) (sym (h.receiver.were_read tag))
       (streams_deliver_without_gaps options (ends.firsts tag) options.max_receiver_window_buffer_size (own tag) (h.runs tag) (h.small tag) (little tag) (short tag)
       (sym (had.kind_is interleaves.0 interleaves.1 interleaves.2) ∙ interleaves.3) (h.numbered tag some (inr only)))))
 
@@ -262,7 +262,7 @@ module _ (options : Options) (ends : Ends) (e : Endpoint) (queued : List Message
 
     -- Stream sequence numbers are read right, since none is skipped, or there are few.
     own_data : (tag : ℕ) (kind : Bool) → (ends.sends tag).queues.queue.is_interleaved ≡ kind → (ends.sends tag).beginning.from_zero ≡ true → (ends.sends tag).asking.requests ≡ [] → AreUnlimited queued ⊎ FewOnEachStream queued
-        → DeliveredInOrder (ends.sends tag).queued (ends.gets tag).read
+        → AreDeliveredInOrder (ends.sends tag).queued (ends.gets tag).read
     own_data tag true is from none which = directions_deliver_in_order options (ends.firsts tag) options.max_receiver_window_buffer_size (own tag) (h.runs tag) (h.small tag) (little tag) (short tag) is from
     own_data tag false is from none (inl are) =
         plain_directions_deliver_in_order options (ends.firsts tag) options.max_receiver_window_buffer_size (own tag) (h.runs tag) (h.small tag) (little tag) (short tag) room is from none
@@ -271,14 +271,14 @@ module _ (options : Options) (ends : Ends) (e : Endpoint) (queued : List Message
         plain_few_deliver_in_order options (ends.firsts tag) options.max_receiver_window_buffer_size (own tag) (h.runs tag) (h.small tag) (little tag) (short tag) is from none
         (few_marks queued (ends.sends tag).queued (h.sender.short tag) (h.sender.marks tag) few)
 
-    pub ends_deliver_data_in_order : AreUnlimited queued ⊎ FewOnEachStream queued → (tag : ℕ) → BeginsAnew e past tag → requests_to (ends.latest tag) packets ≡ 0 → DeliveredInOrder queued (with_key tag reading.reads)
+    pub ends_deliver_data_in_order : AreUnlimited queued ⊎ FewOnEachStream queued → (tag : ℕ) → NumbersFromZero e past tag → requests_to (ends.latest tag) packets ≡ 0 → AreDeliveredInOrder queued (with_key tag reading.reads)
     ends_deliver_data_in_order which tag anew none =
         by_begun tag (nothing_in_order queued (with_key tag reading.reads))
         (λ some had. in_order_so tag (own_data tag (ends.sends tag).queues.queue.is_interleaved refl (h.numbered tag some anew) (unasked tag none) which))
 
     -- Either way of numbering leaves no gap on a stream that is kept and has no limits.
     module _ (these : ℕ → Bool) (reliable : (id : ℕ) → these id ≡ true → IsReliableKept ends.never_resets queued id) where
-      own_on : (tag : ℕ) → tag ≢ 0 → IsOnlyOwn past tag → (kind : Bool) → (ends.sends tag).queues.queue.is_interleaved ≡ kind → DeliveredOn these (ends.sends tag).queued (ends.gets tag).read
+      own_on : (tag : ℕ) → tag ≢ 0 → IsOnlyOwn past tag → (kind : Bool) → (ends.sends tag).queues.queue.is_interleaved ≡ kind → AreDeliveredOnStreams these (ends.sends tag).queued (ends.gets tag).read
       own_on tag some only true is =
           let d = streams_deliver_without_gaps options (ends.firsts tag) options.max_receiver_window_buffer_size (own tag) (h.runs tag) (h.small tag) (little tag) (short tag) is (h.numbered tag some (inr only)) in
           record {
@@ -290,14 +290,14 @@ module _ (options : Options) (ends : Ends) (e : Endpoint) (queued : List Message
           plain_streams_deliver_without_gaps these options (ends.firsts tag) options.max_receiver_window_buffer_size (own tag) (h.runs tag) (h.small tag) (little tag) (short tag) room is (h.numbered tag some (inr only))
           (λ id mine. record { keeps = h.kept tag some only id (reliable id mine).never; unlimited = unlimited_on_marks id (ends.sends tag).queued queued (h.sender.marks tag) (reliable id mine).unlimited })
 
-      pub ends_deliver_on_streams : (tag : ℕ) → IsOnlyOwn past tag → DeliveredOn these queued (with_key tag reading.reads)
+      pub ends_deliver_on_streams : (tag : ℕ) → IsOnlyOwn past tag → AreDeliveredOnStreams these queued (with_key tag reading.reads)
       ends_deliver_on_streams tag only =
           by_begun tag (nothing_on these queued (with_key tag reading.reads))
           (λ some had. on_unmarked these these (ends.sends tag).queued queued (with_key tag reading.reads) (h.sender.marks tag) (λ id mine. mine)
-          (subst (DeliveredOn these (ends.sends tag).queued) (sym (h.receiver.were_read tag)) (own_on tag some only (ends.sends tag).queues.queue.is_interleaved refl)))
+          (subst (AreDeliveredOnStreams these (ends.sends tag).queued) (sym (h.receiver.were_read tag)) (own_on tag some only (ends.sends tag).queues.queue.is_interleaved refl)))
 
       -- All came where nothing is left.
-      pub ends_arrive : (through : AreThrough e other) → IsOnlyOwn past through.link.my.tag → DeliveredAllOn these queued (with_key through.link.my.tag reading.reads)
+      pub ends_arrive : (through : AreThrough e other) → IsOnlyOwn past through.link.my.tag → AreAllDelivered these queued (with_key through.link.my.tag reading.reads)
       ends_arrive through only = go (h.receiver.current through.transfer through.there)
         where
           key_is : sender_key e.core ≡ through.link.my.tag
@@ -309,7 +309,7 @@ module _ (options : Options) (ends : Ends) (e : Endpoint) (queued : List Message
           long : length (ends.sends through.link.my.tag).queued ≡ length queued
           long = subst (λ (k : ℕ). length (ends.sends k).queued ≡ length queued) key_is h.sender.long
 
-          go : IsCurrentEnd ends other their_past through.transfer → DeliveredAllOn these queued (with_key through.link.my.tag reading.reads)
+          go : IsCurrentEnd ends other their_past through.transfer → AreAllDelivered these queued (with_key through.link.my.tag reading.reads)
           go c =
               let both : Some c.link ≡ Some through.theirs = sym c.linked ∙ through.theirs_linked in
               let same : c.link ≡ through.theirs = cc in
@@ -321,7 +321,7 @@ module _ (options : Options) (ends : Ends) (e : Endpoint) (queued : List Message
               let ready : (ends.gets through.link.my.tag).reassembly.incoming.ready ≡ [] =
               ap (λ (k : ℕ). (ends.gets k).reassembly.incoming.ready) (sym from) ∙ ap (λ (r : ReassemblyState). r.incoming.ready) c.reassembly ∙ through.none_ready in
               all_unmarked these (ends.sends through.link.my.tag).queued queued (with_key through.link.my.tag reading.reads) (h.sender.marks through.link.my.tag) long
-              (subst (DeliveredAllOn these (ends.sends through.link.my.tag).queued) (sym (h.receiver.were_read through.link.my.tag))
+              (subst (AreAllDelivered these (ends.sends through.link.my.tag).queued) (sym (h.receiver.were_read through.link.my.tag))
               (plain_streams_arrive these options (ends.firsts through.link.my.tag) options.max_receiver_window_buffer_size (own through.link.my.tag) (h.runs through.link.my.tag) (h.small through.link.my.tag)
               (little through.link.my.tag) (short through.link.my.tag) room kind (h.numbered through.link.my.tag some (inr only))
               (λ id mine. record {
@@ -332,7 +332,7 @@ module _ (options : Options) (ends : Ends) (e : Endpoint) (queued : List Message
 
     -- Either way of numbering leaves no gap.
     own_front : AreUnlimited queued → (tag : ℕ) → tag ≢ 0 → ((id : ℕ) → ends.never_resets id ≡ true) → IsOnlyOwn past tag → (kind : Bool) → (ends.sends tag).queues.queue.is_interleaved ≡ kind
-        → DeliveredWithoutGaps (ends.sends tag).queued (ends.gets tag).read
+        → AreDeliveredWithoutGaps (ends.sends tag).queued (ends.gets tag).read
     own_front are tag some never only true is =
         directions_deliver_without_gaps options (ends.firsts tag) options.max_receiver_window_buffer_size (own tag) (h.runs tag) (h.small tag) (little tag) (short tag) is
         (h.numbered tag some (inr only)) (λ id. h.kept tag some only id (never id)) (unlimited are tag)
@@ -340,7 +340,7 @@ module _ (options : Options) (ends : Ends) (e : Endpoint) (queued : List Message
         plain_directions_deliver_without_gaps options (ends.firsts tag) options.max_receiver_window_buffer_size (own tag) (h.runs tag) (h.small tag) (little tag) (short tag) room is
         (h.numbered tag some (inr only)) (λ id. h.kept tag some only id (never id)) (unlimited are tag)
 
-    pub ends_deliver_without_gaps : AreUnlimited queued → ((id : ℕ) → ends.never_resets id ≡ true) → (tag : ℕ) → IsOnlyOwn past tag → DeliveredWithoutGaps queued (with_key tag reading.reads)
+    pub ends_deliver_without_gaps : AreUnlimited queued → ((id : ℕ) → ends.never_resets id ≡ true) → (tag : ℕ) → IsOnlyOwn past tag → AreDeliveredWithoutGaps queued (with_key tag reading.reads)
     ends_deliver_without_gaps are never tag only =
         by_begun tag (nothing_before queued (with_key tag reading.reads))
         (λ some had. front_so tag (own_front are tag some never only (ends.sends tag).queues.queue.is_interleaved refl))

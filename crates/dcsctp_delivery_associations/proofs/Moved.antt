@@ -2,7 +2,7 @@
 -- association goes to the peer that takes its place (RFC 9260, section 5.2.4, action B).
 use Rattle.std.proofs.Common.{◌≡◌, ◌≢◌, ℕ, ◌≤◌, Some, List, [], length, refl, sym, ◌∙◌, ap, arith, subst, inl, inr}
 use Rattle.std.specs.Prelude.{◌⊎◌}
-use Rattle.dcsctp_delivery_sending.specs.Places.{at_place, set_at}
+use Rattle.dcsctp_delivery_sending.specs.Places.{at_place, table_with}
 use Rattle.dcsctp_delivery_sending.specs.Log.{Message}
 use Rattle.dcsctp_delivery_sending.specs.Marking.{FindsMarked}
 use Rattle.dcsctp_delivery_sending.proofs.Places.{decide, set_same, set_other}
@@ -12,12 +12,12 @@ use Rattle.dcsctp_delivery_associations.proofs.Growing.{set_all}
 -- `moved` is the end under the tag `from`, later; under that tag an end is left that has nothing.
 module _ (sends : ℕ → SendingEnd) (from to : ℕ) (moved empty : SendingEnd) (other : to ≢ from) (same : moved.queued ≡ (sends from).queued) (none : empty.queued ≡ []) where
   abbrev pub moved_sends : ℕ → SendingEnd
-  moved_sends = set_at to moved (set_at from empty sends)
+  moved_sends = table_with to moved (table_with from empty sends)
 
   -- What holds of the two, and of each other end, holds of all.
   pub moved_all : (P : ℕ → SendingEnd → Type 0) → P to moved → P from empty → ((tag : ℕ) → tag ≢ to → tag ≢ from → P tag (sends tag)) → (tag : ℕ) → P tag (moved_sends tag)
   moved_all P here left others =
-      set_all P to moved (set_at from empty sends) here
+      set_all P to moved (table_with from empty sends) here
       (λ tag ne. set_all (λ t s. t ≢ to → P t s) from empty sends (λ apart. left) (λ t ne' apart. others t apart ne') tag ne)
 
   empty_left : (queued : List Message) → MarksLeft empty queued
@@ -27,7 +27,7 @@ module _ (sends : ℕ → SendingEnd) (from to : ℕ) (moved empty : SendingEnd)
   pub moved_last : ((tag : ℕ) → tag ≢ from → MarksLeft (sends tag) (sends from).queued) → (tag : ℕ) → tag ≢ to → MarksLeft (moved_sends tag) (moved_sends to).queued
   moved_last last =
       moved_all (λ tag s. tag ≢ to → MarksLeft s (moved_sends to).queued) (λ apart. absurd (apart refl)) (λ apart. empty_left (moved_sends to).queued)
-      (λ tag ne ne' apart. subst (MarksLeft (sends tag)) (sym (ap (λ (s : SendingEnd). s.queued) (set_same to moved (set_at from empty sends)) ∙ same)) (last tag ne'))
+      (λ tag ne ne' apart. subst (MarksLeft (sends tag)) (sym (ap (λ (s : SendingEnd). s.queued) (set_same to moved (table_with from empty sends)) ∙ same)) (last tag ne'))
 
   pub moved_pairs : ((tag : ℕ) → tag ≢ from → MarksLeft (sends tag) (sends from).queued) → ((one two : ℕ) → one ≢ two → MarksLeft (sends one) (sends two).queued ⊎ MarksLeft (sends two) (sends one).queued)
       → (one two : ℕ) → one ≢ two → MarksLeft (moved_sends one) (moved_sends two).queued ⊎ MarksLeft (moved_sends two) (moved_sends one).queued
@@ -47,10 +47,10 @@ module _ (sends : ℕ → SendingEnd) (from to : ℕ) (moved empty : SendingEnd)
       ]
     where
       at_from : (tag : ℕ) → tag ≢ to → tag ≡ from → moved_sends tag ≡ empty
-      at_from tag ne is = set_other to tag moved (set_at from empty sends) ne ∙ ap (set_at from empty sends) is ∙ set_same from empty sends
+      at_from tag ne is = set_other to tag moved (table_with from empty sends) ne ∙ ap (table_with from empty sends) is ∙ set_same from empty sends
 
       at_other : (tag : ℕ) → tag ≢ to → tag ≢ from → moved_sends tag ≡ sends tag
-      at_other tag ne apart = set_other to tag moved (set_at from empty sends) ne ∙ set_other from tag empty sends apart
+      at_other tag ne apart = set_other to tag moved (table_with from empty sends) ne ∙ set_other from tag empty sends apart
 
       both : moved_sends one ≡ sends one → moved_sends two ≡ sends two → MarksLeft (sends one) (sends two).queued ⊎ MarksLeft (sends two) (sends one).queued
           → MarksLeft (moved_sends one) (moved_sends two).queued ⊎ MarksLeft (moved_sends two) (moved_sends one).queued

@@ -11,22 +11,22 @@ use Rattle.dcsctp_spec_lemmas.specs.spec.Reconfiguration.{RequestedReset, ResetP
 use Rattle.dcsctp_spec_lemmas.specs.spec.endpoint.Turn.{Input, Turn}
 use Rattle.dcsctp_spec_runs.specs.World.{after_effects}
 use Rattle.dcsctp_spec_lemmas.specs.spec.association.Effect as effects
-use Rattle.dcsctp_spec_lemmas.specs.spec.association.Effect.{AssociationIdentity, Effect, holds, identity_of, identity_in}
+use Rattle.dcsctp_spec_lemmas.specs.spec.association.Effect.{AssociationIdentity, Effect, holds, identity_of, identity_of_core}
 use Rattle.dcsctp_spec_lemmas.specs.spec.association.FlushChanges.{next_number, reset_request}
 use Rattle.dcsctp_spec_lemmas.specs.spec.queues.Reassembly.{DeferralModel}
 use Rattle.dcsctp_spec_lemmas.specs.spec.queues.Transfer.{Transfer}
 use Rattle.dcsctp_spec_lemmas.specs.spec.endpoint.BegunResets.{BegunReset}
-use Rattle.dcsctp_spec_lemmas.specs.spec.endpoint.ResetOutcomes.{has_reset, requested_in}
+use Rattle.dcsctp_spec_lemmas.specs.spec.endpoint.ResetOutcomes.{has_reset, first_reset_request}
 use Rattle.dcsctp_delivery_sending.specs.Places as places
-use Rattle.dcsctp_delivery_sending.specs.Places.{set_at}
+use Rattle.dcsctp_delivery_sending.specs.Places.{table_with}
 use Rattle.dcsctp_delivery_sending.proofs.Places.{decide, set_same, set_other}
 use Rattle.dcsctp_delivery_directions.specs.Directions.{Asking, nothing_asked, Direction, DirectionRun}
 use Rattle.dcsctp_delivery_directions.specs.Requests.{IsOfBegun}
 use Rattle.dcsctp_delivery_directions.proofs.Requests.{requests_were_begun}
-use Rattle.dcsctp_delivery_turns.specs.Actions.{IsOpening, came_by, Begun, IsCall, IsCalm}
+use Rattle.dcsctp_delivery_turns.specs.Actions.{IsOpening, content_of_input, BeginsAssociation, IsCall, IsCalm}
 use Rattle.dcsctp_delivery_turns.specs.Asking.{AreNumbered}
-use Rattle.dcsctp_delivery_turns.specs.PeerRequests.{KnowsPeerIn, IsPlainRequest, IsDue, WaitsFor, PeerTurns, asks_nothing, performs_it, defers_it, begins_anew}
-use Rattle.dcsctp_delivery_turns.specs.Runs.{IsNewest, PerformsNewest, performed_where, PerformedBy}
+use Rattle.dcsctp_delivery_turns.specs.PeerRequests.{KnowsPeerOfCore, IsPlainRequest, IsDue, WaitsFor, PeerTurns, asks_nothing, performs_it, defers_it, begins_anew}
+use Rattle.dcsctp_delivery_turns.specs.Runs.{IsNewest, PerformsNewest, performed_if_reset, PerformsByTurn}
 use Rattle.dcsctp_delivery_turns.specs.Sides.{WasSent}
 use Rattle.dcsctp_delivery_turns.proofs.Holding.{holds_mean, ends_mean}
 use Rattle.dcsctp_delivery_turns.proofs.PeersTurns.{peers_turn}
@@ -78,7 +78,7 @@ begun_of options first size direction run number reset (inr was) =
 -- the ends once the receiver has this under the tag, and this is known of the requests there
 abbrev pub asked_ends : Ends → ℕ → Asking → ReceivingEnd → Ends
 asked_ends ends tag asking got =
-    record ends { sends = λ t. record (ends.sends t) { asking = set_at tag asking (λ n. (ends.sends n).asking) t }; gets = set_at tag got ends.gets; firsts = ends.firsts }
+    record ends { sends = λ t. record (ends.sends t) { asking = table_with tag asking (λ n. (ends.sends n).asking) t }; gets = table_with tag got ends.gets; firsts = ends.firsts }
 
 module _ (ends : Ends) (pairs : ℕ → Pair) (tag : ℕ) (got : ReceivingEnd) where
   -- a tag's requests, with this begun
@@ -90,18 +90,18 @@ module _ (ends : Ends) (pairs : ℕ → Pair) (tag : ℕ) (got : ReceivingEnd) w
       elim (decide t tag) [
         | inl e ↦
             ap (λ (a : Asking). record (requests_of ends pairs t) { asking = a })
-            (ap (set_at tag asking (λ n. (ends.sends n).asking)) e ∙ set_same tag asking (λ n. (ends.sends n).asking) ∙ is ∙ ap (λ (n : ℕ). (ends.sends n).asking) (sym e))
+            (ap (table_with tag asking (λ n. (ends.sends n).asking)) e ∙ set_same tag asking (λ n. (ends.sends n).asking) ∙ is ∙ ap (λ (n : ℕ). (ends.sends n).asking) (sym e))
         | inr ne ↦ ap (λ (a : Asking). record (requests_of ends pairs t) { asking = a }) (set_other tag t asking (λ n. (ends.sends n).asking) ne)
       ]
 
-  new_asked : (asking : Asking) → (t : ℕ) → requests_of (asked_ends ends tag asking got) pairs t ≡ set_at tag (record (requests_of ends pairs tag) { asking = asking }) (requests_of ends pairs) t
+  new_asked : (asking : Asking) → (t : ℕ) → requests_of (asked_ends ends tag asking got) pairs t ≡ table_with tag (record (requests_of ends pairs tag) { asking = asking }) (requests_of ends pairs) t
   new_asked asking t =
       elim (decide t tag) [
         | inl e ↦
             ap (λ (n : ℕ). requests_of (asked_ends ends tag asking got) pairs n) e
             ∙ ap (λ (a : Asking). record (requests_of ends pairs tag) { asking = a }) (set_same tag asking (λ n. (ends.sends n).asking))
             ∙ sym (set_same tag (record (requests_of ends pairs tag) { asking = asking }) (requests_of ends pairs))
-            ∙ ap (set_at tag (record (requests_of ends pairs tag) { asking = asking }) (requests_of ends pairs)) (sym e)
+            ∙ ap (table_with tag (record (requests_of ends pairs tag) { asking = asking }) (requests_of ends pairs)) (sym e)
         | inr ne ↦
             ap (λ (a : Asking). record (requests_of ends pairs t) { asking = a }) (set_other tag t asking (λ n. (ends.sends n).asking) ne)
             ∙ sym (set_other tag t (record (requests_of ends pairs tag) { asking = asking }) (requests_of ends pairs) ne)
@@ -111,59 +111,59 @@ module _ (ends : Ends) (pairs : ℕ → Pair) (tag : ℕ) (got : ReceivingEnd) w
 
 module _ (ends : Ends) (e : Endpoint) (past : List Effect) (d : Endpoint) (their_past : List Effect) (w : AreAnswered ends e past d their_past) (input : Input) (o : Outcome) (may : IsCall input) (turn : Turn d input o)
     (new_tags : (link old : AssociationIdentity) → HasEffect (holds link) o.effects → HasEffect (holds old) their_past → old.peer.tag ≢ link.peer.tag) where
-  no_holds : identity_in o.after.core ≡ identity_in d.core → (link : AssociationIdentity) → HasEffect (holds link) o.effects → ⊥
+  no_holds : identity_of_core o.after.core ≡ identity_of_core d.core → (link : AssociationIdentity) → HasEffect (holds link) o.effects → ⊥
   no_holds same link has =
       let there : WasJoined their_past link.peer.tag link.peer = (w.answers.theirs_held link (sym same ∙ holds_mean d input o link may turn has)).0 in
       new_tags link there.link has there.held there.tag_is
 
-  no_holds_none : identity_in o.after.core ≡ None → (link : AssociationIdentity) → HasEffect (holds link) o.effects → ⊥
+  no_holds_none : identity_of_core o.after.core ≡ None → (link : AssociationIdentity) → HasEffect (holds link) o.effects → ⊥
   no_holds_none none link has = (let clash : ◌≡◌ {A = Option AssociationIdentity} None (Some link) = sym none ∙ holds_mean d input o link may turn has in absurd (cc))
 
-  no_ends : (link : AssociationIdentity) → identity_in o.after.core ≡ Some link → HasEffect effects.ends o.effects → ⊥
-  no_ends link linked has = (let clash : ◌≡◌ {A = Option AssociationIdentity} None (Some link) = ap identity_in (sym (ends_mean d input o may turn has)) ∙ linked in absurd (cc))
+  no_ends : (link : AssociationIdentity) → identity_of_core o.after.core ≡ Some link → HasEffect effects.ends o.effects → ⊥
+  no_ends link linked has = (let clash : ◌≡◌ {A = Option AssociationIdentity} None (Some link) = ap identity_of_core (sym (ends_mean d input o may turn has)) ∙ linked in absurd (cc))
 
-  module _ (link : AssociationIdentity) (linked : identity_in d.core ≡ Some link) (transfer left : Transfer) (there : d.queues.transfer ≡ Some transfer) (is_left : o.after.queues.transfer ≡ Some left) where
+  module _ (link : AssociationIdentity) (linked : identity_of_core d.core ≡ Some link) (transfer left : Transfer) (there : d.queues.transfer ≡ Some transfer) (is_left : o.after.queues.transfer ≡ Some left) where
     abbrev there_waits : Option DeferralModel
     there_waits = transfer.reassembly.deferral
 
     abbrev tag : ℕ
     tag = link.peer.tag
 
-    answers_here : AnswersRequests (requests_of ends w.pairs) (identity_in e.core) past (Some link) their_past transfer.reassembly.deferral
+    answers_here : AnswersRequests (requests_of ends w.pairs) (identity_of_core e.core) past (Some link) their_past transfer.reassembly.deferral
     answers_here =
-        subst (λ (t : Option Transfer). AnswersRequests (requests_of ends w.pairs) (identity_in e.core) past (Some link) their_past (waiting_deferral t)) there
-        (subst (λ (l : Option AssociationIdentity). AnswersRequests (requests_of ends w.pairs) (identity_in e.core) past l their_past (waiting_deferral d.queues.transfer)) linked w.answers)
+        subst (λ (t : Option Transfer). AnswersRequests (requests_of ends w.pairs) (identity_of_core e.core) past (Some link) their_past (waiting_deferral t)) there
+        (subst (λ (l : Option AssociationIdentity). AnswersRequests (requests_of ends w.pairs) (identity_of_core e.core) past l their_past (waiting_deferral d.queues.transfer)) linked w.answers)
 
-    module _ (size : ℕ) (options : Options) (direction : Direction) (first : ℕ) (run : DirectionRun options first size direction) (asked_is : direction.asking ≡ (ends.sends link.peer.tag).asking) (sent : WasSent direction.sent (came_by input))
-        (few : length (ends.sends link.peer.tag).asking.requests < 2 ^ 32 - 1) (knows : KnowsPeerIn their_past d.core) where
+    module _ (size : ℕ) (options : Options) (direction : Direction) (first : ℕ) (run : DirectionRun options first size direction) (asked_is : direction.asking ≡ (ends.sends link.peer.tag).asking) (sent : WasSent direction.sent (content_of_input input))
+        (few : length (ends.sends link.peer.tag).asking.requests < 2 ^ 32 - 1) (knows : KnowsPeerOfCore their_past d.core) where
       peers : PeerTurns link their_past d input o transfer.reassembly.deferral left.reassembly.deferral
-      peers = peers_turn d input o their_past link transfer left knows (plainly_sent options first size direction run (came_by input) sent) may turn linked there is_left
+      peers = peers_turn d input o their_past link transfer left knows (plainly_sent options first size direction run (content_of_input input) sent) may turn linked there is_left
 
       -- the request that is handled
-      handled : (number : ℕ) (reset : RequestedReset) → came_by input ≡ Some (reset_request number reset)
+      handled : (number : ℕ) (reset : RequestedReset) → content_of_input input ≡ Some (reset_request number reset)
           → (begun : BegunReset) × places.HasEntry begun (ends.sends link.peer.tag).asking.requests × (begun.number ≡ number) × (begun.reset ≡ reset)
       handled number reset came =
           let found = begun_of options first size direction run number reset (subst (λ (c : Option Content). WasSent direction.sent c) came sent) in
           (found.0, subst (λ (a : Asking). places.HasEntry found.0 a.requests) asked_is found.1, found.2, found.3)
 
-      requested_is : (parameters : List ResetParameter) (number : ℕ) (reset other : RequestedReset) → came_by input ≡ Some (reset_request number reset) → came_by input ≡ Some (re_config parameters) → requested_in parameters ≡ Some other → reset ≡ other
+      requested_is : (parameters : List ResetParameter) (number : ℕ) (reset other : RequestedReset) → content_of_input input ≡ Some (reset_request number reset) → content_of_input input ≡ Some (re_config parameters) → first_reset_request parameters ≡ Some other → reset ≡ other
       requested_is parameters number reset other came came' asked =
           let same : outgoing_reset_request number (number_answered number reset.is_new) reset ∷ [] ≡ parameters = cc in
-          let is : ◌≡◌ {A = Option RequestedReset} (Some reset) (Some other) = ap requested_in same ∙ asked in
+          let is : ◌≡◌ {A = Option RequestedReset} (Some reset) (Some other) = ap first_reset_request same ∙ asked in
           cc
 
       numbers_here : AreNumbered (ends.firsts link.peer.tag) (ends.sends link.peer.tag).asking.requests
       numbers_here = numbers_of (requests_of ends w.pairs link.peer.tag) their_past (answers_here.asked link.peer.tag (answers_here.theirs_held link refl).0.some)
 
       -- It is due, and wants what the newest wants.
-      due_so : IsInStep (requests_of ends w.pairs link.peer.tag) their_past transfer.reassembly.deferral → (number : ℕ) (reset : RequestedReset) → (came : came_by input ≡ Some (reset_request number reset)) → IsDue their_past number
+      due_so : IsInStep (requests_of ends w.pairs link.peer.tag) their_past transfer.reassembly.deferral → (number : ℕ) (reset : RequestedReset) → (came : content_of_input input ≡ Some (reset_request number reset)) → IsDue their_past number
           → IsDueAt (requests_of ends w.pairs link.peer.tag) transfer.reassembly.deferral (handled number reset came).0
       due_so step number reset came due =
           let found = handled number reset came in
-          due_there (requests_of ends w.pairs) (identity_in e.core) past link their_past transfer.reassembly.deferral found.0 answers_here step found.1 few (subst (IsDue their_past) (sym found.2) due)
+          due_there (requests_of ends w.pairs) (identity_of_core e.core) past link their_past transfer.reassembly.deferral found.0 answers_here step found.1 few (subst (IsDue their_past) (sym found.2) due)
 
       -- So does what is performed.
-      pub performs_newest : IsInStep (requests_of ends w.pairs link.peer.tag) their_past transfer.reassembly.deferral → PerformsNewest direction transfer (came_by input) o.effects
+      pub performs_newest : IsInStep (requests_of ends w.pairs link.peer.tag) their_past transfer.reassembly.deferral → PerformsNewest direction transfer (content_of_input input) o.effects
       performs_newest step done parameters reset came asked = by_peers peers
         where
           by_peers : PeerTurns link their_past d input o transfer.reassembly.deferral left.reassembly.deferral → IsNewest direction transfer reset
@@ -251,20 +251,20 @@ module _ (ends : Ends) (e : Endpoint) (past : List Effect) (d : Endpoint) (their
       abbrev Later : List Effect
       Later = after_effects o.effects their_past
 
-      module _ (new_same : (begun : Begun d o) → IsOpening (came_by input) → identity_in o.after.core ≡ Some (identity_of begun.my begun.held) → identity_of begun.my begun.held ≡ link → ⊥) (same : identity_in o.after.core ≡ identity_in d.core)
-          (is_known : Bool) (stands : Standing is_known) (asking : Asking) (by : PerformedBy is_known input o direction asking) (got : ReceivingEnd) where
+      module _ (new_same : (begun : BeginsAssociation d o) → IsOpening (content_of_input input) → identity_of_core o.after.core ≡ Some (identity_of begun.my begun.held) → identity_of begun.my begun.held ≡ link → ⊥) (same : identity_of_core o.after.core ≡ identity_of_core d.core)
+          (is_known : Bool) (stands : Standing is_known) (asking : Asking) (by : PerformsByTurn is_known input o direction asking) (got : ReceivingEnd) where
         abbrev After : Type 0
         After = AreAnswered (asked_ends ends link.peer.tag asking got) e past o.after (after_effects o.effects their_past)
 
-        linked_after : identity_in o.after.core ≡ Some link
+        linked_after : identity_of_core o.after.core ≡ Some link
         linked_after = same ∙ linked
 
-        answered_by : AnswersRequests (requests_of (asked_ends ends link.peer.tag asking got) w.pairs) (identity_in e.core) past (Some link) (after_effects o.effects their_past) left.reassembly.deferral → After
+        answered_by : AnswersRequests (requests_of (asked_ends ends link.peer.tag asking got) w.pairs) (identity_of_core e.core) past (Some link) (after_effects o.effects their_past) left.reassembly.deferral → After
         answered_by answers =
             record {
               pairs = w.pairs;
-              answers = subst (λ (t : Option Transfer). AnswersRequests (requests_of (asked_ends ends link.peer.tag asking got) w.pairs) (identity_in e.core) past (identity_in o.after.core) (after_effects o.effects their_past) (waiting_deferral t)) (sym is_left)
-                  (subst (λ (l : Option AssociationIdentity). AnswersRequests (requests_of (asked_ends ends link.peer.tag asking got) w.pairs) (identity_in e.core) past l (after_effects o.effects their_past) left.reassembly.deferral) (sym linked_after) answers);
+              answers = subst (λ (t : Option Transfer). AnswersRequests (requests_of (asked_ends ends link.peer.tag asking got) w.pairs) (identity_of_core e.core) past (identity_of_core o.after.core) (after_effects o.effects their_past) (waiting_deferral t)) (sym is_left)
+                  (subst (λ (l : Option AssociationIdentity). AnswersRequests (requests_of (asked_ends ends link.peer.tag asking got) w.pairs) (identity_of_core e.core) past l (after_effects o.effects their_past) left.reassembly.deferral) (sym linked_after) answers);
               unlinked = λ none. (let clash : ◌≡◌ {A = Option Transfer} None (Some left) = sym none ∙ is_left in absurd (cc));
             }
 
@@ -272,18 +272,18 @@ module _ (ends : Ends) (e : Endpoint) (past : List Effect) (d : Endpoint) (their
         asking_same : has_reset o.effects ≡ false → asking ≡ (ends.sends link.peer.tag).asking
         asking_same none = by.3 ∙ go by.0 by.2 ∙ asked_is
           where
-            go : (is_reset : Bool) → (is_reset ≡ true → has_reset o.effects ≡ true) → performed_where is_known is_reset direction.asking ≡ direction.asking
+            go : (is_reset : Bool) → (is_reset ≡ true → has_reset o.effects ≡ true) → performed_if_reset is_known is_reset direction.asking ≡ direction.asking
             go false says = by_known is_known
               where
-                by_known : (b : Bool) → performed_where b false direction.asking ≡ direction.asking
+                by_known : (b : Bool) → performed_if_reset b false direction.asking ≡ direction.asking
                 by_known true = refl
                 by_known false = refl
             go true says = (let clash : true ≡ false = sym (says refl) ∙ none in absurd (cc))
 
-        unchanged : asking ≡ (ends.sends link.peer.tag).asking → AnswersRequests (requests_of ends w.pairs) (identity_in e.core) past (Some link) (after_effects o.effects their_past) left.reassembly.deferral → After
+        unchanged : asking ≡ (ends.sends link.peer.tag).asking → AnswersRequests (requests_of ends w.pairs) (identity_of_core e.core) past (Some link) (after_effects o.effects their_past) left.reassembly.deferral → After
         unchanged is answers =
             answered_by
-            (same_requests (requests_of (asked_ends ends link.peer.tag asking got) w.pairs) (requests_of ends w.pairs) (identity_in e.core) past (Some link) (after_effects o.effects their_past) left.reassembly.deferral
+            (same_requests (requests_of (asked_ends ends link.peer.tag asking got) w.pairs) (requests_of ends w.pairs) (identity_of_core e.core) past (Some link) (after_effects o.effects their_past) left.reassembly.deferral
             (same_asked ends w.pairs link.peer.tag got asking is) answers)
 
         none_reset : ((peer : Pair) (other : ℕ) → WasPerformed peer other o.effects → ⊥) → has_reset o.effects ≡ false
@@ -294,18 +294,18 @@ module _ (ends : Ends) (e : Endpoint) (past : List Effect) (d : Endpoint) (their
             go true is = (let found = some_reset o.effects is in absurd (none found.0 found.1 found.2))
 
         -- A request was performed, and it is known to be the newest, or messages don't interleave.
-        performed_so : (number : ℕ) (reset : RequestedReset) → came_by input ≡ Some (reset_request number reset) → WasPerformed link.peer number o.effects
-            → asking ≡ performed_where is_known true (ends.sends link.peer.tag).asking
-        performed_so number reset came has = by.3 ∙ go by.0 by.1 ∙ ap (performed_where is_known true) asked_is
+        performed_so : (number : ℕ) (reset : RequestedReset) → content_of_input input ≡ Some (reset_request number reset) → WasPerformed link.peer number o.effects
+            → asking ≡ performed_if_reset is_known true (ends.sends link.peer.tag).asking
+        performed_so number reset came has = by.3 ∙ go by.0 by.1 ∙ ap (performed_if_reset is_known true) asked_is
           where
-            go : (is_reset : Bool) → (is_reset ≡ false → (has_reset o.effects ≡ false) ⊎ IsCalm (came_by input)) → performed_where is_known is_reset direction.asking ≡ performed_where is_known true direction.asking
+            go : (is_reset : Bool) → (is_reset ≡ false → (has_reset o.effects ≡ false) ⊎ IsCalm (content_of_input input)) → performed_if_reset is_known is_reset direction.asking ≡ performed_if_reset is_known true direction.asking
             go true says = refl
             go false says = elim (says refl) [
               | inl none ↦ (let clash : true ≡ false = sym (was_performed_reset o.effects link.peer number has) ∙ none in absurd (cc))
               | inr calm ↦ absurd (calm (outgoing_reset_request number (number_answered number reset.is_new) reset ∷ []) came)
             ]
 
-        by_performing : (b : Bool) → is_known ≡ b → Standing b → (number : ℕ) (reset : RequestedReset) → came_by input ≡ Some (reset_request number reset) → IsDue their_past number
+        by_performing : (b : Bool) → is_known ≡ b → Standing b → (number : ℕ) (reset : RequestedReset) → content_of_input input ≡ Some (reset_request number reset) → IsDue their_past number
             → ((peer : Pair) (other : ℕ) → WasPerformed peer other o.effects → (peer ≡ link.peer) × (other ≡ number)) → WasPerformed link.peer number o.effects
             → number_to_accept (after_effects o.effects their_past) ≡ Some (next_number number) → number_to_perform (after_effects o.effects their_past) ≡ None → left.reassembly.deferral ≡ None → After
         by_performing true known (step, newest) number reset came due only has accept perform empty =
@@ -313,30 +313,30 @@ module _ (ends : Ends) (e : Endpoint) (past : List Effect) (d : Endpoint) (their
             let one = due_so step number reset came due in
             let top : found.0 ≡ one.newest =
             newest_where (requests_of ends w.pairs link.peer.tag) their_past transfer.reassembly.deferral found.0 numbers_here found.1 few one (found.2 ∙ newest number has one.newest one.earlier one.is) in
-            let is : asking ≡ record (ends.sends link.peer.tag).asking { is_performed = true } = performed_so number reset came has ∙ ap (λ (b : Bool). performed_where b true (ends.sends link.peer.tag).asking) known in
+            let is : asking ≡ record (ends.sends link.peer.tag).asking { is_performed = true } = performed_so number reset came has ∙ ap (λ (b : Bool). performed_if_reset b true (ends.sends link.peer.tag).asking) known in
             answered_by
             (same_requests (requests_of (asked_ends ends link.peer.tag asking got) w.pairs)
-            (set_at link.peer.tag (record (requests_of ends w.pairs link.peer.tag) { asking = record (ends.sends link.peer.tag).asking { is_performed = true } }) (requests_of ends w.pairs))
-            (identity_in e.core) past (Some link) (after_effects o.effects their_past) left.reassembly.deferral
-            (λ t. new_asked ends w.pairs link.peer.tag got asking t ∙ ap (λ (a : Asking). set_at link.peer.tag (record (requests_of ends w.pairs link.peer.tag) { asking = a }) (requests_of ends w.pairs) t) is)
-            (performs.performs_it (requests_of ends w.pairs) (identity_in e.core) past link o.effects their_past transfer.reassembly.deferral left.reassembly.deferral found.0 answers_here (no_holds same)
+            (table_with link.peer.tag (record (requests_of ends w.pairs link.peer.tag) { asking = record (ends.sends link.peer.tag).asking { is_performed = true } }) (requests_of ends w.pairs))
+            (identity_of_core e.core) past (Some link) (after_effects o.effects their_past) left.reassembly.deferral
+            (λ t. new_asked ends w.pairs link.peer.tag got asking t ∙ ap (λ (a : Asking). table_with link.peer.tag (record (requests_of ends w.pairs link.peer.tag) { asking = a }) (requests_of ends w.pairs) t) is)
+            (performs.performs_it (requests_of ends w.pairs) (identity_of_core e.core) past link o.effects their_past transfer.reassembly.deferral left.reassembly.deferral found.0 answers_here (no_holds same)
             (λ peer other h. (let one' = only peer other h in (one'.0, one'.1 ∙ sym found.2))) found.1 one.earlier (one.is ∙ ap (λ (b : BegunReset). b ∷ one.earlier) (sym top))
             (subst (λ (n : ℕ). WasPerformed link.peer n o.effects) (sym found.2) has) (accept ∙ ap (λ (n : ℕ). Some (next_number n)) (sym found.2)) perform empty))
         by_performing false known (inl kind) number reset came due only has accept perform empty =
             let found = handled number reset came in
-            unchanged (performed_so number reset came has ∙ ap (λ (b : Bool). performed_where b true (ends.sends link.peer.tag).asking) known)
-            (performs.performs_plain (requests_of ends w.pairs) (identity_in e.core) past link o.effects their_past transfer.reassembly.deferral left.reassembly.deferral found.0 answers_here (no_holds same)
+            unchanged (performed_so number reset came has ∙ ap (λ (b : Bool). performed_if_reset b true (ends.sends link.peer.tag).asking) known)
+            (performs.performs_plain (requests_of ends w.pairs) (identity_of_core e.core) past link o.effects their_past transfer.reassembly.deferral left.reassembly.deferral found.0 answers_here (no_holds same)
             (λ peer other h. (let one = only peer other h in (one.0, one.1 ∙ sym found.2))) found.1 kind)
         by_performing false known (inr (step, other)) number reset came due only has accept perform empty =
             let found = handled number reset came in
             let one = due_so step number reset came due in
             let behind = behind_where (requests_of ends w.pairs link.peer.tag) their_past transfer.reassembly.deferral found.0 numbers_here found.1 few one (λ is. other number has one.newest one.earlier one.is (sym found.2 ∙ is)) in
-            unchanged (performed_so number reset came has ∙ ap (λ (b : Bool). performed_where b true (ends.sends link.peer.tag).asking) known)
-            (performs.performs_behind (requests_of ends w.pairs) (identity_in e.core) past link o.effects their_past transfer.reassembly.deferral left.reassembly.deferral found.0 answers_here (no_holds same)
+            unchanged (performed_so number reset came has ∙ ap (λ (b : Bool). performed_if_reset b true (ends.sends link.peer.tag).asking) known)
+            (performs.performs_behind (requests_of ends w.pairs) (identity_of_core e.core) past link o.effects their_past transfer.reassembly.deferral left.reassembly.deferral found.0 answers_here (no_holds same)
             (λ peer other' h. (let one' = only peer other' h in (one'.0, one'.1 ∙ sym found.2))) found.1 one behind (accept ∙ ap (λ (n : ℕ). Some (next_number n)) (sym found.2)) perform empty)
 
         -- If it is in step, what is deferred is in progress.
-        by_deferring : (b : Bool) → Standing b → (number : ℕ) (reset : RequestedReset) → came_by input ≡ Some (reset_request number reset) → IsDue their_past number
+        by_deferring : (b : Bool) → Standing b → (number : ℕ) (reset : RequestedReset) → content_of_input input ≡ Some (reset_request number reset) → IsDue their_past number
             → ((peer : Pair) (other : ℕ) → WasPerformed peer other o.effects → ⊥)
             → number_to_accept (after_effects o.effects their_past) ≡ Some (next_number number) → number_to_perform (after_effects o.effects their_past) ≡ Some number
             → (kept : DeferralModel) → left.reassembly.deferral ≡ Some kept → WaitsFor reset transfer.reassembly.deferral kept → After
@@ -345,17 +345,17 @@ module _ (ends : Ends) (e : Endpoint) (past : List Effect) (d : Endpoint) (their
             found : (begun : BegunReset) × places.HasEntry begun (ends.sends link.peer.tag).asking.requests × (begun.number ≡ number) × (begun.reset ≡ reset)
             found = handled number reset came
 
-            deferred : IsInStep (requests_of ends w.pairs link.peer.tag) their_past transfer.reassembly.deferral → AnswersRequests (requests_of ends w.pairs) (identity_in e.core) past (Some link) (after_effects o.effects their_past) left.reassembly.deferral
+            deferred : IsInStep (requests_of ends w.pairs link.peer.tag) their_past transfer.reassembly.deferral → AnswersRequests (requests_of ends w.pairs) (identity_of_core e.core) past (Some link) (after_effects o.effects their_past) left.reassembly.deferral
             deferred step =
-                defers.defers_it (requests_of ends w.pairs) (identity_in e.core) past link o.effects their_past transfer.reassembly.deferral left.reassembly.deferral answers_here (no_holds same) none found.0 kept step found.1 few
+                defers.defers_it (requests_of ends w.pairs) (identity_of_core e.core) past link o.effects their_past transfer.reassembly.deferral left.reassembly.deferral answers_here (no_holds same) none found.0 kept step found.1 few
                 (subst (IsDue their_past) (sym found.2) due) (accept ∙ ap (λ (n : ℕ). Some (next_number n)) (sym found.2)) (perform ∙ ap Some (sym found.2)) is
                 (subst (λ (r : RequestedReset). WaitsFor r transfer.reassembly.deferral kept) (sym found.3) waits)
 
-            go : (b : Bool) → Standing b → AnswersRequests (requests_of ends w.pairs) (identity_in e.core) past (Some link) (after_effects o.effects their_past) left.reassembly.deferral
+            go : (b : Bool) → Standing b → AnswersRequests (requests_of ends w.pairs) (identity_of_core e.core) past (Some link) (after_effects o.effects their_past) left.reassembly.deferral
             go true (step, newest) = deferred step
             go false (inr (step, other)) = deferred step
             go false (inl kind) =
-                defers.defers_plain (requests_of ends w.pairs) (identity_in e.core) past link o.effects their_past transfer.reassembly.deferral left.reassembly.deferral answers_here (no_holds same) none found.0 kind found.1
+                defers.defers_plain (requests_of ends w.pairs) (identity_of_core e.core) past link o.effects their_past transfer.reassembly.deferral left.reassembly.deferral answers_here (no_holds same) none found.0 kind found.1
 
         pub goes_answered : After
         goes_answered = by_peers peers
@@ -364,7 +364,7 @@ module _ (ends : Ends) (e : Endpoint) (past : List Effect) (d : Endpoint) (their
             by_peers (asks_nothing none waits) =
                 let numbers = same_numbers o.effects their_past none (no_holds same) (no_ends link linked_after) in
                 unchanged (asking_same (reset_none o.effects none))
-                (answering.asks_nothing (requests_of ends w.pairs) (identity_in e.core) past link o.effects their_past transfer.reassembly.deferral left.reassembly.deferral answers_here (no_holds same) (none_performed o.effects none)
+                (answering.asks_nothing (requests_of ends w.pairs) (identity_of_core e.core) past link o.effects their_past transfer.reassembly.deferral left.reassembly.deferral answers_here (no_holds same) (none_performed o.effects none)
                 numbers.0 numbers.1 waits)
             by_peers (performs_it number reset came due only has accept perform empty) = by_performing is_known refl stands number reset came due only has accept perform empty
             by_peers (defers_it number reset came due none accept perform kept is waits) = by_deferring is_known stands number reset came due none accept perform kept is waits

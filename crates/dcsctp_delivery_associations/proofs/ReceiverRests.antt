@@ -3,18 +3,18 @@
 use Rattle.std.proofs.Common.{◌≡◌, ℕ, Option, None, Some, List, [], ◌∷◌, ◌++◌, refl, sym, ◌∙◌, ap, subst, inl, inr, arith}
 use Rattle.std.specs.Prelude.{◌⊎◌}
 use Rattle.dcsctp_spec_lemmas.specs.types.declared.options.Options.{Options}
-use Rattle.dcsctp_spec_lemmas.specs.spec.endpoint.DataOutcomes.{ready_where}
+use Rattle.dcsctp_spec_lemmas.specs.spec.endpoint.DataOutcomes.{ready_or_left}
 use Rattle.dcsctp_spec_lemmas.specs.spec.endpoint.Endpoint.{Endpoint}
-use Rattle.dcsctp_spec_lemmas.specs.spec.endpoint.Event.{Event, packets_in}
+use Rattle.dcsctp_spec_lemmas.specs.spec.endpoint.Event.{Event, packets_of_events}
 use Rattle.dcsctp_spec_lemmas.specs.spec.endpoint.Outcome.{Outcome}
 use Rattle.dcsctp_spec_lemmas.specs.spec.Packet.{Emission}
 use Rattle.dcsctp_spec_lemmas.specs.spec.endpoint.Turn.{Input, user_takes, Turn}
 use Rattle.dcsctp_spec_runs.specs.World.{after_effects}
-use Rattle.dcsctp_spec_lemmas.specs.spec.association.Effect.{AssociationIdentity, Effect, identity_in}
+use Rattle.dcsctp_spec_lemmas.specs.spec.association.Effect.{AssociationIdentity, Effect, identity_of_core}
 use Rattle.dcsctp_spec_lemmas.specs.types.queues.Messages.{MessageContent}
 use Rattle.dcsctp_spec_lemmas.specs.spec.queues.Reassembly.{with_ready}
 use Rattle.dcsctp_spec_lemmas.specs.spec.queues.Transfer.{Transfer}
-use Rattle.dcsctp_delivery_sending.specs.Places.{set_at}
+use Rattle.dcsctp_delivery_sending.specs.Places.{table_with}
 use Rattle.dcsctp_delivery_sending.specs.Log.{Message}
 use Rattle.dcsctp_delivery_sending.proofs.Places.{decide, set_same, set_other}
 use Rattle.dcsctp_spec_laws.specs.LeftLaws.{without_first_message, left_once}
@@ -27,8 +27,8 @@ use Rattle.dcsctp_spec_lemmas.specs.types.declared.association.Pair.{Pair}
 use Rattle.dcsctp_spec_runs.specs.Past.{WasPerformed}
 use Rattle.dcsctp_delivery_turns.specs.Actions.{peer_tag, IsCall}
 use Rattle.dcsctp_delivery_turns.specs.Asking.{own_of, SomeFit}
-use Rattle.dcsctp_delivery_associations.specs.Ends.{ReceivingEnd, joined, new_end, Ends, sender_key, HadTag, LeavesReady, unbegun_end, MetOrAlone, AreHeard, AreSeen, Between}
-use Rattle.dcsctp_delivery_associations.specs.Reads.{Tags, Read, Reading, tags_or, reading_after, tagged_after, and_first, with_key}
+use Rattle.dcsctp_delivery_associations.specs.Ends.{ReceivingEnd, direction_of_ends, new_end, Ends, sender_key, HadTag, LeavesReady, unbegun_end, MetOrAlone, AreHeard, AreSeen, Between}
+use Rattle.dcsctp_delivery_associations.specs.Reads.{Tags, ReadMessage, Reading, tags_or, reading_after, tagged_after, and_first, with_key}
 use Rattle.dcsctp_delivery_associations.proofs.WhatIsLeft.{left_idle, left_taken}
 use Rattle.dcsctp_delivery_associations.proofs.WhatIsRead.{all_of_first, all_of_later, of_link_later, MayRead, reads_first, reads_none, may_read, first_own, first_other}
 use Rattle.dcsctp_delivery_associations.proofs.Growing.{set_all}
@@ -36,42 +36,42 @@ use Rattle.dcsctp_delivery_associations.specs.Laws.{AreEnds}
 use Rattle.dcsctp_theorem_association.proofs.Growth.{after_within}
 use Rattle.dcsctp_delivery_associations.proofs.Heard.{HasGrown, not_grown, heard_later, heard_all, heard_nothing, heard_nowhere}
 use Rattle.dcsctp_delivery_associations.proofs.Seen.{seen_turn}
-use Rattle.dcsctp_delivery_turns.specs.ToldResets.{TellsResets}
+use Rattle.dcsctp_delivery_turns.specs.ToldResets.{ReportsResets}
 use Rattle.dcsctp_delivery_turns.specs.Reporting.{TurnReports, reports_on, reports_anew, reports_nothing, reports_nowhere}
 use Rattle.dcsctp_delivery_associations.proofs.Senders.{no_peer, alone_later, met_later}
 use Rattle.dcsctp_delivery_associations.proofs.ReceiverStays.{tag_later, begun_later, sender_same}
 
 module _ (options : Options) (ends : Ends) (e : Endpoint) (queued : List Message) (past : List Effect) (packets : List Emission) (d : Endpoint) (their_past : List Effect) (reading : Reading)
-    (h : Between options ends e queued past packets d their_past reading) (input : Input) (o : Outcome) (w : AreAnswered ends e past d their_past) (may : IsCall input) (turn : Turn d input o) (seen : List (Event Emission)) (reported : AreSeen ends d their_past seen) (reports : TurnReports d input o) (tells : TellsResets d input o) where
+    (h : Between options ends e queued past packets d their_past reading) (input : Input) (o : Outcome) (w : AreAnswered ends e past d their_past) (may : IsCall input) (turn : Turn d input o) (seen : List (Event Emission)) (reported : AreSeen ends d their_past seen) (reports : TurnReports d input o) (tells : ReportsResets d input o) where
   -- what is to be shown of the turn
   abbrev Turned : Type 0
   Turned = AreEnds ends.never_resets (seen ++ o.events) options e queued past packets o.after (after_effects o.effects their_past) (reading_after d input o.after reading)
 
   -- what is known after the turn, once this was read
-  abbrev After : List Read → Type 0
-  After reads = AreEnds ends.never_resets (seen ++ o.events) options e queued past packets o.after (after_effects o.effects their_past) (record { reads = reads; last = tags_or reading.last (identity_in o.after.core) })
+  abbrev After : List ReadMessage → Type 0
+  After reads = AreEnds ends.never_resets (seen ++ o.events) options e queued past packets o.after (after_effects o.effects their_past) (record { reads = reads; last = tags_or reading.last (identity_of_core o.after.core) })
 
   unread_goes : tagged_after reading.last d input reading.reads ≡ reading.reads → After reading.reads → Turned
   unread_goes unread goes = subst After (sym unread) goes
 
   -- Without an association the last one stays the last.
-  still_last : identity_in o.after.core ≡ None → (reads : List Read) → AreEnds ends.never_resets (seen ++ o.events) options e queued past packets o.after (after_effects o.effects their_past) (record { reads = reads; last = reading.last }) → After reads
+  still_last : identity_of_core o.after.core ≡ None → (reads : List ReadMessage) → AreEnds ends.never_resets (seen ++ o.events) options e queued past packets o.after (after_effects o.effects their_past) (record { reads = reads; last = reading.last }) → After reads
   still_last unlinked reads = subst (λ (n : Tags). AreEnds ends.never_resets (seen ++ o.events) options e queued past packets o.after (after_effects o.effects their_past) (record { reads = reads; last = n })) (sym (ap (tags_or reading.last) unlinked))
 
   -- What is reported in the turn is seen.
-  heard_resting : o.after.queues.transfer ≡ None → identity_in o.after.core ≡ None → AreHeard ends.gets (after_effects o.effects their_past) (packets_in (seen ++ o.events))
+  heard_resting : o.after.queues.transfer ≡ None → identity_of_core o.after.core ≡ None → AreHeard ends.gets (after_effects o.effects their_past) (packets_of_events (seen ++ o.events))
   heard_resting none unlinked =
       heard_all ends.gets (after_effects o.effects their_past) seen o.events
-      (heard_later ends.gets ends.gets their_past (after_effects o.effects their_past) (after_within o.effects their_past) (λ t had. not_grown (ends.gets t)) (packets_in seen) reported.heard) (go reports)
+      (heard_later ends.gets ends.gets their_past (after_effects o.effects their_past) (after_within o.effects their_past) (λ t had. not_grown (ends.gets t)) (packets_of_events seen) reported.heard) (go reports)
     where
-      go : TurnReports d input o → AreHeard ends.gets (after_effects o.effects their_past) (packets_in o.events)
+      go : TurnReports d input o → AreHeard ends.gets (after_effects o.effects their_past) (packets_of_events o.events)
       go (reports_on old left linked was left_is grows says) = (let clash : ◌≡◌ {A = Option Transfer} None (Some left) = sym none ∙ left_is in absurd (cc))
       go (reports_anew begun left opening linked left_is grows says) = (let clash : ◌≡◌ {A = Option Transfer} None (Some left) = sym none ∙ left_is in absurd (cc))
-      go (reports_nothing gone says) = heard_nothing ends.gets (after_effects o.effects their_past) _ (packets_in o.events) says
-      go (reports_nowhere nowhere linked says) = heard_nowhere ends.gets (after_effects o.effects their_past) _ _ (packets_in o.events) (no_peer d.core (sym linked ∙ unlinked)) says
+      go (reports_nothing gone says) = heard_nothing ends.gets (after_effects o.effects their_past) _ (packets_of_events o.events) says
+      go (reports_nowhere nowhere linked says) = heard_nowhere ends.gets (after_effects o.effects their_past) _ _ (packets_of_events o.events) (no_peer d.core (sym linked ∙ unlinked)) says
 
   -- there is none after the turn
-  pub rests : o.after.queues.transfer ≡ None → SomeFit (own_of o.after) → identity_in o.after.core ≡ None → ((my : Pair) (number : ℕ) → WasPerformed my number o.effects → ⊥) → LeavesReady ends.gets reading.last.peer o.after.left o.after.queues.transfer
+  pub rests : o.after.queues.transfer ≡ None → SomeFit (own_of o.after) → identity_of_core o.after.core ≡ None → ((my : Pair) (number : ℕ) → WasPerformed my number o.effects → ⊥) → LeavesReady ends.gets reading.last.peer o.after.left o.after.queues.transfer
       → After reading.reads
   rests none fits unlinked no_performs left =
       still_last unlinked reading.reads (record {
@@ -110,7 +110,7 @@ module _ (options : Options) (ends : Ends) (e : Endpoint) (queued : List Message
   abbrev IsLeft : List MessageContent → Type 0
   IsLeft left = (left ≡ []) ⊎ ((ends.gets reading.last.peer).reassembly.incoming.ready ≡ left)
 
-  module _ (nowhere : d.queues.transfer ≡ None) (gone : o.after.queues.transfer ≡ None) (fits : SomeFit (own_of o.after)) (unlinked : identity_in o.after.core ≡ None)
+  module _ (nowhere : d.queues.transfer ≡ None) (gone : o.after.queues.transfer ≡ None) (fits : SomeFit (own_of o.after)) (unlinked : identity_of_core o.after.core ≡ None)
       (no_performs : (my : Pair) (number : ℕ) → WasPerformed my number o.effects → ⊥) where
     -- Nothing is read.
     unread_rests : tagged_after reading.last d input reading.reads ≡ reading.reads → IsLeft o.after.left → Turned
@@ -123,13 +123,13 @@ module _ (options : Options) (ends : Ends) (e : Endpoint) (queued : List Message
         let got : ReceivingEnd = record { first_tsn = (ends.gets tag).first_tsn; tracker = (ends.gets tag).tracker; reassembly = with_ready messages (ends.gets tag).reassembly; read = (ends.gets tag).read ++ message ∷ [] } in
         let rest = rests_answered ends e past d their_past w input o may turn unlinked no_performs in
         still_last unlinked (and_first reading.last (message ∷ messages) reading.reads) (record {
-          ends = record ends { gets = set_at tag got ends.gets };
+          ends = record ends { gets = table_with tag got ends.gets };
           is = refl;
           between = record {
-            runs = set_all (λ t g. DirectionRun options (ends.firsts t) options.max_receiver_window_buffer_size (joined (ends.sends t) g)) tag got ends.gets
-                (directions.goes_on (joined (ends.sends tag) (ends.gets tag)) (joined (ends.sends tag) got) (h.runs tag) (directions.takes message messages ready)) (λ t ne. h.runs t);
+            runs = set_all (λ t g. DirectionRun options (ends.firsts t) options.max_receiver_window_buffer_size (direction_of_ends (ends.sends t) g)) tag got ends.gets
+                (directions.goes_on (direction_of_ends (ends.sends tag) (ends.gets tag)) (direction_of_ends (ends.sends tag) got) (h.runs tag) (directions.takes message messages ready)) (λ t ne. h.runs t);
             small = h.small;
-            sender = sender_same ends (set_at tag got ends.gets) (sender_key e.core) (peer_tag e.core) e.queues queued past packets h.sender;
+            sender = sender_same ends (table_with tag got ends.gets) (sender_key e.core) (peer_tag e.core) e.queues queued past packets h.sender;
             asks = h.asks;
             numbered = h.numbered;
             kept = h.kept;
@@ -138,7 +138,7 @@ module _ (options : Options) (ends : Ends) (e : Endpoint) (queued : List Message
             receiver = record {
               fits = fits;
               current = λ transfer there. (let clash : ◌≡◌ {A = Option Transfer} None (Some transfer) = sym gone ∙ there in absurd (cc));
-              left = left_idle (set_at tag got ends.gets) tag o.after.left o.after.queues.transfer gone (inr (ap (λ (g : ReceivingEnd). g.reassembly.incoming.ready) (set_same tag got ends.gets) ∙ sym left));
+              left = left_idle (table_with tag got ends.gets) tag o.after.left o.after.queues.transfer gone (inr (ap (λ (g : ReceivingEnd). g.reassembly.incoming.ready) (set_same tag got ends.gets) ∙ sym left));
               last = λ link there. (let clash : ◌≡◌ {A = Option AssociationIdentity} None (Some link) = sym unlinked ∙ there in absurd (cc));
               were_read = set_all (λ t g. with_key t (and_first reading.last (message ∷ messages) reading.reads) ≡ g.read) tag got ends.gets
                   (first_own reading.last (message ∷ messages) reading.reads ∙ ap (λ (l : List MessageContent). l ++ message ∷ []) (h.receiver.were_read tag)) (λ t ne. first_other t reading.last (message ∷ messages) reading.reads ne ∙ h.receiver.were_read t);
@@ -153,18 +153,18 @@ module _ (options : Options) (ends : Ends) (e : Endpoint) (queued : List Message
             mine = h.mine;
             idle = h.idle;
             alone = λ t. elim (decide t tag) [
-              | inl e' ↦ subst (MetOrAlone options (record ends { gets = set_at tag got ends.gets }) past (after_effects o.effects their_past)) (sym e') (alone_here (h.alone tag))
-              | inr ne ↦ alone_later options ends (record ends { gets = set_at tag got ends.gets }) past past their_past (after_effects o.effects their_past) (λ effect has. has) (after_within o.effects their_past) t (set_other tag t got ends.gets ne) refl (h.alone t)
+              | inl e' ↦ subst (MetOrAlone options (record ends { gets = table_with tag got ends.gets }) past (after_effects o.effects their_past)) (sym e') (alone_here (h.alone tag))
+              | inr ne ↦ alone_later options ends (record ends { gets = table_with tag got ends.gets }) past past their_past (after_effects o.effects their_past) (λ effect has. has) (after_within o.effects their_past) t (set_other tag t got ends.gets ne) refl (h.alone t)
             ];
           };
           answered = record {
             pairs = rest.pairs;
-            answers = same_requests (requests_of (record ends { gets = set_at tag got ends.gets }) rest.pairs) (requests_of ends rest.pairs) (identity_in e.core) past (identity_in o.after.core) (after_effects o.effects their_past) (waiting_deferral o.after.queues.transfer) (λ t. refl) rest.answers;
+            answers = same_requests (requests_of (record ends { gets = table_with tag got ends.gets }) rest.pairs) (requests_of ends rest.pairs) (identity_of_core e.core) past (identity_of_core o.after.core) (after_effects o.effects their_past) (waiting_deferral o.after.queues.transfer) (λ t. refl) rest.answers;
             unlinked = rest.unlinked;
           };
-          reported = seen_turn ends (record ends { gets = set_at tag got ends.gets }) e past d their_past seen input o w (λ t some begun has. has)
-              (heard_later ends.gets (set_at tag got ends.gets) (after_effects o.effects their_past) (after_effects o.effects their_past) (λ effect has. has)
-              (λ t met. set_all (λ t g. HasGrown (ends.gets t) g) tag got ends.gets (record { first_is = refl; grows = omega arith }) (λ t ne. not_grown (ends.gets t)) t) (packets_in (seen ++ o.events)) (heard_resting gone unlinked))
+          reported = seen_turn ends (record ends { gets = table_with tag got ends.gets }) e past d their_past seen input o w (λ t some begun has. has)
+              (heard_later ends.gets (table_with tag got ends.gets) (after_effects o.effects their_past) (after_effects o.effects their_past) (λ effect has. has)
+              (λ t met. set_all (λ t g. HasGrown (ends.gets t) g) tag got ends.gets (record { first_is = refl; grows = omega arith }) (λ t ne. not_grown (ends.gets t)) t) (packets_of_events (seen ++ o.events)) (heard_resting gone unlinked))
               tells (λ my number has. absurd (no_performs my number has)) reported;
         })
       where
@@ -175,12 +175,12 @@ module _ (options : Options) (ends : Ends) (e : Endpoint) (queued : List Message
 
         -- It is read whether the sender is met or not.
         alone_here : MetOrAlone options ends past their_past reading.last.peer
-            → MetOrAlone options (record ends { gets = set_at reading.last.peer (record { first_tsn = (ends.gets reading.last.peer).first_tsn; tracker = (ends.gets reading.last.peer).tracker; reassembly = with_ready messages (ends.gets reading.last.peer).reassembly; read = (ends.gets reading.last.peer).read ++ message ∷ [] }) ends.gets }) past (after_effects o.effects their_past) reading.last.peer
+            → MetOrAlone options (record ends { gets = table_with reading.last.peer (record { first_tsn = (ends.gets reading.last.peer).first_tsn; tracker = (ends.gets reading.last.peer).tracker; reassembly = with_ready messages (ends.gets reading.last.peer).reassembly; read = (ends.gets reading.last.peer).read ++ message ∷ [] }) ends.gets }) past (after_effects o.effects their_past) reading.last.peer
         alone_here (inl met) = inl (met_later past past their_past (after_effects o.effects their_past) (λ effect has. has) (after_within o.effects their_past) reading.last.peer met)
         alone_here (inr run) =
             inr
-            (subst (λ (g : ReceivingEnd). DirectionRun options (ends.firsts reading.last.peer) options.max_receiver_window_buffer_size (joined (unbegun_end options) g)) (sym (set_same reading.last.peer (record { first_tsn = (ends.gets reading.last.peer).first_tsn; tracker = (ends.gets reading.last.peer).tracker; reassembly = with_ready messages (ends.gets reading.last.peer).reassembly; read = (ends.gets reading.last.peer).read ++ message ∷ [] }) ends.gets))
-            (directions.goes_on (joined (unbegun_end options) (ends.gets reading.last.peer)) (joined (unbegun_end options) (record { first_tsn = (ends.gets reading.last.peer).first_tsn; tracker = (ends.gets reading.last.peer).tracker; reassembly = with_ready messages (ends.gets reading.last.peer).reassembly; read = (ends.gets reading.last.peer).read ++ message ∷ [] })) run (directions.takes message messages ready)))
+            (subst (λ (g : ReceivingEnd). DirectionRun options (ends.firsts reading.last.peer) options.max_receiver_window_buffer_size (direction_of_ends (unbegun_end options) g)) (sym (set_same reading.last.peer (record { first_tsn = (ends.gets reading.last.peer).first_tsn; tracker = (ends.gets reading.last.peer).tracker; reassembly = with_ready messages (ends.gets reading.last.peer).reassembly; read = (ends.gets reading.last.peer).read ++ message ∷ [] }) ends.gets))
+            (directions.goes_on (direction_of_ends (unbegun_end options) (ends.gets reading.last.peer)) (direction_of_ends (unbegun_end options) (record { first_tsn = (ends.gets reading.last.peer).first_tsn; tracker = (ends.gets reading.last.peer).tracker; reassembly = with_ready messages (ends.gets reading.last.peer).reassembly; read = (ends.gets reading.last.peer).read ++ message ∷ [] })) run (directions.takes message messages ready)))
 
     takes_goes : (left : List MessageContent) → IsLeft left → o.after.left ≡ without_first_message left → and_first reading.last left reading.reads ≡ tagged_after reading.last d input reading.reads → Turned
     takes_goes [] is stays same' = unread_rests (sym same') (inl stays)
@@ -199,6 +199,6 @@ module _ (options : Options) (ends : Ends) (e : Endpoint) (queued : List Message
         go : (i : Input) → MayRead i → i ≡ input → Turned
         go _ reads_first is =
             takes_goes d.left before (stays user_takes is)
-            (sym (ap (λ (t : Option Transfer). and_first reading.last (ready_where d.left t) reading.reads) nowhere) ∙ ap (λ (x : Input). tagged_after reading.last d x reading.reads) is)
+            (sym (ap (λ (t : Option Transfer). and_first reading.last (ready_or_left d.left t) reading.reads) nowhere) ∙ ap (λ (x : Input). tagged_after reading.last d x reading.reads) is)
         go _ (reads_none i none) is =
             unread_rests (ap (λ (x : Input). tagged_after reading.last d x reading.reads) (sym is) ∙ none.tagged reading.last d reading.reads) (subst IsLeft (sym (stays i is ∙ none.left d.left)) before)

@@ -7,7 +7,7 @@ use Rattle.dcsctp_spec_runs.specs.World.{after_effects}
 use Rattle.dcsctp_spec_lemmas.specs.spec.association.Effect.{Effect, holds}
 use Rattle.dcsctp_spec_lemmas.specs.spec.queues.Transfer.{EndpointQueues}
 use Rattle.dcsctp_theorem_association.proofs.Growth.{after_within}
-use Rattle.dcsctp_delivery_sending.specs.Places.{set_at}
+use Rattle.dcsctp_delivery_sending.specs.Places.{table_with}
 use Rattle.dcsctp_delivery_sending.specs.Log.{Message}
 use Rattle.dcsctp_delivery_sending.proofs.Places.{decide, set_same, set_other}
 use Rattle.dcsctp_delivery_directions.specs.Directions.{Asking, nothing_asked}
@@ -76,10 +76,10 @@ sender_asked ends tag asking got key to below queued past packets s still =
       known = s.known;
     }
   where
-    awaits : (t : ℕ) → (ends.sends t).asking ≡ nothing_asked → set_at tag asking (λ n. (ends.sends n).asking) t ≡ nothing_asked
+    awaits : (t : ℕ) → (ends.sends t).asking ≡ nothing_asked → table_with tag asking (λ n. (ends.sends n).asking) t ≡ nothing_asked
     awaits t none =
         elim (decide t tag) [
-          | inl e ↦ ap (set_at tag asking (λ n. (ends.sends n).asking)) e ∙ set_same tag asking (λ n. (ends.sends n).asking) ∙ still (ap (λ (n : ℕ). (ends.sends n).asking) (sym e) ∙ none)
+          | inl e ↦ ap (table_with tag asking (λ n. (ends.sends n).asking)) e ∙ set_same tag asking (λ n. (ends.sends n).asking) ∙ still (ap (λ (n : ℕ). (ends.sends n).asking) (sym e) ∙ none)
           | inr ne ↦ set_other tag t asking (λ n. (ends.sends n).asking) ne ∙ none
         ]
 
@@ -88,7 +88,7 @@ sender_asked ends tag asking got key to below queued past packets s still =
 
 -- The sender has begun no association under this tag.
 pub sender_first : (ends : Ends) (gets : ℕ → ReceivingEnd) (tag first key to : ℕ) (below : EndpointQueues) (queued : List Message) (past : List Effect) (packets : List Emission) → Sender ends key to below queued past packets
-    → tag ≢ key → Awaits (ends.sends tag) → Sender (record ends { gets = gets; firsts = set_at tag first ends.firsts }) key to below queued past packets
+    → tag ≢ key → Awaits (ends.sends tag) → Sender (record ends { gets = gets; firsts = table_with tag first ends.firsts }) key to below queued past packets
 sender_first ends gets tag first key to below queued past packets s ne waits =
     record {
       queues_are = s.queues_are;
@@ -106,13 +106,13 @@ sender_first ends gets tag first key to below queued past packets s ne waits =
         | inl e ↦ inl (subst (λ (n : ℕ). Awaits (ends.sends n)) (sym e) waits)
         | inr other ↦ before t other (s.begun t some)
       ];
-      all_sent = of_more ends (record ends { gets = gets; firsts = set_at tag first ends.firsts }) past past packets (λ effect has. has) (λ emission went. record { tag = went.tag; former_is = went.former_is }) (λ t emission both has. inr has) s.all_sent;
+      all_sent = of_more ends (record ends { gets = gets; firsts = table_with tag first ends.firsts }) past past packets (λ effect has. has) (λ emission went. record { tag = went.tag; former_is = went.former_is }) (λ t emission both has. inr has) s.all_sent;
       to_is = s.to_is;
       went = s.went;
       replaced = s.replaced;
       known = s.known;
     }
   where
-    before : (t : ℕ) → t ≢ tag → Awaits (ends.sends t) ⊎ HadPeer past t (ends.firsts t) → Awaits (ends.sends t) ⊎ HadPeer past t (set_at tag first ends.firsts t)
+    before : (t : ℕ) → t ≢ tag → Awaits (ends.sends t) ⊎ HadPeer past t (ends.firsts t) → Awaits (ends.sends t) ⊎ HadPeer past t (table_with tag first ends.firsts t)
     before t other (inl w) = inl w
     before t other (inr had) = inr (subst (λ (n : ℕ). HadPeer past t n) (sym (set_other tag t first ends.firsts other)) had)

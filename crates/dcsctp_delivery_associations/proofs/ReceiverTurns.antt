@@ -4,23 +4,23 @@ use Rattle.std.specs.Prelude.{◌⊎◌}
 use Rattle.dcsctp_spec_lemmas.specs.types.declared.options.Options.{Options}
 use Rattle.dcsctp_spec_lemmas.specs.types.Settings.{SameOptions}
 use Rattle.dcsctp_spec_lemmas.specs.spec.endpoint.Endpoint.{Endpoint}
-use Rattle.dcsctp_spec_lemmas.specs.spec.endpoint.Event.{Event, packets_in}
+use Rattle.dcsctp_spec_lemmas.specs.spec.endpoint.Event.{Event, packets_of_events}
 use Rattle.dcsctp_spec_lemmas.specs.spec.endpoint.Outcome.{Outcome}
 use Rattle.dcsctp_spec_lemmas.specs.spec.Packet.{Emission}
 use Rattle.dcsctp_spec_lemmas.specs.spec.endpoint.Turn.{Input, Turn}
 use Rattle.dcsctp_spec_runs.specs.World.{after_effects}
-use Rattle.dcsctp_spec_lemmas.specs.spec.association.Effect.{AssociationIdentity, Effect, identity_of, identity_in}
+use Rattle.dcsctp_spec_lemmas.specs.spec.association.Effect.{AssociationIdentity, Effect, identity_of, identity_of_core}
 use Rattle.dcsctp_spec_lemmas.specs.spec.queues.Reassembly.{ReassemblyState}
 use Rattle.dcsctp_spec_lemmas.specs.spec.queues.Tracker.{TrackerState}
 use Rattle.dcsctp_spec_lemmas.specs.spec.queues.Transfer.{Transfer}
-use Rattle.dcsctp_delivery_sending.specs.Places.{HasEntry, set_at}
+use Rattle.dcsctp_delivery_sending.specs.Places.{HasEntry, table_with}
 use Rattle.dcsctp_delivery_sending.specs.Log.{Message}
 use Rattle.dcsctp_delivery_sending.proofs.Places.{decide, set_same, set_other}
 use Rattle.dcsctp_delivery_directions.specs.Directions.{Asking, nothing_asked, Direction, HasReached, DirectionRun}
 use Rattle.dcsctp_delivery_directions.proofs.RequestCounts.{requests_are_sent}
 use Rattle.dcsctp_delivery_turns.specs.Asking.{Own, AsksFit, OutIs}
-use Rattle.dcsctp_delivery_turns.specs.PeerRequests.{KnowsPeerIn}
-use Rattle.dcsctp_delivery_turns.specs.Runs.{IsNewest, KnowsRequest, PerformsNewest, performed_where, PerformedBy}
+use Rattle.dcsctp_delivery_turns.specs.PeerRequests.{KnowsPeerOfCore}
+use Rattle.dcsctp_delivery_turns.specs.Runs.{IsNewest, KnowsRequest, PerformsNewest, performed_if_reset, PerformsByTurn}
 use Rattle.dcsctp_delivery_turns.proofs.PeersTurns.{ends_ask_nothing, unlinked_asks_nothing}
 use Rattle.dcsctp_delivery_associations.specs.Answered.{IsInStep, StandsSo, in_step, plain, requests_of, waiting_deferral, AreAnswered}
 use Rattle.dcsctp_delivery_associations.specs.Laws.{AsksLittle}
@@ -32,16 +32,16 @@ use Rattle.dcsctp_spec_lemmas.specs.types.declared.association.Pair.{Pair}
 use Rattle.dcsctp_spec_runs.specs.Past.{HasEffect, WasPerformed}
 use Rattle.dcsctp_spec_lemmas.specs.spec.Reconfiguration.{RequestedReset, ResetParameter}
 use Rattle.dcsctp_spec_lemmas.specs.spec.association.Effect.{holds}
-use Rattle.dcsctp_spec_lemmas.specs.spec.endpoint.ResetOutcomes.{has_reset, requested_in}
-use Rattle.dcsctp_delivery_turns.specs.Actions.{AreReports, IsOpening, came_by, peer_tag, read_after, Begun, IsCall}
+use Rattle.dcsctp_spec_lemmas.specs.spec.endpoint.ResetOutcomes.{has_reset, first_reset_request}
+use Rattle.dcsctp_delivery_turns.specs.Actions.{AreReports, IsOpening, content_of_input, peer_tag, read_after, BeginsAssociation, IsCall}
 use Rattle.dcsctp_delivery_turns.specs.Reporting.{IsReachedBetween, TurnReports, reports_on, reports_anew, reports_nothing, reports_nowhere}
 use Rattle.dcsctp_delivery_turns.specs.Asking.{own_of, SomeFit}
 use Rattle.dcsctp_delivery_turns.specs.Sides.{WasSent, receiving}
 use Rattle.dcsctp_delivery_turns.specs.Runs.{ReceiverTurns, receiver_goes_on, receiver_ends, receiver_begins, IdleTurns, idle_stays, idle_begins}
 use Rattle.dcsctp_delivery_turns.proofs.Runs.{receivers_go_on, receivers_begin}
 use Rattle.dcsctp_delivery_turns.proofs.Reporting.{turns_report}
-use Rattle.dcsctp_delivery_associations.specs.Ends.{LeavesReady, ReceivingEnd, joined, new_end, Ends, sender_key, HadBoth, NewTag, HadTag, IsCurrentEnd, unbegun_end, MetOrAlone, AreHeard, AreSeen, Between}
-use Rattle.dcsctp_delivery_associations.specs.Reads.{Tags, tags_of, Read, Reading, tags_or, reading_after, tagged_after, with_key}
+use Rattle.dcsctp_delivery_associations.specs.Ends.{LeavesReady, ReceivingEnd, direction_of_ends, new_end, Ends, sender_key, HadBoth, NewTag, HadTag, IsCurrentEnd, unbegun_end, MetOrAlone, AreHeard, AreSeen, Between}
+use Rattle.dcsctp_delivery_associations.specs.Reads.{Tags, tags_of, ReadMessage, Reading, tags_or, reading_after, tagged_after, with_key}
 use Rattle.dcsctp_delivery_associations.proofs.WhatIsLeft.{goes_left, ends_left}
 use Rattle.dcsctp_delivery_associations.proofs.WhatIsRead.{all_of_after, all_of_later, reads_still, opening_still, own_read, other_read}
 use Rattle.dcsctp_delivery_associations.proofs.Growing.{set_all}
@@ -50,7 +50,7 @@ use Rattle.dcsctp_delivery_associations.specs.Laws.{AreEnds}
 use Rattle.dcsctp_theorem_association.proofs.Growth.{after_within}
 use Rattle.dcsctp_delivery_associations.proofs.Heard.{HasGrown, not_grown, heard_later, heard_all, heard_there, passed_reached, begun_with}
 use Rattle.dcsctp_delivery_associations.proofs.Seen.{RequestsStay, IsNamedNow, seen_turn}
-use Rattle.dcsctp_delivery_turns.specs.ToldResets.{TellsResets}
+use Rattle.dcsctp_delivery_turns.specs.ToldResets.{ReportsResets}
 use Rattle.dcsctp_delivery_turns.proofs.ToldResets.{turns_tell_resets}
 use Rattle.dcsctp_delivery_associations.proofs.Senders.{link_peer, alone_later, met_later}
 use Rattle.dcsctp_delivery_associations.proofs.ReceiverStays.{tag_later, begun_later, sender_asked}
@@ -59,7 +59,7 @@ use Rattle.dcsctp_delivery_associations.proofs.ReceiverRests.{rests, idle_rests}
 
 module _ (options : Options) (ends : Ends) (e : Endpoint) (queued : List Message) (past : List Effect) (packets : List Emission) (d : Endpoint) (their_past : List Effect) (reading : Reading)
     (h : Between options ends e queued past packets d their_past reading) (few : length queued < 2 ^ 64) (same : SameOptions options d.options) (input : Input) (o : Outcome)
-    (new : (begun : Begun d o) → IsOpening (came_by input) → identity_in o.after.core ≡ Some (identity_of begun.my begun.held) → NewTag their_past past (identity_of begun.my begun.held)) (w : AreAnswered ends e past d their_past)
+    (new : (begun : BeginsAssociation d o) → IsOpening (content_of_input input) → identity_of_core o.after.core ≡ Some (identity_of begun.my begun.held) → NewTag their_past past (identity_of begun.my begun.held)) (w : AreAnswered ends e past d their_past)
     (little : AsksLittle packets) (new_tags : (link old : AssociationIdentity) → HasEffect (holds link) o.effects → HasEffect (holds old) their_past → old.peer.tag ≢ link.peer.tag) (may : IsCall input) (turn : Turn d input o) (seen : List (Event Emission)) (reported : AreSeen ends d their_past seen) where
   -- what is to be shown of the turn
   abbrev pub Turned : Type 0
@@ -70,9 +70,9 @@ module _ (options : Options) (ends : Ends) (e : Endpoint) (queued : List Message
   reports = turns_report d input o h.receiver.fits (λ begun opening linked. (new begun opening linked).own_small) may turn
 
   unread_goes : tagged_after reading.last d input reading.reads ≡ reading.reads
-      → AreEnds ends.never_resets (seen ++ o.events) options e queued past packets o.after (after_effects o.effects their_past) (record { reads = reading.reads; last = tags_or reading.last (identity_in o.after.core) }) → Turned
+      → AreEnds ends.never_resets (seen ++ o.events) options e queued past packets o.after (after_effects o.effects their_past) (record { reads = reading.reads; last = tags_or reading.last (identity_of_core o.after.core) }) → Turned
   unread_goes unread goes =
-      subst (λ (l : List Read). AreEnds ends.never_resets (seen ++ o.events) options e queued past packets o.after (after_effects o.effects their_past) (record { reads = l; last = tags_or reading.last (identity_in o.after.core) })) (sym unread) goes
+      subst (λ (l : List ReadMessage). AreEnds ends.never_resets (seen ++ o.events) options e queued past packets o.after (after_effects o.effects their_past) (record { reads = l; last = tags_or reading.last (identity_of_core o.after.core) })) (sym unread) goes
 
   -- ---- an association continues
 
@@ -81,48 +81,48 @@ module _ (options : Options) (ends : Ends) (e : Endpoint) (queued : List Message
     abbrev alone_end : Transfer → ReceivingEnd
     alone_end left = record { first_tsn = (ends.gets c.link.peer.tag).first_tsn; tracker = left.tracker; reassembly = left.reassembly; read = read_after d input (ends.gets c.link.peer.tag).read }
 
-    alone_run : (left : Transfer) → o.after.queues.transfer ≡ Some left → WasSent [] (came_by input) → DirectionRun options (ends.firsts c.link.peer.tag) options.max_receiver_window_buffer_size (joined (unbegun_end options) (ends.gets c.link.peer.tag))
-        → identity_in o.after.core ≡ identity_in d.core
-        → DirectionRun options (ends.firsts c.link.peer.tag) options.max_receiver_window_buffer_size (joined (unbegun_end options) (alone_end left))
+    alone_run : (left : Transfer) → o.after.queues.transfer ≡ Some left → WasSent [] (content_of_input input) → DirectionRun options (ends.firsts c.link.peer.tag) options.max_receiver_window_buffer_size (direction_of_ends (unbegun_end options) (ends.gets c.link.peer.tag))
+        → identity_of_core o.after.core ≡ identity_of_core d.core
+        → DirectionRun options (ends.firsts c.link.peer.tag) options.max_receiver_window_buffer_size (direction_of_ends (unbegun_end options) (alone_end left))
     alone_run left is none run same' =
         go
-        (receivers_go_on false options (ends.firsts c.link.peer.tag) options.max_receiver_window_buffer_size (joined (unbegun_end options) (ends.gets c.link.peer.tag)) transfer d input o
-        (subst (λ (t : TrackerState). DirectionRun options (ends.firsts c.link.peer.tag) options.max_receiver_window_buffer_size (joined (unbegun_end options) (record { first_tsn = (ends.gets c.link.peer.tag).first_tsn; tracker = t; reassembly = transfer.reassembly; read = (ends.gets c.link.peer.tag).read }))) c.tracker
-        (subst (λ (r : ReassemblyState). DirectionRun options (ends.firsts c.link.peer.tag) options.max_receiver_window_buffer_size (joined (unbegun_end options) (record { first_tsn = (ends.gets c.link.peer.tag).first_tsn; tracker = (ends.gets c.link.peer.tag).tracker; reassembly = r; read = (ends.gets c.link.peer.tag).read }))) c.reassembly run))
+        (receivers_go_on false options (ends.firsts c.link.peer.tag) options.max_receiver_window_buffer_size (direction_of_ends (unbegun_end options) (ends.gets c.link.peer.tag)) transfer d input o
+        (subst (λ (t : TrackerState). DirectionRun options (ends.firsts c.link.peer.tag) options.max_receiver_window_buffer_size (direction_of_ends (unbegun_end options) (record { first_tsn = (ends.gets c.link.peer.tag).first_tsn; tracker = t; reassembly = transfer.reassembly; read = (ends.gets c.link.peer.tag).read }))) c.tracker
+        (subst (λ (r : ReassemblyState). DirectionRun options (ends.firsts c.link.peer.tag) options.max_receiver_window_buffer_size (direction_of_ends (unbegun_end options) (record { first_tsn = (ends.gets c.link.peer.tag).first_tsn; tracker = (ends.gets c.link.peer.tag).tracker; reassembly = r; read = (ends.gets c.link.peer.tag).read }))) c.reassembly run))
         there none (inl refl) h.receiver.fits (λ begun opening linked. (new begun opening linked).own_small) may turn)
       where
         one : (found : Option Transfer) (first second : Transfer) → found ≡ Some first → found ≡ Some second → first ≡ second
         one found first second a b = cc
 
-        go : ReceiverTurns false options (ends.firsts c.link.peer.tag) options.max_receiver_window_buffer_size (joined (unbegun_end options) (ends.gets c.link.peer.tag)) transfer d input o
-            → DirectionRun options (ends.firsts c.link.peer.tag) options.max_receiver_window_buffer_size (joined (unbegun_end options) (alone_end left))
+        go : ReceiverTurns false options (ends.firsts c.link.peer.tag) options.max_receiver_window_buffer_size (direction_of_ends (unbegun_end options) (ends.gets c.link.peer.tag)) transfer d input o
+            → DirectionRun options (ends.firsts c.link.peer.tag) options.max_receiver_window_buffer_size (direction_of_ends (unbegun_end options) (alone_end left))
         go (receiver_goes_on linked other there' fits asking by run') =
-            subst (λ (t : Transfer). DirectionRun options (ends.firsts c.link.peer.tag) options.max_receiver_window_buffer_size (joined (unbegun_end options) (alone_end t))) (one o.after.queues.transfer other left there' is)
-            (subst (λ (a : Asking). DirectionRun options (ends.firsts c.link.peer.tag) options.max_receiver_window_buffer_size (record (joined (unbegun_end options) (alone_end other)) { asking = a })) (by.3 ∙ unknown by.0) run')
+            subst (λ (t : Transfer). DirectionRun options (ends.firsts c.link.peer.tag) options.max_receiver_window_buffer_size (direction_of_ends (unbegun_end options) (alone_end t))) (one o.after.queues.transfer other left there' is)
+            (subst (λ (a : Asking). DirectionRun options (ends.firsts c.link.peer.tag) options.max_receiver_window_buffer_size (record (direction_of_ends (unbegun_end options) (alone_end other)) { asking = a })) (by.3 ∙ unknown by.0) run')
           where
-            unknown : (reset : Bool) → performed_where false reset nothing_asked ≡ nothing_asked
+            unknown : (reset : Bool) → performed_if_reset false reset nothing_asked ≡ nothing_asked
             unknown true = refl
             unknown false = refl
         go (receiver_ends none' gone unread) = (let clash : ◌≡◌ {A = Option Transfer} None (Some left) = sym gone ∙ is in absurd (cc))
         go (receiver_begins opens) =
             absurd ((new opens.begun opens.opening opens.linked).other c.link c.held
-            (ap (λ (l : AssociationIdentity). l.peer.tag) (same_one (identity_in d.core) c.link (identity_of opens.begun.my opens.begun.held) c.linked (sym same' ∙ opens.linked))))
+            (ap (λ (l : AssociationIdentity). l.peer.tag) (same_one (identity_of_core d.core) c.link (identity_of opens.begun.my opens.begun.held) c.linked (sym same' ∙ opens.linked))))
           where
             same_one : (found : Option AssociationIdentity) (first second : AssociationIdentity) → found ≡ Some first → found ≡ Some second → first ≡ second
             same_one found first second a b = cc
 
-    alone_so : (left : Transfer) (asking : Asking) → o.after.queues.transfer ≡ Some left → identity_in o.after.core ≡ identity_in d.core → (HadBoth past c.link.peer.tag c.link.my.tag ⊎ WasSent [] (came_by input)) → MetOrAlone options ends past their_past c.link.peer.tag
+    alone_so : (left : Transfer) (asking : Asking) → o.after.queues.transfer ≡ Some left → identity_of_core o.after.core ≡ identity_of_core d.core → (HadBoth past c.link.peer.tag c.link.my.tag ⊎ WasSent [] (content_of_input input)) → MetOrAlone options ends past their_past c.link.peer.tag
         → MetOrAlone options (asked_ends ends c.link.peer.tag asking (alone_end left)) past (after_effects o.effects their_past) c.link.peer.tag
     alone_so left asking is same' (inl both) before = inl (record { link = c.link; held = after_within o.effects their_past (holds c.link) c.held; tag_is = refl; both = both })
     alone_so left asking is same' (inr none) (inl met) = inl (met_later past past their_past (after_effects o.effects their_past) (λ effect has. has) (after_within o.effects their_past) c.link.peer.tag met)
     alone_so left asking is same' (inr none) (inr run) =
         inr
-        (subst (λ (g : ReceivingEnd). DirectionRun options (ends.firsts c.link.peer.tag) options.max_receiver_window_buffer_size (joined (unbegun_end options) g)) (sym (set_same c.link.peer.tag (alone_end left) ends.gets))
+        (subst (λ (g : ReceivingEnd). DirectionRun options (ends.firsts c.link.peer.tag) options.max_receiver_window_buffer_size (direction_of_ends (unbegun_end options) g)) (sym (set_same c.link.peer.tag (alone_end left) ends.gets))
         (alone_run left is none run same'))
 
     -- What is reported in the turn was reached in it.
-    heard_going : identity_in o.after.core ≡ identity_in d.core → (left : Transfer) → o.after.queues.transfer ≡ Some left
-        → AreHeard (set_at c.link.peer.tag (alone_end left) ends.gets) (after_effects o.effects their_past) (packets_in (seen ++ o.events))
+    heard_going : identity_of_core o.after.core ≡ identity_of_core d.core → (left : Transfer) → o.after.queues.transfer ≡ Some left
+        → AreHeard (table_with c.link.peer.tag (alone_end left) ends.gets) (after_effects o.effects their_past) (packets_of_events (seen ++ o.events))
     heard_going linked left is = go reports
       where
         same_link : (found : Option AssociationIdentity) (one two : AssociationIdentity) → found ≡ Some one → found ≡ Some two → one ≡ two
@@ -141,49 +141,49 @@ module _ (options : Options) (ends : Ends) (e : Endpoint) (queued : List Message
         met : HadTag (after_effects o.effects their_past) c.link.peer.tag (ends.gets c.link.peer.tag).first_tsn
         met = subst (HadTag (after_effects o.effects their_past) c.link.peer.tag) (sym started.0) (tag_later o.effects their_past c.link.peer.tag (ends.firsts c.link.peer.tag) c.had)
 
-        grown : transfer.tracker.cumulative ≤ left.tracker.cumulative → (t : ℕ) → HasGrown (ends.gets t) (set_at c.link.peer.tag (alone_end left) ends.gets t)
+        grown : transfer.tracker.cumulative ≤ left.tracker.cumulative → (t : ℕ) → HasGrown (ends.gets t) (table_with c.link.peer.tag (alone_end left) ends.gets t)
         grown grows =
             set_all (λ t g. HasGrown (ends.gets t) g) c.link.peer.tag (alone_end left) ends.gets (record { first_is = refl; grows = (let same' = number in omega (arith, same', grows)) }) (λ t ne. not_grown (ends.gets t))
 
-        turn_heard : transfer.tracker.cumulative ≤ left.tracker.cumulative → AreReports c.link.peer.tag (IsReachedBetween transfer.tracker.cumulative left.tracker.cumulative) (packets_in o.events)
-            → AreHeard (set_at c.link.peer.tag (alone_end left) ends.gets) (after_effects o.effects their_past) (packets_in o.events)
+        turn_heard : transfer.tracker.cumulative ≤ left.tracker.cumulative → AreReports c.link.peer.tag (IsReachedBetween transfer.tracker.cumulative left.tracker.cumulative) (packets_of_events o.events)
+            → AreHeard (table_with c.link.peer.tag (alone_end left) ends.gets) (after_effects o.effects their_past) (packets_of_events o.events)
         turn_heard grows says =
-            heard_there (set_at c.link.peer.tag (alone_end left) ends.gets) (after_effects o.effects their_past) c.link.peer.tag (IsReachedBetween transfer.tracker.cumulative left.tracker.cumulative) (packets_in o.events)
+            heard_there (table_with c.link.peer.tag (alone_end left) ends.gets) (after_effects o.effects their_past) c.link.peer.tag (IsReachedBetween transfer.tracker.cumulative left.tracker.cumulative) (packets_of_events o.events)
             (subst (λ (g : ReceivingEnd). HadTag (after_effects o.effects their_past) c.link.peer.tag g.first_tsn) (sym (set_same c.link.peer.tag (alone_end left) ends.gets)) met)
             (λ tsn passed. subst (λ (g : ReceivingEnd). HasReached g.first_tsn g.tracker tsn) (sym (set_same c.link.peer.tag (alone_end left) ends.gets))
             (subst (λ (n : ℕ). HasReached n left.tracker tsn) (sym started.0)
             (passed_reached (ends.firsts c.link.peer.tag) transfer.tracker.cumulative left.tracker tsn (let from = started.1 in let same' = number in omega (arith, from, same')) passed))) says
 
-        go : TurnReports d input o → AreHeard (set_at c.link.peer.tag (alone_end left) ends.gets) (after_effects o.effects their_past) (packets_in (seen ++ o.events))
+        go : TurnReports d input o → AreHeard (table_with c.link.peer.tag (alone_end left) ends.gets) (after_effects o.effects their_past) (packets_of_events (seen ++ o.events))
         go (reports_on old other same' was other_is grows says) =
             let one : old ≡ transfer = same_transfer d.queues.transfer old transfer was there in
             let two : other ≡ left = same_transfer o.after.queues.transfer other left other_is is in
             let more : transfer.tracker.cumulative ≤ left.tracker.cumulative =
             subst (λ (t : Transfer). t.tracker.cumulative ≤ left.tracker.cumulative) one (subst (λ (t : Transfer). old.tracker.cumulative ≤ t.tracker.cumulative) two grows) in
-            let to : AreReports c.link.peer.tag (IsReachedBetween transfer.tracker.cumulative left.tracker.cumulative) (packets_in o.events) =
-            subst (λ (t : Transfer). AreReports c.link.peer.tag (IsReachedBetween t.tracker.cumulative left.tracker.cumulative) (packets_in o.events)) one
-            (subst (λ (t : Transfer). AreReports c.link.peer.tag (IsReachedBetween old.tracker.cumulative t.tracker.cumulative) (packets_in o.events)) two
-            (subst (λ (n : ℕ). AreReports n (IsReachedBetween old.tracker.cumulative other.tracker.cumulative) (packets_in o.events)) (link_peer d.core c.link c.linked) says)) in
-            heard_all (set_at c.link.peer.tag (alone_end left) ends.gets) (after_effects o.effects their_past) seen o.events
-            (heard_later ends.gets (set_at c.link.peer.tag (alone_end left) ends.gets) their_past (after_effects o.effects their_past) (after_within o.effects their_past) (λ t had. grown more t) (packets_in seen) reported.heard)
+            let to : AreReports c.link.peer.tag (IsReachedBetween transfer.tracker.cumulative left.tracker.cumulative) (packets_of_events o.events) =
+            subst (λ (t : Transfer). AreReports c.link.peer.tag (IsReachedBetween t.tracker.cumulative left.tracker.cumulative) (packets_of_events o.events)) one
+            (subst (λ (t : Transfer). AreReports c.link.peer.tag (IsReachedBetween old.tracker.cumulative t.tracker.cumulative) (packets_of_events o.events)) two
+            (subst (λ (n : ℕ). AreReports n (IsReachedBetween old.tracker.cumulative other.tracker.cumulative) (packets_of_events o.events)) (link_peer d.core c.link c.linked) says)) in
+            heard_all (table_with c.link.peer.tag (alone_end left) ends.gets) (after_effects o.effects their_past) seen o.events
+            (heard_later ends.gets (table_with c.link.peer.tag (alone_end left) ends.gets) their_past (after_effects o.effects their_past) (after_within o.effects their_past) (λ t had. grown more t) (packets_of_events seen) reported.heard)
             (turn_heard more to)
         go (reports_anew begun other opening linked' other_is grows says) =
             absurd ((new begun opening linked').other c.link c.held
-            (ap (λ (l : AssociationIdentity). l.peer.tag) (same_link (identity_in o.after.core) c.link (identity_of begun.my begun.held) (linked ∙ c.linked) linked')))
+            (ap (λ (l : AssociationIdentity). l.peer.tag) (same_link (identity_of_core o.after.core) c.link (identity_of begun.my begun.held) (linked ∙ c.linked) linked')))
         go (reports_nothing gone says) = (let clash : ◌≡◌ {A = Option AssociationIdentity} None (Some c.link) = sym gone ∙ linked ∙ c.linked in absurd (cc))
         go (reports_nowhere none same' says) = (let clash : ◌≡◌ {A = Option Transfer} None (Some transfer) = sym none ∙ there in absurd (cc))
 
-    receives : identity_in o.after.core ≡ identity_in d.core → (left : Transfer) → o.after.queues.transfer ≡ Some left → SomeFit (own_of o.after) → (asking : Asking)
+    receives : identity_of_core o.after.core ≡ identity_of_core d.core → (left : Transfer) → o.after.queues.transfer ≡ Some left → SomeFit (own_of o.after) → (asking : Asking)
         → ((ends.sends c.link.peer.tag).asking ≡ nothing_asked → asking ≡ nothing_asked) → ((first : ℕ) (own : Option Own) → AsksFit first own (ends.sends c.link.peer.tag).asking → AsksFit first own asking)
         → AreAnswered (asked_ends ends c.link.peer.tag asking (record { first_tsn = (ends.gets c.link.peer.tag).first_tsn; tracker = left.tracker; reassembly = left.reassembly; read = read_after d input (ends.gets c.link.peer.tag).read })) e past o.after (after_effects o.effects their_past)
-        → TellsResets d input o → RequestsStay (ends.sends c.link.peer.tag).asking asking → ((my : Pair) (number : ℕ) → WasPerformed my number o.effects → IsNamedNow ends.sends input my number)
-        → (HadBoth past c.link.peer.tag c.link.my.tag ⊎ WasSent [] (came_by input)) → DirectionRun options (ends.firsts c.link.peer.tag) options.max_receiver_window_buffer_size
-        (record (receiving (joined (ends.sends c.link.peer.tag) (ends.gets c.link.peer.tag)) left (read_after d input (ends.gets c.link.peer.tag).read)) { asking = asking })
+        → ReportsResets d input o → RequestsStay (ends.sends c.link.peer.tag).asking asking → ((my : Pair) (number : ℕ) → WasPerformed my number o.effects → IsNamedNow ends.sends input my number)
+        → (HadBoth past c.link.peer.tag c.link.my.tag ⊎ WasSent [] (content_of_input input)) → DirectionRun options (ends.firsts c.link.peer.tag) options.max_receiver_window_buffer_size
+        (record (receiving (direction_of_ends (ends.sends c.link.peer.tag) (ends.gets c.link.peer.tag)) left (read_after d input (ends.gets c.link.peer.tag).read)) { asking = asking })
         → Turned
     receives linked left is fits asking still fit answered tells stay named met run =
         let tag : ℕ = c.link.peer.tag in
         let got : ReceivingEnd = record { first_tsn = (ends.gets tag).first_tsn; tracker = left.tracker; reassembly = left.reassembly; read = read_after d input (ends.gets tag).read } in
-        subst (λ (n : Tags). AreEnds ends.never_resets (seen ++ o.events) options e queued past packets o.after (after_effects o.effects their_past) (record { reads = tagged_after n d input reading.reads; last = tags_or reading.last (identity_in o.after.core) })) (sym (h.receiver.last c.link c.linked))
+        subst (λ (n : Tags). AreEnds ends.never_resets (seen ++ o.events) options e queued past packets o.after (after_effects o.effects their_past) (record { reads = tagged_after n d input reading.reads; last = tags_or reading.last (identity_of_core o.after.core) })) (sym (h.receiver.last c.link c.linked))
         (subst (λ (n : Tags). AreEnds ends.never_resets (seen ++ o.events) options e queued past packets o.after (after_effects o.effects their_past) (record { reads = tagged_after (tags_of c.link) d input reading.reads; last = n })) (sym (ap (tags_or reading.last) (linked ∙ c.linked)))
         (record {
           ends = asked_ends ends tag asking got;
@@ -191,18 +191,18 @@ module _ (options : Options) (ends : Ends) (e : Endpoint) (queued : List Message
           between = record {
             runs = λ t. elim (decide t tag) [
               | inl e' ↦
-                  subst (λ (n : ℕ). DirectionRun options (ends.firsts n) options.max_receiver_window_buffer_size (joined ((asked_ends ends tag asking got).sends n) ((asked_ends ends tag asking got).gets n))) (sym e')
-                  (subst (λ (x : Asking). DirectionRun options (ends.firsts tag) options.max_receiver_window_buffer_size (joined (record (ends.sends tag) { asking = x }) (set_at tag got ends.gets tag))) (sym (set_same tag asking (λ n. (ends.sends n).asking)))
-                  (subst (λ (g : ReceivingEnd). DirectionRun options (ends.firsts tag) options.max_receiver_window_buffer_size (joined (record (ends.sends tag) { asking = asking }) g)) (sym (set_same tag got ends.gets)) run))
+                  subst (λ (n : ℕ). DirectionRun options (ends.firsts n) options.max_receiver_window_buffer_size (direction_of_ends ((asked_ends ends tag asking got).sends n) ((asked_ends ends tag asking got).gets n))) (sym e')
+                  (subst (λ (x : Asking). DirectionRun options (ends.firsts tag) options.max_receiver_window_buffer_size (direction_of_ends (record (ends.sends tag) { asking = x }) (table_with tag got ends.gets tag))) (sym (set_same tag asking (λ n. (ends.sends n).asking)))
+                  (subst (λ (g : ReceivingEnd). DirectionRun options (ends.firsts tag) options.max_receiver_window_buffer_size (direction_of_ends (record (ends.sends tag) { asking = asking }) g)) (sym (set_same tag got ends.gets)) run))
               | inr ne ↦
-                  subst (λ (x : Asking). DirectionRun options (ends.firsts t) options.max_receiver_window_buffer_size (joined (record (ends.sends t) { asking = x }) (set_at tag got ends.gets t))) (sym (set_other tag t asking (λ n. (ends.sends n).asking) ne))
-                  (subst (λ (g : ReceivingEnd). DirectionRun options (ends.firsts t) options.max_receiver_window_buffer_size (joined (ends.sends t) g)) (sym (set_other tag t got ends.gets ne)) (h.runs t))
+                  subst (λ (x : Asking). DirectionRun options (ends.firsts t) options.max_receiver_window_buffer_size (direction_of_ends (record (ends.sends t) { asking = x }) (table_with tag got ends.gets t))) (sym (set_other tag t asking (λ n. (ends.sends n).asking) ne))
+                  (subst (λ (g : ReceivingEnd). DirectionRun options (ends.firsts t) options.max_receiver_window_buffer_size (direction_of_ends (ends.sends t) g)) (sym (set_other tag t got ends.gets ne)) (h.runs t))
             ];
             small = h.small;
             sender = sender_asked ends tag asking got (sender_key e.core) (peer_tag e.core) e.queues queued past packets h.sender still;
             asks = elim (decide (sender_key e.core) tag) [
               | inl e' ↦
-                  subst (λ (x : Asking). AsksFit (ends.firsts (sender_key e.core)) (own_of e) x) (sym (ap (set_at tag asking (λ n. (ends.sends n).asking)) e' ∙ set_same tag asking (λ n. (ends.sends n).asking)))
+                  subst (λ (x : Asking). AsksFit (ends.firsts (sender_key e.core)) (own_of e) x) (sym (ap (table_with tag asking (λ n. (ends.sends n).asking)) e' ∙ set_same tag asking (λ n. (ends.sends n).asking)))
                   (fit (ends.firsts (sender_key e.core)) (own_of e) (subst (λ (n : ℕ). AsksFit (ends.firsts (sender_key e.core)) (own_of e) (ends.sends n).asking) e' h.asks))
               | inr ne ↦ subst (λ (x : Asking). AsksFit (ends.firsts (sender_key e.core)) (own_of e) x) (sym (set_other tag (sender_key e.core) asking (λ n. (ends.sends n).asking) ne)) h.asks
             ];
@@ -224,8 +224,8 @@ module _ (options : Options) (ends : Ends) (e : Endpoint) (queued : List Message
                     reassembly = ap (λ (g : ReceivingEnd). g.reassembly) (set_same tag got ends.gets) ∙ ap (λ (t : Transfer). t.reassembly) one;
                   }
                   );
-              left = goes_left d input o may turn ends.gets (set_at tag got ends.gets) reading.last.peer tag left is h.receiver.left;
-              last = λ link there'. ap tags_of (same_link (identity_in o.after.core) c.link link (linked ∙ c.linked) there');
+              left = goes_left d input o may turn ends.gets (table_with tag got ends.gets) reading.last.peer tag left is h.receiver.left;
+              last = λ link there'. ap tags_of (same_link (identity_of_core o.after.core) c.link link (linked ∙ c.linked) there');
               were_read = set_all (λ t g. with_key t (tagged_after (tags_of c.link) d input reading.reads) ≡ g.read) tag got ends.gets
                   (own_read (tags_of c.link) d input transfer reading.reads there ∙ ap (read_after d input) (h.receiver.were_read tag))
                   (λ t ne. other_read (tags_of c.link) d input reading.reads t ne ∙ h.receiver.were_read t);
@@ -256,36 +256,36 @@ module _ (options : Options) (ends : Ends) (e : Endpoint) (queued : List Message
         same_transfer found one two a b = cc
 
         others : (t : ℕ) → t ≢ c.link.peer.tag → (at : ReceivingEnd) → (ends.gets t ≡ new_end options (ends.firsts t)) ⊎ HadTag (after_effects o.effects their_past) t (ends.firsts t)
-            → (set_at c.link.peer.tag at ends.gets t ≡ new_end options (ends.firsts t)) ⊎ HadTag (after_effects o.effects their_past) t (ends.firsts t)
+            → (table_with c.link.peer.tag at ends.gets t ≡ new_end options (ends.firsts t)) ⊎ HadTag (after_effects o.effects their_past) t (ends.firsts t)
         others t ne at (inl new) = inl (set_other c.link.peer.tag t at ends.gets ne ∙ new)
         others t ne at (inr had) = inr had
 
-    now : DirectionRun options (ends.firsts c.link.peer.tag) options.max_receiver_window_buffer_size (receiving (joined (ends.sends c.link.peer.tag) (ends.gets c.link.peer.tag)) transfer (ends.gets c.link.peer.tag).read)
+    now : DirectionRun options (ends.firsts c.link.peer.tag) options.max_receiver_window_buffer_size (receiving (direction_of_ends (ends.sends c.link.peer.tag) (ends.gets c.link.peer.tag)) transfer (ends.gets c.link.peer.tag).read)
     now =
-        subst (λ (t : TrackerState). DirectionRun options (ends.firsts c.link.peer.tag) options.max_receiver_window_buffer_size (joined (ends.sends c.link.peer.tag) (record { first_tsn = (ends.gets c.link.peer.tag).first_tsn; tracker = t; reassembly = transfer.reassembly; read = (ends.gets c.link.peer.tag).read }))) c.tracker
-        (subst (λ (r : ReassemblyState). DirectionRun options (ends.firsts c.link.peer.tag) options.max_receiver_window_buffer_size (joined (ends.sends c.link.peer.tag) (record { first_tsn = (ends.gets c.link.peer.tag).first_tsn; tracker = (ends.gets c.link.peer.tag).tracker; reassembly = r; read = (ends.gets c.link.peer.tag).read }))) c.reassembly
+        subst (λ (t : TrackerState). DirectionRun options (ends.firsts c.link.peer.tag) options.max_receiver_window_buffer_size (direction_of_ends (ends.sends c.link.peer.tag) (record { first_tsn = (ends.gets c.link.peer.tag).first_tsn; tracker = t; reassembly = transfer.reassembly; read = (ends.gets c.link.peer.tag).read }))) c.tracker
+        (subst (λ (r : ReassemblyState). DirectionRun options (ends.firsts c.link.peer.tag) options.max_receiver_window_buffer_size (direction_of_ends (ends.sends c.link.peer.tag) (record { first_tsn = (ends.gets c.link.peer.tag).first_tsn; tracker = (ends.gets c.link.peer.tag).tracker; reassembly = r; read = (ends.gets c.link.peer.tag).read }))) c.reassembly
         (h.runs c.link.peer.tag))
 
     -- ---- what is known of the request that is handled
 
     direction : Direction
-    direction = joined (ends.sends c.link.peer.tag) (ends.gets c.link.peer.tag)
+    direction = direction_of_ends (ends.sends c.link.peer.tag) (ends.gets c.link.peer.tag)
 
     few_asked : length (ends.sends c.link.peer.tag).asking.requests < 2 ^ 32 - 1
     few_asked =
-        let sent = requests_are_sent options (ends.firsts c.link.peer.tag) options.max_receiver_window_buffer_size (joined (ends.sends c.link.peer.tag) (ends.gets c.link.peer.tag)) (h.runs c.link.peer.tag) in
+        let sent = requests_are_sent options (ends.firsts c.link.peer.tag) options.max_receiver_window_buffer_size (direction_of_ends (ends.sends c.link.peer.tag) (ends.gets c.link.peer.tag)) (h.runs c.link.peer.tag) in
         let went = h.sender.few_requests c.link.peer.tag in
         let all = little c.link.peer.tag in
         omega (arith, sent, went, all)
 
     -- An association that begins is another one.
-    new_same : (begun : Begun d o) → IsOpening (came_by input) → identity_in o.after.core ≡ Some (identity_of begun.my begun.held) → identity_of begun.my begun.held ≡ c.link → ⊥
+    new_same : (begun : BeginsAssociation d o) → IsOpening (content_of_input input) → identity_of_core o.after.core ≡ Some (identity_of begun.my begun.held) → identity_of begun.my begun.held ≡ c.link → ⊥
     new_same begun opening linked same' =
         let held = (w.answers.theirs_held c.link c.linked).0 in
         (new begun opening linked).other held.link held.held (held.tag_is ∙ ap (λ (l : AssociationIdentity). l.peer.tag) (sym same'))
 
     -- What is asked fits too once a request is performed.
-    fits_performed : (known reset : Bool) (first : ℕ) (own : Option Own) (asking : Asking) → AsksFit first own asking → AsksFit first own (performed_where known reset asking)
+    fits_performed : (known reset : Bool) (first : ℕ) (own : Option Own) (asking : Asking) → AsksFit first own asking → AsksFit first own (performed_if_reset known reset asking)
     fits_performed false reset first own asking fit = fit
     fits_performed true false first own asking fit = fit
     fits_performed true true first None asking fit = fit
@@ -296,46 +296,46 @@ module _ (options : Options) (ends : Ends) (e : Endpoint) (queued : List Message
         out_same (Some number) one = record { one = one.one; earlier = one.earlier; is = one.is }
 
     -- What is asked stays.
-    performed_stays : (known reset : Bool) (old asking : Asking) → asking ≡ performed_where known reset old → RequestsStay old asking
+    performed_stays : (known reset : Bool) (old asking : Asking) → asking ≡ performed_if_reset known reset old → RequestsStay old asking
     performed_stays false true old asking is begun has = subst (λ (a : Asking). HasEntry begun a.requests) (sym is) has
     performed_stays false false old asking is begun has = subst (λ (a : Asking). HasEntry begun a.requests) (sym is) has
     performed_stays true false old asking is begun has = subst (λ (a : Asking). HasEntry begun a.requests) (sym is) has
     performed_stays true true old asking is begun has = subst (λ (a : Asking). HasEntry begun a.requests) (sym is) has
 
-    module _ (sent : WasSent (ends.sends c.link.peer.tag).sent (came_by input)) (met : HadBoth past c.link.peer.tag c.link.my.tag ⊎ WasSent [] (came_by input)) (knows : KnowsPeerIn their_past d.core) where
+    module _ (sent : WasSent (ends.sends c.link.peer.tag).sent (content_of_input input)) (met : HadBoth past c.link.peer.tag c.link.my.tag ⊎ WasSent [] (content_of_input input)) (knows : KnowsPeerOfCore their_past d.core) where
       -- what the user is told of resets
-      tells : TellsResets d input o
+      tells : ReportsResets d input o
       tells =
           turns_tell_resets d input o
-          (inr (plainly_sent options (ends.firsts c.link.peer.tag) options.max_receiver_window_buffer_size (joined (ends.sends c.link.peer.tag) (ends.gets c.link.peer.tag)) (h.runs c.link.peer.tag) (came_by input) sent)) may turn
+          (inr (plainly_sent options (ends.firsts c.link.peer.tag) options.max_receiver_window_buffer_size (direction_of_ends (ends.sends c.link.peer.tag) (ends.gets c.link.peer.tag)) (h.runs c.link.peer.tag) (content_of_input input) sent)) may turn
 
       -- Where nothing was asked nothing is performed.
-      still_nothing : (is_known : Bool) (asking : Asking) → PerformedBy is_known input o (joined (ends.sends c.link.peer.tag) (ends.gets c.link.peer.tag)) asking → (left : Transfer) → o.after.queues.transfer ≡ Some left
+      still_nothing : (is_known : Bool) (asking : Asking) → PerformsByTurn is_known input o (direction_of_ends (ends.sends c.link.peer.tag) (ends.gets c.link.peer.tag)) asking → (left : Transfer) → o.after.queues.transfer ≡ Some left
           → (ends.sends c.link.peer.tag).asking ≡ nothing_asked → asking ≡ nothing_asked
       still_nothing is_known asking by left is none = by.3 ∙ go by.0 by.2
         where
-          go : (is_reset : Bool) → (is_reset ≡ true → has_reset o.effects ≡ true) → performed_where is_known is_reset (ends.sends c.link.peer.tag).asking ≡ nothing_asked
+          go : (is_reset : Bool) → (is_reset ≡ true → has_reset o.effects ≡ true) → performed_if_reset is_known is_reset (ends.sends c.link.peer.tag).asking ≡ nothing_asked
           go false says = by_known is_known
             where
-              by_known : (b : Bool) → performed_where b false (ends.sends c.link.peer.tag).asking ≡ nothing_asked
+              by_known : (b : Bool) → performed_if_reset b false (ends.sends c.link.peer.tag).asking ≡ nothing_asked
               by_known true = none
               by_known false = none
           go true says =
               absurd (nothing_performed ends e past d their_past w input o may turn new_tags c.link c.linked transfer left there is options.max_receiver_window_buffer_size options
-              (joined (ends.sends c.link.peer.tag) (ends.gets c.link.peer.tag)) (ends.firsts c.link.peer.tag) (h.runs c.link.peer.tag) refl sent few_asked knows (says refl) none)
+              (direction_of_ends (ends.sends c.link.peer.tag) (ends.gets c.link.peer.tag)) (ends.firsts c.link.peer.tag) (h.runs c.link.peer.tag) refl sent few_asked knows (says refl) none)
 
       by_turn : (is_known : Bool)
           → ((left : Transfer) (is : o.after.queues.transfer ≡ Some left) → Standing ends e past d their_past w input o may turn new_tags c.link c.linked transfer left there is options.max_receiver_window_buffer_size options
-          (joined (ends.sends c.link.peer.tag) (ends.gets c.link.peer.tag)) (ends.firsts c.link.peer.tag) (h.runs c.link.peer.tag) refl sent few_asked knows is_known)
-          → ReceiverTurns is_known options (ends.firsts c.link.peer.tag) options.max_receiver_window_buffer_size (joined (ends.sends c.link.peer.tag) (ends.gets c.link.peer.tag)) transfer d input o → Turned
+          (direction_of_ends (ends.sends c.link.peer.tag) (ends.gets c.link.peer.tag)) (ends.firsts c.link.peer.tag) (h.runs c.link.peer.tag) refl sent few_asked knows is_known)
+          → ReceiverTurns is_known options (ends.firsts c.link.peer.tag) options.max_receiver_window_buffer_size (direction_of_ends (ends.sends c.link.peer.tag) (ends.gets c.link.peer.tag)) transfer d input o → Turned
       by_turn is_known stands (receiver_goes_on linked left is fits asking by run) =
           receives linked left is fits asking (still_nothing is_known asking by left is)
           (λ first own fit. subst (λ (a : Asking). AsksFit first own a) (sym by.3) (fits_performed is_known by.0 first own (ends.sends c.link.peer.tag).asking fit))
           (goes_answered ends e past d their_past w input o may turn new_tags c.link c.linked transfer left there is options.max_receiver_window_buffer_size options
-          (joined (ends.sends c.link.peer.tag) (ends.gets c.link.peer.tag)) (ends.firsts c.link.peer.tag) (h.runs c.link.peer.tag) refl sent few_asked knows new_same linked is_known (stands left is) asking by _)
+          (direction_of_ends (ends.sends c.link.peer.tag) (ends.gets c.link.peer.tag)) (ends.firsts c.link.peer.tag) (h.runs c.link.peer.tag) refl sent few_asked knows new_same linked is_known (stands left is) asking by _)
           tells (performed_stays is_known by.0 (ends.sends c.link.peer.tag).asking asking by.3)
           (named_here ends e past d their_past w input o may turn new_tags c.link c.linked transfer left there is options.max_receiver_window_buffer_size options
-          (joined (ends.sends c.link.peer.tag) (ends.gets c.link.peer.tag)) (ends.firsts c.link.peer.tag) (h.runs c.link.peer.tag) refl sent few_asked knows) met run
+          (direction_of_ends (ends.sends c.link.peer.tag) (ends.gets c.link.peer.tag)) (ends.firsts c.link.peer.tag) (h.runs c.link.peer.tag) refl sent few_asked knows) met run
       by_turn is_known stands (receiver_ends none gone unread) =
           unread_goes (reads_still reading.last d input transfer reading.reads there unread)
           (rests options ends e queued past packets d their_past reading h input o w may turn seen reported reports tells gone (unlinked_some o.after none) none (none_performed o.effects (ends_ask_nothing d input o transfer may turn there gone))
@@ -343,22 +343,22 @@ module _ (options : Options) (ends : Ends) (e : Endpoint) (queued : List Message
       by_turn is_known stands (receiver_begins opens) =
           unread_goes (opening_still reading.last d input reading.reads opens.opening) (opens_goes options ends e queued past packets d their_past reading h few same input o w may turn seen reported reports tells opens (new opens.begun opens.opening opens.linked))
 
-      goes_known : (is_known : Bool) → KnowsRequest is_known (joined (ends.sends c.link.peer.tag) (ends.gets c.link.peer.tag)) transfer (came_by input) o.effects
-          → ReceiverTurns is_known options (ends.firsts c.link.peer.tag) options.max_receiver_window_buffer_size (joined (ends.sends c.link.peer.tag) (ends.gets c.link.peer.tag)) transfer d input o
+      goes_known : (is_known : Bool) → KnowsRequest is_known (direction_of_ends (ends.sends c.link.peer.tag) (ends.gets c.link.peer.tag)) transfer (content_of_input input) o.effects
+          → ReceiverTurns is_known options (ends.firsts c.link.peer.tag) options.max_receiver_window_buffer_size (direction_of_ends (ends.sends c.link.peer.tag) (ends.gets c.link.peer.tag)) transfer d input o
       goes_known is_known newest =
-          receivers_go_on is_known options (ends.firsts c.link.peer.tag) options.max_receiver_window_buffer_size (joined (ends.sends c.link.peer.tag) (ends.gets c.link.peer.tag)) transfer d input o now there sent newest h.receiver.fits
+          receivers_go_on is_known options (ends.firsts c.link.peer.tag) options.max_receiver_window_buffer_size (direction_of_ends (ends.sends c.link.peer.tag) (ends.gets c.link.peer.tag)) transfer d input o now there sent newest h.receiver.fits
           (λ begun opening linked. (new begun opening linked).own_small) may turn
 
       -- If the receiver is in step, what is performed wants what the newest wants.
-      newest_so : IsInStep (requests_of ends w.pairs c.link.peer.tag) their_past transfer.reassembly.deferral → PerformsNewest (joined (ends.sends c.link.peer.tag) (ends.gets c.link.peer.tag)) transfer (came_by input) o.effects
+      newest_so : IsInStep (requests_of ends w.pairs c.link.peer.tag) their_past transfer.reassembly.deferral → PerformsNewest (direction_of_ends (ends.sends c.link.peer.tag) (ends.gets c.link.peer.tag)) transfer (content_of_input input) o.effects
       newest_so step done = by_left o.after.queues.transfer refl
         where
-          by_left : (found : Option Transfer) → o.after.queues.transfer ≡ found → (parameters : List ResetParameter) (reset : RequestedReset) → came_by input ≡ Some (re_config parameters) → requested_in parameters ≡ Some reset
-              → IsNewest (joined (ends.sends c.link.peer.tag) (ends.gets c.link.peer.tag)) transfer reset
+          by_left : (found : Option Transfer) → o.after.queues.transfer ≡ found → (parameters : List ResetParameter) (reset : RequestedReset) → content_of_input input ≡ Some (re_config parameters) → first_reset_request parameters ≡ Some reset
+              → IsNewest (direction_of_ends (ends.sends c.link.peer.tag) (ends.gets c.link.peer.tag)) transfer reset
           by_left None gone = (let clash : true ≡ false = sym done ∙ reset_none o.effects (ends_ask_nothing d input o transfer may turn there gone) in absurd (cc))
           by_left (Some left) is =
               performs_newest ends e past d their_past w input o may turn new_tags c.link c.linked transfer left there is options.max_receiver_window_buffer_size options
-              (joined (ends.sends c.link.peer.tag) (ends.gets c.link.peer.tag)) (ends.firsts c.link.peer.tag) (h.runs c.link.peer.tag) refl sent few_asked knows step done
+              (direction_of_ends (ends.sends c.link.peer.tag) (ends.gets c.link.peer.tag)) (ends.firsts c.link.peer.tag) (h.runs c.link.peer.tag) refl sent few_asked knows step done
 
       turn_goes : StandsSo (requests_of ends w.pairs c.link.peer.tag) their_past transfer.reassembly.deferral → Turned
       turn_goes (plain kind some) = by_turn false (λ left is. inl kind) (goes_known false (inl kind))
@@ -369,14 +369,14 @@ module _ (options : Options) (ends : Ends) (e : Endpoint) (queued : List Message
               by_turn false (λ left is. (let clash : ◌≡◌ {A = Option Transfer} None (Some left) = sym gone ∙ is in absurd (cc))) (goes_known false (inr (newest_so step)))
           by_left (Some left) is =
               elim (newest_or_not ends e past d their_past w input o may turn new_tags c.link c.linked transfer left there is options.max_receiver_window_buffer_size options
-              (joined (ends.sends c.link.peer.tag) (ends.gets c.link.peer.tag)) (ends.firsts c.link.peer.tag) (h.runs c.link.peer.tag) refl sent few_asked knows step) [
+              (direction_of_ends (ends.sends c.link.peer.tag) (ends.gets c.link.peer.tag)) (ends.firsts c.link.peer.tag) (h.runs c.link.peer.tag) refl sent few_asked knows step) [
                 | inl newest ↦ by_turn true (λ other there'. newest) (goes_known true (newest_so step))
                 | inr behind ↦ by_turn false (λ other there'. behind) (goes_known false (inr (newest_so step)))
               ]
 
   -- ---- in any turn
 
-  idle_tells : d.queues.transfer ≡ None → TellsResets d input o
+  idle_tells : d.queues.transfer ≡ None → ReportsResets d input o
   idle_tells nowhere = turns_tell_resets d input o (inl (w.unlinked nowhere)) may turn
 
   idle_goes : d.queues.transfer ≡ None → IdleTurns d input o → Turned
@@ -387,14 +387,14 @@ module _ (options : Options) (ends : Ends) (e : Endpoint) (queued : List Message
 
   -- What is handled in an association was sent in it.
   abbrev pub Sent : Type 0
-  Sent = (transfer : Transfer) (link : AssociationIdentity) → d.queues.transfer ≡ Some transfer → identity_in d.core ≡ Some link → WasSent (ends.sends link.peer.tag).sent (came_by input) × (HadBoth past link.peer.tag link.my.tag ⊎ WasSent [] (came_by input))
+  Sent = (transfer : Transfer) (link : AssociationIdentity) → d.queues.transfer ≡ Some transfer → identity_of_core d.core ≡ Some link → WasSent (ends.sends link.peer.tag).sent (content_of_input input) × (HadBoth past link.peer.tag link.my.tag ⊎ WasSent [] (content_of_input input))
 
-  by_transfer : Sent → KnowsPeerIn their_past d.core → (found : Option Transfer) → d.queues.transfer ≡ found → Turned
+  by_transfer : Sent → KnowsPeerOfCore their_past d.core → (found : Option Transfer) → d.queues.transfer ≡ found → Turned
   by_transfer sent knows None nowhere = idle_goes nowhere (receivers_begin d input o nowhere h.receiver.fits (λ begun opening linked. (new begun opening linked).own_small) may turn)
   by_transfer sent knows (Some transfer) there =
       let c = h.receiver.current transfer there in
       turn_goes transfer there c (sent transfer c.link there c.linked).0 (sent transfer c.link there c.linked).1 knows
       (subst (λ (t : Option Transfer). StandsSo (requests_of ends w.pairs c.link.peer.tag) their_past (waiting_deferral t)) there (w.answers.stands c.link c.linked))
 
-  pub receiver_turns : KnowsPeerIn their_past d.core → Sent → Turned
+  pub receiver_turns : KnowsPeerOfCore their_past d.core → Sent → Turned
   receiver_turns knows sent = by_transfer sent knows d.queues.transfer refl

@@ -9,7 +9,7 @@ use Rattle.dcsctp_spec_lemmas.specs.spec.endpoint.BegunResets.{BegunReset}
 use Rattle.dcsctp_delivery_receiving.specs.Clear.{IsOwn}
 use Rattle.dcsctp_delivery_directions.specs.Directions.{Asking, nothing_asked, asking_renewed}
 use Rattle.dcsctp_delivery_turns.specs.Asking.{AreNumbered}
-use Rattle.dcsctp_delivery_associations.specs.Answered.{Requests, request_number_at, WantFrom, AreAsked, IsRequestNumber, IsInStep, all_performed, unaccepted, in_progress, StandsSo, in_step, plain}
+use Rattle.dcsctp_delivery_associations.specs.Answered.{Requests, request_numbered, WantFrom, AreAsked, IsRequestNumber, IsInStep, all_performed, unaccepted, in_progress, StandsSo, in_step, plain}
 use Rattle.dcsctp_delivery_associations.proofs.RequestNumbers.{same_place, want_beyond, want_renewed}
 use Rattle.dcsctp_delivery_associations.proofs.AskedOn as asked
 use Rattle.dcsctp_delivery_associations.proofs.AskedOn.{MayEnd, MayBegin}
@@ -89,7 +89,7 @@ numbered_before first (begun ∷ more) requests numbers = numbered_before first 
 
 -- If the newest was performed, that is known.
 pub known_newest : (r : Requests) → length r.asking.requests < 2 ^ 32 - 1 → (newest : BegunReset) (earlier : List BegunReset) → r.asking.requests ≡ newest ∷ earlier → r.is_interleaved ≡ true
-    → IsRequestNumber r (request_number_at r.first (length earlier)) → r.asking.is_performed ≡ true
+    → IsRequestNumber r (request_numbered r.first (length earlier)) → r.asking.is_performed ≡ true
 known_newest r few newest earlier is interleaved at =
     let long : length r.asking.requests ≡ suc (length earlier) = ap (λ (l : List BegunReset). length l) is in
     let below = at.below in
@@ -128,12 +128,12 @@ module _ (r : Requests) (their_past : List Effect) (a : (r.asking ≡ nothing_as
       → StandsSo r their_past waits → StandsSo (after asking) their_past waits
   stands_then waits _ asking (ends_so between ends) begins placed stands =
       asked.stands_on r their_past a few waits between asking ends begins
-      (λ interleaved newest earlier is has. known_newest r few newest earlier is interleaved (placed (request_number_at r.first (length earlier)) has)) stands
+      (λ interleaved newest earlier is has. known_newest r few newest earlier is interleaved (placed (request_numbered r.first (length earlier)) has)) stands
   stands_then waits _ asking (was_renewed newest earlier number is out) begins placed stands =
       let between : Asking = asking_renewed number newest r.asking in
       asked.stands_on (renewed number newest r) their_past (inr (renewed_asked r their_past a number newest earlier is out (numbers_between r.first between asking begins))) (few_between r.first between asking begins) waits between asking
       asked.as_it_was begins
       (λ interleaved top rest same has.
       known_newest (renewed number newest r) (few_between r.first between asking begins) top rest same interleaved
-      (renewed_placed r their_past a number newest earlier is out (request_number_at r.first (length rest)) (placed (request_number_at r.first (length rest)) has)))
+      (renewed_placed r their_past a number newest earlier is out (request_numbered r.first (length rest)) (placed (request_numbered r.first (length rest)) has)))
       (renewed_stands r their_past a number newest earlier is out waits stands)

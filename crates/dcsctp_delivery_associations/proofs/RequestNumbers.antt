@@ -5,18 +5,18 @@ use Rattle.dcsctp_spec_lemmas.specs.spec.association.FlushChanges.{next_number}
 use Rattle.dcsctp_spec_lemmas.specs.spec.endpoint.BegunResets.{BegunReset}
 use Rattle.dcsctp_delivery_sending.specs.Places as places
 use Rattle.dcsctp_delivery_turns.specs.Asking.{AreNumbered}
-use Rattle.dcsctp_delivery_associations.specs.Answered.{request_number_at, WantsSame, WantFrom}
+use Rattle.dcsctp_delivery_associations.specs.Answered.{request_numbered, WantsSame, WantFrom}
 
-pub same_place : (first i j : ℕ) → request_number_at first i ≡ request_number_at first j → i < 2 ^ 32 → j < 2 ^ 32 → i ≡ j
+pub same_place : (first i j : ℕ) → request_numbered first i ≡ request_numbered first j → i < 2 ^ 32 → j < 2 ^ 32 → i ≡ j
 same_place first i j is one two = omega (arith, is, one, two)
 
-pub next_place : (first n : ℕ) → next_number (request_number_at first n) ≡ request_number_at first (suc n)
+pub next_place : (first n : ℕ) → next_number (request_numbered first n) ≡ request_numbered first (suc n)
 next_place first n = omega arith
 
-pub newest_number : (first : ℕ) (newest : BegunReset) (earlier requests : List BegunReset) → requests ≡ newest ∷ earlier → AreNumbered first requests → newest.number ≡ request_number_at first (length earlier)
+pub newest_number : (first : ℕ) (newest : BegunReset) (earlier requests : List BegunReset) → requests ≡ newest ∷ earlier → AreNumbered first requests → newest.number ≡ request_numbered first (length earlier)
 newest_number first newest earlier requests is numbered = (subst (AreNumbered first) is numbered).0
 
-pub number_among : (first : ℕ) (requests : List BegunReset) (begun : BegunReset) → AreNumbered first requests → places.HasEntry begun requests → (place : ℕ) × (place < length requests) × (begun.number ≡ request_number_at first place)
+pub number_among : (first : ℕ) (requests : List BegunReset) (begun : BegunReset) → AreNumbered first requests → places.HasEntry begun requests → (place : ℕ) × (place < length requests) × (begun.number ≡ request_numbered first place)
 number_among first [] begun numbered has = absurd has
 number_among first (newest ∷ earlier) begun numbered (inl e) = (length earlier, omega arith, ap (λ (b : BegunReset). b.number) e ∙ numbered.0)
 number_among first (newest ∷ earlier) begun numbered (inr has) =
@@ -33,9 +33,9 @@ is_newest first newest earlier requests begun is numbered few has same = go (sub
         let here : r.0 ≡ length earlier = same_place first r.0 (length earlier) (sym r.2 ∙ same ∙ n.0) (omega (arith, r.1, f)) (omega (arith, f)) in absurd (omega (arith, here, r.1))
 
 -- the number after the newest
-pub number_behind : (first : ℕ) (newest : BegunReset) (earlier requests : List BegunReset) → requests ≡ newest ∷ earlier → AreNumbered first requests → next_number newest.number ≡ request_number_at first (length requests)
+pub number_behind : (first : ℕ) (newest : BegunReset) (earlier requests : List BegunReset) → requests ≡ newest ∷ earlier → AreNumbered first requests → next_number newest.number ≡ request_numbered first (length requests)
 number_behind first newest earlier requests is numbered =
-    ap next_number (newest_number first newest earlier requests is numbered) ∙ next_place first (length earlier) ∙ ap (λ (l : List BegunReset). request_number_at first (length l)) (sym is)
+    ap next_number (newest_number first newest earlier requests is numbered) ∙ next_place first (length earlier) ∙ ap (λ (l : List BegunReset). request_numbered first (length l)) (sym is)
 
 -- ---- what requests want
 
@@ -55,7 +55,7 @@ want_renewed place reset (begun ∷ earlier) want = (want.0, want_renewed place 
 
 -- So the one at this place wants it.
 pub wanted_at : (first place : ℕ) (reset : RequestedReset) (requests : List BegunReset) (begun : BegunReset) → AreNumbered first requests → length requests < 2 ^ 32 → places.HasEntry begun requests → place < 2 ^ 32
-    → begun.number ≡ request_number_at first place → WantFrom place reset requests → WantsSame begun.reset reset
+    → begun.number ≡ request_numbered first place → WantFrom place reset requests → WantsSame begun.reset reset
 wanted_at first place reset [] begun numbered few has small at want = absurd has
 wanted_at first place reset (newest ∷ earlier) begun numbered few (inl e) small at want =
     let here : length earlier ≡ place = same_place first (length earlier) place (sym numbered.0 ∙ sym (ap (λ (b : BegunReset). b.number) e) ∙ at) (omega (arith, few)) small in

@@ -7,9 +7,9 @@ use Rattle.dcsctp_spec_lemmas.specs.spec.Reconfiguration.{ResetParameter}
 use Rattle.dcsctp_spec_lemmas.specs.spec.association.Effect.{Effect, performs, renews}
 use Rattle.dcsctp_spec_lemmas.specs.spec.endpoint.BegunResets.{BegunReset, stream_field}
 use Rattle.dcsctp_spec_lemmas.specs.spec.endpoint.Endpoint.{Endpoint}
-use Rattle.dcsctp_spec_lemmas.specs.spec.endpoint.Event.{Event, incoming_stream_reset, packets_in}
+use Rattle.dcsctp_spec_lemmas.specs.spec.endpoint.Event.{Event, incoming_stream_reset, packets_of_events}
 use Rattle.dcsctp_spec_lemmas.specs.spec.endpoint.Outcome.{Outcome}
-use Rattle.dcsctp_spec_lemmas.specs.spec.endpoint.ResetOutcomes.{requested_in}
+use Rattle.dcsctp_spec_lemmas.specs.spec.endpoint.ResetOutcomes.{first_reset_request}
 use Rattle.dcsctp_spec_lemmas.specs.spec.endpoint.Turn.{Input, Turn}
 use Rattle.dcsctp_spec_runs.specs.Past.{WasPerformed}
 use Rattle.dcsctp_spec_runs.specs.World.{after_effects}
@@ -17,15 +17,15 @@ use Rattle.dcsctp_delivery_sending.specs.Log.{Message}
 use Rattle.dcsctp_delivery_sending.specs.Places.{HasEntry}
 use Rattle.dcsctp_delivery_directions.specs.Directions.{Asking}
 use Rattle.dcsctp_delivery_directions.proofs.RequestCounts.{requests_are_sent}
-use Rattle.dcsctp_delivery_turns.specs.Actions.{came_by, IsCall}
+use Rattle.dcsctp_delivery_turns.specs.Actions.{content_of_input, IsCall}
 use Rattle.dcsctp_delivery_turns.specs.Asking.{Own, own_of, AsksFit, IsAsking, OutIs, AskingGrows}
 use Rattle.dcsctp_delivery_turns.specs.Runs.{IsBetween, as_it_was, once_performed, once_refused, once_renewed}
 use Rattle.dcsctp_delivery_turns.specs.Completing.{EndsOwn}
-use Rattle.dcsctp_delivery_turns.specs.ToldResets.{IsToldOf, TellsResets}
+use Rattle.dcsctp_delivery_turns.specs.ToldResets.{IsReportedReset, ReportsResets}
 use Rattle.dcsctp_delivery_turns.proofs.Completing.{completes_own}
 use Rattle.dcsctp_delivery_turns.proofs.Telling.{entry_front}
-use Rattle.dcsctp_delivery_associations.specs.Answered.{request_number_at, AreAnswered}
-use Rattle.dcsctp_delivery_associations.specs.Ends.{Ends, SendingEnd, joined, sender_key, AreHeard, WasNamed, AreSeen, Between}
+use Rattle.dcsctp_delivery_associations.specs.Answered.{request_numbered, AreAnswered}
+use Rattle.dcsctp_delivery_associations.specs.Ends.{Ends, SendingEnd, direction_of_ends, sender_key, AreHeard, WasNamed, AreSeen, Between}
 use Rattle.dcsctp_delivery_associations.specs.Laws.{CompletesPerformed, AsksLittle, ResetsWereSeen}
 use Rattle.dcsctp_delivery_associations.specs.Reads.{Reading}
 use Rattle.dcsctp_delivery_associations.proofs.AnsweringRests.{after_split}
@@ -75,7 +75,7 @@ named_still : (sends later : ℕ → SendingEnd) (seen : List (Event Emission)) 
 named_still sends later seen tag number stay named = record { begun = named.begun; has = stay named.begun named.has; number_is = named.number_is; told = named.told }
 
 pub seen_still : (ends later : Ends) (e : Endpoint) (past : List Effect) (d : Endpoint) (their_past : List Effect) (seen : List (Event Emission)) → AreAnswered ends e past d their_past → AllStay ends.sends later.sends
-    → AreHeard later.gets their_past (packets_in seen) → AreSeen ends d their_past seen → AreSeen later d their_past seen
+    → AreHeard later.gets their_past (packets_of_events seen) → AreSeen ends d their_past seen → AreSeen later d their_past seen
 seen_still ends later e past d their_past seen w stay heard shows =
     record {
       heard = heard;
@@ -92,10 +92,10 @@ pub record IsNamedNow (sends : ℕ → SendingEnd) (input : Input) (my : Pair) (
   pub has : HasEntry begun (sends my.tag).asking.requests
   pub number_is : begun.number ≡ number
   pub parameters : List ResetParameter
-  pub came : came_by input ≡ Some (re_config parameters)
-  pub asked : requested_in parameters ≡ Some begun.reset
+  pub came : content_of_input input ≡ Some (re_config parameters)
+  pub asked : first_reset_request parameters ≡ Some begun.reset
 
-told_later : (d : Endpoint) (their_past : List Effect) (ends : Ends) (o : Outcome) (seen : List (Event Emission)) (streams : List ℕ) → AreSeen ends d their_past seen → IsToldOf d o streams → HasEntry (incoming_stream_reset streams) (seen ++ o.events)
+told_later : (d : Endpoint) (their_past : List Effect) (ends : Ends) (o : Outcome) (seen : List (Event Emission)) (streams : List ℕ) → AreSeen ends d their_past seen → IsReportedReset d o streams → HasEntry (incoming_stream_reset streams) (seen ++ o.events)
 told_later d their_past ends o seen streams shows (inl now) = entry_behind (incoming_stream_reset streams) seen o.events now
 told_later d their_past ends o seen streams shows (inr before) =
     entry_front (incoming_stream_reset streams) seen o.events (subst (λ (l : List ℕ). HasEntry (incoming_stream_reset l) seen) before.2 (shows.renewable before.0 before.1))
@@ -105,7 +105,7 @@ was_split my number happened past (inl has) = elim (after_split (performs my num
 was_split my number happened past (inr has) = elim (after_split (renews my number) happened past has) [ inl now ↦ inl (inr now) | inr before ↦ inr (inr before) ]
 
 pub seen_turn : (ends later : Ends) (e : Endpoint) (past : List Effect) (d : Endpoint) (their_past : List Effect) (seen : List (Event Emission)) (input : Input) (o : Outcome) → AreAnswered ends e past d their_past → AllStay ends.sends later.sends
-    → AreHeard later.gets (after_effects o.effects their_past) (packets_in (seen ++ o.events)) → TellsResets d input o → ((my : Pair) (number : ℕ) → WasPerformed my number o.effects → IsNamedNow ends.sends input my number)
+    → AreHeard later.gets (after_effects o.effects their_past) (packets_of_events (seen ++ o.events)) → ReportsResets d input o → ((my : Pair) (number : ℕ) → WasPerformed my number o.effects → IsNamedNow ends.sends input my number)
     → AreSeen ends d their_past seen → AreSeen later o.after (after_effects o.effects their_past) (seen ++ o.events)
 seen_turn ends later e past d their_past seen input o w stay heard tells now shows =
     record {
@@ -146,18 +146,18 @@ module _ (options : Options) (ends : Ends) (e : Endpoint) (past : List Effect) (
       few_here = subst (λ (t : ℕ). length (ends.sends t).asking.requests < 2 ^ 32 - 1) tag_is few
 
       -- It isn't the 2^32nd.
-      too_many : number ≡ request_number_at my.first_tsn (2 ^ 32 - 1) → ⊥
+      too_many : number ≡ request_numbered my.first_tsn (2 ^ 32 - 1) → ⊥
       too_many last =
           let mine = w.answers.mine_first own.link own.linked in
           let first : ends.firsts my.tag ≡ my.first_tsn = ap ends.firsts (sym (ap (λ (p : Pair). p.tag) own.mine)) ∙ mine ∙ ap (λ (p : Pair). p.first_tsn) own.mine in
           let long : length (ends.sends my.tag).asking.requests ≡ suc (length out.earlier) = ap (λ (l : List BegunReset). length l) out.is in
-          let at : number ≡ request_number_at (ends.firsts my.tag) (length out.earlier) = newest_number (ends.firsts my.tag) newest out.earlier (ends.sends my.tag).asking.requests out.is kept.numbers in
-          let same : request_number_at (ends.firsts my.tag) (length out.earlier) ≡ request_number_at (ends.firsts my.tag) (2 ^ 32 - 1) = sym at ∙ last ∙ ap (λ (n : ℕ). request_number_at n (2 ^ 32 - 1)) (sym first) in
+          let at : number ≡ request_numbered (ends.firsts my.tag) (length out.earlier) = newest_number (ends.firsts my.tag) newest out.earlier (ends.sends my.tag).asking.requests out.is kept.numbers in
+          let same : request_numbered (ends.firsts my.tag) (length out.earlier) ≡ request_numbered (ends.firsts my.tag) (2 ^ 32 - 1) = sym at ∙ last ∙ ap (λ (n : ℕ). request_numbered n (2 ^ 32 - 1)) (sym first) in
           let few' = few_here in
           let place : length out.earlier ≡ 2 ^ 32 - 1 = same_place (ends.firsts my.tag) (length out.earlier) (2 ^ 32 - 1) same (omega (arith, few', long)) (omega arith) in
           omega (arith, place, long, few')
 
-      go : WasPerformed my number their_past ⊎ (number ≡ request_number_at my.first_tsn (2 ^ 32 - 1)) → HasEntry (incoming_stream_reset (map stream_field streams)) seen
+      go : WasPerformed my number their_past ⊎ (number ≡ request_numbered my.first_tsn (2 ^ 32 - 1)) → HasEntry (incoming_stream_reset (map stream_field streams)) seen
       go (inr last) = absurd (too_many last)
       go (inl was) =
           let named = shows.named my number was in
@@ -175,7 +175,7 @@ resets_were_seen seen options ends e queued past packets d their_past reading in
     few_now : length (ends.sends (sender_key e.core)).asking.requests < 2 ^ 32 - 1
     few_now =
         let key : ℕ = sender_key e.core in
-        let sent = requests_are_sent options (ends.firsts key) options.max_receiver_window_buffer_size (joined (ends.sends key) (ends.gets key)) (h.runs key) in
+        let sent = requests_are_sent options (ends.firsts key) options.max_receiver_window_buffer_size (direction_of_ends (ends.sends key) (ends.gets key)) (h.runs key) in
         let went = h.sender.few_requests key in
         let few = little (ends.latest key) in
         omega (arith, sent, went, few)

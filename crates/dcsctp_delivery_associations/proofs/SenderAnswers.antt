@@ -7,20 +7,20 @@ use Rattle.dcsctp_spec_lemmas.specs.spec.endpoint.Outcome.{Outcome}
 use Rattle.dcsctp_spec_runs.specs.Past.{WasPerformed, HasEffect}
 use Rattle.dcsctp_spec_lemmas.specs.spec.endpoint.Turn.{Input, Turn}
 use Rattle.dcsctp_spec_runs.specs.World.{after_effects}
-use Rattle.dcsctp_spec_lemmas.specs.spec.association.Effect.{AssociationIdentity, Effect, holds, completes, performs, identity_in}
+use Rattle.dcsctp_spec_lemmas.specs.spec.association.Effect.{AssociationIdentity, Effect, holds, completes, performs, identity_of_core}
 use Rattle.dcsctp_spec_lemmas.specs.spec.queues.Reassembly.{DeferralModel}
 use Rattle.dcsctp_spec_lemmas.specs.spec.queues.Transfer.{EndpointQueues}
 use Rattle.dcsctp_spec_lemmas.specs.spec.endpoint.BegunResets.{BegunReset}
 use Rattle.dcsctp_spec_lemmas.specs.spec.endpoint.ResetOutcomes.{has_completed}
-use Rattle.dcsctp_delivery_sending.specs.Places.{set_at}
+use Rattle.dcsctp_delivery_sending.specs.Places.{table_with}
 use Rattle.dcsctp_delivery_sending.proofs.Places.{decide, set_same, set_other}
 use Rattle.dcsctp_delivery_directions.specs.Directions.{Asking, nothing_asked}
 use Rattle.dcsctp_delivery_turns.specs.Actions.{IsCall}
-use Rattle.dcsctp_delivery_turns.specs.Asking.{Own, own_with, own_in, own_of, AreNumbered, IsAsking, OutIs, AsksFit, AskingGrows}
+use Rattle.dcsctp_delivery_turns.specs.Asking.{Own, own_with, own_of_core, own_of, AreNumbered, IsAsking, OutIs, AsksFit, AskingGrows}
 use Rattle.dcsctp_delivery_turns.specs.Runs.{EndsPerformed, RefusesNone, IsBetween, as_it_was, once_performed, once_refused, once_renewed}
 use Rattle.dcsctp_delivery_turns.proofs.Completing.{completes_own}
 use Rattle.dcsctp_delivery_associations.specs.Ends.{SendingEnd, ReceivingEnd, Ends, sender_key}
-use Rattle.dcsctp_delivery_associations.specs.Answered.{Requests, request_number_at, AnswersRequests, requests_of, waiting_deferral, AreAnswered}
+use Rattle.dcsctp_delivery_associations.specs.Answered.{Requests, request_numbered, AnswersRequests, requests_of, waiting_deferral, AreAnswered}
 use Rattle.dcsctp_delivery_associations.specs.Laws.{CompletesPerformed}
 use Rattle.dcsctp_delivery_associations.proofs.RequestNumbers.{same_place, newest_number}
 use Rattle.dcsctp_delivery_associations.proofs.AnsweringRests.{same_requests}
@@ -38,7 +38,7 @@ small_out None own asking none = omega (arith, none)
 small_out (Some number) own asking out = (let one = out.one in omega (arith, one))
 
 -- It is of the requests that were begun, if there is an association.
-pub asks_so : (first : ℕ) (core : Core) (request : Option OutstandingRequest) (asking : Asking) (link : AssociationIdentity) → identity_in core ≡ Some link → AsksFit first (own_in core request) asking → AreNumbered first asking.requests × (asking.out ≤ 1)
+pub asks_so : (first : ℕ) (core : Core) (request : Option OutstandingRequest) (asking : Asking) (link : AssociationIdentity) → identity_of_core core ≡ Some link → AsksFit first (own_of_core core request) asking → AreNumbered first asking.requests × (asking.out ≤ 1)
 asks_so first closed request asking link linked fits = absurd (cc)
 asks_so first (cookie_wait my) request asking link linked fits = absurd (cc)
 asks_so first (cookie_echoed my held cookie) request asking link linked fits = (fits.numbers, small_out held.own_outstanding (own_with held request) asking fits.out)
@@ -76,7 +76,7 @@ newest_is first number found own asking newest earlier is outstanding fits reque
 -- ---- a request ends
 
 module _ (requests : ℕ → Requests) (link : AssociationIdentity) (past : List Effect) (theirs : Option AssociationIdentity) (their_past : List Effect) (waits : Option DeferralModel) (h : AnswersRequests requests (Some link) past theirs their_past waits)
-    (e : Endpoint) (input : Input) (o : Outcome) (linked : identity_in e.core ≡ Some link) (kind : (requests link.my.tag).is_interleaved ≡ e.queues.queue.is_interleaved)
+    (e : Endpoint) (input : Input) (o : Outcome) (linked : identity_of_core e.core ≡ Some link) (kind : (requests link.my.tag).is_interleaved ≡ e.queues.queue.is_interleaved)
     (fits : AsksFit (requests link.my.tag).first (own_of e) (requests link.my.tag).asking) (few : length (requests link.my.tag).asking.requests < 2 ^ 32 - 1) (completes_so : CompletesPerformed their_past o)
     (may : IsCall input) (turn : Turn e input o) where
   abbrev r : Requests
@@ -101,12 +101,12 @@ module _ (requests : ℕ → Requests) (link : AssociationIdentity) (past : List
       same_link : {found : Option AssociationIdentity} {one two : AssociationIdentity} → found ≡ Some one → found ≡ Some two → one ≡ two
       same_link first second = cc
 
-      too_many : {pair : Pair} → pair ≡ link.my → newest.number ≡ request_number_at pair.first_tsn (2 ^ 32 - 1) → ⊥
+      too_many : {pair : Pair} → pair ≡ link.my → newest.number ≡ request_numbered pair.first_tsn (2 ^ 32 - 1) → ⊥
       too_many mine last =
           let long : length (requests link.my.tag).asking.requests ≡ suc (length earlier) = ap (λ (l : List BegunReset). length l) is in
-          let at : newest.number ≡ request_number_at (requests link.my.tag).first (length earlier) = newest_number (requests link.my.tag).first newest earlier (requests link.my.tag).asking.requests is numbers in
-          let same : request_number_at (requests link.my.tag).first (length earlier) ≡ request_number_at (requests link.my.tag).first (2 ^ 32 - 1) =
-          sym at ∙ last ∙ ap (λ (n : ℕ). request_number_at n (2 ^ 32 - 1)) (ap (λ (p : Pair). p.first_tsn) mine ∙ sym (h.mine_first link refl)) in
+          let at : newest.number ≡ request_numbered (requests link.my.tag).first (length earlier) = newest_number (requests link.my.tag).first newest earlier (requests link.my.tag).asking.requests is numbers in
+          let same : request_numbered (requests link.my.tag).first (length earlier) ≡ request_numbered (requests link.my.tag).first (2 ^ 32 - 1) =
+          sym at ∙ last ∙ ap (λ (n : ℕ). request_numbered n (2 ^ 32 - 1)) (ap (λ (p : Pair). p.first_tsn) mine ∙ sym (h.mine_first link refl)) in
           let place : length earlier ≡ 2 ^ 32 - 1 = same_place (requests link.my.tag).first (length earlier) (2 ^ 32 - 1) same (omega (arith, few, long)) (omega arith) in
           omega (arith, place, long, few)
 
@@ -133,7 +133,7 @@ module _ (requests : ℕ → Requests) (link : AssociationIdentity) (past : List
   may_go none _ (once_renewed newest earlier number is out next) = was_renewed newest earlier number is out
 
 -- More may be begun.
-pub may_begin : (first : ℕ) (core : Core) (request : Option OutstandingRequest) (between asking : Asking) (link : AssociationIdentity) → identity_in core ≡ Some link → AskingGrows between asking → AsksFit first (own_in core request) asking
+pub may_begin : (first : ℕ) (core : Core) (request : Option OutstandingRequest) (between asking : Asking) (link : AssociationIdentity) → identity_of_core core ≡ Some link → AskingGrows between asking → AsksFit first (own_of_core core request) asking
     → length asking.requests < 2 ^ 32 - 1 → MayBegin first between asking
 may_begin first core request between asking link linked grows fits few =
     let so = asks_so first core request asking link linked fits in
@@ -148,19 +148,19 @@ of_end first my end = record { my = my; first = first; asking = end.asking; is_i
 -- Where another end takes its place, others are the same.
 pub set_ends : (ends : Ends) (pairs : ℕ → Pair) (key : ℕ) (end : SendingEnd) (gets : ℕ → ReceivingEnd) (firsts : ℕ → ℕ) (others : ℕ → Pair) (new : Requests) → of_end (firsts key) (others key) end ≡ new
     → ((tag : ℕ) → tag ≢ key → (firsts tag ≡ ends.firsts tag) × (others tag ≡ pairs tag)) → (tag : ℕ)
-    → requests_of (record ends { sends = set_at key end ends.sends; gets = gets; firsts = firsts }) others tag ≡ set_at key new (requests_of ends pairs) tag
+    → requests_of (record ends { sends = table_with key end ends.sends; gets = gets; firsts = firsts }) others tag ≡ table_with key new (requests_of ends pairs) tag
 set_ends ends pairs key end gets firsts others new is same tag =
     elim (decide tag key) [
       | inl e ↦
-          ap (λ (n : ℕ). of_end (firsts n) (others n) (set_at key end ends.sends n)) e ∙ ap (of_end (firsts key) (others key)) (set_same key end ends.sends) ∙ is
-          ∙ sym (set_same key new (requests_of ends pairs)) ∙ ap (set_at key new (requests_of ends pairs)) (sym e)
+          ap (λ (n : ℕ). of_end (firsts n) (others n) (table_with key end ends.sends n)) e ∙ ap (of_end (firsts key) (others key)) (set_same key end ends.sends) ∙ is
+          ∙ sym (set_same key new (requests_of ends pairs)) ∙ ap (table_with key new (requests_of ends pairs)) (sym e)
       | inr ne ↦
           ap (of_end (firsts tag) (others tag)) (set_other key tag end ends.sends ne) ∙ ap (λ (n : ℕ). of_end n (others tag) (ends.sends tag)) (same tag ne).0
           ∙ ap (λ (m : Pair). of_end (ends.firsts tag) m (ends.sends tag)) (same tag ne).1 ∙ sym (set_other key tag new (requests_of ends pairs) ne)
     ]
 
 pub set_end : (ends : Ends) (pairs : ℕ → Pair) (key : ℕ) (end : SendingEnd) (new : Requests) → of_end (ends.firsts key) (pairs key) end ≡ new → (tag : ℕ)
-    → requests_of (record ends { sends = set_at key end ends.sends }) pairs tag ≡ set_at key new (requests_of ends pairs) tag
+    → requests_of (record ends { sends = table_with key end ends.sends }) pairs tag ≡ table_with key new (requests_of ends pairs) tag
 set_end ends pairs key end new is tag = set_ends ends pairs key end ends.gets ends.firsts pairs new is (λ t ne. (refl, refl)) tag
 
 -- ---- a turn in which the association continues or ends
@@ -171,10 +171,10 @@ module _ (ends : Ends) (e : Endpoint) (past : List Effect) (d : Endpoint) (their
   all = requests_of ends w.pairs
 
   abbrev pub grown_to : Ends
-  grown_to = record ends { sends = set_at (sender_key e.core) end ends.sends }
+  grown_to = record ends { sends = table_with (sender_key e.core) end ends.sends }
 
   -- with this begun
-  module _ (link : AssociationIdentity) (linked : identity_in e.core ≡ Some link) (some : link.my.tag ≢ 0) (between asking : Asking) (is : end.asking ≡ asking) (few : length (ends.sends link.my.tag).asking.requests < 2 ^ 32 - 1)
+  module _ (link : AssociationIdentity) (linked : identity_of_core e.core ≡ Some link) (some : link.my.tag ≢ 0) (between asking : Asking) (is : end.asking ≡ asking) (few : length (ends.sends link.my.tag).asking.requests < 2 ^ 32 - 1)
       (may : MayGo (requests_of ends w.pairs link.my.tag) their_past between) (more : MayBegin (ends.firsts link.my.tag) between asking) where
     key_is : sender_key e.core ≡ link.my.tag
     key_is = link_tag e.core link linked
@@ -187,48 +187,48 @@ module _ (ends : Ends) (e : Endpoint) (past : List Effect) (d : Endpoint) (their
         ap (λ (a : Asking). record (of_end (ends.firsts link.my.tag) (w.pairs link.my.tag) end) { asking = a }) is
         ∙ ap (λ (b : Bool). record (requests_of ends w.pairs link.my.tag) { asking = asking; is_interleaved = b }) kind_is
 
-    answers_there : AnswersRequests (requests_of ends w.pairs) (Some link) past (identity_in d.core) their_past (waiting_deferral d.queues.transfer)
-    answers_there = subst (λ (l : Option AssociationIdentity). AnswersRequests (requests_of ends w.pairs) l past (identity_in d.core) their_past (waiting_deferral d.queues.transfer)) linked w.answers
+    answers_there : AnswersRequests (requests_of ends w.pairs) (Some link) past (identity_of_core d.core) their_past (waiting_deferral d.queues.transfer)
+    answers_there = subst (λ (l : Option AssociationIdentity). AnswersRequests (requests_of ends w.pairs) l past (identity_of_core d.core) their_past (waiting_deferral d.queues.transfer)) linked w.answers
 
-    pub goes_answers : AnswersRequests (requests_of (record ends { sends = set_at (sender_key e.core) end ends.sends }) w.pairs) (Some link) (after_effects happened past) (identity_in d.core) their_past (waiting_deferral d.queues.transfer)
+    pub goes_answers : AnswersRequests (requests_of (record ends { sends = table_with (sender_key e.core) end ends.sends }) w.pairs) (Some link) (after_effects happened past) (identity_of_core d.core) their_past (waiting_deferral d.queues.transfer)
     goes_answers =
-        subst (λ (k : ℕ). AnswersRequests (requests_of (record ends { sends = set_at k end ends.sends }) w.pairs) (Some link) (after_effects happened past) (identity_in d.core) their_past (waiting_deferral d.queues.transfer)) (sym key_is)
-        (same_requests (requests_of (record ends { sends = set_at link.my.tag end ends.sends }) w.pairs) (set_at link.my.tag (record (requests_of ends w.pairs link.my.tag) { asking = asking }) (requests_of ends w.pairs))
-        (Some link) (after_effects happened past) (identity_in d.core) their_past (waiting_deferral d.queues.transfer) (set_end ends w.pairs link.my.tag end _ here)
-        (asks_on (requests_of ends w.pairs) link past (identity_in d.core) their_past (waiting_deferral d.queues.transfer) answers_there few some between asking may more happened))
+        subst (λ (k : ℕ). AnswersRequests (requests_of (record ends { sends = table_with k end ends.sends }) w.pairs) (Some link) (after_effects happened past) (identity_of_core d.core) their_past (waiting_deferral d.queues.transfer)) (sym key_is)
+        (same_requests (requests_of (record ends { sends = table_with link.my.tag end ends.sends }) w.pairs) (table_with link.my.tag (record (requests_of ends w.pairs link.my.tag) { asking = asking }) (requests_of ends w.pairs))
+        (Some link) (after_effects happened past) (identity_of_core d.core) their_past (waiting_deferral d.queues.transfer) (set_end ends w.pairs link.my.tag end _ here)
+        (asks_on (requests_of ends w.pairs) link past (identity_of_core d.core) their_past (waiting_deferral d.queues.transfer) answers_there few some between asking may more happened))
 
   -- The end of the tag 0 may be any.
   pub closes_answers : (mine : Option AssociationIdentity) (later : List Effect) (zero : SendingEnd)
-      → AnswersRequests (requests_of (record ends { sends = set_at (sender_key e.core) end ends.sends }) w.pairs) mine later (identity_in d.core) their_past (waiting_deferral d.queues.transfer)
-      → AnswersRequests (requests_of (record ends { sends = set_at 0 zero (set_at (sender_key e.core) end ends.sends) }) w.pairs) None later (identity_in d.core) their_past (waiting_deferral d.queues.transfer)
+      → AnswersRequests (requests_of (record ends { sends = table_with (sender_key e.core) end ends.sends }) w.pairs) mine later (identity_of_core d.core) their_past (waiting_deferral d.queues.transfer)
+      → AnswersRequests (requests_of (record ends { sends = table_with 0 zero (table_with (sender_key e.core) end ends.sends) }) w.pairs) None later (identity_of_core d.core) their_past (waiting_deferral d.queues.transfer)
   closes_answers mine later zero answers =
-      same_requests (requests_of (record ends { sends = set_at 0 zero (set_at (sender_key e.core) end ends.sends) }) w.pairs)
-      (set_at 0 (of_end (ends.firsts 0) (w.pairs 0) zero) (requests_of (record ends { sends = set_at (sender_key e.core) end ends.sends }) w.pairs)) None later (identity_in d.core) their_past (waiting_deferral d.queues.transfer)
-      (set_end (record ends { sends = set_at (sender_key e.core) end ends.sends }) w.pairs 0 zero _ refl)
-      (closes_on (requests_of (record ends { sends = set_at (sender_key e.core) end ends.sends }) w.pairs) mine later (identity_in d.core) their_past (waiting_deferral d.queues.transfer) answers (of_end (ends.firsts 0) (w.pairs 0) zero) later (λ effect has. has))
+      same_requests (requests_of (record ends { sends = table_with 0 zero (table_with (sender_key e.core) end ends.sends) }) w.pairs)
+      (table_with 0 (of_end (ends.firsts 0) (w.pairs 0) zero) (requests_of (record ends { sends = table_with (sender_key e.core) end ends.sends }) w.pairs)) None later (identity_of_core d.core) their_past (waiting_deferral d.queues.transfer)
+      (set_end (record ends { sends = table_with (sender_key e.core) end ends.sends }) w.pairs 0 zero _ refl)
+      (closes_on (requests_of (record ends { sends = table_with (sender_key e.core) end ends.sends }) w.pairs) mine later (identity_of_core d.core) their_past (waiting_deferral d.queues.transfer) answers (of_end (ends.firsts 0) (w.pairs 0) zero) later (λ effect has. has))
 
   -- So it is where there is no association.
-  pub idle_answers : identity_in e.core ≡ None → (later : List Effect) → ((effect : Effect) → HasEffect effect past → HasEffect effect later)
-      → AnswersRequests (requests_of (record ends { sends = set_at (sender_key e.core) end ends.sends }) w.pairs) None later (identity_in d.core) their_past (waiting_deferral d.queues.transfer)
+  pub idle_answers : identity_of_core e.core ≡ None → (later : List Effect) → ((effect : Effect) → HasEffect effect past → HasEffect effect later)
+      → AnswersRequests (requests_of (record ends { sends = table_with (sender_key e.core) end ends.sends }) w.pairs) None later (identity_of_core d.core) their_past (waiting_deferral d.queues.transfer)
   idle_answers none later grows =
-      subst (λ (k : ℕ). AnswersRequests (requests_of (record ends { sends = set_at k end ends.sends }) w.pairs) None later (identity_in d.core) their_past (waiting_deferral d.queues.transfer)) (sym (no_key e.core none))
-      (same_requests (requests_of (record ends { sends = set_at 0 end ends.sends }) w.pairs) (set_at 0 (of_end (ends.firsts 0) (w.pairs 0) end) (requests_of ends w.pairs)) None later (identity_in d.core) their_past (waiting_deferral d.queues.transfer)
+      subst (λ (k : ℕ). AnswersRequests (requests_of (record ends { sends = table_with k end ends.sends }) w.pairs) None later (identity_of_core d.core) their_past (waiting_deferral d.queues.transfer)) (sym (no_key e.core none))
+      (same_requests (requests_of (record ends { sends = table_with 0 end ends.sends }) w.pairs) (table_with 0 (of_end (ends.firsts 0) (w.pairs 0) end) (requests_of ends w.pairs)) None later (identity_of_core d.core) their_past (waiting_deferral d.queues.transfer)
       (set_end ends w.pairs 0 end _ refl)
-      (closes_on (requests_of ends w.pairs) (identity_in e.core) past (identity_in d.core) their_past (waiting_deferral d.queues.transfer) w.answers (of_end (ends.firsts 0) (w.pairs 0) end) later grows))
+      (closes_on (requests_of ends w.pairs) (identity_of_core e.core) past (identity_of_core d.core) their_past (waiting_deferral d.queues.transfer) w.answers (of_end (ends.firsts 0) (w.pairs 0) end) later grows))
 
 -- ---- a turn in which an association begins
 
 pub begins_answers : (ends : Ends) (e : Endpoint) (past : List Effect) (d : Endpoint) (their_past : List Effect) (w : AreAnswered ends e past d their_past) (new : AssociationIdentity) → new.my.tag ≢ 0 → ((theirs : AssociationIdentity) → HasEffect (holds theirs) their_past → theirs.peer.tag ≡ new.my.tag → theirs.peer ≡ new.my)
     → (ends.sends new.my.tag).asking ≡ nothing_asked → (end : SendingEnd) (gets : ℕ → ReceivingEnd) (firsts : ℕ → ℕ) → firsts new.my.tag ≡ new.my.first_tsn → ((tag : ℕ) → tag ≢ new.my.tag → firsts tag ≡ ends.firsts tag)
-    → MayBegin new.my.first_tsn nothing_asked end.asking → ((other : AssociationIdentity) → identity_in d.core ≡ Some other → other.peer.tag ≡ new.my.tag → ends.firsts new.my.tag ≡ new.my.first_tsn)
+    → MayBegin new.my.first_tsn nothing_asked end.asking → ((other : AssociationIdentity) → identity_of_core d.core ≡ Some other → other.peer.tag ≡ new.my.tag → ends.firsts new.my.tag ≡ new.my.first_tsn)
     → (later : List Effect) → ((effect : Effect) → HasEffect effect past → HasEffect effect later) → HasEffect (holds new) later
-    → AnswersRequests (requests_of (record ends { sends = set_at new.my.tag end ends.sends; gets = gets; firsts = firsts }) (set_at new.my.tag new.my w.pairs)) (Some new) later (identity_in d.core) their_past (waiting_deferral d.queues.transfer)
+    → AnswersRequests (requests_of (record ends { sends = table_with new.my.tag end ends.sends; gets = gets; firsts = firsts }) (table_with new.my.tag new.my w.pairs)) (Some new) later (identity_of_core d.core) their_past (waiting_deferral d.queues.transfer)
 begins_answers ends e past d their_past w new some match nothing end gets firsts first others begins crossed later grows held =
-    same_requests (requests_of (record ends { sends = set_at new.my.tag end ends.sends; gets = gets; firsts = firsts }) (set_at new.my.tag new.my w.pairs))
-    (set_at new.my.tag (fresh_requests new end.queues.queue.is_interleaved end.asking) (requests_of ends w.pairs)) (Some new) later (identity_in d.core) their_past (waiting_deferral d.queues.transfer)
-    (set_ends ends w.pairs new.my.tag end gets firsts (set_at new.my.tag new.my w.pairs) (fresh_requests new end.queues.queue.is_interleaved end.asking) here
+    same_requests (requests_of (record ends { sends = table_with new.my.tag end ends.sends; gets = gets; firsts = firsts }) (table_with new.my.tag new.my w.pairs))
+    (table_with new.my.tag (fresh_requests new end.queues.queue.is_interleaved end.asking) (requests_of ends w.pairs)) (Some new) later (identity_of_core d.core) their_past (waiting_deferral d.queues.transfer)
+    (set_ends ends w.pairs new.my.tag end gets firsts (table_with new.my.tag new.my w.pairs) (fresh_requests new end.queues.queue.is_interleaved end.asking) here
     (λ tag ne. (others tag ne, set_other new.my.tag tag new.my w.pairs ne)))
-    (opens_on (requests_of ends w.pairs) (identity_in e.core) past (identity_in d.core) their_past (waiting_deferral d.queues.transfer) w.answers new some nothing match end.queues.queue.is_interleaved end.asking begins crossed later grows held)
+    (opens_on (requests_of ends w.pairs) (identity_of_core e.core) past (identity_of_core d.core) their_past (waiting_deferral d.queues.transfer) w.answers new some nothing match end.queues.queue.is_interleaved end.asking begins crossed later grows held)
   where
-    here : of_end (firsts new.my.tag) (set_at new.my.tag new.my w.pairs new.my.tag) end ≡ fresh_requests new end.queues.queue.is_interleaved end.asking
-    here = ap (λ (n : ℕ). of_end n (set_at new.my.tag new.my w.pairs new.my.tag) end) first ∙ ap (λ (m : Pair). of_end new.my.first_tsn m end) (set_same new.my.tag new.my w.pairs)
+    here : of_end (firsts new.my.tag) (table_with new.my.tag new.my w.pairs new.my.tag) end ≡ fresh_requests new end.queues.queue.is_interleaved end.asking
+    here = ap (λ (n : ℕ). of_end n (table_with new.my.tag new.my w.pairs new.my.tag) end) first ∙ ap (λ (m : Pair). of_end new.my.first_tsn m end) (set_same new.my.tag new.my w.pairs)

@@ -7,18 +7,18 @@ use Rattle.dcsctp_spec_runs.specs.World.{after_effects}
 use Rattle.dcsctp_spec_lemmas.specs.spec.association.Effect.{AssociationIdentity, Effect}
 use Rattle.dcsctp_spec_lemmas.specs.spec.queues.Reassembly.{DeferralModel}
 use Rattle.dcsctp_spec_lemmas.specs.spec.endpoint.BegunResets.{BegunReset}
-use Rattle.dcsctp_delivery_sending.specs.Places.{set_at}
+use Rattle.dcsctp_delivery_sending.specs.Places.{table_with}
 use Rattle.dcsctp_delivery_sending.proofs.Places.{decide, set_same, set_other}
 use Rattle.dcsctp_delivery_directions.specs.Directions.{Asking, nothing_asked}
-use Rattle.dcsctp_delivery_associations.specs.Answered.{Requests, request_number_at, SenderHadPeer, WasJoined, AreAsked, IsRequestNumber, WerePerformed, StandsSo, AnswersRequests}
+use Rattle.dcsctp_delivery_associations.specs.Answered.{Requests, request_numbered, SenderHadPeer, WasJoined, AreAsked, IsRequestNumber, WerePerformed, StandsSo, AnswersRequests}
 use Rattle.dcsctp_delivery_associations.proofs.AskedOn.{held_later, MayBegin}
 use Rattle.dcsctp_delivery_associations.proofs.Renewed.{MayGo, known_newest, asked_then, placed_then, stands_then}
 
 -- what holds of the requests of a tag, and of all others
-pub set_requests : (P : ℕ → Requests → Type 0) (key : ℕ) (new : Requests) (old : ℕ → Requests) → P key new → ((tag : ℕ) → tag ≢ key → P tag (old tag)) → (tag : ℕ) → P tag (set_at key new old tag)
+pub set_requests : (P : ℕ → Requests → Type 0) (key : ℕ) (new : Requests) (old : ℕ → Requests) → P key new → ((tag : ℕ) → tag ≢ key → P tag (old tag)) → (tag : ℕ) → P tag (table_with key new old tag)
 set_requests P key new old here others tag =
     elim (decide tag key) [
-      | inl e ↦ subst (λ (n : ℕ). P n (set_at key new old n)) (sym e) (subst (P key) (sym (set_same key new old)) here)
+      | inl e ↦ subst (λ (n : ℕ). P n (table_with key new old n)) (sym e) (subst (P key) (sym (set_same key new old)) here)
       | inr ne ↦ subst (P tag) (sym (set_other key tag new old ne)) (others tag ne)
     ]
 
@@ -43,8 +43,8 @@ module _ (requests : ℕ → Requests) (link : AssociationIdentity) (past : List
 
   -- If the newest was performed, that is known.
   pub newest_known : length r.asking.requests < 2 ^ 32 - 1 → r.is_interleaved ≡ true → (newest : BegunReset) (earlier : List BegunReset) → r.asking.requests ≡ newest ∷ earlier
-      → WasPerformed link.my (request_number_at r.first (length earlier)) their_past → r.asking.is_performed ≡ true
-  newest_known few interleaved newest earlier is has = known_newest (requests link.my.tag) few newest earlier is interleaved (is_placed (request_number_at r.first (length earlier)) has)
+      → WasPerformed link.my (request_numbered r.first (length earlier)) their_past → r.asking.is_performed ≡ true
+  newest_known few interleaved newest earlier is has = known_newest (requests link.my.tag) few newest earlier is interleaved (is_placed (request_numbered r.first (length earlier)) has)
 
   module _ (few : length (requests link.my.tag).asking.requests < 2 ^ 32 - 1) (some : link.my.tag ≢ 0) (between asking : Asking) (goes : MayGo (requests link.my.tag) their_past between)
       (begins : MayBegin (requests link.my.tag).first between asking) (effects : List Effect) where
@@ -52,7 +52,7 @@ module _ (requests : ℕ → Requests) (link : AssociationIdentity) (past : List
     later = record (requests link.my.tag) { asking = asking }
 
     abbrev all_later : ℕ → Requests
-    all_later = set_at link.my.tag (record (requests link.my.tag) { asking = asking }) requests
+    all_later = table_with link.my.tag (record (requests link.my.tag) { asking = asking }) requests
 
     same_pair : (tag : ℕ) → (all_later tag).my ≡ (requests tag).my
     same_pair = set_requests (λ tag n. n.my ≡ (requests tag).my) link.my.tag (record (requests link.my.tag) { asking = asking }) requests refl (λ tag ne. refl)

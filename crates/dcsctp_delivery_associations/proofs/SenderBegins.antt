@@ -5,17 +5,17 @@ use Rattle.std.specs.List.{AllByRecursion}
 use Rattle.dcsctp_spec_lemmas.specs.types.declared.options.Options.{Options}
 use Rattle.dcsctp_spec_lemmas.specs.types.declared.association.Pair.{Pair}
 use Rattle.dcsctp_spec_lemmas.specs.spec.endpoint.Endpoint.{Endpoint}
-use Rattle.dcsctp_spec_lemmas.specs.spec.endpoint.Event.{Event, packets_in}
+use Rattle.dcsctp_spec_lemmas.specs.spec.endpoint.Event.{Event, packets_of_events}
 use Rattle.dcsctp_spec_lemmas.specs.spec.endpoint.Outcome.{Outcome}
 use Rattle.dcsctp_spec_lemmas.specs.spec.Packet.{Emission}
 use Rattle.dcsctp_spec_runs.specs.Past.{HasEffect}
 use Rattle.dcsctp_spec_lemmas.specs.spec.endpoint.Turn.{Input}
 use Rattle.dcsctp_spec_runs.specs.World.{after_effects}
-use Rattle.dcsctp_spec_lemmas.specs.spec.association.Effect.{AssociationIdentity, Effect, holds, identity_of, identity_in}
+use Rattle.dcsctp_spec_lemmas.specs.spec.association.Effect.{AssociationIdentity, Effect, holds, identity_of, identity_of_core}
 use Rattle.dcsctp_spec_lemmas.specs.spec.queues.SendQueue.{empty_queue}
 use Rattle.dcsctp_spec_lemmas.specs.spec.queues.Transfer.{Transfer, EndpointQueues}
 use Rattle.dcsctp_theorem_association.proofs.Growth.{after_within}
-use Rattle.dcsctp_delivery_sending.specs.Places.{set_at}
+use Rattle.dcsctp_delivery_sending.specs.Places.{table_with}
 use Rattle.dcsctp_delivery_sending.specs.Log.{Message, Fits}
 use Rattle.dcsctp_delivery_sending.specs.Queueing.{QueueWaits}
 use Rattle.dcsctp_delivery_sending.specs.Marking.{all_marked}
@@ -23,15 +23,15 @@ use Rattle.dcsctp_delivery_sending.proofs.Places.{decide, set_same, set_other}
 use Rattle.dcsctp_delivery_sending.proofs.MarkingAll.{all_marked_keep, all_marked_fit}
 use Rattle.dcsctp_delivery_sending.specs.Losing.{AllWaitOn}
 use Rattle.dcsctp_delivery_directions.specs.Directions.{Direction, Asking, nothing_asked, DirectionRun, IsAwaited, BeginsAtZero, Beginning, BeginsAs}
-use Rattle.dcsctp_delivery_turns.specs.Actions.{peer_tag, Begun}
+use Rattle.dcsctp_delivery_turns.specs.Actions.{peer_tag, BeginsAssociation}
 use Rattle.dcsctp_delivery_turns.specs.Asking.{own_of, AsksFit, AskingGrows}
 use Rattle.dcsctp_delivery_turns.specs.Addressed.{AreAddressed}
-use Rattle.dcsctp_delivery_turns.specs.Runs.{sender_at, new_direction}
+use Rattle.dcsctp_delivery_turns.specs.Runs.{direction_with_sender, new_direction}
 use Rattle.dcsctp_delivery_turns.proofs.Beginnings.{begun_at_zero}
 use Rattle.dcsctp_delivery_turns.proofs.Runs.{senders_begin}
 use Rattle.dcsctp_delivery_turns.proofs.Unbegun.{unbegun_begins_at_zero, unbegun_begins_waiting}
 use Rattle.dcsctp_delivery_associations.proofs.Held.{never_held, none_held, some_held}
-use Rattle.dcsctp_delivery_associations.specs.Ends.{SendingEnd, ReceivingEnd, joined, new_end, Ends, HadPeer, HadKind, HadBoth, sender_key, unbegun_end, MetOrAlone, KeepsThese, KeepsOnlyThese, BeginsAnew, Awaits, Sender, NewPeer, HadTag, IsCurrentEnd, Receiver, AreSeen, Between, IsOnlyOwn, IsBefore}
+use Rattle.dcsctp_delivery_associations.specs.Ends.{SendingEnd, ReceivingEnd, direction_of_ends, new_end, Ends, HadPeer, HadKind, HadBoth, sender_key, unbegun_end, MetOrAlone, KeepsThese, KeepsOnlyThese, NumbersFromZero, Awaits, Sender, NewPeer, HadTag, IsCurrentEnd, Receiver, AreSeen, Between, IsOnlyOwn, IsBefore}
 use Rattle.dcsctp_delivery_directions.proofs.RequestCounts.{requests_more_to, requests_are_sent}
 use Rattle.dcsctp_delivery_associations.specs.Answered.{AnswersRequests, requests_of, waiting_deferral, AreAnswered}
 use Rattle.dcsctp_delivery_associations.proofs.AskedOn.{MayBegin}
@@ -52,7 +52,7 @@ use Rattle.dcsctp_delivery_associations.proofs.WhatIsLeft.{ready_same}
 -- At the receiver there is the matching association, or none yet.
 data Known (options : Options) (ends : Ends) (d : Endpoint) (new : AssociationIdentity) : Type 0 where
   is_crossed : ends.firsts new.my.tag ≡ new.my.first_tsn → Known options ends d new
-  is_fresh : ends.gets new.my.tag ≡ new_end options (ends.firsts new.my.tag) → ((transfer : Transfer) (link : AssociationIdentity) → d.queues.transfer ≡ Some transfer → identity_in d.core ≡ Some link → link.peer.tag ≢ new.my.tag) → Known options ends d new
+  is_fresh : ends.gets new.my.tag ≡ new_end options (ends.firsts new.my.tag) → ((transfer : Transfer) (link : AssociationIdentity) → d.queues.transfer ≡ Some transfer → identity_of_core d.core ≡ Some link → link.peer.tag ≢ new.my.tag) → Known options ends d new
 
 same_tag : (core : Option AssociationIdentity) (one two : AssociationIdentity) → core ≡ Some one → core ≡ Some two → one.peer.tag ≡ two.peer.tag
 same_tag core one two first second = (let same : one ≡ two = cc in ap (λ (l : AssociationIdentity). l.peer.tag) same)
@@ -61,7 +61,7 @@ module _ (options : Options) (ends : Ends) (d : Endpoint) (past their_past : Lis
   of_had : HadTag their_past new.my.tag (ends.firsts new.my.tag) → ends.firsts new.my.tag ≡ new.my.first_tsn
   of_had had = sym had.first_is ∙ ap (λ (p : Pair). p.first_tsn) (is.match had.link had.held had.tag_is)
 
-  by_begun : ((transfer : Transfer) (link : AssociationIdentity) → d.queues.transfer ≡ Some transfer → identity_in d.core ≡ Some link → link.peer.tag ≢ new.my.tag) → Known options ends d new
+  by_begun : ((transfer : Transfer) (link : AssociationIdentity) → d.queues.transfer ≡ Some transfer → identity_of_core d.core ≡ Some link → link.peer.tag ≢ new.my.tag) → Known options ends d new
   by_begun none = elim (r.begun new.my.tag) [
     | inl fresh ↦ is_fresh fresh none
     | inr had ↦ is_crossed (of_had had)
@@ -70,7 +70,7 @@ module _ (options : Options) (ends : Ends) (d : Endpoint) (past their_past : Lis
   with_current : (transfer : Transfer) → IsCurrentEnd ends d their_past transfer → Known options ends d new
   with_current transfer c = elim (decide c.link.peer.tag new.my.tag) [
     | inl e ↦ is_crossed (of_had (subst (λ (t : ℕ). HadTag their_past t (ends.firsts t)) e c.had))
-    | inr ne ↦ by_begun (λ other link there linked same. ne (same_tag (identity_in d.core) c.link link c.linked linked ∙ same))
+    | inr ne ↦ by_begun (λ other link there linked same. ne (same_tag (identity_of_core d.core) c.link link c.linked linked ∙ same))
   ]
 
   known : (found : Option Transfer) → d.queues.transfer ≡ found → Known options ends d new
@@ -79,19 +79,19 @@ module _ (options : Options) (ends : Ends) (d : Endpoint) (past their_past : Lis
 
 -- The receiver's end under this tag is new, and stays so.
 receiver_renewed : (options : Options) (ends : Ends) (sends : ℕ → SendingEnd) (latest : ℕ → ℕ) (former : ℕ → Option ℕ) (d : Endpoint) (past : List Effect) (reading : Reading) (tag first : ℕ) → Receiver options ends d past reading
-    → ends.gets tag ≡ new_end options (ends.firsts tag) → ((transfer : Transfer) (link : AssociationIdentity) → d.queues.transfer ≡ Some transfer → identity_in d.core ≡ Some link → link.peer.tag ≢ tag)
-    → Receiver options (record ends { sends = sends; gets = set_at tag (new_end options first) ends.gets; firsts = set_at tag first ends.firsts; latest = latest; former = former }) d past reading
+    → ends.gets tag ≡ new_end options (ends.firsts tag) → ((transfer : Transfer) (link : AssociationIdentity) → d.queues.transfer ≡ Some transfer → identity_of_core d.core ≡ Some link → link.peer.tag ≢ tag)
+    → Receiver options (record ends { sends = sends; gets = table_with tag (new_end options first) ends.gets; firsts = table_with tag first ends.firsts; latest = latest; former = former }) d past reading
 receiver_renewed options ends sends latest former d past reading tag first r fresh apart =
     record {
       fits = r.fits;
       current = λ transfer there. still transfer there (r.current transfer there);
       last = r.last;
-      left = ready_same ends.gets (set_at tag (new_end options first) ends.gets) reading.last.peer d.left d.queues.transfer
+      left = ready_same ends.gets (table_with tag (new_end options first) ends.gets) reading.last.peer d.left d.queues.transfer
           (set_all (λ t g. g.reassembly.incoming.ready ≡ (ends.gets t).reassembly.incoming.ready) tag (new_end options first) ends.gets (sym (ap (λ (g : ReceivingEnd). g.reassembly.incoming.ready) fresh)) (λ t ne. refl)) r.left;
       were_read = set_all (λ t g. with_key t reading.reads ≡ g.read) tag (new_end options first) ends.gets (r.were_read tag ∙ ap (λ (g : ReceivingEnd). g.read) fresh) (λ t ne. r.were_read t);
       begun = λ t. elim (decide t tag) [
         | inl e ↦
-            inl (subst (λ (n : ℕ). set_at tag (new_end options first) ends.gets n ≡ new_end options (set_at tag first ends.firsts n)) (sym e)
+            inl (subst (λ (n : ℕ). table_with tag (new_end options first) ends.gets n ≡ new_end options (table_with tag first ends.firsts n)) (sym e)
             (set_same tag (new_end options first) ends.gets ∙ ap (new_end options) (sym (set_same tag first ends.firsts))))
         | inr ne ↦ other t ne (r.begun t)
       ];
@@ -99,7 +99,7 @@ receiver_renewed options ends sends latest former d past reading tag first r fre
       reads_of = r.reads_of;
     }
   where
-    still : (transfer : Transfer) → d.queues.transfer ≡ Some transfer → IsCurrentEnd ends d past transfer → IsCurrentEnd (record ends { sends = sends; gets = set_at tag (new_end options first) ends.gets; firsts = set_at tag first ends.firsts; latest = latest; former = former }) d past transfer
+    still : (transfer : Transfer) → d.queues.transfer ≡ Some transfer → IsCurrentEnd ends d past transfer → IsCurrentEnd (record ends { sends = sends; gets = table_with tag (new_end options first) ends.gets; firsts = table_with tag first ends.firsts; latest = latest; former = former }) d past transfer
     still transfer there c =
         let ne : c.link.peer.tag ≢ tag = apart transfer c.link there c.linked in
         let same = set_other tag c.link.peer.tag (new_end options first) ends.gets ne in
@@ -114,12 +114,12 @@ receiver_renewed options ends sends latest former d past reading tag first r fre
         }
 
     other : (t : ℕ) → t ≢ tag → (ends.gets t ≡ new_end options (ends.firsts t)) ⊎ HadTag past t (ends.firsts t)
-        → (set_at tag (new_end options first) ends.gets t ≡ new_end options (set_at tag first ends.firsts t)) ⊎ HadTag past t (set_at tag first ends.firsts t)
+        → (table_with tag (new_end options first) ends.gets t ≡ new_end options (table_with tag first ends.firsts t)) ⊎ HadTag past t (table_with tag first ends.firsts t)
     other t ne (inl new) = inl (set_other tag t (new_end options first) ends.gets ne ∙ new ∙ ap (new_end options) (sym (set_other tag t first ends.firsts ne)))
     other t ne (inr had) = inr (subst (λ (n : ℕ). HadTag past t n) (sym (set_other tag t first ends.firsts ne)) had)
 
 module _ (options : Options) (ends : Ends) (e : Endpoint) (queued : List Message) (past : List Effect) (packets : List Emission) (d : Endpoint) (their_past : List Effect) (reading : Reading)
-    (h : Between options ends e queued past packets d their_past reading) (input : Input) (o : Outcome) (w : AreAnswered ends e past d their_past) (little : AsksLittle (packets ++ packets_in o.events)) (begun : Begun e o) (only_one : (each : AssociationIdentity) → HasEffect (holds each) o.effects → identity_in o.after.core ≡ Some each) (follows : o.after.options.follow_rfc ≡ e.options.follow_rfc) (same_kind : o.after.queues.queue.is_interleaved ≡ begun.held.capabilities.message_interleaving) where
+    (h : Between options ends e queued past packets d their_past reading) (input : Input) (o : Outcome) (w : AreAnswered ends e past d their_past) (little : AsksLittle (packets ++ packets_of_events o.events)) (begun : BeginsAssociation e o) (only_one : (each : AssociationIdentity) → HasEffect (holds each) o.effects → identity_of_core o.after.core ≡ Some each) (follows : o.after.options.follow_rfc ≡ e.options.follow_rfc) (same_kind : o.after.queues.queue.is_interleaved ≡ begun.held.capabilities.message_interleaving) where
   abbrev pub new : AssociationIdentity
   new = identity_of begun.my begun.held
 
@@ -129,7 +129,7 @@ module _ (options : Options) (ends : Ends) (e : Endpoint) (queued : List Message
   abbrev pub Later : Type 0
   Later = (other : Options) (room : ℕ) (awaiting : Direction) (queued : List Message) (beginning : Beginning) → QueueWaits queued e.queues.queue → AllByRecursion Fits queued → DirectionRun other begun.my.first_tsn room awaiting → IsAwaited awaiting
       → BeginsAs beginning queued begun.queue → (acknowledged : ℕ) × (asking : Asking) × AskingGrows nothing_asked asking × AsksFit begun.my.first_tsn (own_of o.after) asking
-      × DirectionRun other begun.my.first_tsn room (record (sender_at awaiting queued o.after.queues acknowledged (packets_in o.events) asking) { beginning = beginning })
+      × DirectionRun other begun.my.first_tsn room (record (direction_with_sender awaiting queued o.after.queues acknowledged (packets_of_events o.events) asking) { beginning = beginning })
 
   pub new_held : HasEffect (holds new) (after_effects o.effects past)
   new_held = subst (λ (l : List Effect). HasEffect (holds new) (after_effects l past)) (sym begun.noted) (after_within begun.later (holds new ∷ past) (holds new) (inl refl))
@@ -147,14 +147,14 @@ module _ (options : Options) (ends : Ends) (e : Endpoint) (queued : List Message
   had_both = record { link = new; held = new_held; tag_is = refl; peer_is = refl }
 
   -- None began before, or it is the new one.
-  pub which : identity_in o.after.core ≡ Some new → (each : AssociationIdentity) → HasEffect (holds each) (after_effects o.effects past) → HasEffect (holds each) past ⊎ (each ≡ new)
+  pub which : identity_of_core o.after.core ≡ Some new → (each : AssociationIdentity) → HasEffect (holds each) (after_effects o.effects past) → HasEffect (holds each) past ⊎ (each ≡ new)
   which linked each has = elim (after_split (holds each) o.effects past has) [ inl here ↦ inr (one_link (only_one each here) linked) | inr old ↦ inl old ]
     where
       one_link : {found : Option AssociationIdentity} {one two : AssociationIdentity} → found ≡ Some one → found ≡ Some two → one ≡ two
       one_link first second = cc
 
   -- Messages interleave as was negotiated.
-  kind_new : NewPeer past their_past new → identity_in o.after.core ≡ Some new → HadKind (after_effects o.effects past) begun.my.tag o.after.queues.queue.is_interleaved
+  kind_new : NewPeer past their_past new → identity_of_core o.after.core ≡ Some new → HadKind (after_effects o.effects past) begun.my.tag o.after.queues.queue.is_interleaved
   kind_new is linked =
       record {
         link = new;
@@ -197,22 +197,22 @@ module _ (options : Options) (ends : Ends) (e : Endpoint) (queued : List Message
 
   -- It keeps each stream then that the user never resets.
   kept_anew : NewPeer past their_past new → (end : SendingEnd) → end.beginning ≡ begins_anew → (tag : ℕ) → tag ≢ 0 → IsOnlyOwn (after_effects o.effects past) tag
-      → KeepsThese ends.never_resets (set_at begun.my.tag end ends.sends tag).beginning
+      → KeepsThese ends.never_resets (table_with begun.my.tag end ends.sends tag).beginning
   kept_anew is end here =
       set_all (λ tag s. tag ≢ 0 → IsOnlyOwn (after_effects o.effects past) tag → KeepsThese ends.never_resets s.beginning) begun.my.tag end ends.sends
       (λ some only id never. ap (λ (b : Beginning). b.keeps id) here ∙ ap (λ (b : Bool). b && never_held past) never ∙ first_of_all is only)
       (λ tag ne some only. absurd (ne (sym (only new new_held))))
 
-  pub dropping_anew : (end : SendingEnd) → end.beginning ≡ begins_anew → (tag : ℕ) → KeepsOnlyThese ends.never_resets (set_at begun.my.tag end ends.sends tag).beginning
+  pub dropping_anew : (end : SendingEnd) → end.beginning ≡ begins_anew → (tag : ℕ) → KeepsOnlyThese ends.never_resets (table_with begun.my.tag end ends.sends tag).beginning
   dropping_anew end here =
       set_all (λ tag s. KeepsOnlyThese ends.never_resets s.beginning) begun.my.tag end ends.sends
       (λ id resets. ap (λ (b : Beginning). b.keeps id) here ∙ ap (λ (b : Bool). b && never_held past) resets) (λ tag ne. h.dropping tag)
 
   -- So they do in the new association, if it is the only one or the sender follows the RFC, and in each other as before.
-  pub numbers_anew : NewPeer past their_past new → (end : SendingEnd) → end.beginning ≡ begins_anew → (tag : ℕ) → tag ≢ 0 → BeginsAnew o.after (after_effects o.effects past) tag
-      → (set_at begun.my.tag end ends.sends tag).beginning.from_zero ≡ true
+  pub numbers_anew : NewPeer past their_past new → (end : SendingEnd) → end.beginning ≡ begins_anew → (tag : ℕ) → tag ≢ 0 → NumbersFromZero o.after (after_effects o.effects past) tag
+      → (table_with begun.my.tag end ends.sends tag).beginning.from_zero ≡ true
   numbers_anew is end here =
-      set_all (λ tag s. tag ≢ 0 → BeginsAnew o.after (after_effects o.effects past) tag → s.beginning.from_zero ≡ true) begun.my.tag end ends.sends
+      set_all (λ tag s. tag ≢ 0 → NumbersFromZero o.after (after_effects o.effects past) tag → s.beginning.from_zero ≡ true) begun.my.tag end ends.sends
       (λ some anew. ap (λ (b : Beginning). b.from_zero) here ∙ zero_so anew) (λ tag ne some anew. h.numbered tag some (other tag ne anew))
     where
       or_true : (b c : Bool) → (b ≡ true) ⊎ (c ≡ true) → (b || c) ≡ true
@@ -220,47 +220,47 @@ module _ (options : Options) (ends : Ends) (e : Endpoint) (queued : List Message
       or_true false c (inl is_so) = absurd (cc)
       or_true false c (inr is_so) = is_so
 
-      zero_so : BeginsAnew o.after (after_effects o.effects past) begun.my.tag → begins_anew.from_zero ≡ true
+      zero_so : NumbersFromZero o.after (after_effects o.effects past) begun.my.tag → begins_anew.from_zero ≡ true
       zero_so (inl anew) = or_true e.options.follow_rfc (never_held past) (inl (sym follows ∙ anew))
       zero_so (inr only) = or_true e.options.follow_rfc (never_held past) (inr (first_of_all is only))
 
-      other : (tag : ℕ) → tag ≢ begun.my.tag → BeginsAnew o.after (after_effects o.effects past) tag → BeginsAnew e past tag
+      other : (tag : ℕ) → tag ≢ begun.my.tag → NumbersFromZero o.after (after_effects o.effects past) tag → NumbersFromZero e past tag
       other tag ne (inl anew) = inl (sym follows ∙ anew)
       other tag ne (inr only) = absurd (ne (sym (only new new_held)))
 
   -- What is begun in this turn is little.
-  pub begins_little : AreAddressed begun.held.peer.tag (packets_in o.events) → (options : Options) (size : ℕ) (acknowledged : ℕ) (asking : Asking) (direction : Direction) → AskingGrows nothing_asked asking
-      → AsksFit begun.my.first_tsn (own_of o.after) asking → identity_in o.after.core ≡ Some new
-      → DirectionRun options begun.my.first_tsn size (sender_at direction marks o.after.queues acknowledged (packets_in o.events) asking) → MayBegin begun.my.first_tsn nothing_asked asking
+  pub begins_little : AreAddressed begun.held.peer.tag (packets_of_events o.events) → (options : Options) (size : ℕ) (acknowledged : ℕ) (asking : Asking) (direction : Direction) → AskingGrows nothing_asked asking
+      → AsksFit begun.my.first_tsn (own_of o.after) asking → identity_of_core o.after.core ≡ Some new
+      → DirectionRun options begun.my.first_tsn size (direction_with_sender direction marks o.after.queues acknowledged (packets_of_events o.events) asking) → MayBegin begun.my.first_tsn nothing_asked asking
   begins_little addressed options size acknowledged asking direction grows fits linked run =
-      let sent = requests_are_sent options begun.my.first_tsn size (sender_at direction marks o.after.queues acknowledged (packets_in o.events) asking) run in
-      let went = addressed_requests begun.held.peer.tag (packets_in o.events) addressed in
-      let all = requests_more_to begun.held.peer.tag packets (packets_in o.events) in
+      let sent = requests_are_sent options begun.my.first_tsn size (direction_with_sender direction marks o.after.queues acknowledged (packets_of_events o.events) asking) run in
+      let went = addressed_requests begun.held.peer.tag (packets_of_events o.events) addressed in
+      let all = requests_more_to begun.held.peer.tag packets (packets_of_events o.events) in
       let few = little begun.held.peer.tag in
       may_begin begun.my.first_tsn o.after.core o.after.outstanding nothing_asked asking new linked grows fits (omega (arith, sent, went, all, few))
 
   -- The answers are those of the association that begins.
-  pub answered_by : (later : Ends) → identity_in o.after.core ≡ Some new → (pairs : ℕ → Pair)
-      → AnswersRequests (requests_of later pairs) (Some new) (after_effects o.effects past) (identity_in d.core) their_past (waiting_deferral d.queues.transfer) → AreAnswered later o.after (after_effects o.effects past) d their_past
+  pub answered_by : (later : Ends) → identity_of_core o.after.core ≡ Some new → (pairs : ℕ → Pair)
+      → AnswersRequests (requests_of later pairs) (Some new) (after_effects o.effects past) (identity_of_core d.core) their_past (waiting_deferral d.queues.transfer) → AreAnswered later o.after (after_effects o.effects past) d their_past
   answered_by later linked pairs answers =
       record {
         pairs = pairs;
-        answers = subst (λ (l : Option AssociationIdentity). AnswersRequests (requests_of later pairs) l (after_effects o.effects past) (identity_in d.core) their_past (waiting_deferral d.queues.transfer)) (sym linked) answers;
+        answers = subst (λ (l : Option AssociationIdentity). AnswersRequests (requests_of later pairs) l (after_effects o.effects past) (identity_of_core d.core) their_past (waiting_deferral d.queues.transfer)) (sym linked) answers;
         unlinked = w.unlinked;
       }
 
-  pub sender_of : (later : Ends) → identity_in o.after.core ≡ Some new → Sender later begun.my.tag begun.held.peer.tag o.after.queues queued (after_effects o.effects past) (packets ++ packets_in o.events)
-      → Sender later (sender_key o.after.core) (peer_tag o.after.core) o.after.queues queued (after_effects o.effects past) (packets ++ packets_in o.events)
+  pub sender_of : (later : Ends) → identity_of_core o.after.core ≡ Some new → Sender later begun.my.tag begun.held.peer.tag o.after.queues queued (after_effects o.effects past) (packets ++ packets_of_events o.events)
+      → Sender later (sender_key o.after.core) (peer_tag o.after.core) o.after.queues queued (after_effects o.effects past) (packets ++ packets_of_events o.events)
   sender_of later linked sender =
-      subst (λ (k : ℕ). Sender later k (peer_tag o.after.core) o.after.queues queued (after_effects o.effects past) (packets ++ packets_in o.events)) (sym (link_tag o.after.core new linked))
-      (subst (λ (n : ℕ). Sender later begun.my.tag n o.after.queues queued (after_effects o.effects past) (packets ++ packets_in o.events)) (sym (link_peer o.after.core new linked)) sender)
+      subst (λ (k : ℕ). Sender later k (peer_tag o.after.core) o.after.queues queued (after_effects o.effects past) (packets ++ packets_of_events o.events)) (sym (link_tag o.after.core new linked))
+      (subst (λ (n : ℕ). Sender later begun.my.tag n o.after.queues queued (after_effects o.effects past) (packets ++ packets_of_events o.events)) (sym (link_peer o.after.core new linked)) sender)
 
   -- The association is there after the turn.
-  pub mine_then : identity_in o.after.core ≡ Some new → (link : AssociationIdentity) → identity_in o.after.core ≡ Some link → HasEffect (holds link) (after_effects o.effects past)
+  pub mine_then : identity_of_core o.after.core ≡ Some new → (link : AssociationIdentity) → identity_of_core o.after.core ≡ Some link → HasEffect (holds link) (after_effects o.effects past)
   mine_then linked link there = (let one : new ≡ link = cc in subst (λ (l : AssociationIdentity). HasEffect (holds l) (after_effects o.effects past)) one new_held)
 
   -- Each association of its tag is this one.
-  which_is : NewPeer past their_past new → identity_in o.after.core ≡ Some new → (each : AssociationIdentity) → HasEffect (holds each) (after_effects o.effects past)
+  which_is : NewPeer past their_past new → identity_of_core o.after.core ≡ Some new → (each : AssociationIdentity) → HasEffect (holds each) (after_effects o.effects past)
       → (HasEffect (holds each) past × (each.my.tag ≢ begun.my.tag)) ⊎ ((each.my.tag ≢ 0) × (each.my.tag ≡ begun.my.tag) × ((each.peer.tag ≡ begun.held.peer.tag) ⊎ (◌≡◌ {A = Option ℕ} None (Some each.peer.tag))))
   which_is is linked each has = elim (which linked each has) [
     | inl old ↦ inl (old, is.other each old)
@@ -280,24 +280,24 @@ module _ (options : Options) (ends : Ends) (e : Endpoint) (queued : List Message
   none_former is None none = none
   none_former is (Some former) some = (let was = h.sender.replaced begun.my.tag former some in absurd (is.other was.old (before_held was.old was.link past was.before) was.old_is))
 
-  none_there : identity_in o.after.core ≡ Some new → identity_in o.after.core ≡ None → o.after.queues.transfer ≡ None
+  none_there : identity_of_core o.after.core ≡ Some new → identity_of_core o.after.core ≡ None → o.after.queues.transfer ≡ None
   none_there linked unlinked = (let clash : ◌≡◌ {A = Option AssociationIdentity} None (Some new) = sym unlinked ∙ linked in absurd (cc))
 
   -- Nothing was begun under this tag.
-  all_stay : Awaits (ends.sends begun.my.tag) → (end : SendingEnd) → AllStay ends.sends (set_at begun.my.tag end ends.sends)
+  all_stay : Awaits (ends.sends begun.my.tag) → (end : SendingEnd) → AllStay ends.sends (table_with begun.my.tag end ends.sends)
   all_stay waits end =
       set_all (λ tag s. tag ≢ 0 → RequestsStay (ends.sends tag).asking s.asking) begun.my.tag end ends.sends
       (λ some. nothing_stays (ends.sends begun.my.tag).asking end.asking (ap (λ (a : Asking). a.requests) waits.asking)) (λ tag ne some begun has. has)
 
-  crossed_begins : (seen : List (Event Emission)) → AreSeen ends d their_past seen → NewPeer past their_past new → Awaits (ends.sends begun.my.tag) → identity_in o.after.core ≡ Some new → AreAddressed begun.held.peer.tag (packets_in o.events)
+  crossed_begins : (seen : List (Event Emission)) → AreSeen ends d their_past seen → NewPeer past their_past new → Awaits (ends.sends begun.my.tag) → identity_of_core o.after.core ≡ Some new → AreAddressed begun.held.peer.tag (packets_of_events o.events)
       → QueueWaits marks e.queues.queue → AllByRecursion Fits marks → Later → ends.firsts begun.my.tag ≡ begun.my.first_tsn
-      → AreEnds ends.never_resets seen options o.after queued (after_effects o.effects past) (packets ++ packets_in o.events) d their_past reading
+      → AreEnds ends.never_resets seen options o.after queued (after_effects o.effects past) (packets ++ packets_of_events o.events) d their_past reading
   crossed_begins seen reported is waits linked addressed shown fit later same =
       let to : ℕ = begun.my.tag in
-      let ps : List Emission = packets_in o.events in
-      let start : DirectionRun options begun.my.first_tsn options.max_receiver_window_buffer_size (joined (ends.sends to) (ends.gets to)) =
-      subst (λ (n : ℕ). DirectionRun options n options.max_receiver_window_buffer_size (joined (ends.sends to) (ends.gets to))) same (h.runs to) in
-      let run = later options options.max_receiver_window_buffer_size (joined (ends.sends to) (ends.gets to)) marks begins_anew shown fit start
+      let ps : List Emission = packets_of_events o.events in
+      let start : DirectionRun options begun.my.first_tsn options.max_receiver_window_buffer_size (direction_of_ends (ends.sends to) (ends.gets to)) =
+      subst (λ (n : ℕ). DirectionRun options n options.max_receiver_window_buffer_size (direction_of_ends (ends.sends to) (ends.gets to))) same (h.runs to) in
+      let run = later options options.max_receiver_window_buffer_size (direction_of_ends (ends.sends to) (ends.gets to)) marks begins_anew shown fit start
       (record { queued = waits.queued; sent = waits.sent; acknowledged = waits.acknowledged; transfer = waits.transfer; asking = waits.asking }) begins_so in
       let end : SendingEnd = renewed_end ends (sender_key e.core) (peer_tag e.core) e.queues queued past packets h.sender o.effects to begun.held.peer.tag o.after.queues run.0 ps run.1 begins_anew ends.gets ends.firsts None in
       let ends' : Ends = renewed_ends ends (sender_key e.core) (peer_tag e.core) e.queues queued past packets h.sender o.effects to begun.held.peer.tag o.after.queues run.0 ps run.1 begins_anew ends.gets ends.firsts None in
@@ -305,15 +305,15 @@ module _ (options : Options) (ends : Ends) (e : Endpoint) (queued : List Message
         ends = ends';
         is = refl;
         between = record {
-          runs = set_all (λ tag s. DirectionRun options (ends.firsts tag) options.max_receiver_window_buffer_size (joined s (ends.gets tag))) to end ends.sends
-              (subst (λ (n : ℕ). DirectionRun options n options.max_receiver_window_buffer_size (joined end (ends.gets to))) (sym same) run.4) (λ tag ne. h.runs tag);
+          runs = set_all (λ tag s. DirectionRun options (ends.firsts tag) options.max_receiver_window_buffer_size (direction_of_ends s (ends.gets tag))) to end ends.sends
+              (subst (λ (n : ℕ). DirectionRun options n options.max_receiver_window_buffer_size (direction_of_ends end (ends.gets to))) (sym same) run.4) (λ tag ne. h.runs tag);
           small = h.small;
           sender = sender_of ends' linked
               (renewed ends (sender_key e.core) (peer_tag e.core) e.queues queued past packets h.sender o.effects to begun.held.peer.tag o.after.queues run.0 ps run.1 begins_anew ends.gets ends.firsts None (nothing_left is) (none_former is (ends.former begun.my.tag) refl)
               (λ some. subst (λ (n : ℕ). HadPeer (after_effects o.effects past) to n) (sym same) had_new) (λ tag ne. refl) addressed (λ some. kind_new is linked) (inr had_both) (λ former none. absurd (cc)) (which_is is linked));
           mine = mine_then linked;
           idle = λ unlinked. none_there linked unlinked;
-          asks = subst (λ (k : ℕ). AsksFit (ends.firsts k) (own_of o.after) (set_at to end ends.sends k).asking) (sym (link_tag o.after.core new linked))
+          asks = subst (λ (k : ℕ). AsksFit (ends.firsts k) (own_of o.after) (table_with to end ends.sends k).asking) (sym (link_tag o.after.core new linked))
               (subst (λ (s : SendingEnd). AsksFit (ends.firsts to) (own_of o.after) s.asking) (sym (set_same to end ends.sends))
               (subst (λ (n : ℕ). AsksFit n (own_of o.after) run.1) (sym same) run.3));
           numbered = numbers_anew is end refl;
@@ -323,25 +323,25 @@ module _ (options : Options) (ends : Ends) (e : Endpoint) (queued : List Message
           receiver = receiver_same options ends ends'.sends ends'.latest ends'.former d their_past reading h.receiver;
           alone = λ tag. alone_later options ends ends' past (after_effects o.effects past) their_past their_past (after_within o.effects past) (λ effect has. has) tag refl refl (h.alone tag);
         };
-        answered = answered_by ends' linked (set_at to begun.my w.pairs)
+        answered = answered_by ends' linked (table_with to begun.my w.pairs)
             (begins_answers ends e past d their_past w new is.some is.match waits.asking end ends.gets ends.firsts same (λ tag ne. refl)
-            (begins_little addressed options options.max_receiver_window_buffer_size run.0 run.1 (record (joined (ends.sends to) (ends.gets to)) { beginning = begins_anew }) run.2 run.3 linked run.4) (λ other there tag. same) (after_effects o.effects past) (after_within o.effects past) new_held);
+            (begins_little addressed options options.max_receiver_window_buffer_size run.0 run.1 (record (direction_of_ends (ends.sends to) (ends.gets to)) { beginning = begins_anew }) run.2 run.3 linked run.4) (λ other there tag. same) (after_effects o.effects past) (after_within o.effects past) new_held);
         reported = seen_still ends ends' e past d their_past seen w (all_stay waits end) reported.heard reported;
       }
 
-  fresh_begins : (seen : List (Event Emission)) → AreSeen ends d their_past seen → NewPeer past their_past new → Awaits (ends.sends begun.my.tag) → identity_in o.after.core ≡ Some new → AreAddressed begun.held.peer.tag (packets_in o.events)
+  fresh_begins : (seen : List (Event Emission)) → AreSeen ends d their_past seen → NewPeer past their_past new → Awaits (ends.sends begun.my.tag) → identity_of_core o.after.core ≡ Some new → AreAddressed begun.held.peer.tag (packets_of_events o.events)
       → QueueWaits marks e.queues.queue → AllByRecursion Fits marks → Later → ends.gets begun.my.tag ≡ new_end options (ends.firsts begun.my.tag)
-      → ((transfer : Transfer) (link : AssociationIdentity) → d.queues.transfer ≡ Some transfer → identity_in d.core ≡ Some link → link.peer.tag ≢ begun.my.tag)
-      → AreEnds ends.never_resets seen options o.after queued (after_effects o.effects past) (packets ++ packets_in o.events) d their_past reading
+      → ((transfer : Transfer) (link : AssociationIdentity) → d.queues.transfer ≡ Some transfer → identity_of_core d.core ≡ Some link → link.peer.tag ≢ begun.my.tag)
+      → AreEnds ends.never_resets seen options o.after queued (after_effects o.effects past) (packets ++ packets_of_events o.events) d their_past reading
   fresh_begins seen reported is waits linked addressed shown fit later fresh apart =
       let to : ℕ = begun.my.tag in
       let first : ℕ = begun.my.first_tsn in
-      let ps : List Emission = packets_in o.events in
-      let gets : ℕ → ReceivingEnd = set_at to (new_end options first) ends.gets in
-      let firsts : ℕ → ℕ = set_at to first ends.firsts in
-      let new_alone : DirectionRun options (firsts to) options.max_receiver_window_buffer_size (joined (unbegun_end options) (gets to)) =
-      subst (λ (n : ℕ). DirectionRun options n options.max_receiver_window_buffer_size (joined (unbegun_end options) (gets to))) (sym (set_same to first ends.firsts))
-      (subst (λ (g : ReceivingEnd). DirectionRun options first options.max_receiver_window_buffer_size (joined (unbegun_end options) g)) (sym (set_same to (new_end options first) ends.gets))
+      let ps : List Emission = packets_of_events o.events in
+      let gets : ℕ → ReceivingEnd = table_with to (new_end options first) ends.gets in
+      let firsts : ℕ → ℕ = table_with to first ends.firsts in
+      let new_alone : DirectionRun options (firsts to) options.max_receiver_window_buffer_size (direction_of_ends (unbegun_end options) (gets to)) =
+      subst (λ (n : ℕ). DirectionRun options n options.max_receiver_window_buffer_size (direction_of_ends (unbegun_end options) (gets to))) (sym (set_same to first ends.firsts))
+      (subst (λ (g : ReceivingEnd). DirectionRun options first options.max_receiver_window_buffer_size (direction_of_ends (unbegun_end options) g)) (sym (set_same to (new_end options first) ends.gets))
       (senders_begin options options first options.max_receiver_window_buffer_size (λ id. false))) in
       let run = later options options.max_receiver_window_buffer_size
       (new_direction options first options.max_receiver_window_buffer_size [] (record { queue = empty_queue options; transfer = None }) 0 [] (record { from_zero = true; keeps = λ id. false })) marks begins_anew shown fit (senders_begin options options first options.max_receiver_window_buffer_size (λ id. false))
@@ -352,14 +352,14 @@ module _ (options : Options) (ends : Ends) (e : Endpoint) (queued : List Message
         ends = ends';
         is = refl;
         between = record {
-          runs = set_three (λ tag f s g. DirectionRun options f options.max_receiver_window_buffer_size (joined s g)) to first end (new_end options first) ends.firsts ends.sends ends.gets run.4 (λ tag ne. h.runs tag);
+          runs = set_three (λ tag f s g. DirectionRun options f options.max_receiver_window_buffer_size (direction_of_ends s g)) to first end (new_end options first) ends.firsts ends.sends ends.gets run.4 (λ tag ne. h.runs tag);
           small = set_all (λ tag f. f < 2 ^ 32) to first ends.firsts is.small (λ tag ne. h.small tag);
           sender = sender_of ends' linked
               (renewed ends (sender_key e.core) (peer_tag e.core) e.queues queued past packets h.sender o.effects to begun.held.peer.tag o.after.queues run.0 ps run.1 begins_anew gets firsts None (nothing_left is) (none_former is (ends.former begun.my.tag) refl)
               (λ some. subst (λ (n : ℕ). HadPeer (after_effects o.effects past) to n) (sym (set_same to first ends.firsts)) had_new) (λ tag ne. set_other to tag first ends.firsts ne) addressed (λ some. kind_new is linked) (inr had_both) (λ former none. absurd (cc)) (which_is is linked));
           mine = mine_then linked;
           idle = λ unlinked. none_there linked unlinked;
-          asks = subst (λ (k : ℕ). AsksFit (firsts k) (own_of o.after) (set_at to end ends.sends k).asking) (sym (link_tag o.after.core new linked))
+          asks = subst (λ (k : ℕ). AsksFit (firsts k) (own_of o.after) (table_with to end ends.sends k).asking) (sym (link_tag o.after.core new linked))
               (subst (λ (s : SendingEnd). AsksFit (firsts to) (own_of o.after) s.asking) (sym (set_same to end ends.sends))
               (subst (λ (n : ℕ). AsksFit n (own_of o.after) run.1) (sym (set_same to first ends.firsts)) run.3));
           numbered = numbers_anew is end refl;
@@ -373,32 +373,32 @@ module _ (options : Options) (ends : Ends) (e : Endpoint) (queued : List Message
                 (set_other to tag first ends.firsts ne) (h.alone tag)
           ];
         };
-        answered = answered_by ends' linked (set_at to begun.my w.pairs)
+        answered = answered_by ends' linked (table_with to begun.my w.pairs)
             (begins_answers ends e past d their_past w new is.some is.match waits.asking end gets firsts (set_same to first ends.firsts) (λ tag ne. set_other to tag first ends.firsts ne)
             (begins_little addressed options options.max_receiver_window_buffer_size run.0 run.1 (new_direction options first options.max_receiver_window_buffer_size [] (record { queue = empty_queue options; transfer = None }) 0 [] begins_anew) run.2 run.3 linked run.4)
             (λ other there tag. absurd (nowhere d.queues.transfer refl other there tag)) (after_effects o.effects past) (after_within o.effects past) new_held);
         reported = seen_still ends ends' e past d their_past seen w (all_stay waits end)
-            (heard_later ends.gets gets their_past their_past (λ effect has. has) (λ tag had. stays is fresh tag had (decide tag to)) (packets_in seen) reported.heard) reported;
+            (heard_later ends.gets gets their_past their_past (λ effect has. has) (λ tag had. stays is fresh tag had (decide tag to)) (packets_of_events seen) reported.heard) reported;
       }
     where
       -- Nothing was received from this tag, and another association of it would have begun with the same TSN.
       stays : NewPeer past their_past new → ends.gets begun.my.tag ≡ new_end options (ends.firsts begun.my.tag) → (tag : ℕ) → HadTag their_past tag (ends.gets tag).first_tsn → (tag ≡ begun.my.tag) ⊎ (tag ≢ begun.my.tag)
-          → HasGrown (ends.gets tag) (set_at begun.my.tag (new_end options begun.my.first_tsn) ends.gets tag)
+          → HasGrown (ends.gets tag) (table_with begun.my.tag (new_end options begun.my.first_tsn) ends.gets tag)
       stays is fresh tag had (inr ne) = same_grown (ends.gets tag) _ (set_other begun.my.tag tag (new_end options begun.my.first_tsn) ends.gets ne)
       stays is fresh tag had (inl e') =
           let here : HadTag their_past begun.my.tag (ends.gets begun.my.tag).first_tsn = subst (λ (t : ℕ). HadTag their_past t (ends.gets t).first_tsn) e' had in
           let pair : here.link.peer ≡ begun.my = is.match here.link here.held here.tag_is in
           let first_is : ends.firsts begun.my.tag ≡ begun.my.first_tsn = sym (ap (λ (g : ReceivingEnd). g.first_tsn) fresh) ∙ sym here.first_is ∙ ap (λ (p : Pair). p.first_tsn) pair in
-          subst (λ (t : ℕ). HasGrown (ends.gets t) (set_at begun.my.tag (new_end options begun.my.first_tsn) ends.gets t)) (sym e')
+          subst (λ (t : ℕ). HasGrown (ends.gets t) (table_with begun.my.tag (new_end options begun.my.first_tsn) ends.gets t)) (sym e')
           (same_grown (ends.gets begun.my.tag) _ (set_same begun.my.tag (new_end options begun.my.first_tsn) ends.gets ∙ sym (fresh ∙ ap (new_end options) first_is)))
 
-      nowhere : (found : Option Transfer) → d.queues.transfer ≡ found → (other : AssociationIdentity) → identity_in d.core ≡ Some other → other.peer.tag ≡ begun.my.tag → ⊥
+      nowhere : (found : Option Transfer) → d.queues.transfer ≡ found → (other : AssociationIdentity) → identity_of_core d.core ≡ Some other → other.peer.tag ≡ begun.my.tag → ⊥
       nowhere None none other there tag = (let clash : ◌≡◌ {A = Option AssociationIdentity} None (Some other) = sym (w.unlinked none) ∙ there in absurd (cc))
       nowhere (Some transfer) some other there tag = apart transfer other some there tag
 
-  pub begins : (seen : List (Event Emission)) → AreSeen ends d their_past seen → NewPeer past their_past new → identity_in o.after.core ≡ Some new → AreAddressed begun.held.peer.tag (packets_in o.events)
+  pub begins : (seen : List (Event Emission)) → AreSeen ends d their_past seen → NewPeer past their_past new → identity_of_core o.after.core ≡ Some new → AreAddressed begun.held.peer.tag (packets_of_events o.events)
       → QueueWaits (ends.sends (sender_key e.core)).queued e.queues.queue → AllByRecursion Fits (ends.sends (sender_key e.core)).queued → Later
-      → AreEnds ends.never_resets seen options o.after queued (after_effects o.effects past) (packets ++ packets_in o.events) d their_past reading
+      → AreEnds ends.never_resets seen options o.after queued (after_effects o.effects past) (packets ++ packets_of_events o.events) d their_past reading
   begins seen reported is linked addressed shown fit later =
       elim (h.sender.begun begun.my.tag is.some) [
         | inl waits ↦ go waits (known options ends d past their_past reading h.receiver new is d.queues.transfer refl)
@@ -413,6 +413,6 @@ module _ (options : Options) (ends : Ends) (e : Endpoint) (queued : List Message
       fit_marks : AllByRecursion Fits marks
       fit_marks = all_marked_fit (length (ends.sends (sender_key e.core)).queued) (ends.sends (sender_key e.core)).queues.queue.streams (ends.sends (sender_key e.core)).queued fit
 
-      go : Awaits (ends.sends begun.my.tag) → Known options ends d new → AreEnds ends.never_resets seen options o.after queued (after_effects o.effects past) (packets ++ packets_in o.events) d their_past reading
+      go : Awaits (ends.sends begun.my.tag) → Known options ends d new → AreEnds ends.never_resets seen options o.after queued (after_effects o.effects past) (packets ++ packets_of_events o.events) d their_past reading
       go waits (is_crossed same) = crossed_begins seen reported is waits linked addressed holds_marks fit_marks later same
       go waits (is_fresh fresh apart) = fresh_begins seen reported is waits linked addressed holds_marks fit_marks later fresh apart

@@ -5,10 +5,10 @@ use Rattle.dcsctp_spec_lemmas.specs.types.declared.association.Pair.{Pair}
 use Rattle.dcsctp_spec_runs.specs.Past.{WasPerformed, HasEffect}
 use Rattle.dcsctp_spec_lemmas.specs.spec.association.Effect.{AssociationIdentity, Effect, holds}
 use Rattle.dcsctp_spec_lemmas.specs.spec.queues.Reassembly.{DeferralModel}
-use Rattle.dcsctp_delivery_sending.specs.Places.{set_at}
+use Rattle.dcsctp_delivery_sending.specs.Places.{table_with}
 use Rattle.dcsctp_delivery_sending.proofs.Places.{decide, set_same, set_other}
 use Rattle.dcsctp_delivery_directions.specs.Directions.{Asking, nothing_asked}
-use Rattle.dcsctp_delivery_associations.specs.Answered.{Requests, request_number_at, SenderHadPeer, WasJoined, AreAsked, WerePerformed, all_performed, unaccepted, in_progress, StandsSo, in_step, plain, AnswersRequests}
+use Rattle.dcsctp_delivery_associations.specs.Answered.{Requests, request_numbered, SenderHadPeer, WasJoined, AreAsked, WerePerformed, all_performed, unaccepted, in_progress, StandsSo, in_step, plain, AnswersRequests}
 use Rattle.dcsctp_delivery_associations.proofs.AskedOn.{as_it_was, MayBegin, asked_on, stands_on}
 use Rattle.dcsctp_delivery_associations.proofs.SenderAsks.{set_requests}
 
@@ -49,7 +49,7 @@ module _ (requests : ℕ → Requests) (mine : Option AssociationIdentity) (past
     before = fresh_requests new is_interleaved nothing_asked
 
     abbrev pub opened : ℕ → Requests
-    opened = set_at new.my.tag (fresh_requests new is_interleaved asking) requests
+    opened = table_with new.my.tag (fresh_requests new is_interleaved asking) requests
 
     few : length before.asking.requests < 2 ^ 32 - 1
     few = omega arith
@@ -116,7 +116,7 @@ module _ (requests : ℕ → Requests) (mine : Option AssociationIdentity) (past
     stands_before : (n : Requests) → n.asking ≡ nothing_asked → n.first ≡ new.my.first_tsn → StandsSo n their_past waits → StandsSo before their_past waits
     stands_before n none first (plain not some') = absurd (some' (ap (λ (a : Asking). a.requests) none))
     stands_before n none first (in_step (all_performed accept perform wait which)) =
-        in_step (all_performed (accept ∙ ap (λ (x : ℕ). Some (request_number_at x (length n.asking.requests))) first ∙ ap (λ (a : Asking). Some (request_number_at new.my.first_tsn (length a.requests))) none) perform wait (inl refl))
+        in_step (all_performed (accept ∙ ap (λ (x : ℕ). Some (request_numbered x (length n.asking.requests))) first ∙ ap (λ (a : Asking). Some (request_numbered new.my.first_tsn (length a.requests))) none) perform wait (inl refl))
     stands_before n none first (in_step (unaccepted newest earlier place is below want accept perform wait un)) = (let empty : n.asking.requests ≡ [] = ap (λ (a : Asking). a.requests) none in absurd (cc))
     stands_before n none first (in_step (in_progress newest earlier place is below want accept perform own un)) = (let empty : n.asking.requests ≡ [] = ap (λ (a : Asking). a.requests) none in absurd (cc))
 
@@ -160,7 +160,7 @@ module _ (requests : ℕ → Requests) (mine : Option AssociationIdentity) (past
 module _ (requests : ℕ → Requests) (mine : Option AssociationIdentity) (past : List Effect) (theirs : Option AssociationIdentity) (their_past : List Effect) (waits : Option DeferralModel) (h : AnswersRequests requests mine past theirs their_past waits) (zero : Requests) (later : List Effect)
     (grows : (effect : Effect) → HasEffect effect past → HasEffect effect later) where
   abbrev pub closed : ℕ → Requests
-  closed = set_at 0 zero requests
+  closed = table_with 0 zero requests
 
   there_is' : (tag : ℕ) → tag ≢ 0 → closed tag ≡ requests tag
   there_is' tag ne = set_other 0 tag zero requests ne

@@ -7,26 +7,26 @@ use Rattle.dcsctp_spec_lemmas.specs.types.declared.options.Options.{Options}
 use Rattle.dcsctp_spec_lemmas.specs.types.declared.association.Pair.{Pair}
 use Rattle.dcsctp_spec_lemmas.specs.spec.endpoint.Endpoint.{Endpoint, Core, closed, cookie_wait, cookie_echoed, open_in, OutstandingRequest}
 use Rattle.dcsctp_spec_lemmas.specs.spec.endpoint.BegunResets.{BegunReset}
-use Rattle.dcsctp_spec_lemmas.specs.spec.endpoint.Event.{Event, packets_in}
+use Rattle.dcsctp_spec_lemmas.specs.spec.endpoint.Event.{Event, packets_of_events}
 use Rattle.dcsctp_spec_lemmas.specs.spec.endpoint.Outcome.{Outcome}
 use Rattle.dcsctp_spec_lemmas.specs.spec.Packet.{Emission}
 use Rattle.dcsctp_spec_runs.specs.Past.{HasEffect}
 use Rattle.dcsctp_spec_runs.specs.World.{after_effects}
 use Rattle.dcsctp_spec_lemmas.specs.spec.endpoint.Turn.{Input}
-use Rattle.dcsctp_spec_lemmas.specs.spec.association.Effect.{AssociationIdentity, Effect, holds, identity_in}
+use Rattle.dcsctp_spec_lemmas.specs.spec.association.Effect.{AssociationIdentity, Effect, holds, identity_of_core}
 use Rattle.dcsctp_spec_lemmas.specs.spec.queues.Reassembly.{DeferralModel}
 use Rattle.dcsctp_theorem_association.proofs.Growth.{after_within}
-use Rattle.dcsctp_delivery_sending.specs.ChunkCounts.{chunks_in, chunks_to}
-use Rattle.dcsctp_delivery_sending.specs.Places.{set_at}
+use Rattle.dcsctp_delivery_sending.specs.ChunkCounts.{chunks_among_packets, chunks_to}
+use Rattle.dcsctp_delivery_sending.specs.Places.{table_with}
 use Rattle.dcsctp_delivery_sending.specs.Log.{Message}
 use Rattle.dcsctp_delivery_sending.proofs.Places.{decide, set_same, set_other}
 use Rattle.dcsctp_delivery_directions.specs.Directions.{Asking, nothing_asked, DirectionRun}
-use Rattle.dcsctp_delivery_directions.specs.Requests.{requests_in, requests_to}
+use Rattle.dcsctp_delivery_directions.specs.Requests.{requests_among_packets, requests_to}
 use Rattle.dcsctp_delivery_directions.proofs.RequestCounts.{requests_more, requests_more_to, requests_are_sent, unasked_sends_none, nothing_was_asked}
-use Rattle.dcsctp_delivery_turns.specs.Actions.{came_by, peer_tag, Collides}
-use Rattle.dcsctp_delivery_turns.specs.Asking.{Own, own_in, own_of, IsAsking, AsksFit, AskingGrows}
-use Rattle.dcsctp_delivery_turns.specs.Runs.{sender_at, Outlasts}
-use Rattle.dcsctp_delivery_associations.specs.Ends.{SendingEnd, joined, Ends, HadKind, IsBefore, PlaceWasTaken, sender_key, chunks_before, Sender, BeginsAnew, KeepsThese, KeepsOnlyThese, Between, IsOnlyOwn, AreSeen, WentBefore}
+use Rattle.dcsctp_delivery_turns.specs.Actions.{content_of_input, peer_tag, Collides}
+use Rattle.dcsctp_delivery_turns.specs.Asking.{Own, own_of_core, own_of, IsAsking, AsksFit, AskingGrows}
+use Rattle.dcsctp_delivery_turns.specs.Runs.{direction_with_sender, Outlasts}
+use Rattle.dcsctp_delivery_associations.specs.Ends.{SendingEnd, direction_of_ends, Ends, HadKind, IsBefore, PlaceWasTaken, sender_key, chunks_before, Sender, NumbersFromZero, KeepsThese, KeepsOnlyThese, Between, IsOnlyOwn, AreSeen, WentBefore}
 use Rattle.dcsctp_delivery_associations.specs.Answered.{AnswersRequests, Requests, requests_of, waiting_deferral, AreAnswered, SenderHadPeer, WasJoined}
 use Rattle.dcsctp_delivery_associations.specs.Laws.{AreEnds, AsksLittle}
 use Rattle.dcsctp_delivery_associations.proofs.Seen.{RequestsStay, nothing_stays, seen_still}
@@ -69,7 +69,7 @@ none_yet first own asking fits next small few = empty asking.requests (let is = 
     empty [] none = refl
     empty (b ∷ l) none = absurd (omega (arith, none))
 
-unlinked : (core : Core) (request : Option OutstandingRequest) (link : AssociationIdentity) → identity_in core ≡ Some link → own_in core request ≡ None → ⊥
+unlinked : (core : Core) (request : Option OutstandingRequest) (link : AssociationIdentity) → identity_of_core core ≡ Some link → own_of_core core request ≡ None → ⊥
 unlinked closed request link there none = absurd (cc)
 unlinked (cookie_wait my) request link there none = absurd (cc)
 unlinked (cookie_echoed my held cookie) request link there none = absurd (cc)
@@ -78,7 +78,7 @@ unlinked (open_in phase my held) request link there none = absurd (cc)
 module _ (options : Options) (ends : Ends) (e : Endpoint) (queued : List Message) (past : List Effect) (packets : List Emission) (d : Endpoint) (their_past : List Effect) (reading : Reading)
     (h : Between options ends e queued past packets d their_past reading) where
   -- Where the next number of a request is the first, none was begun.
-  pub nothing_begun : (old : AssociationIdentity) → identity_in e.core ≡ Some old → ends.firsts (sender_key e.core) ≡ old.my.first_tsn → ((own : Own) → own_of e ≡ Some own → own.next ≡ old.my.first_tsn)
+  pub nothing_begun : (old : AssociationIdentity) → identity_of_core e.core ≡ Some old → ends.firsts (sender_key e.core) ≡ old.my.first_tsn → ((own : Own) → own_of e ≡ Some own → own.next ≡ old.my.first_tsn)
       → length (ends.sends (sender_key e.core)).asking.requests < 2 ^ 32 - 1 → (ends.sends (sender_key e.core)).asking.requests ≡ []
   nothing_begun old was first unasked few = by_own (own_of e) refl
     where
@@ -90,22 +90,22 @@ module _ (options : Options) (ends : Ends) (e : Endpoint) (queued : List Message
 
   pub asked_so : (ends.sends (sender_key e.core)).asking.requests ≡ [] → (ends.sends (sender_key e.core)).asking ≡ nothing_asked
   asked_so none =
-      nothing_was_asked options (ends.firsts (sender_key e.core)) options.max_receiver_window_buffer_size (joined (ends.sends (sender_key e.core)) (ends.gets (sender_key e.core))) (h.runs (sender_key e.core)) none
+      nothing_was_asked options (ends.firsts (sender_key e.core)) options.max_receiver_window_buffer_size (direction_of_ends (ends.sends (sender_key e.core)) (ends.gets (sender_key e.core))) (h.runs (sender_key e.core)) none
 
 -- An association takes the place of the only one of its own tag, and both ends began at the same time.
 pub record GoesOn (past : List Effect) (e : Endpoint) (input : Input) (o : Outcome) : Type 0 where
-  pub collision : Collides (came_by input) e o
+  pub collision : Collides (content_of_input input) e o
   pub my : collision.old.my ≡ collision.opened.link.my
   pub other : collision.old.peer.tag ≢ collision.opened.link.peer.tag
   pub alike : collision.old.capabilities.message_interleaving ≡ collision.opened.link.capabilities.message_interleaving
   pub only : (each : AssociationIdentity) → HasEffect (holds each) past → each.my.tag ≡ collision.opened.link.my.tag → each ≡ collision.old
 
 module _ (options : Options) (ends : Ends) (e : Endpoint) (queued : List Message) (past : List Effect) (packets : List Emission) (d : Endpoint) (their_past : List Effect) (reading : Reading)
-    (h : Between options ends e queued past packets d their_past reading) (input : Input) (o : Outcome) (w : AreAnswered ends e past d their_past) (little : AsksLittle (packets ++ packets_in o.events))
+    (h : Between options ends e queued past packets d their_past reading) (input : Input) (o : Outcome) (w : AreAnswered ends e past d their_past) (little : AsksLittle (packets ++ packets_of_events o.events))
     (goes : GoesOn past e input o)
     (goes_on_so : ends.firsts (sender_key e.core) ≡ goes.collision.opened.link.my.first_tsn → (ends.sends (sender_key e.core)).asking ≡ nothing_asked
-    → Outlasts options (ends.firsts (sender_key e.core)) options.max_receiver_window_buffer_size (joined (ends.sends (sender_key e.core)) (ends.gets (sender_key e.core))) e input o goes.collision) (only_one : (each : AssociationIdentity) → HasEffect (holds each) o.effects → identity_in o.after.core ≡ Some each) where
-  collision : Collides (came_by input) e o
+    → Outlasts options (ends.firsts (sender_key e.core)) options.max_receiver_window_buffer_size (direction_of_ends (ends.sends (sender_key e.core)) (ends.gets (sender_key e.core))) e input o goes.collision) (only_one : (each : AssociationIdentity) → HasEffect (holds each) o.effects → identity_of_core o.after.core ≡ Some each) where
+  collision : Collides (content_of_input input) e o
   collision = goes.collision
 
   abbrev link : AssociationIdentity
@@ -118,7 +118,7 @@ module _ (options : Options) (ends : Ends) (e : Endpoint) (queued : List Message
   key = sender_key e.core
 
   abbrev ps : List Emission
-  ps = packets_in o.events
+  ps = packets_of_events o.events
 
   abbrev later_past : List Effect
   later_past = after_effects o.effects past
@@ -166,7 +166,7 @@ module _ (options : Options) (ends : Ends) (e : Endpoint) (queued : List Message
 
   few_asked : length (ends.sends (sender_key e.core)).asking.requests < 2 ^ 32 - 1
   few_asked =
-      let sent = requests_are_sent options (ends.firsts key) options.max_receiver_window_buffer_size (joined (ends.sends key) (ends.gets key)) (h.runs key) in
+      let sent = requests_are_sent options (ends.firsts key) options.max_receiver_window_buffer_size (direction_of_ends (ends.sends key) (ends.gets key)) (h.runs key) in
       let went = h.sender.few_requests key in
       let all = requests_more_to (ends.latest key) packets ps in
       let few = little (ends.latest key) in
@@ -188,13 +188,13 @@ module _ (options : Options) (ends : Ends) (e : Endpoint) (queued : List Message
   -- ---- data goes to the other peer now
 
   abbrev latest : ℕ → ℕ
-  latest = set_at (sender_key e.core) goes.collision.opened.link.peer.tag ends.latest
+  latest = table_with (sender_key e.core) goes.collision.opened.link.peer.tag ends.latest
 
   abbrev former : ℕ → Option ℕ
-  former = set_at (sender_key e.core) (Some goes.collision.old.peer.tag) ends.former
+  former = table_with (sender_key e.core) (Some goes.collision.old.peer.tag) ends.former
 
   abbrev to_other : Ends
-  to_other = record ends { latest = set_at (sender_key e.core) goes.collision.opened.link.peer.tag ends.latest; former = set_at (sender_key e.core) (Some goes.collision.old.peer.tag) ends.former }
+  to_other = record ends { latest = table_with (sender_key e.core) goes.collision.opened.link.peer.tag ends.latest; former = table_with (sender_key e.core) (Some goes.collision.old.peer.tag) ends.former }
 
   within : IsWithin past (after_effects o.effects past)
   within = after_within o.effects past
@@ -236,25 +236,25 @@ module _ (options : Options) (ends : Ends) (e : Endpoint) (queued : List Message
         other = goes.other;
       }
 
-  sent_few : chunks_in (ends.sends (sender_key e.core)).sent ≤ chunks_before (Some goes.collision.old.peer.tag) packets + chunks_to goes.collision.opened.link.peer.tag packets
+  sent_few : chunks_among_packets (ends.sends (sender_key e.core)).sent ≤ chunks_before (Some goes.collision.old.peer.tag) packets + chunks_to goes.collision.opened.link.peer.tag packets
   sent_few =
       let few = h.sender.few key in
       let none : chunks_before (ends.former key) packets ≡ 0 = ap (λ (f : Option ℕ). chunks_before f packets) (none_before (ends.former key) refl) in
       let to : chunks_to (ends.latest key) packets ≡ chunks_to goes.collision.old.peer.tag packets = ap (λ (n : ℕ). chunks_to n packets) (h.sender.to_is ∙ peer_is) in
       omega (arith, few, none, to)
 
-  none_sent : requests_in (ends.sends (sender_key e.core)).sent ≡ 0
+  none_sent : requests_among_packets (ends.sends (sender_key e.core)).sent ≡ 0
   none_sent =
-      unasked_sends_none options (ends.firsts key) options.max_receiver_window_buffer_size (joined (ends.sends key) (ends.gets key)) (h.runs key) none_requested
+      unasked_sends_none options (ends.firsts key) options.max_receiver_window_buffer_size (direction_of_ends (ends.sends key) (ends.gets key)) (h.runs key) none_requested
 
   known_then : (each : AssociationIdentity) → HasEffect (holds each) (after_effects o.effects past)
-      → (each.my.tag ≢ 0) × ((each.peer.tag ≡ set_at (sender_key e.core) goes.collision.opened.link.peer.tag ends.latest each.my.tag) ⊎ (set_at (sender_key e.core) (Some goes.collision.old.peer.tag) ends.former each.my.tag ≡ Some each.peer.tag))
+      → (each.my.tag ≢ 0) × ((each.peer.tag ≡ table_with (sender_key e.core) goes.collision.opened.link.peer.tag ends.latest each.my.tag) ⊎ (table_with (sender_key e.core) (Some goes.collision.old.peer.tag) ends.former each.my.tag ≡ Some each.peer.tag))
   known_then each has =
       elim (which each has) [
         | inl before ↦ (
           (h.sender.known each before).0,
           elim (decide each.my.tag key) [
-            | inl e' ↦ inr (ap (set_at key (Some goes.collision.old.peer.tag) ends.former) e' ∙ set_same key (Some goes.collision.old.peer.tag) ends.former
+            | inl e' ↦ inr (ap (table_with key (Some goes.collision.old.peer.tag) ends.former) e' ∙ set_same key (Some goes.collision.old.peer.tag) ends.former
                 ∙ ap (λ (l : AssociationIdentity). Some l.peer.tag) (sym (goes.only each before (e' ∙ key_is))))
             | inr ne ↦ elim (h.sender.known each before).1 [
               | inl is ↦ inl (is ∙ sym (set_other key each.my.tag goes.collision.opened.link.peer.tag ends.latest ne))
@@ -270,7 +270,7 @@ module _ (options : Options) (ends : Ends) (e : Endpoint) (queued : List Message
       ]
 
   -- What went to a peer before did so still: there was none under this tag.
-  went_so : (emission : Emission) → WentBefore ends emission → WentBefore (record ends { latest = set_at (sender_key e.core) goes.collision.opened.link.peer.tag ends.latest; former = set_at (sender_key e.core) (Some goes.collision.old.peer.tag) ends.former }) emission
+  went_so : (emission : Emission) → WentBefore ends emission → WentBefore (record ends { latest = table_with (sender_key e.core) goes.collision.opened.link.peer.tag ends.latest; former = table_with (sender_key e.core) (Some goes.collision.old.peer.tag) ends.former }) emission
   went_so emission went =
       record {
         tag = went.tag;
@@ -278,7 +278,7 @@ module _ (options : Options) (ends : Ends) (e : Endpoint) (queued : List Message
             (λ same. (let clash : ◌≡◌ {A = Option ℕ} None (Some emission.packet.tag) = sym (none_before (ends.former key) refl) ∙ ap ends.former (sym same) ∙ went.former_is in absurd (cc))) ∙ went.former_is;
       }
 
-  readdressed : Sender (record ends { latest = set_at (sender_key e.core) goes.collision.opened.link.peer.tag ends.latest; former = set_at (sender_key e.core) (Some goes.collision.old.peer.tag) ends.former })
+  readdressed : Sender (record ends { latest = table_with (sender_key e.core) goes.collision.opened.link.peer.tag ends.latest; former = table_with (sender_key e.core) (Some goes.collision.old.peer.tag) ends.former })
       (sender_key e.core) goes.collision.opened.link.peer.tag e.queues queued (after_effects o.effects past) packets
   readdressed =
       record {
@@ -286,9 +286,9 @@ module _ (options : Options) (ends : Ends) (e : Endpoint) (queued : List Message
         long = h.sender.long;
         marks = h.sender.marks;
         short = h.sender.short;
-        few = set_three (λ tag f l m. chunks_in (ends.sends tag).sent ≤ chunks_before f packets + chunks_to l packets) key (Some goes.collision.old.peer.tag) goes.collision.opened.link.peer.tag goes.collision.opened.link.peer.tag ends.former ends.latest ends.latest
+        few = set_three (λ tag f l m. chunks_among_packets (ends.sends tag).sent ≤ chunks_before f packets + chunks_to l packets) key (Some goes.collision.old.peer.tag) goes.collision.opened.link.peer.tag goes.collision.opened.link.peer.tag ends.former ends.latest ends.latest
             sent_few (λ tag ne. h.sender.few tag);
-        few_requests = set_all (λ tag l. requests_in (ends.sends tag).sent ≤ requests_to l packets) key goes.collision.opened.link.peer.tag ends.latest (let none = none_sent in omega (arith, none)) (λ tag ne. h.sender.few_requests tag);
+        few_requests = set_all (λ tag l. requests_among_packets (ends.sends tag).sent ≤ requests_to l packets) key goes.collision.opened.link.peer.tag ends.latest (let none = none_sent in omega (arith, none)) (λ tag ne. h.sender.few_requests tag);
         last = h.sender.last;
         pairs = h.sender.pairs;
         current = λ some'. had_later o.effects past key (ends.firsts key) (h.sender.current some');
@@ -327,16 +327,16 @@ module _ (options : Options) (ends : Ends) (e : Endpoint) (queued : List Message
 
   -- ---- after the turn
 
-  outlasts : Outlasts options (ends.firsts (sender_key e.core)) options.max_receiver_window_buffer_size (joined (ends.sends (sender_key e.core)) (ends.gets (sender_key e.core))) e input o goes.collision
+  outlasts : Outlasts options (ends.firsts (sender_key e.core)) options.max_receiver_window_buffer_size (direction_of_ends (ends.sends (sender_key e.core)) (ends.gets (sender_key e.core))) e input o goes.collision
   outlasts = goes_on_so first_is asked_nothing
 
   abbrev end : SendingEnd
-  end = record (ends.sends (sender_key e.core)) { queues = o.after.queues; acknowledged = outlasts.acknowledged; sent = (ends.sends (sender_key e.core)).sent ++ packets_in o.events; asking = outlasts.asking }
+  end = record (ends.sends (sender_key e.core)) { queues = o.after.queues; acknowledged = outlasts.acknowledged; sent = (ends.sends (sender_key e.core)).sent ++ packets_of_events o.events; asking = outlasts.asking }
 
   abbrev later : Ends
-  later = record ends { sends = set_at (sender_key e.core) end ends.sends; latest = set_at (sender_key e.core) goes.collision.opened.link.peer.tag ends.latest; former = set_at (sender_key e.core) (Some goes.collision.old.peer.tag) ends.former }
+  later = record ends { sends = table_with (sender_key e.core) end ends.sends; latest = table_with (sender_key e.core) goes.collision.opened.link.peer.tag ends.latest; former = table_with (sender_key e.core) (Some goes.collision.old.peer.tag) ends.former }
 
-  sender_then : Sender later (sender_key e.core) goes.collision.opened.link.peer.tag o.after.queues queued (after_effects o.effects past) (packets ++ packets_in o.events)
+  sender_then : Sender later (sender_key e.core) goes.collision.opened.link.peer.tag o.after.queues queued (after_effects o.effects past) (packets ++ packets_of_events o.events)
   sender_then =
       grown to_other key goes.collision.opened.link.peer.tag e.queues queued (after_effects o.effects past) packets readdressed [] [] o.after.queues outlasts.acknowledged ps outlasts.asking outlasts.addressed outlasts.kind (λ each has. has)
 
@@ -346,7 +346,7 @@ module _ (options : Options) (ends : Ends) (e : Endpoint) (queued : List Message
   few_then : length outlasts.asking.requests < 2 ^ 32 - 1
   few_then =
       let sent = requests_are_sent options (ends.firsts key) options.max_receiver_window_buffer_size
-      (sender_at (joined (ends.sends key) (ends.gets key)) (ends.sends key).queued o.after.queues outlasts.acknowledged ((ends.sends key).sent ++ ps) outlasts.asking) outlasts.run in
+      (direction_with_sender (direction_of_ends (ends.sends key) (ends.gets key)) (ends.sends key).queued o.after.queues outlasts.acknowledged ((ends.sends key).sent ++ ps) outlasts.asking) outlasts.run in
       let more = requests_more (ends.sends key).sent ps in
       let none = none_sent in
       let went = addressed_requests goes.collision.opened.link.peer.tag ps outlasts.addressed in
@@ -357,38 +357,38 @@ module _ (options : Options) (ends : Ends) (e : Endpoint) (queued : List Message
   old_some : goes.collision.old.my.tag ≢ 0
   old_some = (h.sender.known goes.collision.old old_held).0
 
-  answers_then : AnswersRequests (requests_of later w.pairs) (Some goes.collision.opened.link) (after_effects o.effects past) (identity_in d.core) their_past (waiting_deferral d.queues.transfer)
+  answers_then : AnswersRequests (requests_of later w.pairs) (Some goes.collision.opened.link) (after_effects o.effects past) (identity_of_core d.core) their_past (waiting_deferral d.queues.transfer)
   answers_then =
       let own : sender_key e.core ≡ goes.collision.old.my.tag = link_tag e.core goes.collision.old goes.collision.was in
-      same_own (requests_of later w.pairs) goes.collision.old goes.collision.opened.link (after_effects o.effects past) (identity_in d.core) their_past (waiting_deferral d.queues.transfer) goes.my
+      same_own (requests_of later w.pairs) goes.collision.old goes.collision.opened.link (after_effects o.effects past) (identity_of_core d.core) their_past (waiting_deferral d.queues.transfer) goes.my
       (goes_answers ends e past d their_past w h.sender.queues_are o.after o.effects end outlasts.kind goes.collision.old goes.collision.was old_some
       (ends.sends goes.collision.old.my.tag).asking outlasts.asking refl (subst (λ (t : ℕ). length (ends.sends t).asking.requests < 2 ^ 32 - 1) own few_asked) (ends_so _ asked.as_it_was)
       (may_begin (ends.firsts goes.collision.old.my.tag) o.after.core o.after.outstanding (ends.sends goes.collision.old.my.tag).asking outlasts.asking goes.collision.opened.link goes.collision.opened.linked
       (subst (λ (a : Asking). AskingGrows a outlasts.asking) (sym (ap (λ (t : ℕ). (ends.sends t).asking) (sym own) ∙ asked_nothing)) outlasts.grows)
       (subst (λ (t : ℕ). AsksFit (ends.firsts t) (own_of o.after) outlasts.asking) own outlasts.fits) few_then))
 
-  anew_before : o.after.options.follow_rfc ≡ e.options.follow_rfc → (tag : ℕ) → BeginsAnew o.after (after_effects o.effects past) tag → BeginsAnew e past tag
+  anew_before : o.after.options.follow_rfc ≡ e.options.follow_rfc → (tag : ℕ) → NumbersFromZero o.after (after_effects o.effects past) tag → NumbersFromZero e past tag
   anew_before follows tag (inl anew) = inl (sym follows ∙ anew)
   anew_before follows tag (inr only) = inr (λ each has. only each (within (holds each) has))
 
   only_before : (tag : ℕ) → IsOnlyOwn (after_effects o.effects past) tag → IsOnlyOwn past tag
   only_before tag only = λ each has. only each (within (holds each) has)
 
-  pub outlasts_goes_on : (seen : List (Event Emission)) → AreSeen ends d their_past seen → o.after.options.follow_rfc ≡ e.options.follow_rfc → AreEnds ends.never_resets seen options o.after queued (after_effects o.effects past) (packets ++ packets_in o.events) d their_past reading
+  pub outlasts_goes_on : (seen : List (Event Emission)) → AreSeen ends d their_past seen → o.after.options.follow_rfc ≡ e.options.follow_rfc → AreEnds ends.never_resets seen options o.after queued (after_effects o.effects past) (packets ++ packets_of_events o.events) d their_past reading
   outlasts_goes_on seen reported follows =
       record {
         ends = later;
         is = refl;
         between = record {
-          runs = set_all (λ tag s. DirectionRun options (ends.firsts tag) options.max_receiver_window_buffer_size (joined s (ends.gets tag))) key end ends.sends outlasts.run (λ tag ne. h.runs tag);
+          runs = set_all (λ tag s. DirectionRun options (ends.firsts tag) options.max_receiver_window_buffer_size (direction_of_ends s (ends.gets tag))) key end ends.sends outlasts.run (λ tag ne. h.runs tag);
           small = h.small;
           sender = subst (λ (k : ℕ). Sender later k (peer_tag o.after.core) o.after.queues queued (after_effects o.effects past) (packets ++ ps)) (sym same_then)
               (subst (λ (n : ℕ). Sender later key n o.after.queues queued (after_effects o.effects past) (packets ++ ps)) (sym (link_peer o.after.core goes.collision.opened.link goes.collision.opened.linked)) sender_then);
           mine = λ each there. subst (λ (l : AssociationIdentity). HasEffect (holds l) (after_effects o.effects past)) (the_one each there) link_held;
           idle = λ unlinked. (let linked = goes.collision.opened.linked in absurd (cc));
-          asks = subst (λ (k : ℕ). AsksFit (ends.firsts k) (own_of o.after) (set_at key end ends.sends k).asking) (sym same_then)
+          asks = subst (λ (k : ℕ). AsksFit (ends.firsts k) (own_of o.after) (table_with key end ends.sends k).asking) (sym same_then)
               (subst (λ (s : SendingEnd). AsksFit (ends.firsts key) (own_of o.after) s.asking) (sym (set_same key end ends.sends)) outlasts.fits);
-          numbered = set_all (λ tag s. tag ≢ 0 → BeginsAnew o.after (after_effects o.effects past) tag → s.beginning.from_zero ≡ true) key end ends.sends (λ some' anew. h.numbered key some' (anew_before follows key anew))
+          numbered = set_all (λ tag s. tag ≢ 0 → NumbersFromZero o.after (after_effects o.effects past) tag → s.beginning.from_zero ≡ true) key end ends.sends (λ some' anew. h.numbered key some' (anew_before follows key anew))
               (λ tag ne some' anew. h.numbered tag some' (anew_before follows tag anew));
           kept = set_all (λ tag s. tag ≢ 0 → IsOnlyOwn (after_effects o.effects past) tag → KeepsThese ends.never_resets s.beginning) key end ends.sends
               (λ some' only. h.kept key some' (only_before key only)) (λ tag ne some' only. h.kept tag some' (only_before tag only));
@@ -399,7 +399,7 @@ module _ (options : Options) (ends : Ends) (e : Endpoint) (queued : List Message
         };
         answered = record {
           pairs = w.pairs;
-          answers = subst (λ (l : Option AssociationIdentity). AnswersRequests (requests_of later w.pairs) l (after_effects o.effects past) (identity_in d.core) their_past (waiting_deferral d.queues.transfer)) (sym goes.collision.opened.linked) answers_then;
+          answers = subst (λ (l : Option AssociationIdentity). AnswersRequests (requests_of later w.pairs) l (after_effects o.effects past) (identity_of_core d.core) their_past (waiting_deferral d.queues.transfer)) (sym goes.collision.opened.linked) answers_then;
           unlinked = w.unlinked;
         };
         reported = seen_still ends later e past d their_past seen w
@@ -407,5 +407,5 @@ module _ (options : Options) (ends : Ends) (e : Endpoint) (queued : List Message
             (λ some'. nothing_stays (ends.sends key).asking outlasts.asking (ap (λ (a : Asking). a.requests) asked_nothing)) (λ tag ne some' begun has. has)) reported.heard reported;
       }
     where
-      the_one : (each : AssociationIdentity) → identity_in o.after.core ≡ Some each → goes.collision.opened.link ≡ each
+      the_one : (each : AssociationIdentity) → identity_of_core o.after.core ≡ Some each → goes.collision.opened.link ≡ each
       the_one each there = (let first = goes.collision.opened.linked in cc)

@@ -4,16 +4,16 @@ use Rattle.std.specs.List.{AllByRecursion}
 use Rattle.std.proofs.lemmas.List.{append-nil}
 use Rattle.dcsctp_spec_lemmas.specs.types.declared.options.Options.{Options}
 use Rattle.dcsctp_spec_lemmas.specs.spec.endpoint.Endpoint.{Endpoint}
-use Rattle.dcsctp_spec_lemmas.specs.spec.endpoint.Event.{Event, packets_in}
+use Rattle.dcsctp_spec_lemmas.specs.spec.endpoint.Event.{Event, packets_of_events}
 use Rattle.dcsctp_spec_lemmas.specs.spec.endpoint.Outcome.{Outcome}
 use Rattle.dcsctp_spec_lemmas.specs.spec.Packet.{Emission}
 use Rattle.dcsctp_spec_lemmas.specs.spec.endpoint.Turn.{Input}
 use Rattle.dcsctp_spec_runs.specs.World.{after_effects}
-use Rattle.dcsctp_spec_lemmas.specs.spec.association.Effect.{AssociationIdentity, Effect, holds, identity_in}
+use Rattle.dcsctp_spec_lemmas.specs.spec.association.Effect.{AssociationIdentity, Effect, holds, identity_of_core}
 use Rattle.dcsctp_spec_runs.specs.Past.{HasEffect}
 use Rattle.dcsctp_spec_lemmas.specs.spec.queues.Transfer.{EndpointQueues}
 use Rattle.dcsctp_theorem_association.proofs.Growth.{after_within}
-use Rattle.dcsctp_delivery_sending.specs.Places.{set_at}
+use Rattle.dcsctp_delivery_sending.specs.Places.{table_with}
 use Rattle.dcsctp_spec_lemmas.specs.types.queues.SendStreams.{Stream}
 use Rattle.dcsctp_delivery_sending.specs.Log.{Message, Fits}
 use Rattle.dcsctp_delivery_sending.specs.Losing.{AllWaitOn}
@@ -25,9 +25,9 @@ use Rattle.dcsctp_delivery_directions.specs.Directions.{Asking, nothing_asked, D
 use Rattle.dcsctp_delivery_turns.specs.Actions.{peer_tag, queued_after}
 use Rattle.dcsctp_delivery_turns.specs.Asking.{own_of, AsksFit}
 use Rattle.dcsctp_delivery_turns.specs.Addressed.{AreAddressed}
-use Rattle.dcsctp_delivery_turns.specs.Runs.{sender_at}
+use Rattle.dcsctp_delivery_turns.specs.Runs.{direction_with_sender}
 use Rattle.dcsctp_delivery_turns.proofs.Runs.{begins_anew}
-use Rattle.dcsctp_delivery_associations.specs.Ends.{SendingEnd, ReceivingEnd, joined, new_end, Ends, IsUnbegun, NeverHeld, KeepsThese, KeepsOnlyThese, BeginsAnew, sender_key, Sender, Receiver, AreSeen, Between, IsOnlyOwn, IsBefore}
+use Rattle.dcsctp_delivery_associations.specs.Ends.{SendingEnd, ReceivingEnd, direction_of_ends, new_end, Ends, IsUnbegun, NeverHeld, KeepsThese, KeepsOnlyThese, NumbersFromZero, sender_key, Sender, Receiver, AreSeen, Between, IsOnlyOwn, IsBefore}
 use Rattle.dcsctp_delivery_associations.specs.Answered.{AreAnswered}
 use Rattle.dcsctp_delivery_associations.specs.Laws.{AreEnds}
 use Rattle.dcsctp_delivery_associations.proofs.Seen.{RequestsStay, seen_still}
@@ -69,7 +69,7 @@ module _ (options : Options) (ends : Ends) (e : Endpoint) (queued : List Message
   more = queued_after e input []
 
   -- A sender of which this holds after the turn was so before.
-  pub anew_before : o.after.options.follow_rfc ≡ e.options.follow_rfc → (tag : ℕ) → BeginsAnew o.after (after_effects o.effects past) tag → BeginsAnew e past tag
+  pub anew_before : o.after.options.follow_rfc ≡ e.options.follow_rfc → (tag : ℕ) → NumbersFromZero o.after (after_effects o.effects past) tag → NumbersFromZero e past tag
   anew_before follows tag (inl anew) = inl (sym follows ∙ anew)
   anew_before follows tag (inr only) = inr (λ link held. only link (after_within o.effects past (holds link) held))
 
@@ -78,41 +78,41 @@ module _ (options : Options) (ends : Ends) (e : Endpoint) (queued : List Message
 
   -- what is to be shown of the turn
   abbrev pub Turned : List (Event Emission) → Type 0
-  Turned seen = AreEnds ends.never_resets seen options o.after (queued_after e input queued) (after_effects o.effects past) (packets ++ packets_in o.events) d their_past reading
+  Turned seen = AreEnds ends.never_resets seen options o.after (queued_after e input queued) (after_effects o.effects past) (packets ++ packets_of_events o.events) d their_past reading
 
-  pub goes_on : (seen : List (Event Emission)) → AreSeen ends d their_past seen → AreAnswered ends e past d their_past → ((each : AssociationIdentity) → HasEffect (holds each) (after_effects o.effects past) → HasEffect (holds each) past) → o.after.options.follow_rfc ≡ e.options.follow_rfc → (NeverHeld (after_effects o.effects past) → IsUnbegun ends.never_resets (queued_after e input (ends.sends (sender_key e.core)).queued) o.after) → identity_in o.after.core ≡ identity_in e.core → o.after.queues.queue.is_interleaved ≡ e.queues.queue.is_interleaved → AreAddressed (peer_tag e.core) (packets_in o.events) → (acknowledged : ℕ) (asking : Asking) → RequestsStay (ends.sends (sender_key e.core)).asking asking → AsksFit (ends.firsts (sender_key e.core)) (own_of o.after) asking
-      → AreAnswered (grown_ends ends (sender_key e.core) (peer_tag e.core) e.queues queued past packets h.sender o.effects more o.after.queues acknowledged (packets_in o.events) asking) o.after (after_effects o.effects past) d their_past
+  pub goes_on : (seen : List (Event Emission)) → AreSeen ends d their_past seen → AreAnswered ends e past d their_past → ((each : AssociationIdentity) → HasEffect (holds each) (after_effects o.effects past) → HasEffect (holds each) past) → o.after.options.follow_rfc ≡ e.options.follow_rfc → (NeverHeld (after_effects o.effects past) → IsUnbegun ends.never_resets (queued_after e input (ends.sends (sender_key e.core)).queued) o.after) → identity_of_core o.after.core ≡ identity_of_core e.core → o.after.queues.queue.is_interleaved ≡ e.queues.queue.is_interleaved → AreAddressed (peer_tag e.core) (packets_of_events o.events) → (acknowledged : ℕ) (asking : Asking) → RequestsStay (ends.sends (sender_key e.core)).asking asking → AsksFit (ends.firsts (sender_key e.core)) (own_of o.after) asking
+      → AreAnswered (grown_ends ends (sender_key e.core) (peer_tag e.core) e.queues queued past packets h.sender o.effects more o.after.queues acknowledged (packets_of_events o.events) asking) o.after (after_effects o.effects past) d their_past
       → DirectionRun options (ends.firsts (sender_key e.core)) options.max_receiver_window_buffer_size
-      (sender_at (joined (ends.sends (sender_key e.core)) (ends.gets (sender_key e.core))) (queued_after e input (ends.sends (sender_key e.core)).queued) o.after.queues acknowledged ((ends.sends (sender_key e.core)).sent ++ packets_in o.events) asking)
-      → (identity_in o.after.core ≡ None → o.after.queues.transfer ≡ None) → Turned seen
+      (direction_with_sender (direction_of_ends (ends.sends (sender_key e.core)) (ends.gets (sender_key e.core))) (queued_after e input (ends.sends (sender_key e.core)).queued) o.after.queues acknowledged ((ends.sends (sender_key e.core)).sent ++ packets_of_events o.events) asking)
+      → (identity_of_core o.after.core ≡ None → o.after.queues.transfer ≡ None) → Turned seen
   goes_on seen reported w none_began follows unbegun linked kind addressed acknowledged asking stay fits answered run nowhere =
       let key : ℕ = sender_key e.core in
-      let end : SendingEnd = grown_end ends key (peer_tag e.core) e.queues queued past packets h.sender o.effects more o.after.queues acknowledged (packets_in o.events) asking in
-      let later : Ends = grown_ends ends key (peer_tag e.core) e.queues queued past packets h.sender o.effects more o.after.queues acknowledged (packets_in o.events) asking in
-      let sender : Sender later key (peer_tag e.core) o.after.queues (more ++ queued) (after_effects o.effects past) (packets ++ packets_in o.events) =
-      grown ends key (peer_tag e.core) e.queues queued past packets h.sender o.effects more o.after.queues acknowledged (packets_in o.events) asking addressed kind none_began in
+      let end : SendingEnd = grown_end ends key (peer_tag e.core) e.queues queued past packets h.sender o.effects more o.after.queues acknowledged (packets_of_events o.events) asking in
+      let later : Ends = grown_ends ends key (peer_tag e.core) e.queues queued past packets h.sender o.effects more o.after.queues acknowledged (packets_of_events o.events) asking in
+      let sender : Sender later key (peer_tag e.core) o.after.queues (more ++ queued) (after_effects o.effects past) (packets ++ packets_of_events o.events) =
+      grown ends key (peer_tag e.core) e.queues queued past packets h.sender o.effects more o.after.queues acknowledged (packets_of_events o.events) asking addressed kind none_began in
       record {
         ends = later;
         is = refl;
         between = record {
-          runs = set_all (λ tag s. DirectionRun options (ends.firsts tag) options.max_receiver_window_buffer_size (joined s (ends.gets tag))) key end ends.sends
-              (subst (λ (l : List Message). DirectionRun options (ends.firsts key) options.max_receiver_window_buffer_size (joined (record end { queued = l }) (ends.gets key))) (input_adds e input (ends.sends key).queued) run)
+          runs = set_all (λ tag s. DirectionRun options (ends.firsts tag) options.max_receiver_window_buffer_size (direction_of_ends s (ends.gets tag))) key end ends.sends
+              (subst (λ (l : List Message). DirectionRun options (ends.firsts key) options.max_receiver_window_buffer_size (direction_of_ends (record end { queued = l }) (ends.gets key))) (input_adds e input (ends.sends key).queued) run)
               (λ tag ne. h.runs tag);
           small = h.small;
-          sender = subst (λ (l : List Message). Sender later (sender_key o.after.core) (peer_tag o.after.core) o.after.queues l (after_effects o.effects past) (packets ++ packets_in o.events)) (sym (input_adds e input queued))
-              (subst (λ (k : ℕ). Sender later k (peer_tag o.after.core) o.after.queues (more ++ queued) (after_effects o.effects past) (packets ++ packets_in o.events)) (sym (same_key o.after.core e.core linked))
-              (subst (λ (n : ℕ). Sender later key n o.after.queues (more ++ queued) (after_effects o.effects past) (packets ++ packets_in o.events)) (sym (same_peer o.after.core e.core linked)) sender));
+          sender = subst (λ (l : List Message). Sender later (sender_key o.after.core) (peer_tag o.after.core) o.after.queues l (after_effects o.effects past) (packets ++ packets_of_events o.events)) (sym (input_adds e input queued))
+              (subst (λ (k : ℕ). Sender later k (peer_tag o.after.core) o.after.queues (more ++ queued) (after_effects o.effects past) (packets ++ packets_of_events o.events)) (sym (same_key o.after.core e.core linked))
+              (subst (λ (n : ℕ). Sender later key n o.after.queues (more ++ queued) (after_effects o.effects past) (packets ++ packets_of_events o.events)) (sym (same_peer o.after.core e.core linked)) sender));
           mine = λ link there. after_within o.effects past (holds link) (h.mine link (sym linked ∙ there));
           idle = nowhere;
-          asks = subst (λ (k : ℕ). AsksFit (ends.firsts k) (own_of o.after) (set_at key end ends.sends k).asking) (sym (same_key o.after.core e.core linked))
+          asks = subst (λ (k : ℕ). AsksFit (ends.firsts k) (own_of o.after) (table_with key end ends.sends k).asking) (sym (same_key o.after.core e.core linked))
               (subst (λ (s : SendingEnd). AsksFit (ends.firsts key) (own_of o.after) s.asking) (sym (set_same key end ends.sends)) fits);
-          numbered = set_all (λ tag s. tag ≢ 0 → BeginsAnew o.after (after_effects o.effects past) tag → s.beginning.from_zero ≡ true) key end ends.sends (λ some anew. h.numbered key some (anew_before follows key anew))
+          numbered = set_all (λ tag s. tag ≢ 0 → NumbersFromZero o.after (after_effects o.effects past) tag → s.beginning.from_zero ≡ true) key end ends.sends (λ some anew. h.numbered key some (anew_before follows key anew))
               (λ tag ne some anew. h.numbered tag some (anew_before follows tag anew));
           kept = set_all (λ tag s. tag ≢ 0 → IsOnlyOwn (after_effects o.effects past) tag → KeepsThese ends.never_resets s.beginning) key end ends.sends
               (λ some only. h.kept key some (only_before key only)) (λ tag ne some only. h.kept tag some (only_before tag only));
           dropping = set_all (λ tag s. KeepsOnlyThese ends.never_resets s.beginning) key end ends.sends (h.dropping key) (λ tag ne. h.dropping tag);
           unbegun = λ never.
-              subst (λ (k : ℕ). IsUnbegun ends.never_resets (set_at key end ends.sends k).queued o.after) (sym (same_key o.after.core e.core linked))
+              subst (λ (k : ℕ). IsUnbegun ends.never_resets (table_with key end ends.sends k).queued o.after) (sym (same_key o.after.core e.core linked))
               (subst (λ (s : SendingEnd). IsUnbegun ends.never_resets s.queued o.after) (sym (set_same key end ends.sends))
               (subst (λ (l : List Message). IsUnbegun ends.never_resets l o.after) (input_adds e input (ends.sends key).queued) (unbegun never)));
           receiver = receiver_same options ends later.sends later.latest later.former d their_past reading h.receiver;
@@ -133,21 +133,21 @@ module _ (options : Options) (ends : Ends) (e : Endpoint) (queued : List Message
   none_former (Some former) is = (let was = h.sender.replaced 0 former is in absurd ((h.sender.known was.old (before_held was.old was.link past was.before)).0 was.old_is))
 
   -- the ends once it has ended
-  abbrev pub ended_ends : ((each : AssociationIdentity) → HasEffect (holds each) (after_effects o.effects past) → HasEffect (holds each) past) → (last : EndpointQueues) → ℕ → Asking → AreAddressed (peer_tag e.core) (packets_in o.events)
+  abbrev pub ended_ends : ((each : AssociationIdentity) → HasEffect (holds each) (after_effects o.effects past) → HasEffect (holds each) past) → (last : EndpointQueues) → ℕ → Asking → AreAddressed (peer_tag e.core) (packets_of_events o.events)
       → last.queue.is_interleaved ≡ e.queues.queue.is_interleaved → Ends
   ended_ends none_began last acknowledged asking addressed kind =
-      renewed_ends (grown_ends ends (sender_key e.core) (peer_tag e.core) e.queues queued past packets h.sender o.effects more last acknowledged (packets_in o.events) asking) (sender_key e.core) (peer_tag e.core) last (more ++ queued) (after_effects o.effects past)
-      (packets ++ packets_in o.events) (grown ends (sender_key e.core) (peer_tag e.core) e.queues queued past packets h.sender o.effects more last acknowledged (packets_in o.events) asking addressed kind none_began) [] 0 0 o.after.queues 0 [] nothing_asked (record { from_zero = false; keeps = λ id. false }) ends.gets ends.firsts None
+      renewed_ends (grown_ends ends (sender_key e.core) (peer_tag e.core) e.queues queued past packets h.sender o.effects more last acknowledged (packets_of_events o.events) asking) (sender_key e.core) (peer_tag e.core) last (more ++ queued) (after_effects o.effects past)
+      (packets ++ packets_of_events o.events) (grown ends (sender_key e.core) (peer_tag e.core) e.queues queued past packets h.sender o.effects more last acknowledged (packets_of_events o.events) asking addressed kind none_began) [] 0 0 o.after.queues 0 [] nothing_asked (record { from_zero = false; keeps = λ id. false }) ends.gets ends.firsts None
 
-  pub ended : (seen : List (Event Emission)) → AreSeen ends d their_past seen → AreAnswered ends e past d their_past → (none_began : (each : AssociationIdentity) → HasEffect (holds each) (after_effects o.effects past) → HasEffect (holds each) past) → o.after.options.follow_rfc ≡ e.options.follow_rfc → (NeverHeld (after_effects o.effects past) → IsUnbegun ends.never_resets (queued_after e input (ends.sends (sender_key e.core)).queued) o.after) → identity_in o.after.core ≡ None → (addressed : AreAddressed (peer_tag e.core) (packets_in o.events)) → (last : EndpointQueues) → (kind : last.queue.is_interleaved ≡ e.queues.queue.is_interleaved) → o.after.queues ≡ record last { transfer = None }
+  pub ended : (seen : List (Event Emission)) → AreSeen ends d their_past seen → AreAnswered ends e past d their_past → (none_began : (each : AssociationIdentity) → HasEffect (holds each) (after_effects o.effects past) → HasEffect (holds each) past) → o.after.options.follow_rfc ≡ e.options.follow_rfc → (NeverHeld (after_effects o.effects past) → IsUnbegun ends.never_resets (queued_after e input (ends.sends (sender_key e.core)).queued) o.after) → identity_of_core o.after.core ≡ None → (addressed : AreAddressed (peer_tag e.core) (packets_of_events o.events)) → (last : EndpointQueues) → (kind : last.queue.is_interleaved ≡ e.queues.queue.is_interleaved) → o.after.queues ≡ record last { transfer = None }
       → QueueWaits (queued_after e input (ends.sends (sender_key e.core)).queued) last.queue → AllByRecursion Fits (queued_after e input (ends.sends (sender_key e.core)).queued) → (acknowledged : ℕ) (asking : Asking) → RequestsStay (ends.sends (sender_key e.core)).asking asking
       → AreAnswered (ended_ends none_began last acknowledged asking addressed kind) o.after (after_effects o.effects past) d their_past
       → DirectionRun options (ends.firsts (sender_key e.core)) options.max_receiver_window_buffer_size
-      (sender_at (joined (ends.sends (sender_key e.core)) (ends.gets (sender_key e.core))) (queued_after e input (ends.sends (sender_key e.core)).queued) last acknowledged ((ends.sends (sender_key e.core)).sent ++ packets_in o.events) asking)
+      (direction_with_sender (direction_of_ends (ends.sends (sender_key e.core)) (ends.gets (sender_key e.core))) (queued_after e input (ends.sends (sender_key e.core)).queued) last acknowledged ((ends.sends (sender_key e.core)).sent ++ packets_of_events o.events) asking)
       → Turned seen
   ended seen reported w none_began follows unbegun none addressed last kind is shown fit acknowledged asking stay answered run =
       let key : ℕ = sender_key e.core in
-      let ps : List Emission = packets_in o.events in
+      let ps : List Emission = packets_of_events o.events in
       let end : SendingEnd = grown_end ends key (peer_tag e.core) e.queues queued past packets h.sender o.effects more last acknowledged ps asking in
       let middle : Ends = grown_ends ends key (peer_tag e.core) e.queues queued past packets h.sender o.effects more last acknowledged ps asking in
       let first : Sender middle key (peer_tag e.core) last (more ++ queued) (after_effects o.effects past) (packets ++ ps) = grown ends key (peer_tag e.core) e.queues queued past packets h.sender o.effects more last acknowledged ps asking addressed kind none_began in
@@ -165,17 +165,17 @@ module _ (options : Options) (ends : Ends) (e : Endpoint) (queued : List Message
       (subst (λ (s : SendingEnd). QueueWaits (all_marked (length s.queued) s.queues.queue.streams s.queued) last.queue) (sym (set_same key end ends.sends)) (all_marked_keep (length end.queued) end.queued last.queue shown')) in
       let fits' : AllByRecursion Fits marked =
       subst (λ (s : SendingEnd). AllByRecursion Fits (all_marked (length s.queued) s.queues.queue.streams s.queued)) (sym (set_same key end ends.sends)) (all_marked_fit (length end.queued) last.queue.streams end.queued fit') in
-      let anew : DirectionRun options (ends.firsts 0) options.max_receiver_window_buffer_size (joined new (new_end options (ends.firsts 0))) =
+      let anew : DirectionRun options (ends.firsts 0) options.max_receiver_window_buffer_size (direction_of_ends new (new_end options (ends.firsts 0))) =
       begins_anew options (ends.firsts 0) options.max_receiver_window_buffer_size marked o.after.queues fits' holds' (ap (λ (b : EndpointQueues). b.transfer) is) in
       let never : ends.gets 0 ≡ new_end options (ends.firsts 0) = elim (h.receiver.begun 0) [ inl new' ↦ new' | inr had ↦ absurd (had.some refl) ] in
       record {
         ends = later;
         is = refl;
         between = record {
-          runs = set_all (λ tag s. DirectionRun options (ends.firsts tag) options.max_receiver_window_buffer_size (joined s (ends.gets tag))) 0 new middle.sends
-              (subst (λ (g : ReceivingEnd). DirectionRun options (ends.firsts 0) options.max_receiver_window_buffer_size (joined new g)) (sym never) anew)
-              (λ tag ne. set_all (λ tag s. DirectionRun options (ends.firsts tag) options.max_receiver_window_buffer_size (joined s (ends.gets tag))) key end ends.sends
-              (subst (λ (l : List Message). DirectionRun options (ends.firsts key) options.max_receiver_window_buffer_size (joined (record end { queued = l }) (ends.gets key))) adds run) (λ tag ne. h.runs tag) tag);
+          runs = set_all (λ tag s. DirectionRun options (ends.firsts tag) options.max_receiver_window_buffer_size (direction_of_ends s (ends.gets tag))) 0 new middle.sends
+              (subst (λ (g : ReceivingEnd). DirectionRun options (ends.firsts 0) options.max_receiver_window_buffer_size (direction_of_ends new g)) (sym never) anew)
+              (λ tag ne. set_all (λ tag s. DirectionRun options (ends.firsts tag) options.max_receiver_window_buffer_size (direction_of_ends s (ends.gets tag))) key end ends.sends
+              (subst (λ (l : List Message). DirectionRun options (ends.firsts key) options.max_receiver_window_buffer_size (direction_of_ends (record end { queued = l }) (ends.gets key))) adds run) (λ tag ne. h.runs tag) tag);
           small = h.small;
           sender = subst (λ (l : List Message). Sender later (sender_key o.after.core) (peer_tag o.after.core) o.after.queues l (after_effects o.effects past) (packets ++ ps)) (sym (input_adds e input queued))
               (subst (λ (k : ℕ). Sender later k (peer_tag o.after.core) o.after.queues (more ++ queued) (after_effects o.effects past) (packets ++ ps)) (sym (no_key o.after.core none))
@@ -184,8 +184,8 @@ module _ (options : Options) (ends : Ends) (e : Endpoint) (queued : List Message
           mine = λ link there. (let clash : ◌≡◌ {A = Option AssociationIdentity} None (Some link) = sym none ∙ there in absurd (cc));
           idle = λ unlinked. ap (λ (b : EndpointQueues). b.transfer) is;
           asks = unlinked_fit o.after (ends.firsts (sender_key o.after.core)) (later.sends (sender_key o.after.core)).asking none;
-          numbered = set_all (λ tag s. tag ≢ 0 → BeginsAnew o.after (after_effects o.effects past) tag → s.beginning.from_zero ≡ true) 0 new middle.sends (λ some anew. absurd (some refl))
-              (λ tag ne. set_all (λ t s. t ≢ 0 → BeginsAnew o.after (after_effects o.effects past) t → s.beginning.from_zero ≡ true) key end ends.sends (λ some anew. h.numbered key some (anew_before follows key anew))
+          numbered = set_all (λ tag s. tag ≢ 0 → NumbersFromZero o.after (after_effects o.effects past) tag → s.beginning.from_zero ≡ true) 0 new middle.sends (λ some anew. absurd (some refl))
+              (λ tag ne. set_all (λ t s. t ≢ 0 → NumbersFromZero o.after (after_effects o.effects past) t → s.beginning.from_zero ≡ true) key end ends.sends (λ some anew. h.numbered key some (anew_before follows key anew))
               (λ t ne' some anew. h.numbered t some (anew_before follows t anew)) tag);
           kept = set_all (λ tag s. tag ≢ 0 → IsOnlyOwn (after_effects o.effects past) tag → KeepsThese ends.never_resets s.beginning) 0 new middle.sends (λ some only. absurd (some refl))
               (λ tag ne. set_all (λ t s. t ≢ 0 → IsOnlyOwn (after_effects o.effects past) t → KeepsThese ends.never_resets s.beginning) key end ends.sends
@@ -193,7 +193,7 @@ module _ (options : Options) (ends : Ends) (e : Endpoint) (queued : List Message
           dropping = set_all (λ tag s. KeepsOnlyThese ends.never_resets s.beginning) 0 new middle.sends (λ id resets. refl)
               (λ tag ne. set_all (λ t s. KeepsOnlyThese ends.never_resets s.beginning) key end ends.sends (h.dropping key) (λ t ne'. h.dropping t) tag);
           unbegun = λ never.
-              subst (λ (k : ℕ). IsUnbegun ends.never_resets (set_at 0 new middle.sends k).queued o.after) (sym (no_key o.after.core none))
+              subst (λ (k : ℕ). IsUnbegun ends.never_resets (table_with 0 new middle.sends k).queued o.after) (sym (no_key o.after.core none))
               (subst (λ (s : SendingEnd). IsUnbegun ends.never_resets s.queued o.after) (sym (set_same 0 new middle.sends))
               (subst (λ (s : SendingEnd). IsUnbegun ends.never_resets (all_marked (length s.queued) s.queues.queue.streams s.queued) o.after) (sym (set_same key end ends.sends))
               (unbegun_marked ends.never_resets (length end.queued) last.queue.streams end.queued o.after

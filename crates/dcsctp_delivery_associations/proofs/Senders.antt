@@ -6,13 +6,13 @@ use Rattle.dcsctp_spec_lemmas.specs.spec.endpoint.Endpoint.{Core, closed, cookie
 use Rattle.dcsctp_spec_lemmas.specs.spec.Packet.{Emission}
 use Rattle.dcsctp_spec_runs.specs.World.{after_effects}
 use Rattle.dcsctp_spec_runs.specs.Past.{HasEffect}
-use Rattle.dcsctp_spec_lemmas.specs.spec.association.Effect.{AssociationIdentity, Effect, holds, identity_in}
+use Rattle.dcsctp_spec_lemmas.specs.spec.association.Effect.{AssociationIdentity, Effect, holds, identity_of_core}
 use Rattle.dcsctp_spec_lemmas.specs.spec.queues.Transfer.{EndpointQueues}
 use Rattle.dcsctp_theorem_association.proofs.Growth.{after_within}
 use Rattle.dcsctp_delivery_sending.specs.Places as places
-use Rattle.dcsctp_delivery_sending.specs.Places.{set_at}
+use Rattle.dcsctp_delivery_sending.specs.Places.{table_with}
 use Rattle.dcsctp_delivery_sending.specs.Log.{Message}
-use Rattle.dcsctp_delivery_sending.specs.ChunkCounts.{chunks_in, chunks_to}
+use Rattle.dcsctp_delivery_sending.specs.ChunkCounts.{chunks_among_packets, chunks_to}
 use Rattle.dcsctp_delivery_sending.specs.Marking.{all_marked, AreMarked}
 use Rattle.dcsctp_delivery_sending.proofs.Places.{decide, set_same, set_other}
 use Rattle.dcsctp_delivery_sending.proofs.MarkingAll.{all_are_marked, gone_are_marked}
@@ -21,10 +21,10 @@ use Rattle.dcsctp_delivery_directions.specs.Directions.{Asking, Beginning, Direc
 use Rattle.dcsctp_spec_lemmas.specs.types.declared.options.Options.{Options}
 use Rattle.dcsctp_delivery_turns.specs.Actions.{peer_tag}
 use Rattle.dcsctp_delivery_turns.specs.Addressed.{IsAddressed, AreAddressed}
-use Rattle.dcsctp_delivery_directions.specs.Requests.{requests_in, requests_to}
+use Rattle.dcsctp_delivery_directions.specs.Requests.{requests_among_packets, requests_to}
 use Rattle.dcsctp_delivery_directions.proofs.RequestCounts.{requests_more, requests_more_to}
 use Rattle.dcsctp_delivery_associations.proofs.Counting.{addressed_requests}
-use Rattle.dcsctp_delivery_associations.specs.Ends.{SendingEnd, ReceivingEnd, Ends, MarksLeft, HadPeer, HadKind, HadBoth, IsBefore, PlaceWasTaken, Awaits, IsOfEnds, AreOfEnds, chunks_before, sender_key, joined, unbegun_end, IsMet, MetOrAlone, Sender, WentBefore}
+use Rattle.dcsctp_delivery_associations.specs.Ends.{SendingEnd, ReceivingEnd, Ends, MarksLeft, HadPeer, HadKind, HadBoth, IsBefore, PlaceWasTaken, Awaits, IsOfEnds, AreOfEnds, chunks_before, sender_key, direction_of_ends, unbegun_end, IsMet, MetOrAlone, Sender, WentBefore}
 use Rattle.dcsctp_delivery_associations.proofs.Counting.{more_to, addressed_counts}
 use Rattle.dcsctp_delivery_associations.proofs.Growing.{set_all, set_three, AllFound, found_later, found_then, found_grown, marked_grown, marked_still}
 
@@ -38,39 +38,39 @@ peer_of : Option AssociationIdentity → ℕ
 peer_of None = 0
 peer_of (Some link) = link.peer.tag
 
-link_key : (core : Core) → sender_key core ≡ key_of (identity_in core)
+link_key : (core : Core) → sender_key core ≡ key_of (identity_of_core core)
 unfolding key_of
 link_key closed = refl
 link_key (cookie_wait my) = refl
 link_key (cookie_echoed my held cookie) = refl
 link_key (open_in phase my held) = refl
 
-link_to : (core : Core) → peer_tag core ≡ peer_of (identity_in core)
+link_to : (core : Core) → peer_tag core ≡ peer_of (identity_of_core core)
 unfolding peer_of
 link_to closed = refl
 link_to (cookie_wait my) = refl
 link_to (cookie_echoed my held cookie) = refl
 link_to (open_in phase my held) = refl
 
-pub same_key : (core other : Core) → identity_in core ≡ identity_in other → sender_key core ≡ sender_key other
+pub same_key : (core other : Core) → identity_of_core core ≡ identity_of_core other → sender_key core ≡ sender_key other
 same_key core other same = link_key core ∙ ap key_of same ∙ sym (link_key other)
 
-pub same_peer : (core other : Core) → identity_in core ≡ identity_in other → peer_tag core ≡ peer_tag other
+pub same_peer : (core other : Core) → identity_of_core core ≡ identity_of_core other → peer_tag core ≡ peer_tag other
 same_peer core other same = link_to core ∙ ap peer_of same ∙ sym (link_to other)
 
-pub no_key : (core : Core) → identity_in core ≡ None → sender_key core ≡ 0
+pub no_key : (core : Core) → identity_of_core core ≡ None → sender_key core ≡ 0
 unfolding key_of
 no_key core none = link_key core ∙ ap key_of none
 
-pub no_peer : (core : Core) → identity_in core ≡ None → peer_tag core ≡ 0
+pub no_peer : (core : Core) → identity_of_core core ≡ None → peer_tag core ≡ 0
 unfolding peer_of
 no_peer core none = link_to core ∙ ap peer_of none
 
-pub link_tag : (core : Core) (link : AssociationIdentity) → identity_in core ≡ Some link → sender_key core ≡ link.my.tag
+pub link_tag : (core : Core) (link : AssociationIdentity) → identity_of_core core ≡ Some link → sender_key core ≡ link.my.tag
 unfolding key_of
 link_tag core link is = link_key core ∙ ap key_of is
 
-pub link_peer : (core : Core) (link : AssociationIdentity) → identity_in core ≡ Some link → peer_tag core ≡ link.peer.tag
+pub link_peer : (core : Core) (link : AssociationIdentity) → identity_of_core core ≡ Some link → peer_tag core ≡ link.peer.tag
 unfolding peer_of
 link_peer core link is = link_to core ∙ ap peer_of is
 
@@ -125,8 +125,8 @@ pub alone_later : (options : Options) (ends ends' : Ends) (past later their_past
 alone_later options ends ends' past later their_past their_later within their_within tag gets firsts (inl met) = inl (met_later past later their_past their_later within their_within tag met)
 alone_later options ends ends' past later their_past their_later within their_within tag gets firsts (inr run) =
     inr
-    (subst (λ (n : ℕ). DirectionRun options n options.max_receiver_window_buffer_size (joined (unbegun_end options) (ends'.gets tag))) (sym firsts)
-    (subst (λ (g : ReceivingEnd). DirectionRun options (ends.firsts tag) options.max_receiver_window_buffer_size (joined (unbegun_end options) g)) (sym gets) run))
+    (subst (λ (n : ℕ). DirectionRun options n options.max_receiver_window_buffer_size (direction_of_ends (unbegun_end options) (ends'.gets tag))) (sym firsts)
+    (subst (λ (g : ReceivingEnd). DirectionRun options (ends.firsts tag) options.max_receiver_window_buffer_size (direction_of_ends (unbegun_end options) g)) (sym gets) run))
 
 -- ---- packets
 
@@ -183,7 +183,7 @@ module _ (ends : Ends) (key to : ℕ) (below : EndpointQueues) (queued : List Me
   grown_end = record { queued = more ++ (ends.sends key).queued; queues = after; acknowledged = acknowledged; sent = (ends.sends key).sent ++ ps; asking = asking; beginning = (ends.sends key).beginning }
 
   abbrev pub grown_ends : Ends
-  grown_ends = record ends { sends = set_at key grown_end ends.sends }
+  grown_ends = record ends { sends = table_with key grown_end ends.sends }
 
   grown_last : (tag : ℕ) → tag ≢ key → MarksLeft (ends.sends tag) (more ++ (ends.sends key).queued)
   grown_last tag ne place below gone =
@@ -232,11 +232,11 @@ module _ (ends : Ends) (key to : ℕ) (below : EndpointQueues) (queued : List Me
         short = set_all (λ tag s. length s.queued ≤ length (more ++ queued)) key grown_end ends.sends
             (let a = length-append more (ends.sends key).queued in let b = length-append more queued in let c = h.long in omega (arith, a, b, c))
             (λ tag ne. (let b = length-append more queued in let c = h.short tag in omega (arith, b, c)));
-        few = set_all (λ tag s. chunks_in s.sent ≤ chunks_before (ends.former tag) (packets ++ ps) + chunks_to (ends.latest tag) (packets ++ ps)) key grown_end ends.sends
+        few = set_all (λ tag s. chunks_among_packets s.sent ≤ chunks_before (ends.former tag) (packets ++ ps) + chunks_to (ends.latest tag) (packets ++ ps)) key grown_end ends.sends
             (let a = chunks_more (ends.sends key).sent ps in let b = more_to (ends.latest key) packets ps in let c = addressed_counts (ends.latest key) ps here in let d = h.few key in
             let f = before_grows (ends.former key) packets ps in omega (arith, a, b, c, d, f))
             (λ tag ne. (let b = more_to (ends.latest tag) packets ps in let c = h.few tag in let f = before_grows (ends.former tag) packets ps in omega (arith, b, c, f)));
-        few_requests = set_all (λ tag s. requests_in s.sent ≤ requests_to (ends.latest tag) (packets ++ ps)) key grown_end ends.sends
+        few_requests = set_all (λ tag s. requests_among_packets s.sent ≤ requests_to (ends.latest tag) (packets ++ ps)) key grown_end ends.sends
             (let a = requests_more (ends.sends key).sent ps in let b = requests_more_to (ends.latest key) packets ps in let c = addressed_requests (ends.latest key) ps here in let d = h.few_requests key in omega (arith, a, b, c, d))
             (λ tag ne. (let b = requests_more_to (ends.latest tag) packets ps in let c = h.few_requests tag in omega (arith, b, c)));
         last = λ tag ne. subst (λ (s : SendingEnd). MarksLeft s (grown_ends.sends key).queued) (sym (set_other key tag grown_end ends.sends ne))
@@ -289,7 +289,7 @@ module _ (ends : Ends) (key peer : ℕ) (below : EndpointQueues) (queued : List 
   renewed_end = record { queued = marked_queue; queues = after; acknowledged = acknowledged; sent = ps; asking = asking; beginning = beginning }
 
   abbrev pub renewed_ends : Ends
-  renewed_ends = record ends { sends = set_at to renewed_end ends.sends; gets = gets; firsts = firsts; latest = set_at to at ends.latest; former = set_at to before ends.former }
+  renewed_ends = record ends { sends = table_with to renewed_end ends.sends; gets = gets; firsts = firsts; latest = table_with to at ends.latest; former = table_with to before ends.former }
 
   are : AreMarked marked_queue (ends.sends key).queued
   are = all_are_marked (length (ends.sends key).queued) (ends.sends key).queues.queue.streams (ends.sends key).queued
@@ -359,10 +359,10 @@ module _ (ends : Ends) (key peer : ℕ) (below : EndpointQueues) (queued : List 
         long = ap (λ (s : SendingEnd). length s.queued) (set_same to renewed_end ends.sends) ∙ are.size ∙ h.long;
         marks = set_all (λ tag s. AllFound s.queued queued) to renewed_end ends.sends (found_then marked_queue (ends.sends key).queued queued are (h.marks key)) (λ tag ne. h.marks tag);
         short = set_all (λ tag s. length s.queued ≤ length queued) to renewed_end ends.sends (let a = are.size in let b = h.long in omega (arith, a, b)) (λ tag ne. h.short tag);
-        few = set_three (λ tag s f l. chunks_in s.sent ≤ chunks_before f (packets ++ ps) + chunks_to l (packets ++ ps)) to renewed_end before at ends.sends ends.former ends.latest
+        few = set_three (λ tag s f l. chunks_among_packets s.sent ≤ chunks_before f (packets ++ ps) + chunks_to l (packets ++ ps)) to renewed_end before at ends.sends ends.former ends.latest
             (let b = more_to at packets ps in let c = addressed_counts at ps addressed in omega (arith, b, c))
             (λ tag ne. (let b = more_to (ends.latest tag) packets ps in let c = h.few tag in let f = before_grows (ends.former tag) packets ps in omega (arith, b, c, f)));
-        few_requests = set_three (λ tag s f l. requests_in s.sent ≤ requests_to l (packets ++ ps)) to renewed_end before at ends.sends ends.former ends.latest
+        few_requests = set_three (λ tag s f l. requests_among_packets s.sent ≤ requests_to l (packets ++ ps)) to renewed_end before at ends.sends ends.former ends.latest
             (let b = requests_more_to at packets ps in let c = addressed_requests at ps addressed in omega (arith, b, c)) (λ tag ne. (let b = requests_more_to (ends.latest tag) packets ps in let c = h.few_requests tag in omega (arith, b, c)));
         last = λ tag ne. renewed_behind tag to refl ne;
         pairs = renewed_pairs;
@@ -384,8 +384,8 @@ module _ (ends : Ends) (key peer : ℕ) (below : EndpointQueues) (queued : List 
           | inr new ↦ (
             new.0,
             elim new.2 [
-              | inl is ↦ inl (is ∙ sym (set_same to at ends.latest) ∙ ap (set_at to at ends.latest) (sym new.1))
-              | inr is ↦ inr (ap (set_at to before ends.former) new.1 ∙ set_same to before ends.former ∙ is)
+              | inl is ↦ inl (is ∙ sym (set_same to at ends.latest) ∙ ap (table_with to at ends.latest) (sym new.1))
+              | inr is ↦ inr (ap (table_with to before ends.former) new.1 ∙ set_same to before ends.former ∙ is)
             ],
           )
         ];
@@ -401,6 +401,6 @@ module _ (ends : Ends) (key peer : ℕ) (below : EndpointQueues) (queued : List 
           inr (kind_later effects past tag (ends.sends tag).queues.queue.is_interleaved (λ each has same. elim (which each has) [ inl old ↦ old.0 | inr new ↦ absurd (ne (sym same ∙ new.1)) ]) had)
 
       known_before : (link : AssociationIdentity) → link.my.tag ≢ to → (link.peer.tag ≡ ends.latest link.my.tag) ⊎ (ends.former link.my.tag ≡ Some link.peer.tag)
-          → (link.peer.tag ≡ set_at to at ends.latest link.my.tag) ⊎ (set_at to before ends.former link.my.tag ≡ Some link.peer.tag)
+          → (link.peer.tag ≡ table_with to at ends.latest link.my.tag) ⊎ (table_with to before ends.former link.my.tag ≡ Some link.peer.tag)
       known_before link ne (inl is) = inl (is ∙ sym (set_other to link.my.tag at ends.latest ne))
       known_before link ne (inr is) = inr (set_other to link.my.tag before ends.former ne ∙ is)

@@ -13,8 +13,8 @@ use Rattle.dcsctp_delivery_sending.specs.Log.{Message}
 use Rattle.dcsctp_delivery_sending.specs.Places.{HasEntry}
 use Rattle.dcsctp_delivery_directions.specs.Directions.{DirectionRun}
 use Rattle.dcsctp_delivery_directions.proofs.Directions.{directions_deliver}
-use Rattle.dcsctp_delivery_associations.specs.Ends.{ReceivingEnd, joined, Ends, HadBoth, unbegun_end, Between}
-use Rattle.dcsctp_delivery_associations.specs.Reads.{Tags, Read, Reading, with_tag, with_key, AreOfLink, AllOfLinks}
+use Rattle.dcsctp_delivery_associations.specs.Ends.{ReceivingEnd, direction_of_ends, Ends, HadBoth, unbegun_end, Between}
+use Rattle.dcsctp_delivery_associations.specs.Reads.{Tags, ReadMessage, Reading, with_tag, with_key, AreOfLink, AllOfLinks}
 use Rattle.dcsctp_delivery_associations.proofs.InOrder.{read_none}
 
 -- No two associations have peers of one tag.
@@ -24,12 +24,12 @@ PeersDiffer past = (one two : AssociationIdentity) → HasEffect (holds one) pas
 -- ---- lists of what was read
 
 -- What was read is among what was read under its tags.
-among_key : (reads : List Read) (r : Read) → HasEntry r reads → with_key r.tags.peer reads ≡ [] → ⊥
+among_key : (reads : List ReadMessage) (r : ReadMessage) → HasEntry r reads → with_key r.tags.peer reads ≡ [] → ⊥
 among_key [] r has none = has
 among_key (first ∷ reads) r (inl is) none =
     elim (eqb_tells first.tags.peer r.tags.peer) [
       | inl t ↦ (let same : first.message ∷ with_key r.tags.peer reads ≡ [] = sym (ap (λ (b : Bool). if b then first.message ∷ with_key r.tags.peer reads else with_key r.tags.peer reads) t.0) ∙ none in absurd (cc))
-      | inr t ↦ absurd (t.1 (ap (λ (x : Read). x.tags.peer) (sym is)))
+      | inr t ↦ absurd (t.1 (ap (λ (x : ReadMessage). x.tags.peer) (sym is)))
     ]
 among_key (first ∷ reads) r (inr has) none =
     elim (eqb_tells first.tags.peer r.tags.peer) [
@@ -38,11 +38,11 @@ among_key (first ∷ reads) r (inr has) none =
     ]
 
 -- one of an own tag, if there is one
-data Finds (own : ℕ) (reads : List Read) : Type 0 where
-  found : (r : Read) → HasEntry r reads → r.tags.own ≡ own → Finds own reads
+data Finds (own : ℕ) (reads : List ReadMessage) : Type 0 where
+  found : (r : ReadMessage) → HasEntry r reads → r.tags.own ≡ own → Finds own reads
   found_none : with_tag own reads ≡ [] → Finds own reads
 
-finds : (own : ℕ) (reads : List Read) → Finds own reads
+finds : (own : ℕ) (reads : List ReadMessage) → Finds own reads
 finds own [] = found_none refl
 finds own (first ∷ reads) =
     elim (eqb_tells first.tags.own own) [
@@ -55,7 +55,7 @@ finds own (first ∷ reads) =
     later (found_none none) same = found_none (same ∙ none)
 
 -- Where the tags go together both ways of asking give the same.
-same_reads : (reads : List Read) (own key : ℕ) → ((r : Read) → HasEntry r reads → (r.tags.own ≡ own → r.tags.peer ≡ key) × (r.tags.peer ≡ key → r.tags.own ≡ own)) → with_tag own reads ≡ with_key key reads
+same_reads : (reads : List ReadMessage) (own key : ℕ) → ((r : ReadMessage) → HasEntry r reads → (r.tags.own ≡ own → r.tags.peer ≡ key) × (r.tags.peer ≡ key → r.tags.own ≡ own)) → with_tag own reads ≡ with_key key reads
 same_reads [] own key go = refl
 same_reads (first ∷ reads) own key go =
     let rest = same_reads reads own key (λ r has. go r (inr has)) in
@@ -75,9 +75,9 @@ same_reads (first ∷ reads) own key go =
       ]
     ]
 
-all_among : (past : List Effect) (reads : List Read) (r : Read) → AllOfLinks past reads → HasEntry r reads → AreOfLink past r.tags
+all_among : (past : List Effect) (reads : List ReadMessage) (r : ReadMessage) → AllOfLinks past reads → HasEntry r reads → AreOfLink past r.tags
 all_among past [] r all has = absurd has
-all_among past (first ∷ reads) r all (inl is) = subst (λ (x : Read). AreOfLink past x.tags) (sym is) all.0
+all_among past (first ∷ reads) r all (inl is) = subst (λ (x : ReadMessage). AreOfLink past x.tags) (sym is) all.0
 all_among past (first ∷ reads) r all (inr has) = all_among past reads r all.1 has
 
 -- ---- the two ends
@@ -90,19 +90,19 @@ pub data ReadUnder (past their_past : List Effect) (reading : Reading) (own : �
 module _ (options : Options) (ends : Ends) (e : Endpoint) (queued : List Message) (past : List Effect) (packets : List Emission) (other : Endpoint) (their_past : List Effect) (reading : Reading)
     (h : Between options ends e queued past packets other their_past reading) (mine_differ : PeersDiffer past) (theirs_differ : PeersDiffer their_past) where
   -- Nothing is read where no association crosses.
-  none_alone : (key : ℕ) → DirectionRun options (ends.firsts key) options.max_receiver_window_buffer_size (joined (unbegun_end options) (ends.gets key)) → with_key key reading.reads ≡ []
+  none_alone : (key : ℕ) → DirectionRun options (ends.firsts key) options.max_receiver_window_buffer_size (direction_of_ends (unbegun_end options) (ends.gets key)) → with_key key reading.reads ≡ []
   none_alone key run =
-      let d = directions_deliver options (ends.firsts key) options.max_receiver_window_buffer_size (joined (unbegun_end options) (ends.gets key)) run (h.small key) (omega arith) (omega arith) in
+      let d = directions_deliver options (ends.firsts key) options.max_receiver_window_buffer_size (direction_of_ends (unbegun_end options) (ends.gets key)) run (h.small key) (omega arith) (omega arith) in
       h.receiver.were_read key ∙ read_none [] refl (ends.gets key).read d.places d.were_queued
 
   none_at_zero : with_key 0 reading.reads ≡ []
   none_at_zero = elim (h.receiver.begun 0) [ inl new ↦ h.receiver.were_read 0 ∙ ap (λ (g : ReceivingEnd). g.read) new | inr had ↦ absurd (had.some refl) ]
 
   -- What was read was read in an association that crosses.
-  abbrev Crossed : Read → Type 0
+  abbrev Crossed : ReadMessage → Type 0
   Crossed r = (link : AssociationIdentity) × HasEffect (holds link) their_past × (link.peer.tag ≡ r.tags.peer) × (link.my.tag ≡ r.tags.own) × HadBoth past r.tags.peer r.tags.own
 
-  crossed : (r : Read) → HasEntry r reading.reads → Crossed r
+  crossed : (r : ReadMessage) → HasEntry r reading.reads → Crossed r
   crossed r has = by_link (all_among their_past reading.reads r h.receiver.reads_of has)
     where
       by_link : AreOfLink their_past r.tags → Crossed r
@@ -130,13 +130,13 @@ module _ (options : Options) (ends : Ends) (e : Endpoint) (queued : List Message
           let both : HadBoth past first.tags.peer own = subst (HadBoth past first.tags.peer) is here.4 in
           under_key first.tags.peer (same_reads reading.reads own first.tags.peer (λ r among. (to_peer r among both, to_own r among here))) both here.0 here.1 (here.3 ∙ is)
         where
-          to_peer : (r : Read) → HasEntry r reading.reads → HadBoth past first.tags.peer own → r.tags.own ≡ own → r.tags.peer ≡ first.tags.peer
+          to_peer : (r : ReadMessage) → HasEntry r reading.reads → HadBoth past first.tags.peer own → r.tags.own ≡ own → r.tags.peer ≡ first.tags.peer
           to_peer r among both same =
               let there = crossed r among in
               let one : there.4.link ≡ both.link = mine_differ there.4.link both.link there.4.held both.held (there.4.peer_is ∙ same ∙ sym both.peer_is) in
               sym there.4.tag_is ∙ ap (λ (l : AssociationIdentity). l.my.tag) one ∙ both.tag_is
 
-          to_own : (r : Read) → HasEntry r reading.reads → Crossed first → r.tags.peer ≡ first.tags.peer → r.tags.own ≡ own
+          to_own : (r : ReadMessage) → HasEntry r reading.reads → Crossed first → r.tags.peer ≡ first.tags.peer → r.tags.own ≡ own
           to_own r among here same =
               let there = crossed r among in
               let one : there.0 ≡ here.0 = theirs_differ there.0 here.0 there.1 here.1 (there.2 ∙ same ∙ sym here.2) in
@@ -146,13 +146,13 @@ module _ (options : Options) (ends : Ends) (e : Endpoint) (queued : List Message
   pub read_of_both : (key own : ℕ) → HadBoth past key own → (theirs : AssociationIdentity) → HasEffect (holds theirs) their_past → theirs.peer.tag ≡ key → theirs.my.tag ≡ own → with_tag own reading.reads ≡ with_key key reading.reads
   read_of_both key own both theirs held peer_is own_is = same_reads reading.reads own key (λ r has. (to_peer r has, to_own r has))
     where
-      to_peer : (r : Read) → HasEntry r reading.reads → r.tags.own ≡ own → r.tags.peer ≡ key
+      to_peer : (r : ReadMessage) → HasEntry r reading.reads → r.tags.own ≡ own → r.tags.peer ≡ key
       to_peer r has same =
           let there = crossed r has in
           let one : there.4.link ≡ both.link = mine_differ there.4.link both.link there.4.held both.held (there.4.peer_is ∙ same ∙ sym both.peer_is) in
           sym there.4.tag_is ∙ ap (λ (l : AssociationIdentity). l.my.tag) one ∙ both.tag_is
 
-      to_own : (r : Read) → HasEntry r reading.reads → r.tags.peer ≡ key → r.tags.own ≡ own
+      to_own : (r : ReadMessage) → HasEntry r reading.reads → r.tags.peer ≡ key → r.tags.own ≡ own
       to_own r has same =
           let there = crossed r has in
           let one : there.0 ≡ theirs = theirs_differ there.0 theirs there.1 held (there.2 ∙ same ∙ sym peer_is) in

@@ -8,7 +8,7 @@ use Rattle.dcsctp_spec_lemmas.specs.types.queues.Messages.{MessageContent}
 use Rattle.dcsctp_spec_lemmas.specs.spec.queues.Reassembly.{ReassemblyState}
 use Rattle.dcsctp_spec_lemmas.specs.spec.queues.Transfer.{Transfer}
 use Rattle.dcsctp_spec_lemmas.specs.spec.association.Acts.{connect, t1_expires, shut_down, step_of_shutdown, shutdown_repeats, abort_with, hands_over, flushes, request_again, request_renewed}
-use Rattle.dcsctp_spec_laws.specs.LeftLaws.{left_once, LeftWhere, IsOwnInput}
+use Rattle.dcsctp_spec_laws.specs.LeftLaws.{left_once, LeavesMessages, IsOwnInput}
 use Rattle.dcsctp_spec_laws.proofs.LeftTurns.{messages_left_stay}
 use Rattle.dcsctp_delivery_turns.specs.Actions.{IsCall}
 use Rattle.dcsctp_delivery_associations.specs.Ends.{ReceivingEnd, LeavesReady}
@@ -54,7 +54,7 @@ module _ (d : Endpoint) (input : Input) (o : Outcome) (may : IsCall input) (turn
   pub none_left : (gets : ℕ → ReceivingEnd) (last : ℕ) (transfer : Transfer) → o.after.queues.transfer ≡ Some transfer → LeavesReady gets last d.left d.queues.transfer → o.after.left ≡ []
   none_left gets last transfer is before = go d.queues.transfer o.after.queues.transfer (messages_left_stay d input o (call_is_own input may) turn) is before
     where
-      go : (old new : Option Transfer) → LeftWhere d input old new o.after.left → new ≡ Some transfer → LeavesReady gets last d.left old → o.after.left ≡ []
+      go : (old new : Option Transfer) → LeavesMessages d input old new o.after.left → new ≡ Some transfer → LeavesReady gets last d.left old → o.after.left ≡ []
       go None None stays there ready = absurd (cc)
       go (Some old) None stays there ready = absurd (cc)
       go None (Some new) stays there ready = stays
@@ -71,7 +71,7 @@ module _ (d : Endpoint) (input : Input) (o : Outcome) (may : IsCall input) (turn
       left_idle gets tag o.after.left o.after.queues.transfer gone
       (go d.options.follow_rfc d.queues.transfer o.after.queues.transfer (messages_left_stay d input o (call_is_own input may) turn) there gone (subst (LeavesReady gets last d.left) there before) refl)
     where
-      go : (b : Bool) (old new : Option Transfer) → LeftWhere d input old new o.after.left → old ≡ Some transfer → new ≡ None → d.left ≡ [] → d.options.follow_rfc ≡ b
+      go : (b : Bool) (old new : Option Transfer) → LeavesMessages d input old new o.after.left → old ≡ Some transfer → new ≡ None → d.left ≡ [] → d.options.follow_rfc ≡ b
           → (o.after.left ≡ []) ⊎ ((gets tag).reassembly.incoming.ready ≡ o.after.left)
       go b None new stays is none empty follows = absurd (cc)
       go b (Some old) (Some new) stays is none empty follows = absurd (cc)
@@ -84,7 +84,7 @@ module _ (d : Endpoint) (input : Input) (o : Outcome) (may : IsCall input) (turn
   pub left_taken : d.queues.transfer ≡ None → o.after.queues.transfer ≡ None → o.after.left ≡ left_once input d.left
   left_taken none gone = go d.queues.transfer o.after.queues.transfer (messages_left_stay d input o (call_is_own input may) turn) none gone
     where
-      go : (old new : Option Transfer) → LeftWhere d input old new o.after.left → old ≡ None → new ≡ None → o.after.left ≡ left_once input d.left
+      go : (old new : Option Transfer) → LeavesMessages d input old new o.after.left → old ≡ None → new ≡ None → o.after.left ≡ left_once input d.left
       go None None stays before after = stays
       go None (Some new) stays before after = absurd (cc)
       go (Some old) new stays before after = absurd (cc)

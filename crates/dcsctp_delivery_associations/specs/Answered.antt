@@ -5,7 +5,7 @@ use Rattle.dcsctp_spec_lemmas.specs.types.declared.association.Pair.{Pair}
 use Rattle.dcsctp_spec_runs.specs.Past.{WasPerformed, HasEffect, number_to_accept, number_to_perform}
 use Rattle.dcsctp_spec_lemmas.specs.spec.Reconfiguration.{RequestedReset, renewed_reset}
 use Rattle.dcsctp_spec_lemmas.specs.spec.endpoint.Endpoint.{Endpoint}
-use Rattle.dcsctp_spec_lemmas.specs.spec.association.Effect.{AssociationIdentity, Effect, holds, identity_in}
+use Rattle.dcsctp_spec_lemmas.specs.spec.association.Effect.{AssociationIdentity, Effect, holds, identity_of_core}
 use Rattle.dcsctp_spec_lemmas.specs.spec.queues.Transfer.{Transfer}
 use Rattle.dcsctp_spec_lemmas.specs.spec.queues.Reassembly.{DeferralModel}
 use Rattle.dcsctp_spec_lemmas.specs.spec.endpoint.BegunResets.{BegunReset}
@@ -24,8 +24,8 @@ pub record Requests : Type 0 where
   pub is_interleaved : Bool
 
 -- the number of the request at this place: the first is at 0
-abbrev pub request_number_at : ℕ → ℕ → ℕ
-request_number_at first place = (first + place) % 2 ^ 32
+abbrev pub request_numbered : ℕ → ℕ → ℕ
+request_numbered first place = (first + place) % 2 ^ 32
 
 -- They want the same, but for whether they say that they are new.
 abbrev pub WantsSame : RequestedReset → RequestedReset → Type 0
@@ -57,9 +57,9 @@ pub record AreAsked (requests : Requests) (their_past : List Effect) : Type 0 wh
   pub numbers : AreNumbered requests.first requests.asking.requests
   pub out : requests.asking.out ≤ 1
   -- With interleaving the receiver has performed the newest if it has an end,
-  pub ended : requests.is_interleaved ≡ true → requests.asking.out ≡ 0 → (place : ℕ) → suc place ≡ length requests.asking.requests → WasPerformed requests.my (request_number_at requests.first place) their_past
+  pub ended : requests.is_interleaved ≡ true → requests.asking.out ≡ 0 → (place : ℕ) → suc place ≡ length requests.asking.requests → WasPerformed requests.my (request_numbered requests.first place) their_past
   -- or if that is known;
-  pub performed_is : requests.is_interleaved ≡ true → requests.asking.is_performed ≡ true → (place : ℕ) → suc place ≡ length requests.asking.requests → WasPerformed requests.my (request_number_at requests.first place) their_past
+  pub performed_is : requests.is_interleaved ≡ true → requests.asking.is_performed ≡ true → (place : ℕ) → suc place ≡ length requests.asking.requests → WasPerformed requests.my (request_numbered requests.first place) their_past
   -- and it has performed one, or all want the same.
   pub some_performed : requests.is_interleaved ≡ true → (newest : BegunReset) (earlier : List BegunReset) → requests.asking.requests ≡ newest ∷ earlier
       → ((number : ℕ) × WasPerformed requests.my number their_past) ⊎ WantFrom 0 newest.reset requests.asking.requests
@@ -68,7 +68,7 @@ pub record AreAsked (requests : Requests) (their_past : List Effect) : Type 0 wh
 pub record IsRequestNumber (requests : Requests) (number : ℕ) : Type 0 where
   pub place : ℕ
   pub below : place < length requests.asking.requests
-  pub is : number ≡ request_number_at requests.first place
+  pub is : number ≡ request_numbered requests.first place
   pub newest : requests.is_interleaved ≡ true → suc place ≡ length requests.asking.requests → requests.asking.is_performed ≡ true
 
 -- This holds for each that the receiver has performed.
@@ -79,14 +79,14 @@ WerePerformed requests their_past = (number : ℕ) → WasPerformed requests.my 
 -- where one was sent again under other numbers.
 pub data IsInStep (requests : Requests) (their_past : List Effect) (waits : Option DeferralModel) : Type 0 where
   -- It has performed the newest, or none was begun.
-  all_performed : number_to_accept their_past ≡ Some (request_number_at requests.first (length requests.asking.requests)) → number_to_perform their_past ≡ None → waits ≡ None
+  all_performed : number_to_accept their_past ≡ Some (request_numbered requests.first (length requests.asking.requests)) → number_to_perform their_past ≡ None → waits ≡ None
       → (requests.asking.requests ≡ []) ⊎ (requests.asking.is_performed ≡ true) → IsInStep requests their_past waits
   -- It hasn't accepted the one at this place, from which on all want the same,
   unaccepted : (newest : BegunReset) (earlier : List BegunReset) (place : ℕ) → requests.asking.requests ≡ newest ∷ earlier → place ≤ length earlier → WantFrom place newest.reset requests.asking.requests
-      → number_to_accept their_past ≡ Some (request_number_at requests.first place) → number_to_perform their_past ≡ None → waits ≡ None → requests.asking.is_performed ≡ false → IsInStep requests their_past waits
+      → number_to_accept their_past ≡ Some (request_numbered requests.first place) → number_to_perform their_past ≡ None → waits ≡ None → requests.asking.is_performed ≡ false → IsInStep requests their_past waits
   -- or hasn't performed it yet.
   in_progress : (newest : BegunReset) (earlier : List BegunReset) (place : ℕ) → requests.asking.requests ≡ newest ∷ earlier → place ≤ length earlier → WantFrom place newest.reset requests.asking.requests
-      → number_to_accept their_past ≡ Some (request_number_at requests.first (suc place)) → number_to_perform their_past ≡ Some (request_number_at requests.first place) → IsOwn newest.reset waits → requests.asking.is_performed ≡ false
+      → number_to_accept their_past ≡ Some (request_numbered requests.first (suc place)) → number_to_perform their_past ≡ Some (request_numbered requests.first place) → IsOwn newest.reset waits → requests.asking.is_performed ≡ false
       → IsInStep requests their_past waits
 
 -- The receiver is in step; or messages don't interleave, and a request was begun.
@@ -123,5 +123,5 @@ waiting_deferral (Some transfer) = transfer.reassembly.deferral
 -- What was asked is answered so, by the pairs that the sender has had.
 pub record AreAnswered (ends : Ends) (e : Endpoint) (past : List Effect) (other : Endpoint) (their_past : List Effect) : Type 0 where
   pub pairs : ℕ → Pair
-  pub answers : AnswersRequests (requests_of ends pairs) (identity_in e.core) past (identity_in other.core) their_past (waiting_deferral other.queues.transfer)
-  pub unlinked : other.queues.transfer ≡ None → identity_in other.core ≡ None
+  pub answers : AnswersRequests (requests_of ends pairs) (identity_of_core e.core) past (identity_of_core other.core) their_past (waiting_deferral other.queues.transfer)
+  pub unlinked : other.queues.transfer ≡ None → identity_of_core other.core ≡ None

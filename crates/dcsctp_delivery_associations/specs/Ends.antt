@@ -7,13 +7,13 @@ use Rattle.dcsctp_spec_lemmas.specs.types.declared.options.Options.{Options}
 use Rattle.dcsctp_spec_lemmas.specs.spec.endpoint.Endpoint.{Endpoint, Core, closed, cookie_wait, cookie_echoed, open_in, is_cookie_echoed}
 use Rattle.dcsctp_spec_lemmas.specs.wire.Content.{sack_chunk}
 use Rattle.dcsctp_spec_lemmas.specs.spec.Packet.{Content, shutdown, unworked, plain, Emission}
-use Rattle.dcsctp_spec_lemmas.specs.spec.endpoint.Event.{Event, incoming_stream_reset, packets_in}
+use Rattle.dcsctp_spec_lemmas.specs.spec.endpoint.Event.{Event, incoming_stream_reset, packets_of_events}
 use Rattle.dcsctp_spec_lemmas.specs.spec.endpoint.Turn.{Input}
 use Rattle.dcsctp_spec_lemmas.specs.spec.endpoint.BegunResets.{BegunReset}
 use Rattle.dcsctp_spec_lemmas.specs.spec.Reconfiguration.{NumberedReset}
 use Rattle.dcsctp_spec_lemmas.specs.types.declared.association.Pair.{Pair}
 use Rattle.dcsctp_spec_runs.specs.Past.{HasEffect, WasPerformed}
-use Rattle.dcsctp_spec_lemmas.specs.spec.association.Effect.{AssociationIdentity, Effect, holds, identity_in}
+use Rattle.dcsctp_spec_lemmas.specs.spec.association.Effect.{AssociationIdentity, Effect, holds, identity_of_core}
 use Rattle.dcsctp_spec_lemmas.specs.types.queues.Messages.{MessageContent}
 use Rattle.dcsctp_spec_lemmas.specs.spec.queues.Reassembly.{ReassemblyState, new_reassembly}
 use Rattle.dcsctp_spec_lemmas.specs.spec.queues.SendQueue.{empty_queue}
@@ -24,15 +24,15 @@ use Rattle.dcsctp_delivery_sending.specs.Places.{at_place}
 use Rattle.dcsctp_delivery_sending.specs.Log.{Message}
 use Rattle.dcsctp_delivery_sending.specs.Losing.{AllWaitOn}
 use Rattle.dcsctp_delivery_sending.specs.Flushes.{NoData}
-use Rattle.dcsctp_delivery_sending.specs.ChunkCounts.{chunks_in, chunks_to}
+use Rattle.dcsctp_delivery_sending.specs.ChunkCounts.{chunks_among_packets, chunks_to}
 use Rattle.dcsctp_delivery_sending.specs.Marking.{WaitsNoLonger, FindsMarked, IsMarked}
 use Rattle.dcsctp_delivery_directions.specs.Directions.{Direction, Beginning, HasReached, BeginsAs, Asking, nothing_asked, DirectionRun}
-use Rattle.dcsctp_delivery_directions.specs.Requests.{requests_in, requests_to}
+use Rattle.dcsctp_delivery_directions.specs.Requests.{requests_among_packets, requests_to}
 use Rattle.dcsctp_delivery_turns.specs.Asking.{Own, own_of, AsksFit, SomeFit}
 use Rattle.dcsctp_delivery_turns.specs.Actions.{NoEnd, peer_tag}
 use Rattle.dcsctp_delivery_turns.specs.Reports.{AllReportSo, NoReports}
 use Rattle.dcsctp_delivery_turns.specs.Unbegun.{IsAtZero}
-use Rattle.dcsctp_delivery_turns.specs.Untouched.{Untouched, EchoesMaker}
+use Rattle.dcsctp_delivery_turns.specs.Untouched.{IsTransferUntouched, EchoesMaker}
 use Rattle.dcsctp_delivery_associations.specs.Reads.{Reading, tags_of, with_key, AreOfLink, AllOfLinks}
 
 -- ---- the two ends of a direction
@@ -51,8 +51,8 @@ pub record ReceivingEnd : Type 0 where
   pub reassembly : ReassemblyState
   pub read : List MessageContent
 
-abbrev pub joined : SendingEnd → ReceivingEnd → Direction
-joined sends gets =
+abbrev pub direction_of_ends : SendingEnd → ReceivingEnd → Direction
+direction_of_ends sends gets =
     record {
       queued = sends.queued;
       queues = sends.queues;
@@ -81,7 +81,7 @@ pub record Ends : Type 0 where
   pub never_resets : ℕ → Bool
 
 abbrev pub EndsRun : Options → Ends → Type 0
-EndsRun options ends = (tag : ℕ) → DirectionRun options (ends.firsts tag) options.max_receiver_window_buffer_size (joined (ends.sends tag) (ends.gets tag))
+EndsRun options ends = (tag : ℕ) → DirectionRun options (ends.firsts tag) options.max_receiver_window_buffer_size (direction_of_ends (ends.sends tag) (ends.gets tag))
 
 -- ---- the sender
 
@@ -135,7 +135,7 @@ pub record PlaceWasTaken (past : List Effect) (tag former latest : ℕ) : Type 0
 
 -- The sender had no association yet, and has numbered no message. All that was queued on a stream waits, unless that is reset.
 pub record IsUnbegun (never_resets : ℕ → Bool) (queued : List Message) (e : Endpoint) : Type 0 where
-  pub unlinked : identity_in e.core ≡ None
+  pub unlinked : identity_of_core e.core ≡ None
   pub idle : e.queues.transfer ≡ None
   pub zero : IsAtZero e.queues.queue
   pub all : (id : ℕ) → never_resets id ≡ true → AllWaitOn id queued e.queues.queue.streams
@@ -149,8 +149,8 @@ IsOnlyOwn past tag = (link : AssociationIdentity) → HasEffect (holds link) pas
 
 -- The numbers of each stream begin at 0 under this tag of the sender: it follows the RFC (RFC 9260, section 6.5), or it had no
 -- other.
-abbrev pub BeginsAnew : Endpoint → List Effect → ℕ → Type 0
-BeginsAnew e past tag = (e.options.follow_rfc ≡ true) ⊎ IsOnlyOwn past tag
+abbrev pub NumbersFromZero : Endpoint → List Effect → ℕ → Type 0
+NumbersFromZero e past tag = (e.options.follow_rfc ≡ true) ⊎ IsOnlyOwn past tag
 
 -- A sender that begins so keeps these streams,
 abbrev pub KeepsThese : (ℕ → Bool) → Beginning → Type 0
@@ -200,8 +200,8 @@ pub record Sender (ends : Ends) (key to : ℕ) (sender_queues : EndpointQueues) 
   pub long : length (ends.sends key).queued ≡ length queued
   pub marks : (tag place : ℕ) (mark : Message) → at_place place (ends.sends tag).queued ≡ Some mark → FindsMarked mark queued place
   pub short : (tag : ℕ) → length (ends.sends tag).queued ≤ length queued
-  pub few : (tag : ℕ) → chunks_in (ends.sends tag).sent ≤ chunks_before (ends.former tag) packets + chunks_to (ends.latest tag) packets
-  pub few_requests : (tag : ℕ) → requests_in (ends.sends tag).sent ≤ requests_to (ends.latest tag) packets
+  pub few : (tag : ℕ) → chunks_among_packets (ends.sends tag).sent ≤ chunks_before (ends.former tag) packets + chunks_to (ends.latest tag) packets
+  pub few_requests : (tag : ℕ) → requests_among_packets (ends.sends tag).sent ≤ requests_to (ends.latest tag) packets
   pub last : (tag : ℕ) → tag ≢ key → MarksLeft (ends.sends tag) (ends.sends key).queued
   pub pairs : (one other : ℕ) → one ≢ other → MarksLeft (ends.sends one) (ends.sends other).queued ⊎ MarksLeft (ends.sends other) (ends.sends one).queued
   pub current : key ≢ 0 → HadPeer past key (ends.firsts key)
@@ -231,9 +231,9 @@ pub record NewPeer (past their_past : List Effect) (link : AssociationIdentity) 
 pub record TakesOver (past their_past : List Effect) (e : Endpoint) (input : Input) (link : AssociationIdentity) : Type 0 where
   pub follows : e.options.follow_rfc ≡ true
   pub old : AssociationIdentity
-  pub was : identity_in e.core ≡ Some old
+  pub was : identity_of_core e.core ≡ Some old
   pub echoed : is_cookie_echoed e.core ≡ true
-  pub untouched : Untouched old.my.first_tsn old.capabilities e.queues.transfer
+  pub untouched : IsTransferUntouched old.my.first_tsn old.capabilities e.queues.transfer
   pub maker : EchoesMaker input
   pub my : old.my ≡ link.my
   pub other : old.peer.tag ≢ link.peer.tag
@@ -257,7 +257,7 @@ pub record HadTag (past : List Effect) (tag first : ℕ) : Type 0 where
 -- Its association is there, and this end has what it has received.
 pub record IsCurrentEnd (ends : Ends) (e : Endpoint) (past : List Effect) (transfer : Transfer) : Type 0 where
   pub link : AssociationIdentity
-  pub linked : identity_in e.core ≡ Some link
+  pub linked : identity_of_core e.core ≡ Some link
   pub held : HasEffect (holds link) past
   pub own_some : link.my.tag ≢ 0
   pub had : HadTag past link.peer.tag (ends.firsts link.peer.tag)
@@ -274,7 +274,7 @@ pub record Receiver (options : Options) (ends : Ends) (e : Endpoint) (past : Lis
   pub fits : SomeFit (own_of e)
   pub current : (transfer : Transfer) → e.queues.transfer ≡ Some transfer → IsCurrentEnd ends e past transfer
   pub left : LeavesReady ends.gets reading.last.peer e.left e.queues.transfer
-  pub last : (link : AssociationIdentity) → identity_in e.core ≡ Some link → reading.last ≡ tags_of link
+  pub last : (link : AssociationIdentity) → identity_of_core e.core ≡ Some link → reading.last ≡ tags_of link
   pub were_read : (tag : ℕ) → with_key tag reading.reads ≡ (ends.gets tag).read
   pub begun : (tag : ℕ) → (ends.gets tag ≡ new_end options (ends.firsts tag)) ⊎ HadTag past tag (ends.firsts tag)
   pub last_of : AreOfLink past reading.last
@@ -314,7 +314,7 @@ unbegun_end options =
 -- What was received from a tag whose associations don't cross needs no sender.
 abbrev pub MetOrAlone : Options → Ends → List Effect → List Effect → ℕ → Type 0
 MetOrAlone options ends past their_past tag =
-    IsMet past their_past tag ⊎ DirectionRun options (ends.firsts tag) options.max_receiver_window_buffer_size (joined (unbegun_end options) (ends.gets tag))
+    IsMet past their_past tag ⊎ DirectionRun options (ends.firsts tag) options.max_receiver_window_buffer_size (direction_of_ends (unbegun_end options) (ends.gets tag))
 
 -- ---- what the receiver reports
 
@@ -333,7 +333,7 @@ AreHeard gets past [] = Unit {0}
 AreHeard gets past (emission ∷ emissions) = IsHeard gets past emission × AreHeard gets past emissions
 
 -- The chunk was in a packet to this tag.
-pub record CameIn (heard : List Emission) (tag : ℕ) (content : Content) : Type 0 where
+pub record CameInPacket (heard : List Emission) (tag : ℕ) (content : Content) : Type 0 where
   pub emission : Emission
   pub was : places.HasEntry emission heard
   pub holds : places.HasEntry content emission.packet.contents
@@ -341,8 +341,8 @@ pub record CameIn (heard : List Emission) (tag : ℕ) (content : Content) : Type
 
 -- So was the one that is handled, if it reports something.
 abbrev pub CameBack : List Emission → ℕ → Option Content → Type 0
-CameBack heard tag (Some (plain (unworked (sack_chunk sack)))) = CameIn heard tag (plain (unworked (sack_chunk sack)))
-CameBack heard tag (Some (shutdown tsn)) = CameIn heard tag (shutdown tsn)
+CameBack heard tag (Some (plain (unworked (sack_chunk sack)))) = CameInPacket heard tag (plain (unworked (sack_chunk sack)))
+CameBack heard tag (Some (shutdown tsn)) = CameInPacket heard tag (shutdown tsn)
 CameBack heard tag came = Unit {0}
 
 -- ---- what the receiver's user is told
@@ -357,7 +357,7 @@ pub record WasNamed (sends : ℕ → SendingEnd) (seen : List (Event Emission)) 
 -- What the receiver has shown in these events: what its packets report, and that it has performed these requests, and the one that
 -- may come again.
 pub record AreSeen (ends : Ends) (e : Endpoint) (past : List Effect) (seen : List (Event Emission)) : Type 0 where
-  pub heard : AreHeard ends.gets past (packets_in seen)
+  pub heard : AreHeard ends.gets past (packets_of_events seen)
   pub named : (my : Pair) (number : ℕ) → WasPerformed my number past → WasNamed ends.sends seen my.tag number
   pub renewable : (old : NumberedReset) → e.renewable ≡ Some old → places.HasEntry (incoming_stream_reset old.reset.streams) seen
 
@@ -367,10 +367,10 @@ pub record Between (options : Options) (ends : Ends) (e : Endpoint) (queued : Li
   pub runs : EndsRun options ends
   pub small : (tag : ℕ) → ends.firsts tag < 2 ^ 32
   pub sender : Sender ends (sender_key e.core) (peer_tag e.core) e.queues queued past packets
-  pub mine : (link : AssociationIdentity) → identity_in e.core ≡ Some link → HasEffect (holds link) past
-  pub idle : identity_in e.core ≡ None → e.queues.transfer ≡ None
+  pub mine : (link : AssociationIdentity) → identity_of_core e.core ≡ Some link → HasEffect (holds link) past
+  pub idle : identity_of_core e.core ≡ None → e.queues.transfer ≡ None
   pub asks : AsksFit (ends.firsts (sender_key e.core)) (own_of e) (ends.sends (sender_key e.core)).asking
-  pub numbered : (tag : ℕ) → tag ≢ 0 → BeginsAnew e past tag → (ends.sends tag).beginning.from_zero ≡ true
+  pub numbered : (tag : ℕ) → tag ≢ 0 → NumbersFromZero e past tag → (ends.sends tag).beginning.from_zero ≡ true
   pub kept : (tag : ℕ) → tag ≢ 0 → IsOnlyOwn past tag → KeepsThese ends.never_resets (ends.sends tag).beginning
   pub dropping : (tag : ℕ) → KeepsOnlyThese ends.never_resets (ends.sends tag).beginning
   pub unbegun : NeverHeld past → IsUnbegun ends.never_resets (ends.sends (sender_key e.core)).queued e

@@ -4,7 +4,7 @@ use Rattle.std.specs.Prelude.{◌≡◌, ◌⊎◌, ◌<◌, ◌+◌, ◌^◌, �
 use Rattle.dcsctp_spec_lemmas.specs.types.declared.options.Options.{Options}
 use Rattle.dcsctp_spec_lemmas.specs.spec.endpoint.Endpoint.{Endpoint}
 use Rattle.dcsctp_spec_lemmas.specs.spec.Packet.{Emission}
-use Rattle.dcsctp_spec_lemmas.specs.spec.association.Effect.{AssociationIdentity, Effect, holds, identity_in}
+use Rattle.dcsctp_spec_lemmas.specs.spec.association.Effect.{AssociationIdentity, Effect, holds, identity_of_core}
 use Rattle.dcsctp_spec_lemmas.specs.spec.queues.Transfer.{Transfer}
 use Rattle.dcsctp_spec_runs.specs.Past.{HasEffect}
 use Rattle.dcsctp_delivery_sending.specs.Log.{Message}
@@ -12,10 +12,10 @@ use Rattle.dcsctp_delivery_sending.specs.ChunkCounts.{chunks_to}
 use Rattle.dcsctp_delivery_sending.specs.Losing.{AreUnlimited, AreUnlimitedOn}
 use Rattle.dcsctp_delivery_directions.specs.Requests.{requests_to}
 use Rattle.dcsctp_delivery_order.specs.PlainDirections.{FewOnEachStream}
-use Rattle.dcsctp_delivery_order.specs.Delivered.{DeliveredInOrder, DeliveredWithoutGaps}
-use Rattle.dcsctp_delivery_order.specs.Streams.{DeliveredByStream, DeliveredOn}
-use Rattle.dcsctp_delivery_order.specs.Complete.{HasNothingLeft, DeliveredAllOn}
-use Rattle.dcsctp_delivery_associations.specs.Ends.{Ends, IsOnlyOwn, BeginsAnew, chunks_before, Between}
+use Rattle.dcsctp_delivery_order.specs.Delivered.{AreDeliveredInOrder, AreDeliveredWithoutGaps}
+use Rattle.dcsctp_delivery_order.specs.Streams.{AreDeliveredByStream, AreDeliveredOnStreams}
+use Rattle.dcsctp_delivery_order.specs.Complete.{HasNothingLeft, AreAllDelivered}
+use Rattle.dcsctp_delivery_associations.specs.Ends.{Ends, IsOnlyOwn, NumbersFromZero, chunks_before, Between}
 use Rattle.dcsctp_delivery_associations.specs.Reads.{Reading, with_key}
 
 -- In the association of the sender whose peer has this tag messages interleave (RFC 8260).
@@ -31,7 +31,7 @@ abbrev pub EndsDeliverInOrder : Type 0
 EndsDeliverInOrder =
     (options : Options) (ends : Ends) (e : Endpoint) (queued : List Message) (past : List Effect) (packets : List Emission) (other : Endpoint) (their_past : List Effect) (reading : Reading)
     → Between options ends e queued past packets other their_past reading → length queued < 2 ^ 64 → ((tag : ℕ) → chunks_before (ends.former tag) packets + chunks_to (ends.latest tag) packets < 2 ^ 30)
-    → (tag : ℕ) → BeginsAnew e past tag → InterleavesUnder past tag → DeliveredInOrder queued (with_key tag reading.reads)
+    → (tag : ℕ) → NumbersFromZero e past tag → InterleavesUnder past tag → AreDeliveredInOrder queued (with_key tag reading.reads)
 
 -- Also where they don't it holds, if besides no message may be abandoned, or few ordered ones were queued on each stream; and no
 -- request to reset streams was sent there.
@@ -39,7 +39,7 @@ abbrev pub EndsDeliverDataInOrder : Type 0
 EndsDeliverDataInOrder =
     (options : Options) (ends : Ends) (e : Endpoint) (queued : List Message) (past : List Effect) (packets : List Emission) (other : Endpoint) (their_past : List Effect) (reading : Reading)
     → Between options ends e queued past packets other their_past reading → length queued < 2 ^ 64 → ((tag : ℕ) → chunks_before (ends.former tag) packets + chunks_to (ends.latest tag) packets < 2 ^ 30) → options.max_receiver_window_buffer_size < 2 ^ 32
-    → AreUnlimited queued ⊎ FewOnEachStream queued → (tag : ℕ) → BeginsAnew e past tag → requests_to (ends.latest tag) packets ≡ 0 → DeliveredInOrder queued (with_key tag reading.reads)
+    → AreUnlimited queued ⊎ FewOnEachStream queued → (tag : ℕ) → NumbersFromZero e past tag → requests_to (ends.latest tag) packets ≡ 0 → AreDeliveredInOrder queued (with_key tag reading.reads)
 
 -- Where messages interleave, and the sender has had no other own tag, what was read of a stream's ordered messages is a prefix of what
 -- was queued, if the stream is never reset, and no message on it may be abandoned.
@@ -47,7 +47,7 @@ abbrev pub EndsDeliverByStream : Type 0
 EndsDeliverByStream =
     (options : Options) (ends : Ends) (e : Endpoint) (queued : List Message) (past : List Effect) (packets : List Emission) (other : Endpoint) (their_past : List Effect) (reading : Reading)
     → Between options ends e queued past packets other their_past reading → length queued < 2 ^ 64 → ((tag : ℕ) → chunks_before (ends.former tag) packets + chunks_to (ends.latest tag) packets < 2 ^ 30)
-    → (tag : ℕ) → IsOnlyOwn past tag → InterleavesUnder past tag → DeliveredByStream ends.never_resets queued (with_key tag reading.reads)
+    → (tag : ℕ) → IsOnlyOwn past tag → InterleavesUnder past tag → AreDeliveredByStream ends.never_resets queued (with_key tag reading.reads)
 
 -- The stream is never reset, and no message on it may be abandoned.
 pub record IsReliableKept (never_resets : ℕ → Bool) (queued : List Message) (id : ℕ) : Type 0 where
@@ -59,23 +59,23 @@ abbrev pub EndsDeliverOnStreams : Type 0
 EndsDeliverOnStreams =
     (these : ℕ → Bool) (options : Options) (ends : Ends) (e : Endpoint) (queued : List Message) (past : List Effect) (packets : List Emission) (other : Endpoint) (their_past : List Effect) (reading : Reading)
     → Between options ends e queued past packets other their_past reading → length queued < 2 ^ 64 → ((tag : ℕ) → chunks_before (ends.former tag) packets + chunks_to (ends.latest tag) packets < 2 ^ 30) → options.max_receiver_window_buffer_size < 2 ^ 32
-    → ((id : ℕ) → these id ≡ true → IsReliableKept ends.never_resets queued id) → (tag : ℕ) → IsOnlyOwn past tag → DeliveredOn these queued (with_key tag reading.reads)
+    → ((id : ℕ) → these id ≡ true → IsReliableKept ends.never_resets queued id) → (tag : ℕ) → IsOnlyOwn past tag → AreDeliveredOnStreams these queued (with_key tag reading.reads)
 
 -- So it is of all, if no stream is reset.
 abbrev pub EndsDeliverWithoutGaps : Type 0
 EndsDeliverWithoutGaps =
     (options : Options) (ends : Ends) (e : Endpoint) (queued : List Message) (past : List Effect) (packets : List Emission) (other : Endpoint) (their_past : List Effect) (reading : Reading)
     → Between options ends e queued past packets other their_past reading → length queued < 2 ^ 64 → ((tag : ℕ) → chunks_before (ends.former tag) packets + chunks_to (ends.latest tag) packets < 2 ^ 30) → options.max_receiver_window_buffer_size < 2 ^ 32
-    → AreUnlimited queued → ((id : ℕ) → ends.never_resets id ≡ true) → (tag : ℕ) → IsOnlyOwn past tag → DeliveredWithoutGaps queued (with_key tag reading.reads)
+    → AreUnlimited queued → ((id : ℕ) → ends.never_resets id ≡ true) → (tag : ℕ) → IsOnlyOwn past tag → AreDeliveredWithoutGaps queued (with_key tag reading.reads)
 
 -- ---- all of it
 
 -- Both are in one association, where messages don't interleave. The sender has nothing left, and the receiver has no message ready.
 pub record AreThrough (e other : Endpoint) : Type 0 where
   pub link : AssociationIdentity
-  pub linked : identity_in e.core ≡ Some link
+  pub linked : identity_of_core e.core ≡ Some link
   pub theirs : AssociationIdentity
-  pub theirs_linked : identity_in other.core ≡ Some theirs
+  pub theirs_linked : identity_of_core other.core ≡ Some theirs
   pub one : theirs.peer.tag ≡ link.my.tag
   pub crossing : theirs.my.tag ≡ link.peer.tag
   pub plain : link.capabilities.message_interleaving ≡ false
@@ -89,4 +89,4 @@ abbrev pub EndsArrive : Type 0
 EndsArrive =
     (these : ℕ → Bool) (options : Options) (ends : Ends) (e : Endpoint) (queued : List Message) (past : List Effect) (packets : List Emission) (other : Endpoint) (their_past : List Effect) (reading : Reading)
     → Between options ends e queued past packets other their_past reading → length queued < 2 ^ 64 → ((tag : ℕ) → chunks_before (ends.former tag) packets + chunks_to (ends.latest tag) packets < 2 ^ 30) → options.max_receiver_window_buffer_size < 2 ^ 32
-    → ((id : ℕ) → these id ≡ true → IsReliableKept ends.never_resets queued id) → (through : AreThrough e other) → IsOnlyOwn past through.link.my.tag → DeliveredAllOn these queued (with_key through.link.my.tag reading.reads)
+    → ((id : ℕ) → these id ≡ true → IsReliableKept ends.never_resets queued id) → (through : AreThrough e other) → IsOnlyOwn past through.link.my.tag → AreAllDelivered these queued (with_key through.link.my.tag reading.reads)

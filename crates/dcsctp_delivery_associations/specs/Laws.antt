@@ -4,33 +4,33 @@ use Rattle.std.specs.Prelude.{◌≡◌, ◌≢◌, ◌⊎◌, ◌<◌, ◌+◌,
 use Rattle.dcsctp_spec_lemmas.specs.types.declared.options.Options.{Options}
 use Rattle.dcsctp_spec_lemmas.specs.types.Settings.{SameOptions}
 use Rattle.dcsctp_spec_lemmas.specs.spec.endpoint.Endpoint.{Endpoint, fresh_endpoint}
-use Rattle.dcsctp_spec_lemmas.specs.spec.endpoint.Event.{Event, incoming_stream_reset, streams_reset_performed, packets_in}
+use Rattle.dcsctp_spec_lemmas.specs.spec.endpoint.Event.{Event, incoming_stream_reset, streams_reset_performed, packets_of_events}
 use Rattle.dcsctp_spec_lemmas.specs.spec.endpoint.Outcome.{Outcome}
 use Rattle.dcsctp_spec_lemmas.specs.spec.Packet.{Emission}
 use Rattle.dcsctp_spec_lemmas.specs.spec.endpoint.Turn.{Input, Turn}
 use Rattle.dcsctp_spec_runs.specs.World.{after_effects}
-use Rattle.dcsctp_spec_lemmas.specs.spec.association.Effect.{AssociationIdentity, Effect, identity_of, identity_in}
+use Rattle.dcsctp_spec_lemmas.specs.spec.association.Effect.{AssociationIdentity, Effect, identity_of, identity_of_core}
 use Rattle.dcsctp_spec_lemmas.specs.spec.queues.Transfer.{Transfer}
 use Rattle.dcsctp_spec_lemmas.specs.spec.endpoint.BegunResets.{stream_field}
 use Rattle.dcsctp_delivery_sending.specs.Log.{Message}
 use Rattle.dcsctp_delivery_sending.specs.Places as places
 use Rattle.dcsctp_delivery_sending.specs.ChunkCounts.{chunks_to}
-use Rattle.dcsctp_delivery_directions.specs.Directions.{Delivered}
-use Rattle.dcsctp_delivery_turns.specs.Actions.{IsOpening, came_by, queued_after, Begun, resets_stream, IsCall}
+use Rattle.dcsctp_delivery_directions.specs.Directions.{AreDelivered}
+use Rattle.dcsctp_delivery_turns.specs.Actions.{IsOpening, content_of_input, queued_after, BeginsAssociation, resets_stream, IsCall}
 use Rattle.dcsctp_delivery_turns.specs.Runs.{RefusesNone}
-use Rattle.dcsctp_delivery_turns.specs.PeerRequests.{KnowsPeerIn}
+use Rattle.dcsctp_delivery_turns.specs.PeerRequests.{KnowsPeerOfCore}
 use Rattle.dcsctp_spec_lemmas.specs.types.declared.association.Pair.{Pair}
 use Rattle.dcsctp_spec_runs.specs.Past.{WasPerformed, HasEffect}
 use Rattle.dcsctp_spec_lemmas.specs.spec.association.Effect.{holds, completes}
 use Rattle.dcsctp_delivery_directions.specs.Requests.{requests_to}
-use Rattle.dcsctp_delivery_associations.specs.Answered.{request_number_at, AreAnswered}
+use Rattle.dcsctp_delivery_associations.specs.Answered.{request_numbered, AreAnswered}
 use Rattle.dcsctp_delivery_turns.specs.Sides.{WasSent}
 use Rattle.dcsctp_delivery_associations.specs.Ends.{Ends, NewPeer, TakesOver, NewTag, chunks_before, HadBoth, AreSeen, CameBack, Between}
 use Rattle.dcsctp_delivery_associations.specs.Reads.{Reading, nothing_read, reading_after, messages_of}
 
 -- A request of ours that ends as performed was performed by the peer, or it is the 2^32nd of its association.
 abbrev pub CompletesPerformed : List Effect → Outcome → Type 0
-CompletesPerformed their_past o = (my : Pair) (number : ℕ) → HasEffect (completes my number) o.effects → WasPerformed my number their_past ⊎ (number ≡ request_number_at my.first_tsn (2 ^ 32 - 1))
+CompletesPerformed their_past o = (my : Pair) (number : ℕ) → HasEffect (completes my number) o.effects → WasPerformed my number their_past ⊎ (number ≡ request_numbered my.first_tsn (2 ^ 32 - 1))
 
 -- Fewer than 2^32 - 1 requests to reset streams went to each tag.
 abbrev pub AsksLittle : List Emission → Type 0
@@ -69,17 +69,17 @@ abbrev pub SendersTurn : Type 0
 SendersTurn =
     (seen : List (Event Emission)) (options : Options) (ends : Ends) (e : Endpoint) (queued : List Message) (past : List Effect) (packets : List Emission) (other : Endpoint) (their_past : List Effect) (reading : Reading) (input : Input) (o : Outcome)
     → Between options ends e queued past packets other their_past reading → AreAnswered ends e past other their_past → AreSeen ends other their_past seen
-    → ((link : AssociationIdentity) → identity_in e.core ≡ Some link → CameBack (packets_in seen) link.my.tag (came_by input)) → ((begun : Begun e o) → IsOpening (came_by input) → identity_in o.after.core ≡ Some (identity_of begun.my begun.held) → NewPeer past their_past (identity_of begun.my begun.held) ⊎ TakesOver past their_past e input (identity_of begun.my begun.held)) → length (queued_after e input queued) < 2 ^ 64 → AsksLittle (packets ++ packets_in o.events)
-    → RefusesNone e o → ResetsAs ends.never_resets input → CompletesPerformed their_past o → o.after.options.follow_rfc ≡ e.options.follow_rfc → IsCall input → Turn e input o → AreEnds ends.never_resets seen options o.after (queued_after e input queued) (after_effects o.effects past) (packets ++ packets_in o.events) other their_past reading
+    → ((link : AssociationIdentity) → identity_of_core e.core ≡ Some link → CameBack (packets_of_events seen) link.my.tag (content_of_input input)) → ((begun : BeginsAssociation e o) → IsOpening (content_of_input input) → identity_of_core o.after.core ≡ Some (identity_of begun.my begun.held) → NewPeer past their_past (identity_of begun.my begun.held) ⊎ TakesOver past their_past e input (identity_of begun.my begun.held)) → length (queued_after e input queued) < 2 ^ 64 → AsksLittle (packets ++ packets_of_events o.events)
+    → RefusesNone e o → ResetsAs ends.never_resets input → CompletesPerformed their_past o → o.after.options.follow_rfc ≡ e.options.follow_rfc → IsCall input → Turn e input o → AreEnds ends.never_resets seen options o.after (queued_after e input queued) (after_effects o.effects past) (packets ++ packets_of_events o.events) other their_past reading
 
 -- So does one of the receiver, if what is handled in its association was sent in it, the peer of each association that is recorded
 -- has a new tag, and few requests went to each tag.
 abbrev pub ReceiversTurn : Type 0
 ReceiversTurn =
     (seen : List (Event Emission)) (options : Options) (ends : Ends) (e : Endpoint) (queued : List Message) (past : List Effect) (packets : List Emission) (other : Endpoint) (their_past : List Effect) (reading : Reading) (input : Input) (o : Outcome)
-    → Between options ends e queued past packets other their_past reading → AreAnswered ends e past other their_past → AreSeen ends other their_past seen → length queued < 2 ^ 64 → AsksLittle packets → SameOptions options other.options → KnowsPeerIn their_past other.core
-    → NewPeerTags their_past o → ((begun : Begun other o) → IsOpening (came_by input) → identity_in o.after.core ≡ Some (identity_of begun.my begun.held) → NewTag their_past past (identity_of begun.my begun.held))
-    → ((transfer : Transfer) (link : AssociationIdentity) → other.queues.transfer ≡ Some transfer → identity_in other.core ≡ Some link → WasSent (ends.sends link.peer.tag).sent (came_by input) × (HadBoth past link.peer.tag link.my.tag ⊎ WasSent [] (came_by input))) → IsCall input → Turn other input o
+    → Between options ends e queued past packets other their_past reading → AreAnswered ends e past other their_past → AreSeen ends other their_past seen → length queued < 2 ^ 64 → AsksLittle packets → SameOptions options other.options → KnowsPeerOfCore their_past other.core
+    → NewPeerTags their_past o → ((begun : BeginsAssociation other o) → IsOpening (content_of_input input) → identity_of_core o.after.core ≡ Some (identity_of begun.my begun.held) → NewTag their_past past (identity_of begun.my begun.held))
+    → ((transfer : Transfer) (link : AssociationIdentity) → other.queues.transfer ≡ Some transfer → identity_of_core other.core ≡ Some link → WasSent (ends.sends link.peer.tag).sent (content_of_input input) × (HadBoth past link.peer.tag link.my.tag ⊎ WasSent [] (content_of_input input))) → IsCall input → Turn other input o
     → AreEnds ends.never_resets (seen ++ o.events) options e queued past packets o.after (after_effects o.effects their_past) (reading_after other input o.after reading)
 
 -- A turn of the sender tells its user of no reset of which the receiver's wasn't told, if few requests went to each tag, and one that
@@ -96,4 +96,4 @@ abbrev pub EndsDeliver : Type 0
 EndsDeliver =
     (options : Options) (ends : Ends) (e : Endpoint) (queued : List Message) (past : List Effect) (packets : List Emission) (other : Endpoint) (their_past : List Effect) (reading : Reading)
     → Between options ends e queued past packets other their_past reading → length queued < 2 ^ 64 → ((tag : ℕ) → chunks_before (ends.former tag) packets + chunks_to (ends.latest tag) packets < 2 ^ 30)
-    → Delivered queued (messages_of reading.reads)
+    → AreDelivered queued (messages_of reading.reads)

@@ -2,10 +2,10 @@
 -- both tags of its association.
 use Rattle.std.specs.Prelude.{◌≡◌, ◌⊎◌, ◌==◌, if◌then◌else◌, ℕ, Option, None, Some, List, [], ◌∷◌, ◌++◌}
 use Rattle.std.specs.List.{AllByRecursion}
-use Rattle.dcsctp_spec_lemmas.specs.spec.endpoint.DataOutcomes.{ready_where}
+use Rattle.dcsctp_spec_lemmas.specs.spec.endpoint.DataOutcomes.{ready_or_left}
 use Rattle.dcsctp_spec_lemmas.specs.spec.endpoint.Endpoint.{Endpoint}
 use Rattle.dcsctp_spec_lemmas.specs.spec.endpoint.Turn.{Input, user_takes}
-use Rattle.dcsctp_spec_lemmas.specs.spec.association.Effect.{AssociationIdentity, Effect, holds, identity_in}
+use Rattle.dcsctp_spec_lemmas.specs.spec.association.Effect.{AssociationIdentity, Effect, holds, identity_of_core}
 use Rattle.dcsctp_spec_runs.specs.Past.{HasEffect}
 use Rattle.dcsctp_spec_lemmas.specs.types.queues.Messages.{MessageContent}
 
@@ -22,23 +22,23 @@ abbrev pub no_tags : Tags
 no_tags = record { own = 0; peer = 0 }
 
 -- a message that was read, and the tags of the association in which it was read, or after whose end
-pub record Read : Type 0 where
+pub record ReadMessage : Type 0 where
   pub tags : Tags
   pub message : MessageContent
 
 -- the messages that were read, oldest first, with the first of these, which an association with these tags received
-abbrev pub and_first : Tags → List MessageContent → List Read → List Read
+abbrev pub and_first : Tags → List MessageContent → List ReadMessage → List ReadMessage
 and_first tags [] reads = reads
 and_first tags (message ∷ messages) reads = reads ++ record { tags = tags; message = message } ∷ []
 
 -- with the one that this call reads, if an association with these tags received it
-abbrev pub tagged_after : Tags → Endpoint → Input → List Read → List Read
-tagged_after tags e user_takes reads = and_first tags (ready_where e.left e.queues.transfer) reads
+abbrev pub tagged_after : Tags → Endpoint → Input → List ReadMessage → List ReadMessage
+tagged_after tags e user_takes reads = and_first tags (ready_or_left e.left e.queues.transfer) reads
 tagged_after tags e input reads = reads
 
 -- What was read, and the tags of the association that is there or was the last.
 pub record Reading : Type 0 where
-  pub reads : List Read
+  pub reads : List ReadMessage
   pub last : Tags
 
 abbrev pub nothing_read : Reading
@@ -51,20 +51,20 @@ tags_or last (Some link) = tags_of link
 
 -- with what a turn reads that ends at this endpoint: a message that an association left counts as read in it
 abbrev pub reading_after : Endpoint → Input → Endpoint → Reading → Reading
-reading_after e input after reading = record { reads = tagged_after reading.last e input reading.reads; last = tags_or reading.last (identity_in after.core) }
+reading_after e input after reading = record { reads = tagged_after reading.last e input reading.reads; last = tags_or reading.last (identity_of_core after.core) }
 
 -- those of the association with this own tag
-abbrev pub with_tag : ℕ → List Read → List MessageContent
+abbrev pub with_tag : ℕ → List ReadMessage → List MessageContent
 with_tag tag [] = []
 with_tag tag (read ∷ reads) = if read.tags.own == tag then read.message ∷ with_tag tag reads else with_tag tag reads
 
 -- those of the associations whose peer has this tag
-abbrev pub with_key : ℕ → List Read → List MessageContent
+abbrev pub with_key : ℕ → List ReadMessage → List MessageContent
 with_key key [] = []
 with_key key (read ∷ reads) = if read.tags.peer == key then read.message ∷ with_key key reads else with_key key reads
 
 -- all of them, without the tags
-abbrev pub messages_of : List Read → List MessageContent
+abbrev pub messages_of : List ReadMessage → List MessageContent
 messages_of [] = []
 messages_of (read ∷ reads) = read.message ∷ messages_of reads
 
@@ -72,5 +72,5 @@ messages_of (read ∷ reads) = read.message ∷ messages_of reads
 abbrev pub AreOfLink : List Effect → Tags → Type 0
 AreOfLink past tags = (tags ≡ no_tags) ⊎ ((link : AssociationIdentity) × HasEffect (holds link) past × (tags ≡ tags_of link))
 
-abbrev pub AllOfLinks : List Effect → List Read → Type 0
+abbrev pub AllOfLinks : List Effect → List ReadMessage → Type 0
 AllOfLinks past reads = AllByRecursion (λ read. AreOfLink past read.tags) reads

@@ -5,7 +5,7 @@ use Rattle.std.specs.Prelude.{Option, None}
 use Rattle.dcsctp_spec.specs.types.declared.options.Options.{Options}
 use Rattle.dcsctp_spec.specs.types.queues.Messages.{MessageContent}
 use Rattle.dcsctp_spec.specs.endpoint.BegunResets.{BegunReset}
-use Rattle.dcsctp_spec.specs.endpoint.Event.{packets_in}
+use Rattle.dcsctp_spec.specs.endpoint.Event.{packets_of_events}
 use Rattle.dcsctp_spec.specs.endpoint.FlushOutcomes.{flush_of}
 use Rattle.dcsctp_spec.specs.endpoint.TransferMoves.{lost_all}
 use Rattle.dcsctp_spec.specs.Packet.{Emission}
@@ -13,7 +13,7 @@ use Rattle.dcsctp_spec.specs.queues.Reassembly.{ReassemblyState, new_reassembly}
 use Rattle.dcsctp_spec.specs.queues.Tracker.{TrackerState, new_tracker}
 use Rattle.dcsctp_spec.specs.queues.Transfer.{Transfer, part_overhead, transfer_kept}
 use Rattle.dcsctp_delivery_sending.specs.Places.{HasEntry}
-use Rattle.dcsctp_delivery_sending.specs.Flushes.{reset_begun_by}
+use Rattle.dcsctp_delivery_sending.specs.Flushes.{begun_reset_of}
 use Rattle.dcsctp_delivery_directions.proofs.Calm.{none_has}
 use Rattle.dcsctp_delivery_directions.specs.Directions.{Direction, Asking, asking_with, BeginsDirection, DirectionStep, queues, sets, prepares, commits, rolls_back, flushes, resends, resends_nothing, speaks, asks_again, renews, turns_aside, acknowledges, loses, receives, forwards, receives_interleaved, forwards_interleaved, tracks, defers, performs, performs_earlier, resets, takes, DirectionRun, begins, goes_on, starts}
 
@@ -51,7 +51,7 @@ nothing_before old _ (prepares ids fit kept) h = record { sent = h.sent; asked =
 nothing_before old _ (commits go_on) h = record { sent = h.sent; asked = h.asked }
 nothing_before old _ (rolls_back unmixed) h = record { sent = h.sent; asked = h.asked }
 nothing_before old _ (flushes e draft answers same no_data allowed) h =
-    record { sent = nothing_in_front old.sent (packets_in (flush_of e draft answers).events) h.sent; asked = asked_before (reset_begun_by answers) old.asking h.asked }
+    record { sent = nothing_in_front old.sent (packets_of_events (flush_of e draft answers).events) h.sent; asked = asked_before (begun_reset_of answers) old.asking h.asked }
 nothing_before old _ (resends now room transfer left tsns chunks emission known sends are contents) h = absurd (one_behind old.sent emission h.sent)
 nothing_before old _ (resends_nothing now room transfer left tsns known sends) h = record { sent = h.sent; asked = h.asked }
 nothing_before old _ (speaks emission no_data) h = absurd (one_behind old.sent emission h.sent)

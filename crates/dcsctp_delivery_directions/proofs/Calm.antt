@@ -7,7 +7,7 @@ use Rattle.dcsctp_spec.specs.endpoint.BegunResets.{BegunReset}
 use Rattle.dcsctp_spec.specs.queues.Transfer.{EndpointQueues}
 use Rattle.dcsctp_delivery_sending.specs.Places.{HasEntry}
 use Rattle.dcsctp_delivery_sending.specs.Log.{Slot, Mark, History}
-use Rattle.dcsctp_delivery_sending.specs.Flushes.{SendsLogged, reset_begun_by}
+use Rattle.dcsctp_delivery_sending.specs.Flushes.{SendsLogged, begun_reset_of}
 use Rattle.dcsctp_delivery_sending.specs.Numbers.{AreCurrent}
 use Rattle.dcsctp_delivery_directions.specs.Calm.{ResetsNothing}
 use Rattle.dcsctp_delivery_directions.specs.Directions.{Direction, Asking, HasAsked, asking_with, DirectionStep, queues, sets, prepares, commits, rolls_back, flushes, resends, resends_nothing, speaks, asks_again, renews, turns_aside, acknowledges, loses, receives, forwards, receives_interleaved, forwards_interleaved, tracks, defers, performs, performs_earlier, resets, takes}
@@ -100,7 +100,7 @@ stays_unperformed old _ (sets setting fits) calm unperformed = unperformed
 stays_unperformed old _ (prepares ids fit kept) calm unperformed = unperformed
 stays_unperformed old _ (commits go_on) calm unperformed = unperformed
 stays_unperformed old _ (rolls_back unmixed) calm unperformed = unperformed
-stays_unperformed old _ (flushes e draft answers same no_data allowed) calm unperformed = begun_unperformed (reset_begun_by answers) old.asking unperformed
+stays_unperformed old _ (flushes e draft answers same no_data allowed) calm unperformed = begun_unperformed (begun_reset_of answers) old.asking unperformed
 stays_unperformed old _ (resends now room transfer left tsns chunks emission known sends are contents) calm unperformed = unperformed
 stays_unperformed old _ (resends_nothing now room transfer left tsns known sends) calm unperformed = unperformed
 stays_unperformed old _ (speaks emission no_data) calm unperformed = unperformed
@@ -129,7 +129,7 @@ none_asked old _ (sets setting fits) none = none
 none_asked old _ (prepares ids fit kept) none = none
 none_asked old _ (commits go_on) none = none
 none_asked old _ (rolls_back unmixed) none = none
-none_asked old _ (flushes e draft answers same no_data allowed) none = before (reset_begun_by answers) none
+none_asked old _ (flushes e draft answers same no_data allowed) none = before (begun_reset_of answers) none
   where
     before : (begun : Option BegunReset) → (asking_with begun old.asking).requests ≡ [] → old.asking.requests ≡ []
     before None is = is

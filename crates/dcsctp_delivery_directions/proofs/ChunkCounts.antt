@@ -2,7 +2,7 @@
 use Rattle.std.proofs.Common.{◌≡◌, ℕ, Bool, ◌<◌, ◌≤◌, ◌+◌, ◌*◌, ◌^◌, List, [], ◌∷◌, ◌++◌, length, refl, ◌∙◌, ap, arith}
 use Rattle.std.specs.Prelude.{Option, None, Some}
 use Rattle.dcsctp_spec.specs.types.declared.options.Options.{Options}
-use Rattle.dcsctp_spec.specs.endpoint.Event.{packets_in}
+use Rattle.dcsctp_spec.specs.endpoint.Event.{packets_of_events}
 use Rattle.dcsctp_spec.specs.Packet.{Emission}
 use Rattle.dcsctp_spec.specs.queues.Items.{Item}
 use Rattle.dcsctp_spec.specs.queues.Outstanding.{OutstandingState}
@@ -12,9 +12,9 @@ use Rattle.dcsctp_spec.specs.queues.Transfer.{Transfer}
 use Rattle.dcsctp_spec.specs.endpoint.FlushOutcomes.{flush_of}
 use Rattle.dcsctp_spec.specs.endpoint.MessageOutcomes.{sending_queued}
 use Rattle.dcsctp_spec.specs.endpoint.SettingOutcomes.{set_in_queue}
-use Rattle.dcsctp_delivery_sending.specs.ChunkCounts.{chunks_in, going, tsns_of, tsns_where, tsns_of_queues}
+use Rattle.dcsctp_delivery_sending.specs.ChunkCounts.{chunks_among_packets, going, tsns_of, tsns_if_connected, tsns_of_queues}
 use Rattle.dcsctp_delivery_sending.specs.Stages.{Bears}
-use Rattle.dcsctp_delivery_directions.specs.Directions.{Direction, tsns_in_flight, assigned, DirectionStep, queues, sets, prepares, commits, rolls_back, resends, resends_nothing, speaks, asks_again, renews, turns_aside, tracks, defers, flushes, acknowledges, loses, receives, forwards, receives_interleaved, forwards_interleaved, performs, performs_earlier, resets, takes, NoneInFlight, DirectionRun, begins, goes_on, starts}
+use Rattle.dcsctp_delivery_directions.specs.Directions.{Direction, tsns_in_flight, assigned_count, DirectionStep, queues, sets, prepares, commits, rolls_back, resends, resends_nothing, speaks, asks_again, renews, turns_aside, tracks, defers, flushes, acknowledges, loses, receives, forwards, receives_interleaved, forwards_interleaved, performs, performs_earlier, resets, takes, NoneInFlight, DirectionRun, begins, goes_on, starts}
 use Rattle.dcsctp_delivery_sending.proofs.Acknowledged.{acknowledged_bear, lost_bear}
 use Rattle.dcsctp_delivery_sending.proofs.ChunkCounts.{one_at_most, flushes_assign_few, at_once_same}
 use Rattle.dcsctp_delivery_directions.proofs.Directions.{run_stands}
@@ -23,17 +23,17 @@ use Rattle.dcsctp_delivery_directions.proofs.Steps.{more_queued}
 use Rattle.dcsctp_delivery_directions.proofs.Standing.{Stands, same_flight, timed_outstanding}
 
 abbrev FewSent : Direction → Type 0
-FewSent direction = direction.acknowledged + tsns_of_queues direction.queues ≤ 1 + 2 * chunks_in direction.sent
+FewSent direction = direction.acknowledged + tsns_of_queues direction.queues ≤ 1 + 2 * chunks_among_packets direction.sent
 
 -- ---- what changes the queue alone
 
-way_same : (old new : SendQueueState) (transfer : Option Transfer) → new.under_way ≡ old.under_way → tsns_where new transfer ≡ tsns_where old transfer
+way_same : (old new : SendQueueState) (transfer : Option Transfer) → new.under_way ≡ old.under_way → tsns_if_connected new transfer ≡ tsns_if_connected old transfer
 way_same old new None same = ap going same
 way_same old new (Some transfer) same = (let way : going new.under_way ≡ going old.under_way = ap going same in omega (arith, way))
 
 -- ---- what is sent
 
-pub chunks_more : (sent more : List Emission) → chunks_in (sent ++ more) ≡ chunks_in sent + chunks_in more
+pub chunks_more : (sent more : List Emission) → chunks_among_packets (sent ++ more) ≡ chunks_among_packets sent + chunks_among_packets more
 chunks_more [] more = omega arith
 chunks_more (emission ∷ sent) more = (let rest = chunks_more sent more in omega (arith, rest))
 
@@ -44,9 +44,9 @@ module _ (options : Options) (first size : ℕ) (small : first < 2 ^ 32) (old : 
   standing = run_stands options first size old small few run
 
   at_known : (transfer : Transfer) → old.queues.transfer ≡ Some transfer → tsns_of_queues old.queues ≡ tsns_of old.queues.queue transfer.retransmission.outstanding.items
-  at_known transfer known = ap (λ (t : Option Transfer). tsns_where old.queues.queue t) known
+  at_known transfer known = ap (λ (t : Option Transfer). tsns_if_connected old.queues.queue t) known
 
-  by_queue : (queue : SendQueueState) → queue.under_way ≡ old.queues.queue.under_way → old.acknowledged + tsns_where queue old.queues.transfer ≤ 1 + 2 * chunks_in old.sent
+  by_queue : (queue : SendQueueState) → queue.under_way ≡ old.queues.queue.under_way → old.acknowledged + tsns_if_connected queue old.queues.transfer ≤ 1 + 2 * chunks_among_packets old.sent
   by_queue queue same = (let way = way_same old.queues.queue queue old.queues.transfer same in omega (arith, way, h))
 
   stepped_few : (new : Direction) → DirectionStep old new → FewSent new
@@ -59,7 +59,7 @@ module _ (options : Options) (first size : ℕ) (small : first < 2 ^ 32) (old : 
   stepped_few _ (flushes e draft answers same no_data allowed) =
       let assigns = flushes_assign_few e draft answers allowed in
       let before : tsns_of_queues e.queues ≡ tsns_of_queues old.queues = ap tsns_of_queues same in
-      let sent = chunks_more old.sent (packets_in (flush_of e draft answers).events) in
+      let sent = chunks_more old.sent (packets_of_events (flush_of e draft answers).events) in
       omega (arith, assigns, before, sent, h)
   stepped_few _ (resends now room transfer left tsns chunks emission known sends are contents) =
       let size = at_once_same now room old.queues.queue transfer.retransmission left tsns sends in
@@ -105,7 +105,7 @@ module _ (options : Options) (first size : ℕ) (small : first < 2 ^ 32) (old : 
 
 -- ---- a run
 
-none_sent : (first acknowledged : ℕ) (is_interleaved : Bool) (queue : SendQueueState) (transfer : Option Transfer) → NoneInFlight first is_interleaved transfer → acknowledged ≡ 0 → acknowledged + tsns_where queue transfer ≤ 1
+none_sent : (first acknowledged : ℕ) (is_interleaved : Bool) (queue : SendQueueState) (transfer : Option Transfer) → NoneInFlight first is_interleaved transfer → acknowledged ≡ 0 → acknowledged + tsns_if_connected queue transfer ≤ 1
 none_sent first acknowledged is_interleaved queue None none zero = (let way = one_at_most queue.under_way in omega (arith, way, zero))
 none_sent first acknowledged is_interleaved queue (Some transfer) none zero =
     let way = one_at_most queue.under_way in
@@ -121,11 +121,11 @@ few_sent options first size _ small few (goes_on old direction run step) =
 few_sent options first size _ small few (starts old queued below beginning run awaited fit waits none numbered) =
     (let nothing = none_sent first old.acknowledged below.queue.is_interleaved below.queue below.transfer none awaited.acknowledged in omega (arith, nothing))
 
-assigned_below : (queue : SendQueueState) (transfer : Option Transfer) → tsns_in_flight transfer ≤ tsns_where queue transfer
+assigned_below : (queue : SendQueueState) (transfer : Option Transfer) → tsns_in_flight transfer ≤ tsns_if_connected queue transfer
 assigned_below queue None = omega arith
 assigned_below queue (Some transfer) = omega arith
 
-pub few_for_chunks : (options : Options) (first size : ℕ) (direction : Direction) → DirectionRun options first size direction → first < 2 ^ 32 → length direction.queued < 2 ^ 64 → assigned direction ≤ 1 + 2 * chunks_in direction.sent
+pub few_for_chunks : (options : Options) (first size : ℕ) (direction : Direction) → DirectionRun options first size direction → first < 2 ^ 32 → length direction.queued < 2 ^ 64 → assigned_count direction ≤ 1 + 2 * chunks_among_packets direction.sent
 few_for_chunks options first size direction run small few =
     let sent = few_sent options first size direction small few run in
     let below = assigned_below direction.queues.queue direction.queues.transfer in

@@ -6,8 +6,8 @@ use Rattle.dcsctp_spec.specs.queues.Reassembly.{ReassemblyState}
 use Rattle.dcsctp_spec.specs.types.queues.SendStreams.{Stream}
 use Rattle.dcsctp_spec.specs.endpoint.BegunResets.{BegunReset}
 use Rattle.dcsctp_delivery_sending.specs.Places.{at_place}
-use Rattle.dcsctp_delivery_sending.specs.Log.{Fits, Message, Piece, Slot, Cut, History, log_extended, with_mark}
-use Rattle.dcsctp_delivery_sending.specs.Flushes.{NamedBy}
+use Rattle.dcsctp_delivery_sending.specs.Log.{Fits, Message, Piece, Slot, IsLogOfPieces, History, log_extended, with_mark}
+use Rattle.dcsctp_delivery_sending.specs.Flushes.{IsNamedByReset}
 use Rattle.dcsctp_delivery_sending.specs.Numbers.{AreKept, is_handed_out, stream_named}
 use Rattle.dcsctp_delivery_receiving.specs.Clear.{Unsent}
 use Rattle.dcsctp_delivery_sending.proofs.Packets.{at_more}
@@ -80,13 +80,13 @@ fits_stream (other ∷ queued) place m fit at =
     ]
 
 -- streams of greater identifiers have no messages
-pub too_great : (queued : List Message) (log : List Slot) (id : ℕ) → AllByRecursion Fits queued → Cut queued log → 2 ^ 16 ≤ id → Unsent log id
+pub too_great : (queued : List Message) (log : List Slot) (id : ℕ) → AllByRecursion Fits queued → IsLogOfPieces queued log → 2 ^ 16 ≤ id → Unsent log id
 too_great queued log id fit cut great n f at on =
     let small = fits_stream queued f.place f.message fit (cut.pieces n f at).at in
     absurd (omega (arith, small, great, on))
 
 module _ (more : List Slot) (history : History) (begun : BegunReset) (ids : List ℕ) (bound out : ℕ) (before after : List Stream) (low : length history.log ≤ bound) (kept : AreKept after more)
-    (handed : (id : ℕ) → is_handed_out (stream_named id after).pause ≡ true → (is_handed_out (stream_named id before).pause ≡ true) ⊎ NamedBy (Some begun) ids id) (quiet : AreQuiet history out before) where
+    (handed : (id : ℕ) → is_handed_out (stream_named id after).pause ≡ true → (is_handed_out (stream_named id before).pause ≡ true) ⊎ IsNamedByReset (Some begun) ids id) (quiet : AreQuiet history out before) where
   abbrev pub now : History
   now = with_mark (Some begun) ids bound (log_extended more history)
 

@@ -11,12 +11,12 @@ use Rattle.dcsctp_spec.specs.queues.Reassembly.{ReassemblyState}
 use Rattle.dcsctp_spec.specs.queues.Tracker.{TrackerState, new_tracker}
 use Rattle.dcsctp_spec.specs.queues.Transfer.{Transfer, EndpointQueues}
 use Rattle.dcsctp_delivery_sending.specs.Log.{Fits, Message, Slot, History, new_history}
-use Rattle.dcsctp_delivery_sending.specs.Flushes.{PacketsSay, InFlight, PendsWhere}
+use Rattle.dcsctp_delivery_sending.specs.Flushes.{PacketsSay, InFlight, PendsIfConnected}
 use Rattle.dcsctp_delivery_sending.specs.Numbers.{IsOfKind}
 use Rattle.dcsctp_delivery_sending.specs.Queueing.{QueueWaits}
 use Rattle.dcsctp_delivery_receiving.specs.Ready.{WereQueued}
 use Rattle.dcsctp_delivery_receiving.specs.Received.{HasReceived}
-use Rattle.dcsctp_delivery_directions.specs.Directions.{Beginning, Direction, Asking, nothing_asked, tsns_in_flight, assigned, NoneInFlight, BeginsDirection, IsAwaited, DirectionRun, begins, goes_on, starts, Delivered}
+use Rattle.dcsctp_delivery_directions.specs.Directions.{Beginning, Direction, Asking, nothing_asked, tsns_in_flight, assigned_count, NoneInFlight, BeginsDirection, IsAwaited, DirectionRun, begins, goes_on, starts, AreDelivered}
 use Rattle.dcsctp_delivery_sending.proofs.KeptQueues.{kept_hold}
 use Rattle.dcsctp_delivery_receiving.proofs.Taking.{nothing_received}
 use Rattle.dcsctp_delivery_receiving.proofs.Growing.{received_awaited, received_more, were_more}
@@ -52,7 +52,7 @@ module _ (first : ℕ) (direction : Direction) (small : first < 2 ^ 32) (zero_go
       nothing_at zero item at = absurd (cc)
       nothing_at (suc k) item at = absurd (cc)
 
-  pub begun_pends : (transfer : Option Transfer) → PendsWhere anew transfer
+  pub begun_pends : (transfer : Option Transfer) → PendsIfConnected anew transfer
   begun_pends None = tt
   begun_pends (Some transfer) = record { next = λ mark has. absurd has; none = λ begun none. refl }
 
@@ -147,7 +147,7 @@ direction_queues options first size direction run small few =
     let s = run_stands options first size direction small few run in
     (kept_hold direction.queued s.history direction.queues.queue (record { queue_holds = s.queues.queue_holds; next = s.next; numbers = s.queues.numbers }), s.fit)
 
-pub directions_deliver : (options : Options) (first size : ℕ) (direction : Direction) → DirectionRun options first size direction → first < 2 ^ 32 → assigned direction < 2 ^ 31 → length direction.queued < 2 ^ 64 → Delivered direction.queued direction.read
+pub directions_deliver : (options : Options) (first size : ℕ) (direction : Direction) → DirectionRun options first size direction → first < 2 ^ 32 → assigned_count direction < 2 ^ 31 → length direction.queued < 2 ^ 64 → AreDelivered direction.queued direction.read
 directions_deliver options first size direction run small little few =
     let s = run_stands options first size direction small few run in
     let a = s.arrived (omega (arith, s.count, little)) in

@@ -3,7 +3,7 @@ use Rattle.std.proofs.Common.{◌≡◌, ℕ, true, false, ◌<◌, ◌^◌, Lis
 use Rattle.dcsctp_spec.specs.wire.Content.{ChunkContent, data_chunk, i_data_chunk, init_chunk, init_ack_chunk, sack_chunk, heartbeat_chunk, heartbeat_ack_chunk, abort_chunk, shutdown_chunk, shutdown_ack_chunk, error_chunk, cookie_echo_chunk, cookie_ack_chunk, shutdown_complete_chunk, re_config_chunk, forward_tsn_chunk, i_forward_tsn_chunk, unknown_chunk}
 use Rattle.dcsctp_spec.specs.types.declared.options.Options.{Options}
 use Rattle.dcsctp_spec.specs.Packet.{unknown, heartbeat, heartbeat_ack, unworked, plain, init, init_ack, cookie_echo, cookie_ack, re_config, abort, shutdown, shutdown_ack, shutdown_complete, Content, Emission}
-use Rattle.dcsctp_delivery_sending.specs.Log.{Message, History, Cut}
+use Rattle.dcsctp_delivery_sending.specs.Log.{Message, History, IsLogOfPieces}
 use Rattle.dcsctp_delivery_sending.specs.Places.{HasEntry}
 use Rattle.dcsctp_delivery_sending.specs.Flushes.{HasLimited, SaysContent, SayAll, PacketsSay}
 use Rattle.dcsctp_delivery_sending.specs.Losing.{AreUnlimited}
@@ -15,7 +15,7 @@ use Rattle.dcsctp_delivery_directions.proofs.Directions.{run_stands}
 -- ---- messages without limits
 
 -- No piece of the log is of a message with limits.
-pub none_limited : (queued : List Message) (history : History) → Cut queued history.log → AreUnlimited queued → HasLimited history.log → ⊥
+pub none_limited : (queued : List Message) (history : History) → IsLogOfPieces queued history.log → AreUnlimited queued → HasLimited history.log → ⊥
 none_limited queued history cut are has =
     let free = unlimited_at queued has.piece.place has.piece.message are (cut.pieces has.number has.piece has.at).at in
     let clash : true ≡ false = sym has.limited ∙ free in

@@ -6,13 +6,13 @@ use Rattle.dcsctp_spec.specs.types.declared.options.Options.{Options}
 use Rattle.dcsctp_spec.specs.types.declared.sending.UnderWay.{UnderWay}
 use Rattle.dcsctp_spec.specs.types.queues.SendStreams.{Waiting, Stream, front_of, stream_at}
 use Rattle.dcsctp_delivery_sending.specs.Places.{HasEntry, at_place}
-use Rattle.dcsctp_delivery_sending.specs.Log.{Message, Piece, Slot, History, Cut}
+use Rattle.dcsctp_delivery_sending.specs.Log.{Message, Piece, Slot, History, IsLogOfPieces}
 use Rattle.dcsctp_delivery_sending.specs.Marking.{NoneNamed, WaitsNoLonger}
-use Rattle.dcsctp_delivery_directions.specs.Marking.{IsUnspent, DeliveredForGood}
+use Rattle.dcsctp_delivery_directions.specs.Marking.{IsUnspent, AreDeliveredForGood}
 use Rattle.dcsctp_delivery_sending.specs.Pieces.{AllQueued, AllBeyond, unbegun, ComesTo, IsGoing, Going, HoldsQueued}
 use Rattle.dcsctp_delivery_receiving.specs.Received.{Reassembles, untouched, placed}
 use Rattle.dcsctp_delivery_receiving.specs.Rows.{Spent}
-use Rattle.dcsctp_delivery_directions.specs.Directions.{Direction, DirectionRun, assigned}
+use Rattle.dcsctp_delivery_directions.specs.Directions.{Direction, DirectionRun, assigned_count}
 use Rattle.dcsctp_delivery_sending.proofs.Places.{decide, at_below}
 use Rattle.dcsctp_delivery_receiving.proofs.Distinct.{has_left}
 use Rattle.dcsctp_delivery_sending.proofs.Streams.{newest_at}
@@ -26,7 +26,7 @@ beyond_named place (w ∷ messages) beyond = (λ is. (let less = beyond.0 in abs
 
 -- ---- where the last piece of a message is
 
-module _ (queued : List Message) (log : List Slot) (cut : Cut queued log) (n : ℕ) (f : Piece) (at : at_place n log ≡ Some (Some f)) (last : f.start + f.size ≡ length f.message.payload) where
+module _ (queued : List Message) (log : List Slot) (cut : IsLogOfPieces queued log) (n : ℕ) (f : Piece) (at : at_place n log ≡ Some (Some f)) (last : f.start + f.size ≡ length f.message.payload) where
   same_message : (k : ℕ) (h : Piece) → at_place k log ≡ Some (Some h) → h.place ≡ f.place → h.message ≡ f.message
   same_message k h there same =
       let one = (cut.pieces k h there).at in
@@ -130,19 +130,19 @@ spent_of queued history first got read incoming place (untouched none number hol
     let held = holds 0 in record { got = []; spent = held.spent place (has_left place read held.places h) }
 spent_of queued history first got read incoming place (placed base is held) h = record { got = got; spent = held.spent place (has_left place read held.places h) }
 
-spent_gone : (queued : List Message) (log : List Slot) (streams : List Stream) (u : Option UnderWay) (place : ℕ) → Cut queued log → HoldsQueued queued log streams u → SpentBy log place → WaitsNoLonger place streams
+spent_gone : (queued : List Message) (log : List Slot) (streams : List Stream) (u : Option UnderWay) (place : ℕ) → IsLogOfPieces queued log → HoldsQueued queued log streams u → SpentBy log place → WaitsNoLonger place streams
 spent_gone queued log streams u place cut queue_holds by =
     let s = by.spent in
     subst (λ (p : ℕ). WaitsNoLonger p streams) s.same
     (ended_gone queued log cut s.last_offset s.last s.at_last (eqb-true (s.last.start + s.last.size) (length s.last.message.payload) s.ends) streams u queue_holds)
 
-spent_fresh : (queued : List Message) (log : List Slot) (place : ℕ) → Cut queued log → SpentBy log place → IsUnspent queued place
+spent_fresh : (queued : List Message) (log : List Slot) (place : ℕ) → IsLogOfPieces queued log → SpentBy log place → IsUnspent queued place
 spent_fresh queued log place cut by =
     let s = by.spent in
     let piece = cut.pieces s.last_offset s.last s.at_last in
     record { message = s.last.message; at = ap (λ (k : ℕ). at_place k queued) (sym s.same) ∙ piece.at; fresh = piece.fresh }
 
-pub directions_deliver_for_good : (options : Options) (first size : ℕ) (direction : Direction) → DirectionRun options first size direction → first < 2 ^ 32 → assigned direction < 2 ^ 31 → length direction.queued < 2 ^ 64 → DeliveredForGood direction
+pub directions_deliver_for_good : (options : Options) (first size : ℕ) (direction : Direction) → DirectionRun options first size direction → first < 2 ^ 32 → assigned_count direction < 2 ^ 31 → length direction.queued < 2 ^ 64 → AreDeliveredForGood direction
 directions_deliver_for_good options first size direction run small little few =
     let s = run_stands options first size direction small few run in
     let a = s.arrived (omega (arith, s.count, little)) in

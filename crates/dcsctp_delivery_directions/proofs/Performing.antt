@@ -10,7 +10,7 @@ use Rattle.dcsctp_spec.specs.endpoint.BegunResets.{BegunReset, stream_field}
 use Rattle.dcsctp_delivery_sending.specs.Places.{HasEntry}
 use Rattle.dcsctp_delivery_sending.specs.Log.{Mark}
 use Rattle.dcsctp_delivery_receiving.specs.Clear.{IsOwn}
-use Rattle.dcsctp_delivery_receiving.specs.Tracked.{tracked}
+use Rattle.dcsctp_delivery_receiving.specs.Tracked.{tracked_number}
 use Rattle.dcsctp_delivery_directions.specs.Directions.{Direction, is_reset_reached}
 use Rattle.dcsctp_delivery_sending.proofs.Counting.{told}
 use Rattle.dcsctp_delivery_sending.proofs.Chunks.{kinds_of}
@@ -21,19 +21,19 @@ use Rattle.dcsctp_delivery_directions.proofs.Standing.{Stands, few_of}
 -- ---- all before it was received
 
 -- so far ahead is the last TSN before it
-ahead_by : (first bound cumulative : ℕ) → tracked first 0 ≤ cumulative + 1 → cumulative + 1 < tracked first bound → bound < 2 ^ 31
-    → ahead_of (2 ^ 32) (cumulative % 2 ^ 32) ((first + bound + (2 ^ 32 - 1)) % 2 ^ 32) + cumulative + 1 ≡ tracked first bound
+ahead_by : (first bound cumulative : ℕ) → tracked_number first 0 ≤ cumulative + 1 → cumulative + 1 < tracked_number first bound → bound < 2 ^ 31
+    → ahead_of (2 ^ 32) (cumulative % 2 ^ 32) ((first + bound + (2 ^ 32 - 1)) % 2 ^ 32) + cumulative + 1 ≡ tracked_number first bound
 ahead_by first bound cumulative from less few = omega (arith, from, less, few)
 
 lies_beyond : (ahead : ℕ) → 0 < ahead → ahead < 2 ^ 31 → (nat_lt 0 ahead && nat_lt ahead (2 ^ 31)) ≡ true
 lies_beyond ahead some few = grind (arith, nat_tests)
 
-pub passed_before : (first bound cumulative : ℕ) → tracked first 0 ≤ cumulative + 1 → bound < 2 ^ 31 → not (is_tsn_beyond ((first + bound + (2 ^ 32 - 1)) % 2 ^ 32) (cumulative % 2 ^ 32)) ≡ true → tracked first bound ≤ cumulative + 1
+pub passed_before : (first bound cumulative : ℕ) → tracked_number first 0 ≤ cumulative + 1 → bound < 2 ^ 31 → not (is_tsn_beyond ((first + bound + (2 ^ 32 - 1)) % 2 ^ 32) (cumulative % 2 ^ 32)) ≡ true → tracked_number first bound ≤ cumulative + 1
 passed_before first bound cumulative from few reached =
-    elim (leb_tells (tracked first bound) (cumulative + 1)) [
+    elim (leb_tells (tracked_number first bound) (cumulative + 1)) [
       | inl e ↦ e.1
       | inr e ↦
-          (let less : cumulative + 1 < tracked first bound = e.1 in
+          (let less : cumulative + 1 < tracked_number first bound = e.1 in
           let by = ahead_by first bound cumulative from less few in
           let ahead : ℕ = ahead_of (2 ^ 32) (cumulative % 2 ^ 32) ((first + bound + (2 ^ 32 - 1)) % 2 ^ 32) in
           let beyond = lies_beyond ahead (omega (arith, by, less)) (omega (arith, by, from, few)) in

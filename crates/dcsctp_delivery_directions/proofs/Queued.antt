@@ -3,7 +3,7 @@ use Rattle.std.proofs.lemmas.Bool.Decides.{leb_tells}
 use Rattle.std.proofs.Common.{◌≡◌, ℕ, zero, suc, Bool, true, false, ◌<◌, ◌≤◌, ◌+◌, ◌^◌, List, [], ◌∷◌, length, take, refl, sym, ◌∙◌, arith, subst, inl, inr}
 use Rattle.std.specs.Prelude.{◌⊎◌, Option, if◌then◌else◌}
 use Rattle.std.specs.List.{AllByRecursion}
-use Rattle.dcsctp_spec.specs.queues.OwnResets.{is_open_pause, with_used, prepared, prepared_open, prepared_all, queue_committed, queue_rolled_back}
+use Rattle.dcsctp_spec.specs.queues.OwnResets.{is_open_pause, with_used, queue_with_prepared, prepared_open, prepared_all, queue_committed, queue_rolled_back}
 use Rattle.dcsctp_spec.specs.queues.SendQueue.{SendQueueState, queue_stream}
 use Rattle.dcsctp_spec.specs.endpoint.MessageOutcomes.{Sending, sending_queued}
 use Rattle.dcsctp_spec.specs.types.Setting.{Setting, stream_priority, stream_low_threshold, longest_message}
@@ -11,7 +11,7 @@ use Rattle.dcsctp_spec.specs.endpoint.SettingOutcomes.{set_in_queue}
 use Rattle.dcsctp_spec.specs.types.declared.sending.UnderWay.{UnderWay}
 use Rattle.dcsctp_delivery_sending.specs.Places.{HasEntry}
 use Rattle.dcsctp_delivery_sending.specs.Log.{Fits, Mark, Resets}
-use Rattle.dcsctp_delivery_sending.specs.Numbers.{CountsSsns, CountsWhere, IsOfKind, is_handed_out, stream_named}
+use Rattle.dcsctp_delivery_sending.specs.Numbers.{CountsSsns, CountsByKind, IsOfKind, is_handed_out, stream_named}
 use Rattle.dcsctp_delivery_sending.specs.Stages.{AreMarks}
 use Rattle.dcsctp_delivery_sending.specs.Turns.{begun_on}
 use Rattle.dcsctp_delivery_sending.specs.Queueing.{QueueHolds, SettingFits, message_of, floors_raised}
@@ -36,7 +36,7 @@ set_way (stream_priority id priority) queue = refl
 set_way (stream_low_threshold id bytes) queue = refl
 set_way (longest_message bytes) queue = refl
 
-prepared_way : (id : ℕ) (queue : SendQueueState) → (prepared id queue).under_way ≡ queue.under_way
+prepared_way : (id : ℕ) (queue : SendQueueState) → (queue_with_prepared id queue).under_way ≡ queue.under_way
 prepared_way id queue = go (is_open_pause (queue_stream (with_used id queue) id).pause)
   where
     go : (b : Bool) → (if b then prepared_open id (with_used id queue) else with_used id queue).under_way ≡ queue.under_way
@@ -45,7 +45,7 @@ prepared_way id queue = go (is_open_pause (queue_stream (with_used id queue) id)
 
 pub all_way : (ids : List ℕ) (queue : SendQueueState) → (prepared_all ids queue).under_way ≡ queue.under_way
 all_way [] queue = refl
-all_way (id ∷ ids) queue = all_way ids (prepared id queue) ∙ prepared_way id queue
+all_way (id ∷ ids) queue = all_way ids (queue_with_prepared id queue) ∙ prepared_way id queue
 
 -- ---- the only reset that has no end
 
@@ -181,9 +181,9 @@ module _ (first : ℕ) (old : Direction) (s : Stands first old) where
   unfoldable pub commits_plain : old.queues.queue.is_interleaved ≡ false → Stands first (record old { queues = record old.queues { queue = queue_committed old.queues.queue }; asking = all_ended old.asking })
   commits_plain is =
       let q = committing_hold old.queued s.history old.queues.queue now_queues in
-      let counts : CountsWhere old.queues.queue.is_interleaved s.history (queue_committed old.queues.queue).streams old.queues.queue.under_way =
-      subst (λ (b : Bool). CountsWhere b s.history (queue_committed old.queues.queue).streams old.queues.queue.under_way) (sym is)
-      (ssns_ended (subst (λ (b : Bool). CountsWhere b s.history old.queues.queue.streams old.queues.queue.under_way) is s.queues.numbers.counts)) in
+      let counts : CountsByKind old.queues.queue.is_interleaved s.history (queue_committed old.queues.queue).streams old.queues.queue.under_way =
+      subst (λ (b : Bool). CountsByKind b s.history (queue_committed old.queues.queue).streams old.queues.queue.under_way) (sym is)
+      (ssns_ended (subst (λ (b : Bool). CountsByKind b s.history old.queues.queue.streams old.queues.queue.under_way) is s.queues.numbers.counts)) in
       stepped_queue (queue_committed old.queues.queue) refl refl (λ id handed. absurd (committed_handed old.queues.queue id handed)) 0 (λ id handed. absurd (committed_handed old.queues.queue id handed))
       (record { queue_holds = q.queue_holds; next = q.next; numbers = record { kinds = q.numbers.kinds; counts = counts; kept = q.numbers.kept } })
 

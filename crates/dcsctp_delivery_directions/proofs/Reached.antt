@@ -11,19 +11,19 @@ use Rattle.dcsctp_spec.specs.endpoint.Endpoint.{Endpoint}
 use Rattle.dcsctp_spec.specs.endpoint.FlushOutcomes.{Answer, FlushAnswers, flush_of}
 use Rattle.dcsctp_spec.specs.endpoint.TransferMoves.{TakesSack, lost_all}
 use Rattle.dcsctp_spec.specs.queues.Acknowledging.{is_sack_valid}
-use Rattle.dcsctp_spec.specs.queues.Arrivals.{data_arrival, i_data_arrival, skipped_in, messages_skipped_in}
+use Rattle.dcsctp_spec.specs.queues.Arrivals.{data_arrival, i_data_arrival, named_skips, skipped_messages}
 use Rattle.dcsctp_spec.specs.queues.AtOnce.{SendsAtOnce}
 use Rattle.dcsctp_spec.specs.queues.Outstanding.{OutstandingState, acknowledged_count}
 use Rattle.dcsctp_spec.specs.queues.Retransmission.{RetransmissionState}
 use Rattle.dcsctp_spec.specs.queues.Tracker.{TrackerState, cumulative_tsn}
 use Rattle.dcsctp_spec.specs.queues.Transfer.{Transfer, EndpointQueues}
 use Rattle.dcsctp_delivery_sending.specs.Log.{Message, Slot, log_extended, with_mark}
-use Rattle.dcsctp_delivery_sending.specs.Flushes.{NoData, QueuesFollowLog, reset_begun_by}
+use Rattle.dcsctp_delivery_sending.specs.Flushes.{NoData, QueuesFollowLog, begun_reset_of}
 use Rattle.dcsctp_delivery_sending.proofs.Acknowledged.{acknowledged_bear, lost_bear}
 use Rattle.dcsctp_delivery_sending.proofs.Flushes.{flush_sends}
 use Rattle.dcsctp_delivery_sending.proofs.Packets.{none_said}
 use Rattle.dcsctp_delivery_receiving.proofs.Upward.{received_grows, forward_grows}
-use Rattle.dcsctp_delivery_directions.specs.Directions.{Direction, SameFlight, tsns_in_flight, assigned, HasReached, DirectionRun, begins, goes_on, starts, DirectionStep, queues, sets, prepares, commits, rolls_back, flushes, resends, resends_nothing, speaks, asks_again, renews, turns_aside, acknowledges, loses, receives, forwards, receives_interleaved, forwards_interleaved, tracks, defers, performs, resets, performs_earlier, takes}
+use Rattle.dcsctp_delivery_directions.specs.Directions.{Direction, SameFlight, tsns_in_flight, assigned_count, HasReached, DirectionRun, begins, goes_on, starts, DirectionStep, queues, sets, prepares, commits, rolls_back, flushes, resends, resends_nothing, speaks, asks_again, renews, turns_aside, acknowledges, loses, receives, forwards, receives_interleaved, forwards_interleaved, tracks, defers, performs, resets, performs_earlier, takes}
 use Rattle.dcsctp_delivery_directions.proofs.Directions.{run_stands}
 use Rattle.dcsctp_delivery_directions.proofs.Sending.{known_flight, at_once}
 use Rattle.dcsctp_delivery_directions.proofs.Standing.{Stands, counted_flight, timed_outstanding}
@@ -59,9 +59,9 @@ step_goes old _ (turns_aside transfer new known same) = record { first_is = refl
 step_goes old _ (acknowledges now sack transfer new known valid reached does) = record { first_is = refl; up = omega arith }
 step_goes old _ (loses now transfer known) = record { first_is = refl; up = omega arith }
 step_goes old _ (receives emission chunk theirs new was holds some same same' does) = record { first_is = refl; up = theirs_grow old.tracker theirs new same (received_grows (data_arrival chunk) theirs new does) }
-step_goes old _ (forwards emission tsn streams theirs new was holds same same' does) = record { first_is = refl; up = theirs_grow old.tracker theirs new same (forward_grows tsn (skipped_in streams) theirs new does) }
+step_goes old _ (forwards emission tsn streams theirs new was holds same same' does) = record { first_is = refl; up = theirs_grow old.tracker theirs new same (forward_grows tsn (named_skips streams) theirs new does) }
 step_goes old _ (receives_interleaved emission chunk theirs new was holds some same same' does) = record { first_is = refl; up = theirs_grow old.tracker theirs new same (received_grows (i_data_arrival chunk) theirs new does) }
-step_goes old _ (forwards_interleaved emission tsn streams theirs new was holds same same' does) = record { first_is = refl; up = theirs_grow old.tracker theirs new same (forward_grows tsn (messages_skipped_in streams) theirs new does) }
+step_goes old _ (forwards_interleaved emission tsn streams theirs new was holds same same' does) = record { first_is = refl; up = theirs_grow old.tracker theirs new same (forward_grows tsn (skipped_messages streams) theirs new does) }
 step_goes old _ (tracks new cumulative ranges) = record { first_is = refl; up = omega (arith, cumulative) }
 step_goes old _ (defers last_tsn streams some) = record { first_is = refl; up = omega arith }
 step_goes old _ (performs newest earlier new asks unknown reached own leaves) = record { first_is = refl; up = omega arith }
@@ -81,14 +81,14 @@ counted_back first acknowledged k items small few near valid = omega (arith, sma
 pub record Covers (first : ℕ) (direction : Direction) : Type 0 where
   pub first_is : direction.first_tsn ≡ first
   pub from : (first + (2 ^ 32 - 1)) % 2 ^ 32 ≤ direction.tracker.cumulative
-  pub covered : assigned direction < 2 ^ 31 → (first + (2 ^ 32 - 1)) % 2 ^ 32 + direction.acknowledged ≤ direction.tracker.cumulative
+  pub covered : assigned_count direction < 2 ^ 31 → (first + (2 ^ 32 - 1)) % 2 ^ 32 + direction.acknowledged ≤ direction.tracker.cumulative
 
 module _ (first : ℕ) (old : Direction) (small : first < 2 ^ 32) (s : Stands first old) (c : Covers first old) where
   at_known : (transfer : Transfer) → old.queues.transfer ≡ Some transfer → tsns_in_flight old.queues.transfer ≡ length transfer.retransmission.outstanding.items
   at_known transfer known = ap tsns_in_flight known
 
   flush_more : (e : Endpoint) (draft : Emission) (answers : List Answer) → e.queues ≡ old.queues → NoData draft.packet.contents → FlushAnswers e draft answers
-      → assigned old ≤ old.acknowledged + tsns_in_flight (flush_of e draft answers).after.queues.transfer
+      → assigned_count old ≤ old.acknowledged + tsns_in_flight (flush_of e draft answers).after.queues.transfer
   flush_more e draft answers same no_data allowed =
       let sends =
       flush_sends old.queued s.history first old.acknowledged e draft answers (subst (λ (b : EndpointQueues). QueuesFollowLog old.queued s.history first old.acknowledged b) (sym same) s.queues) (none_said s.history first old.acknowledged draft.packet.contents no_data) allowed in
@@ -96,28 +96,28 @@ module _ (first : ℕ) (old : Direction) (small : first < 2 ^ 32) (s : Stands fi
       let before = s.count in
       omega (arith, count, marked_length answers sends.ids sends.bound sends.more, before, length-append sends.more s.history.log)
     where
-      marked_length : (answers : List Answer) (ids : List ℕ) (bound : ℕ) (more : List Slot) → length (with_mark (reset_begun_by answers) ids bound (log_extended more s.history)).log ≡ length (more ++ s.history.log)
-      marked_length answers ids bound more = go (reset_begun_by answers)
+      marked_length : (answers : List Answer) (ids : List ℕ) (bound : ℕ) (more : List Slot) → length (with_mark (begun_reset_of answers) ids bound (log_extended more s.history)).log ≡ length (more ++ s.history.log)
+      marked_length answers ids bound more = go (begun_reset_of answers)
         where
           go : (begun : Option BegunReset) → length (with_mark begun ids bound (log_extended more s.history)).log ≡ length (more ++ s.history.log)
           go None = refl
           go (Some begun) = refl
 
   resend_more : (now room : ℕ) (transfer : Transfer) (left : RetransmissionState) (tsns : List ℕ) → old.queues.transfer ≡ Some transfer → SendsAtOnce now room old.queues.queue transfer.retransmission left tsns
-      → assigned old ≤ old.acknowledged + length left.outstanding.items
+      → assigned_count old ≤ old.acknowledged + length left.outstanding.items
   resend_more now room transfer left tsns known sends =
       let stays = at_once first old s now room transfer left tsns known sends in
       let count = stays.stands.bears.count in
       let before = s.count in
       omega (arith, count, before, length-append stays.more s.history.log)
 
-  aside_more : (transfer new : Transfer) → old.queues.transfer ≡ Some transfer → SameFlight transfer.retransmission new.retransmission → assigned old ≤ old.acknowledged + length new.retransmission.outstanding.items
+  aside_more : (transfer new : Transfer) → old.queues.transfer ≡ Some transfer → SameFlight transfer.retransmission new.retransmission → assigned_count old ≤ old.acknowledged + length new.retransmission.outstanding.items
   aside_more transfer new known same =
       let size : length new.retransmission.outstanding.items ≡ length transfer.retransmission.outstanding.items = ap (λ (o : OutstandingState). length o.items) same.outstanding in
       let before = at_known transfer known in
       omega (arith, size, before)
 
-  loss_more : (now : ℕ) (transfer : Transfer) → old.queues.transfer ≡ Some transfer → assigned old ≤ old.acknowledged + length (lost_all now transfer).retransmission.outstanding.items
+  loss_more : (now : ℕ) (transfer : Transfer) → old.queues.transfer ≡ Some transfer → assigned_count old ≤ old.acknowledged + length (lost_all now transfer).retransmission.outstanding.items
   loss_more now transfer known =
       let flight = known_flight first old s transfer known in
       let count = flight.count in
@@ -126,7 +126,7 @@ module _ (first : ℕ) (old : Direction) (small : first < 2 ^ 32) (s : Stands fi
       omega (arith, before, count, count')
 
   -- no more is acknowledged
-  on : (direction : Direction) → Goes old direction → assigned old ≤ assigned direction → direction.acknowledged ≡ old.acknowledged → Covers first direction
+  on : (direction : Direction) → Goes old direction → assigned_count old ≤ assigned_count direction → direction.acknowledged ≡ old.acknowledged → Covers first direction
   on direction goes more same =
       record {
         first_is = goes.first_is ∙ c.first_is;
@@ -231,6 +231,6 @@ reached_now options first size direction run =
     let (first_is, from) = run_starts options first size direction run in
     record { number = direction.tracker.cumulative; from = subst (λ (n : ℕ). (n + (2 ^ 32 - 1)) % 2 ^ 32 ≤ direction.tracker.cumulative) (sym first_is) from; to = omega arith; is = refl }
 
-pub acknowledgements_are_true : (options : Options) (first size : ℕ) (direction : Direction) → DirectionRun options first size direction → first < 2 ^ 32 → assigned direction < 2 ^ 31 → length direction.queued < 2 ^ 64
+pub acknowledgements_are_true : (options : Options) (first size : ℕ) (direction : Direction) → DirectionRun options first size direction → first < 2 ^ 32 → assigned_count direction < 2 ^ 31 → length direction.queued < 2 ^ 64
     → (first + (2 ^ 32 - 1)) % 2 ^ 32 + direction.acknowledged ≤ direction.tracker.cumulative
 acknowledgements_are_true options first size direction run small little few = (run_covers options first size direction small few run).covered little

@@ -5,7 +5,7 @@ use Rattle.std.proofs.lemmas.List.{append-nil}
 use Rattle.dcsctp_spec.specs.wire.Content.{DataContent, IDataContent, data_chunk, i_data_chunk, forward_tsn_chunk, i_forward_tsn_chunk}
 use Rattle.dcsctp_spec.specs.Packet.{unworked, plain, Emission}
 use Rattle.dcsctp_spec.specs.types.declared.arrivals.SkippedTo.{SkippedTo}
-use Rattle.dcsctp_spec.specs.queues.Arrivals.{Arrival, data_arrival, i_data_arrival, skipped_in, messages_skipped_in}
+use Rattle.dcsctp_spec.specs.queues.Arrivals.{Arrival, data_arrival, i_data_arrival, named_skips, skipped_messages}
 use Rattle.dcsctp_spec.specs.types.queues.Messages.{MessageContent}
 use Rattle.dcsctp_spec.specs.queues.Reassembly.{ReassemblyState, with_ready, deferring, EndsDeferral}
 use Rattle.dcsctp_spec.specs.types.queues.SendStreams.{Stream}
@@ -153,18 +153,18 @@ module _ (first : ℕ) (old : Direction) (small : first < 2 ^ 32) (s : Stands fi
         takes_data is.number (i_data_arrival chunk) (carries_interleaved old.queued s.history.log first chunk s.queues.cut s.fit is some) does
 
     unfoldable pub stepped_forwards : (emission : Emission) (tsn : ℕ) (bytes : List ℕ) → HasEntry emission old.sent → HasEntry (plain (unworked (forward_tsn_chunk tsn bytes))) emission.packet.contents
-        → MovesForward tsn (skipped_in bytes) theirs new → Stands first (record old { tracker = new.tracker; reassembly = new.reassembly })
+        → MovesForward tsn (named_skips bytes) theirs new → Stands first (record old { tracker = new.tracker; reassembly = new.reassembly })
     stepped_forwards emission tsn bytes was holds does =
         let is : IsForward false s.history first old.acknowledged tsn bytes =
         content_said s.history first old.acknowledged (plain (unworked (forward_tsn_chunk tsn bytes))) emission.packet.contents (packet_said s.history first old.acknowledged emission old.sent s.packets was) holds in
-        skips tsn (skipped_in bytes) does is.passed (forward_skips s.history first old.acknowledged tsn bytes is)
+        skips tsn (named_skips bytes) does is.passed (forward_skips s.history first old.acknowledged tsn bytes is)
 
     unfoldable pub stepped_forwards_interleaved : (emission : Emission) (tsn : ℕ) (bytes : List ℕ) → HasEntry emission old.sent → HasEntry (plain (unworked (i_forward_tsn_chunk tsn bytes))) emission.packet.contents
-        → MovesForward tsn (messages_skipped_in bytes) theirs new → Stands first (record old { tracker = new.tracker; reassembly = new.reassembly })
+        → MovesForward tsn (skipped_messages bytes) theirs new → Stands first (record old { tracker = new.tracker; reassembly = new.reassembly })
     stepped_forwards_interleaved emission tsn bytes was holds does =
         let is : IsForward true s.history first old.acknowledged tsn bytes =
         content_said s.history first old.acknowledged (plain (unworked (i_forward_tsn_chunk tsn bytes))) emission.packet.contents (packet_said s.history first old.acknowledged emission old.sent s.packets was) holds in
-        skips tsn (messages_skipped_in bytes) does is.passed (messages_skipped old.queued s.history first old.acknowledged tsn bytes s.queues.cut s.fit is)
+        skips tsn (skipped_messages bytes) does is.passed (messages_skipped old.queued s.history first old.acknowledged tsn bytes s.queues.cut s.fit is)
 
   -- ---- the rest
 

@@ -3,15 +3,15 @@ use Rattle.std.proofs.Common.{◌≡◌, ℕ, ◌≤◌, ◌+◌, List, [], ◌�
 use Rattle.std.specs.Prelude.{Bool, Option, None, Some}
 use Rattle.dcsctp_spec.specs.types.declared.options.Options.{Options}
 use Rattle.dcsctp_spec.specs.endpoint.Endpoint.{Endpoint}
-use Rattle.dcsctp_spec.specs.endpoint.Event.{Event, sent, packets_in}
+use Rattle.dcsctp_spec.specs.endpoint.Event.{Event, sent, packets_of_events}
 use Rattle.dcsctp_spec.specs.Packet.{plain, Content, init, init_ack, cookie_echo, cookie_ack, re_config, abort, shutdown, shutdown_ack, shutdown_complete, Emission}
 use Rattle.dcsctp_spec.specs.Reconfiguration.{ResetParameter, outgoing_reset_request, incoming_reset_request, reconfiguration_response, other_reset_parameter}
 use Rattle.dcsctp_spec.specs.association.Choices.{plain_contents}
 use Rattle.dcsctp_spec.specs.endpoint.BegunResets.{BegunReset, request_contents}
-use Rattle.dcsctp_spec.specs.endpoint.FlushOutcomes.{FillingEvent, filling_event, Answer, answer_contents, filled, goes_out, asked, next_draft, flush_of}
-use Rattle.dcsctp_delivery_sending.specs.Flushes.{NoRequests, NoContent, NoData, reset_begun_by}
+use Rattle.dcsctp_spec.specs.endpoint.FlushOutcomes.{FillingEvent, filling_event, Answer, answer_contents, filled_draft, goes_out, asked_outcome, next_draft, flush_of}
+use Rattle.dcsctp_delivery_sending.specs.Flushes.{NoRequests, NoContent, NoData, begun_reset_of}
 use Rattle.dcsctp_delivery_directions.specs.Directions.{Asking, nothing_asked, asking_with, all_ended, Direction, DirectionStep, queues, sets, prepares, commits, rolls_back, resends, resends_nothing, speaks, asks_again, renews, turns_aside, tracks, defers, flushes, acknowledges, loses, receives, forwards, receives_interleaved, forwards_interleaved, performs, performs_earlier, resets, takes, DirectionRun, begins, goes_on, starts}
-use Rattle.dcsctp_delivery_directions.specs.Requests.{IsOfBegun, one_if_asked, is_request, requests_among, requests_in, requests_to}
+use Rattle.dcsctp_delivery_directions.specs.Requests.{IsOfBegun, one_if_asked, is_request, requests_among, requests_among_packets, requests_to}
 use Rattle.dcsctp_delivery_directions.proofs.Requests.{packets_apart, told_then, told_alone, AreOfBegun, SentOfBegun, all_of_begun}
 
 -- ---- lists
@@ -20,7 +20,7 @@ pub requests_among_more : (contents more : List Content) → requests_among (con
 requests_among_more [] more = omega arith
 requests_among_more (c ∷ contents) more = (let rest = requests_among_more contents more in omega (arith, rest))
 
-pub requests_more : (packets more : List Emission) → requests_in (packets ++ more) ≡ requests_in packets + requests_in more
+pub requests_more : (packets more : List Emission) → requests_among_packets (packets ++ more) ≡ requests_among_packets packets + requests_among_packets more
 requests_more [] more = omega arith
 requests_more (p ∷ packets) more = (let rest = requests_more packets more in omega (arith, rest))
 
@@ -68,38 +68,38 @@ asking_counts : (begun : Option BegunReset) (asking : Asking) → length (asking
 asking_counts None asking = omega arith
 asking_counts (Some begun) asking = omega arith
 
-out_counts : (e : Endpoint) (told : List FillingEvent) (with_checksum : Bool) (tag : ℕ) (contents : List Content) → requests_in (packets_in (goes_out e (map filling_event told) with_checksum tag contents).events) ≡ requests_among contents
-out_counts e told with_checksum tag [] = ap requests_in (told_alone told)
+out_counts : (e : Endpoint) (told : List FillingEvent) (with_checksum : Bool) (tag : ℕ) (contents : List Content) → requests_among_packets (packets_of_events (goes_out e (map filling_event told) with_checksum tag contents).events) ≡ requests_among contents
+out_counts e told with_checksum tag [] = ap requests_among_packets (told_alone told)
 out_counts e told with_checksum tag (c ∷ contents) =
     let emission : Emission = record { with_checksum = with_checksum; packet = record { tag = tag; contents = c ∷ contents } } in
-    ap requests_in (told_then told (sent emission ∷ [])) ∙ omega arith
+    ap requests_among_packets (told_then told (sent emission ∷ [])) ∙ omega arith
 
-asked_counts : (e : Endpoint) (draft : Emission) (answer : Answer) → begun_count answer.begun ≤ requests_in (packets_in (asked e draft answer).events)
+asked_counts : (e : Endpoint) (draft : Emission) (answer : Answer) → begun_count answer.begun ≤ requests_among_packets (packets_of_events (asked_outcome e draft answer).events)
 asked_counts e draft answer =
-    let counted : requests_in (packets_in (asked e draft answer).events) ≡ requests_among (filled draft (answer_contents answer)).packet.contents =
-    out_counts answer.after answer.told draft.with_checksum draft.packet.tag (filled draft (answer_contents answer)).packet.contents in
+    let counted : requests_among_packets (packets_of_events (asked_outcome e draft answer).events) ≡ requests_among (filled_draft draft (answer_contents answer)).packet.contents =
+    out_counts answer.after answer.told draft.with_checksum draft.packet.tag (filled_draft draft (answer_contents answer)).packet.contents in
     let parts = requests_among_more draft.packet.contents (answer_contents answer) in
     let parts' = requests_among_more (plain_contents answer.acknowledgements) (request_contents answer.begun ++ plain_contents answer.data_chunks) in
     let parts'' = requests_among_more (request_contents answer.begun) (plain_contents answer.data_chunks) in
     let one = request_counts answer.begun in
     omega (arith, counted, parts, parts', parts'', one)
 
-flush_counts : (e : Endpoint) (draft : Emission) (answers : List Answer) → begun_count (reset_begun_by answers) ≤ requests_in (packets_in (flush_of e draft answers).events)
+flush_counts : (e : Endpoint) (draft : Emission) (answers : List Answer) → begun_count (begun_reset_of answers) ≤ requests_among_packets (packets_of_events (flush_of e draft answers).events)
 flush_counts e draft [] = omega arith
 flush_counts e draft (answer ∷ answers) =
     let one = asked_counts e draft answer in
-    let others : List (Event Emission) = (flush_of (asked e draft answer).after (next_draft e.core draft) answers).events in
-    let apart : requests_in (packets_in (flush_of e draft (answer ∷ answers)).events) ≡ requests_in (packets_in (asked e draft answer).events ++ packets_in others) =
-    ap requests_in (packets_apart (asked e draft answer).events others) in
-    let both = requests_more (packets_in (asked e draft answer).events) (packets_in others) in
+    let others : List (Event Emission) = (flush_of (asked_outcome e draft answer).after (next_draft e.core draft) answers).events in
+    let apart : requests_among_packets (packets_of_events (flush_of e draft (answer ∷ answers)).events) ≡ requests_among_packets (packets_of_events (asked_outcome e draft answer).events ++ packets_of_events others) =
+    ap requests_among_packets (packets_apart (asked_outcome e draft answer).events others) in
+    let both = requests_more (packets_of_events (asked_outcome e draft answer).events) (packets_of_events others) in
     omega (arith, one, apart, both)
 
 -- ---- a run
 
 abbrev AreSent : Direction → Type 0
-AreSent direction = length direction.asking.requests ≤ requests_in direction.sent
+AreSent direction = length direction.asking.requests ≤ requests_among_packets direction.sent
 
-one_more : (old : Direction) (emission : Emission) → AreSent old → length old.asking.requests ≤ requests_in (old.sent ++ emission ∷ [])
+one_more : (old : Direction) (emission : Emission) → AreSent old → length old.asking.requests ≤ requests_among_packets (old.sent ++ emission ∷ [])
 one_more old emission h = (let more = requests_more old.sent (emission ∷ []) in omega (arith, more, h))
 
 stepped : (old new : Direction) → AreSent old → DirectionStep old new → AreSent new
@@ -109,9 +109,9 @@ stepped old _ h (prepares ids fit kept) = h
 stepped old _ h (commits go_on) = h
 stepped old _ h (rolls_back unmixed) = h
 stepped old _ h (flushes e draft answers same no_data allowed) =
-    let more = requests_more old.sent (packets_in (flush_of e draft answers).events) in
+    let more = requests_more old.sent (packets_of_events (flush_of e draft answers).events) in
     let begun = flush_counts e draft answers in
-    let asks = asking_counts (reset_begun_by answers) old.asking in
+    let asks = asking_counts (begun_reset_of answers) old.asking in
     omega (arith, more, begun, asks, h)
 stepped old _ h (resends now room transfer left tsns chunks emission known sends are contents) = one_more old emission h
 stepped old _ h (resends_nothing now room transfer left tsns known sends) = h
@@ -135,9 +135,9 @@ stepped old _ h (resets streams new unmixed some leaves) = h
 stepped old _ h (performs_earlier newest earlier new asks unknown reached own leaves) = h
 stepped old _ h (takes message messages is) = h
 
-pub requests_are_sent : (options : Options) (first size : ℕ) (direction : Direction) → DirectionRun options first size direction → length direction.asking.requests ≤ requests_in direction.sent
+pub requests_are_sent : (options : Options) (first size : ℕ) (direction : Direction) → DirectionRun options first size direction → length direction.asking.requests ≤ requests_among_packets direction.sent
 requests_are_sent options first size _ (begins direction b) =
-    (let asked : length direction.asking.requests ≡ 0 = ap (λ (a : Asking). length a.requests) b.asking in omega (arith, asked))
+    (let asked_outcome : length direction.asking.requests ≡ 0 = ap (λ (a : Asking). length a.requests) b.asking in omega (arith, asked_outcome))
 requests_are_sent options first size _ (goes_on old direction run step) = stepped old direction (requests_are_sent options first size old run) step
 requests_are_sent options first size _ (starts old queued below beginning run awaited fit waits none numbered) = requests_are_sent options first size old run
 
@@ -160,12 +160,12 @@ none_among : (contents : List Content) → AreOfBegun [] contents → requests_a
 none_among [] are = refl
 none_among (content ∷ contents) are = (let one = none_begun content are.0 in let rest = none_among contents are.1 in omega (arith, one, rest))
 
-none_in : (packets : List Emission) → SentOfBegun [] packets → requests_in packets ≡ 0
+none_in : (packets : List Emission) → SentOfBegun [] packets → requests_among_packets packets ≡ 0
 none_in [] are = refl
 none_in (packet ∷ packets) are = (let one = none_among packet.packet.contents are.0 in let rest = none_in packets are.1 in omega (arith, one, rest))
 
 -- Where no request was begun none was sent.
-pub unasked_sends_none : (options : Options) (first size : ℕ) (direction : Direction) → DirectionRun options first size direction → direction.asking.requests ≡ [] → requests_in direction.sent ≡ 0
+pub unasked_sends_none : (options : Options) (first size : ℕ) (direction : Direction) → DirectionRun options first size direction → direction.asking.requests ≡ [] → requests_among_packets direction.sent ≡ 0
 unasked_sends_none options first size direction run none =
     none_in direction.sent (subst (λ (l : List BegunReset). SentOfBegun l direction.sent) none (all_of_begun options first size direction run))
 
@@ -181,7 +181,7 @@ step_unasked old _ before (sets setting fit) none = before none
 step_unasked old _ before (prepares ids small dropped) none = before none
 step_unasked old _ before (commits so) none = ap all_ended (before none)
 step_unasked old _ before (rolls_back kind) none = ap all_ended (before none)
-step_unasked old _ before (flushes e draft answers same no_data allowed) none = with_unasked (reset_begun_by answers) old.asking before none
+step_unasked old _ before (flushes e draft answers same no_data allowed) none = with_unasked (begun_reset_of answers) old.asking before none
 step_unasked old _ before (resends now room transfer left tsns chunks emission there does are contents) none = before none
 step_unasked old _ before (resends_nothing now room transfer left tsns there does) none = before none
 step_unasked old _ before (speaks emission no_data) none = before none

@@ -4,27 +4,27 @@ use Rattle.std.specs.Prelude.{Bool, Option, None, Some}
 use Rattle.std.proofs.lemmas.List.{append-nil}
 use Rattle.dcsctp_spec.specs.types.declared.options.Options.{Options}
 use Rattle.dcsctp_spec.specs.endpoint.Endpoint.{Endpoint, Core, closed as closed_core, cookie_wait, cookie_echoed, open_in}
-use Rattle.dcsctp_spec.specs.endpoint.Event.{Event, sent, packets_in}
+use Rattle.dcsctp_spec.specs.endpoint.Event.{Event, sent, packets_of_events}
 use Rattle.dcsctp_spec.specs.Packet.{Plain, plain, Content, init, init_ack, cookie_echo, cookie_ack, re_config, abort, shutdown, shutdown_ack, shutdown_complete, Emission}
 use Rattle.dcsctp_spec.specs.Reconfiguration.{ResetParameter, renewed_reset}
 use Rattle.dcsctp_spec.specs.association.Choices.{plain_contents}
 use Rattle.dcsctp_spec.specs.endpoint.BegunResets.{BegunReset, request_contents}
-use Rattle.dcsctp_spec.specs.endpoint.FlushOutcomes.{FillingEvent, amount_is_low, total_amount_is_low, message_is_sent, message_may_have_expired, message_has_expired, message_ends, filling_event, Answer, answer_contents, filled, goes_out, asked, next_draft, flush_of, Ask, first_ask, later_ask, AreFlushAnswers, at_limit, at_empty, after_packet, packets_allowed}
+use Rattle.dcsctp_spec.specs.endpoint.FlushOutcomes.{FillingEvent, amount_is_low, total_amount_is_low, message_is_sent, message_may_have_expired, message_has_expired, message_ends, filling_event, Answer, answer_contents, filled_draft, goes_out, asked_outcome, next_draft, flush_of, Ask, first_ask, later_ask, AreFlushAnswers, at_limit, at_empty, after_packet, packets_allowed}
 use Rattle.dcsctp_delivery_sending.specs.Places.{HasEntry}
-use Rattle.dcsctp_delivery_sending.specs.Flushes.{NoContent, NoData, reset_begun_by}
+use Rattle.dcsctp_delivery_sending.specs.Flushes.{NoContent, NoData, begun_reset_of}
 use Rattle.dcsctp_delivery_sending.proofs.PausedFlushes.{later_begun}
 use Rattle.dcsctp_delivery_directions.specs.Directions.{Asking, asking_with, Direction, DirectionStep, queues, sets, prepares, commits, rolls_back, resends, resends_nothing, speaks, asks_again, renews, turns_aside, tracks, defers, flushes, acknowledges, loses, receives, forwards, receives_interleaved, forwards_interleaved, performs, performs_earlier, resets, takes, DirectionRun, begins, goes_on, starts}
 use Rattle.dcsctp_delivery_directions.specs.Requests.{IsOfBegun}
 
 -- ---- the packets among events
 
-pub packets_apart : (events others : List (Event Emission)) → packets_in (events ++ others) ≡ packets_in events ++ packets_in others
+pub packets_apart : (events others : List (Event Emission)) → packets_of_events (events ++ others) ≡ packets_of_events events ++ packets_of_events others
 packets_apart [] others = refl
 packets_apart (sent emission ∷ events) others = ap (λ (l : List Emission). emission ∷ l) (packets_apart events others)
 packets_apart (event ∷ events) others = packets_apart events others
 
 -- The events in `told` are no packets.
-pub told_then : (told : List FillingEvent) (others : List (Event Emission)) → packets_in (map filling_event told ++ others) ≡ packets_in others
+pub told_then : (told : List FillingEvent) (others : List (Event Emission)) → packets_of_events (map filling_event told ++ others) ≡ packets_of_events others
 told_then [] others = refl
 told_then (amount_is_low stream ∷ told) others = told_then told others
 told_then (total_amount_is_low ∷ told) others = told_then told others
@@ -33,8 +33,8 @@ told_then (message_may_have_expired id ∷ told) others = told_then told others
 told_then (message_has_expired id ∷ told) others = told_then told others
 told_then (message_ends id ∷ told) others = told_then told others
 
-pub told_alone : (told : List FillingEvent) → packets_in (map filling_event told) ≡ []
-told_alone told = ap packets_in (sym (append-nil (map filling_event told))) ∙ told_then told []
+pub told_alone : (told : List FillingEvent) → packets_of_events (map filling_event told) ≡ []
+told_alone told = ap packets_of_events (sym (append-nil (map filling_event told))) ∙ told_then told []
 
 -- ---- what packets hold
 
@@ -94,14 +94,14 @@ module _ (requests : List BegunReset) where
       (of_both (request_contents answer.begun) (plain_contents answer.data_chunks) (of_request answer.begun among) (of_plain answer.data_chunks))
 
   out_of_begun : (e : Endpoint) (told : List FillingEvent) (with_checksum : Bool) (tag : ℕ) (contents : List Content) → AreOfBegun requests contents
-      → SentOfBegun requests (packets_in (goes_out e (map filling_event told) with_checksum tag contents).events)
+      → SentOfBegun requests (packets_of_events (goes_out e (map filling_event told) with_checksum tag contents).events)
   out_of_begun e told with_checksum tag [] are = subst (SentOfBegun requests) (sym (told_alone told)) tt
   out_of_begun e told with_checksum tag (c ∷ contents) are =
       subst (SentOfBegun requests) (sym (told_then told (sent (record { with_checksum = with_checksum; packet = record { tag = tag; contents = c ∷ contents } }) ∷ []))) (are, tt)
 
-  asked_of_begun : (e : Endpoint) (draft : Emission) (answer : Answer) → IsAmong answer.begun requests → AreOfBegun requests draft.packet.contents → SentOfBegun requests (packets_in (asked e draft answer).events)
+  asked_of_begun : (e : Endpoint) (draft : Emission) (answer : Answer) → IsAmong answer.begun requests → AreOfBegun requests draft.packet.contents → SentOfBegun requests (packets_of_events (asked_outcome e draft answer).events)
   asked_of_begun e draft answer among are =
-      out_of_begun answer.after answer.told draft.with_checksum draft.packet.tag (filled draft (answer_contents answer)).packet.contents
+      out_of_begun answer.after answer.told draft.with_checksum draft.packet.tag (filled_draft draft (answer_contents answer)).packet.contents
       (of_both draft.packet.contents (answer_contents answer) are (of_answer answer among))
 
   next_of_begun : (core : Core) (draft : Emission) → AreOfBegun requests (next_draft core draft).packet.contents
@@ -110,18 +110,18 @@ module _ (requests : List BegunReset) where
   next_of_begun (cookie_echoed my held cookie) draft = tt
   next_of_begun (open_in phase my held) draft = tt
 
-  flush_of_begun : (ask : Ask) (n : ℕ) (e : Endpoint) (draft : Emission) (answers : List Answer) → AreFlushAnswers ask n e draft answers → IsAmong (reset_begun_by answers) requests → AreOfBegun requests draft.packet.contents
-      → SentOfBegun requests (packets_in (flush_of e draft answers).events)
+  flush_of_begun : (ask : Ask) (n : ℕ) (e : Endpoint) (draft : Emission) (answers : List Answer) → AreFlushAnswers ask n e draft answers → IsAmong (begun_reset_of answers) requests → AreOfBegun requests draft.packet.contents
+      → SentOfBegun requests (packets_of_events (flush_of e draft answers).events)
   flush_of_begun _ _ _ _ _ (at_limit ask e draft) among are = tt
   flush_of_begun _ _ _ _ _ (at_empty ask more e draft answer is empty) among are =
-      subst (SentOfBegun requests) (sym (packets_apart (asked e draft answer).events []))
-      (sent_both (packets_in (asked e draft answer).events) [] (asked_of_begun e draft answer among are) tt)
+      subst (SentOfBegun requests) (sym (packets_apart (asked_outcome e draft answer).events []))
+      (sent_both (packets_of_events (asked_outcome e draft answer).events) [] (asked_of_begun e draft answer among are) tt)
   flush_of_begun _ _ _ _ _ (after_packet ask more e draft answer answers is some rest) among are =
-      let between : Endpoint = (asked e draft answer).after in
+      let between : Endpoint = (asked_outcome e draft answer).after in
       let next : Emission = next_draft e.core draft in
-      let later : IsAmong (reset_begun_by answers) requests = subst (λ (b : Option BegunReset). IsAmong b requests) (sym (later_begun more between next answers rest)) tt in
-      subst (SentOfBegun requests) (sym (packets_apart (asked e draft answer).events (flush_of between next answers).events))
-      (sent_both (packets_in (asked e draft answer).events) (packets_in (flush_of between next answers).events) (asked_of_begun e draft answer among are)
+      let later : IsAmong (begun_reset_of answers) requests = subst (λ (b : Option BegunReset). IsAmong b requests) (sym (later_begun more between next answers rest)) tt in
+      subst (SentOfBegun requests) (sym (packets_apart (asked_outcome e draft answer).events (flush_of between next answers).events))
+      (sent_both (packets_of_events (asked_outcome e draft answer).events) (packets_of_events (flush_of between next answers).events) (asked_of_begun e draft answer among are)
       (flush_of_begun later_ask more between next answers rest later (next_of_begun e.core draft)))
 
 -- ---- once more were begun
@@ -170,9 +170,9 @@ stepped old _ h (prepares ids fit kept) = h
 stepped old _ h (commits go_on) = h
 stepped old _ h (rolls_back unmixed) = h
 stepped old _ h (flushes e draft answers same no_data allowed) =
-    let asking : Asking = asking_with (reset_begun_by answers) old.asking in
-    sent_both asking.requests old.sent (packets_in (flush_of e draft answers).events) (asked_later (reset_begun_by answers) old.asking old.sent h)
-    (flush_of_begun asking.requests first_ask (packets_allowed e.options.max_burst e.core) e draft answers allowed (asked_among (reset_begun_by answers) old.asking) (of_none asking.requests draft.packet.contents no_data))
+    let asking : Asking = asking_with (begun_reset_of answers) old.asking in
+    sent_both asking.requests old.sent (packets_of_events (flush_of e draft answers).events) (asked_later (begun_reset_of answers) old.asking old.sent h)
+    (flush_of_begun asking.requests first_ask (packets_allowed e.options.max_burst e.core) e draft answers allowed (asked_among (begun_reset_of answers) old.asking) (of_none asking.requests draft.packet.contents no_data))
 stepped old _ h (resends now room transfer left tsns chunks emission known sends are contents) =
     one_more old.asking.requests old.sent emission h (subst (AreOfBegun old.asking.requests) (sym contents) (of_plain old.asking.requests chunks))
 stepped old _ h (resends_nothing now room transfer left tsns known sends) = h

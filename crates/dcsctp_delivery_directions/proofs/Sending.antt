@@ -18,7 +18,7 @@ use Rattle.dcsctp_delivery_sending.specs.Places.{HasEntry}
 use Rattle.dcsctp_delivery_sending.specs.Log.{Mark, History, log_extended}
 use Rattle.dcsctp_delivery_sending.specs.Numbers.{IsOfKind}
 use Rattle.dcsctp_delivery_sending.specs.Stages.{Bears, Pends, Stays}
-use Rattle.dcsctp_delivery_sending.specs.Flushes.{NoData, SayAll, PacketsSay, PendsWhere, IsBegun}
+use Rattle.dcsctp_delivery_sending.specs.Flushes.{NoData, SayAll, PacketsSay, PendsIfConnected, IsBegun}
 use Rattle.dcsctp_delivery_directions.specs.Directions.{Direction, SameFlight}
 use Rattle.dcsctp_delivery_sending.proofs.Packets.{said_chunks, none_said}
 use Rattle.dcsctp_delivery_sending.proofs.Filling.{at_once_stays}
@@ -46,8 +46,8 @@ marked_of (mark ∷ marks) begun h =
       | inr more ↦ (let m = marked_of marks begun more in record { mark = m.mark; has = inr m.has; is = m.is })
     ]
 
-same_pends : (history : History) (transfer : Option Transfer) → PendsWhere history transfer → (t : Transfer) → transfer ≡ Some t → Pends history t.retransmission.reset_begun
-same_pends history transfer pends t is = subst (λ (x : Option Transfer). PendsWhere history x) is pends
+same_pends : (history : History) (transfer : Option Transfer) → PendsIfConnected history transfer → (t : Transfer) → transfer ≡ Some t → Pends history t.retransmission.reset_begun
+same_pends history transfer pends t is = subst (λ (x : Option Transfer). PendsIfConnected history x) is pends
 
 module _ (first : ℕ) (old : Direction) (s : Stands first old) where
   -- what is in flight is sent as the queue numbers messages

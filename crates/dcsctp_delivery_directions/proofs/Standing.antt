@@ -6,17 +6,17 @@ use Rattle.dcsctp_spec.specs.Packet.{Content, Emission}
 use Rattle.dcsctp_spec.specs.queues.Reassembly.{ReassemblyState}
 use Rattle.dcsctp_spec.specs.types.queues.SendStreams.{Stream}
 use Rattle.dcsctp_spec.specs.queues.Transfer.{Transfer}
-use Rattle.dcsctp_spec.specs.endpoint.TransferMoves.{timed_by}
+use Rattle.dcsctp_spec.specs.endpoint.TransferMoves.{timed_transfer}
 use Rattle.dcsctp_delivery_sending.specs.Places.{HasEntry, at_place}
-use Rattle.dcsctp_delivery_sending.specs.Log.{Fits, Message, Piece, Cut, Mark, History, Resets}
+use Rattle.dcsctp_delivery_sending.specs.Log.{Fits, Message, Piece, IsLogOfPieces, Mark, History, Resets}
 use Rattle.dcsctp_delivery_sending.specs.Numbers.{is_handed_out, stream_named}
 use Rattle.dcsctp_delivery_sending.specs.Flushes.{SaysContent, SayAll, PacketsSay, InFlight, QueuesFollowLog}
 use Rattle.dcsctp_delivery_sending.specs.Stages.{Bears}
 use Rattle.dcsctp_delivery_receiving.specs.Ready.{AreDistinct, WereQueued}
 use Rattle.dcsctp_delivery_receiving.specs.Received.{HasReceived, Few}
 use Rattle.dcsctp_delivery_receiving.specs.Clear.{IsClear, Unsent}
-use Rattle.dcsctp_delivery_receiving.specs.Tracked.{tracked}
-use Rattle.dcsctp_delivery_directions.specs.Directions.{Direction, tsns_in_flight, assigned}
+use Rattle.dcsctp_delivery_receiving.specs.Tracked.{tracked_number}
+use Rattle.dcsctp_delivery_directions.specs.Directions.{Direction, tsns_in_flight, assigned_count}
 use Rattle.dcsctp_delivery_sending.proofs.Places.{at_stays}
 
 -- ---- streams that are handed out to be reset
@@ -38,7 +38,7 @@ pub record IsCleared (history : History) (first cumulative : ℕ) (streams : Lis
   pub mark : Mark
   pub earlier : List Mark
   pub is : history.marks ≡ mark ∷ earlier
-  pub passed : tracked first mark.bound ≤ cumulative + 1
+  pub passed : tracked_number first mark.bound ≤ cumulative + 1
   pub clear : (id : ℕ) → id < 2 ^ 16 → is_handed_out (stream_named id streams).pause ≡ true → Resets mark id
       → ((n : ℕ) (f : Piece) → at_place n history.log ≡ Some (Some f) → f.message.stream ≡ id → n < mark.bound) → IsClear id reassembly
 
@@ -59,7 +59,7 @@ pub record Stands (first : ℕ) (direction : Direction) : Type 0 where
   pub next : direction.queues.queue.next_message_id ≡ length direction.queued
   pub queues : QueuesFollowLog direction.queued history first direction.acknowledged direction.queues
   pub packets : PacketsSay history first direction.acknowledged direction.sent
-  pub count : length history.log ≡ assigned direction
+  pub count : length history.log ≡ assigned_count direction
   pub asked : direction.asking.requests ≡ map (λ mark. mark.begun) history.marks
   pub quiet : AreQuiet history direction.asking.out direction.queues.queue.streams
   pub arrived : length history.log < 2 ^ 31 → Arrived first history direction
@@ -94,15 +94,15 @@ few_of first history small few = record { small = small; few = few }
 pub same_flight : (history : History) (first acknowledged : ℕ) (transfer : Option Transfer) → InFlight history first acknowledged transfer → (t : Transfer) → transfer ≡ Some t → Bears history first acknowledged t.retransmission.outstanding
 same_flight history first acknowledged transfer flight t is = subst (λ (x : Option Transfer). InFlight history first acknowledged x) is flight
 
-pub timed_outstanding : (round_trip : Option ℕ) (transfer : Transfer) → (timed_by round_trip transfer).retransmission.outstanding ≡ transfer.retransmission.outstanding
+pub timed_outstanding : (round_trip : Option ℕ) (transfer : Transfer) → (timed_transfer round_trip transfer).retransmission.outstanding ≡ transfer.retransmission.outstanding
 timed_outstanding None transfer = refl
 timed_outstanding (Some round_trip) transfer = refl
 
-pub timed_begun : (round_trip : Option ℕ) (transfer : Transfer) → (timed_by round_trip transfer).retransmission.reset_begun ≡ transfer.retransmission.reset_begun
+pub timed_begun : (round_trip : Option ℕ) (transfer : Transfer) → (timed_transfer round_trip transfer).retransmission.reset_begun ≡ transfer.retransmission.reset_begun
 timed_begun None transfer = refl
 timed_begun (Some round_trip) transfer = refl
 
-pub cut_queued : (queued : List Message) (m : Message) (history : History) → Cut queued history.log → Cut (m ∷ queued) history.log
+pub cut_queued : (queued : List Message) (m : Message) (history : History) → IsLogOfPieces queued history.log → IsLogOfPieces (m ∷ queued) history.log
 cut_queued queued m history cut =
     record {
       pieces = λ n f at. (let p = cut.pieces n f at in record { at = at_stays f.place m f.message queued p.at; fresh = p.fresh; some = p.some; within = p.within; first = p.first });

@@ -8,7 +8,7 @@ use Rattle.dcsctp_spec.specs.queues.OwnResets.{prepared_all}
 use Rattle.dcsctp_spec.specs.queues.SendQueue.{SendQueueState}
 use Rattle.dcsctp_spec.specs.queues.Transfer.{EndpointQueues}
 use Rattle.dcsctp_spec.specs.types.queues.SendStreams.{Stream}
-use Rattle.dcsctp_delivery_sending.specs.Flushes.{reset_begun_by}
+use Rattle.dcsctp_delivery_sending.specs.Flushes.{begun_reset_of}
 use Rattle.dcsctp_delivery_sending.specs.Losing.{AreOpen, IsOpenOn}
 use Rattle.dcsctp_delivery_sending.proofs.OpenStreams.{queueing_open, setting_open, committing_open, rolling_back_open, flush_open, flush_asks_none}
 use Rattle.dcsctp_delivery_directions.specs.Directions.{Beginning, KeepsAll, Direction, asking_with, DirectionStep, queues, sets, prepares, commits, rolls_back, flushes, resends, resends_nothing, speaks, asks_again, renews, turns_aside, acknowledges, loses, receives, forwards, receives_interleaved, forwards_interleaved, tracks, defers, performs, performs_earlier, resets, takes}
@@ -42,7 +42,7 @@ stays_unpaused old _ (commits go_on) keeps u = record { unpaused = committing_op
 stays_unpaused old _ (rolls_back unmixed) keeps u = record { unpaused = rolling_back_open old.queues.queue u.unpaused; unasked = u.unasked }
 stays_unpaused old _ (flushes e draft answers same no_data allowed) keeps u =
     let before : AreOpen e.queues.queue.streams = subst (λ (b : EndpointQueues). AreOpen b.queue.streams) (sym same) u.unpaused in
-    let none : reset_begun_by answers ≡ None = flush_asks_none first_ask (packets_allowed e.options.max_burst e.core) e draft answers allowed before in
+    let none : begun_reset_of answers ≡ None = flush_asks_none first_ask (packets_allowed e.options.max_burst e.core) e draft answers allowed before in
     record {
       unpaused = flush_open first_ask (packets_allowed e.options.max_burst e.core) e draft answers allowed before;
       unasked = ap (λ (begun : Option BegunReset). (asking_with begun old.asking).requests) none ∙ u.unasked;

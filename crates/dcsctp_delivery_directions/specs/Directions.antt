@@ -8,7 +8,7 @@ use Rattle.dcsctp_spec.specs.types.declared.sending.UnderWay.{UnderWay}
 use Rattle.dcsctp_spec.specs.types.queues.SendStreams.{Waiting, Stream, front_of, next_numbers}
 use Rattle.dcsctp_spec.specs.queues.SendQueue.{SendQueueState}
 use Rattle.dcsctp_spec.specs.endpoint.Endpoint.{Endpoint}
-use Rattle.dcsctp_spec.specs.endpoint.Event.{packets_in}
+use Rattle.dcsctp_spec.specs.endpoint.Event.{packets_of_events}
 use Rattle.dcsctp_spec.specs.Packet.{Plain, unworked, plain, Emission}
 use Rattle.dcsctp_spec.specs.association.Choices.{plain_contents}
 use Rattle.dcsctp_spec.specs.queues.AtOnce.{SendsAtOnce}
@@ -18,7 +18,7 @@ use Rattle.dcsctp_spec.specs.queues.Retransmission.{RetransmissionState}
 use Rattle.dcsctp_spec.specs.types.Setting.{Setting}
 use Rattle.dcsctp_spec.specs.endpoint.SettingOutcomes.{set_in_queue}
 use Rattle.dcsctp_spec.specs.queues.Acknowledging.{is_sack_valid}
-use Rattle.dcsctp_spec.specs.queues.Arrivals.{data_arrival, i_data_arrival, skipped_in, messages_skipped_in}
+use Rattle.dcsctp_spec.specs.queues.Arrivals.{data_arrival, i_data_arrival, named_skips, skipped_messages}
 use Rattle.dcsctp_spec.specs.types.queues.Messages.{MessageContent}
 use Rattle.dcsctp_spec.specs.queues.Outstanding.{acknowledged_count}
 use Rattle.dcsctp_spec.specs.queues.Reassembly.{ReassemblyState, new_reassembly, with_ready, deferring, EndsDeferral}
@@ -35,7 +35,7 @@ use Rattle.dcsctp_spec.specs.Reconfiguration.{RequestedReset, renewed_reset}
 use Rattle.dcsctp_spec.specs.association.FlushChanges.{reset_request}
 use Rattle.dcsctp_spec.specs.queues.Numbers.{is_tsn_beyond}
 use Rattle.dcsctp_spec.specs.endpoint.BegunResets.{BegunReset}
-use Rattle.dcsctp_delivery_sending.specs.Flushes.{NoData, reset_begun_by}
+use Rattle.dcsctp_delivery_sending.specs.Flushes.{NoData, begun_reset_of}
 use Rattle.dcsctp_delivery_sending.specs.Queueing.{message_of, SettingFits, QueueWaits}
 use Rattle.dcsctp_delivery_receiving.specs.Clear.{IsOwn}
 use Rattle.dcsctp_delivery_receiving.specs.Ready.{AreDistinct, WereQueued}
@@ -112,8 +112,8 @@ abbrev pub tsns_in_flight : Option Transfer → ℕ
 tsns_in_flight None = 0
 tsns_in_flight (Some transfer) = length transfer.retransmission.outstanding.items
 
-abbrev pub assigned : Direction → ℕ
-assigned direction = direction.acknowledged + tsns_in_flight direction.queues.transfer
+abbrev pub assigned_count : Direction → ℕ
+assigned_count direction = direction.acknowledged + tsns_in_flight direction.queues.transfer
 
 -- The tracker's cumulative TSN has been this, or was moved past it: that is one from the TSN before the first on, up to where it
 -- is now.
@@ -146,8 +146,8 @@ pub data DirectionStep (old : Direction) : Direction → Type 0 where
   flushes : (e : Endpoint) (draft : Emission) (answers : List Answer) → e.queues ≡ old.queues → NoData draft.packet.contents → FlushAnswers e draft answers
       → DirectionStep old (record old {
         queues = (flush_of e draft answers).after.queues;
-        sent = old.sent ++ packets_in (flush_of e draft answers).events;
-        asking = asking_with (reset_begun_by answers) old.asking;
+        sent = old.sent ++ packets_of_events (flush_of e draft answers).events;
+        asking = asking_with (begun_reset_of answers) old.asking;
       })
   -- A fast retransmission.
   resends : (now room : ℕ) (transfer : Transfer) (left : RetransmissionState) (tsns : List ℕ) (chunks : List Plain) (emission : Emission) → old.queues.transfer ≡ Some transfer
@@ -178,14 +178,14 @@ pub data DirectionStep (old : Direction) : Direction → Type 0 where
       → theirs.tracker ≡ old.tracker → theirs.reassembly ≡ old.reassembly → ReceivesData (data_arrival chunk) theirs new
       → DirectionStep old (record old { tracker = new.tracker; reassembly = new.reassembly })
   forwards : (emission : Emission) (tsn : ℕ) (streams : List ℕ) (theirs new : Transfer) → HasEntry emission old.sent → HasEntry (plain (unworked (forward_tsn_chunk tsn streams))) emission.packet.contents
-      → theirs.tracker ≡ old.tracker → theirs.reassembly ≡ old.reassembly → MovesForward tsn (skipped_in streams) theirs new
+      → theirs.tracker ≡ old.tracker → theirs.reassembly ≡ old.reassembly → MovesForward tsn (named_skips streams) theirs new
       → DirectionStep old (record old { tracker = new.tracker; reassembly = new.reassembly })
   -- So is an I-DATA chunk, and an I-FORWARD-TSN.
   receives_interleaved : (emission : Emission) (chunk : IDataContent) (theirs new : Transfer) → HasEntry emission old.sent → HasEntry (plain (unworked (i_data_chunk chunk))) emission.packet.contents → chunk.payload ≢ []
       → theirs.tracker ≡ old.tracker → theirs.reassembly ≡ old.reassembly → ReceivesData (i_data_arrival chunk) theirs new
       → DirectionStep old (record old { tracker = new.tracker; reassembly = new.reassembly })
   forwards_interleaved : (emission : Emission) (tsn : ℕ) (streams : List ℕ) (theirs new : Transfer) → HasEntry emission old.sent → HasEntry (plain (unworked (i_forward_tsn_chunk tsn streams))) emission.packet.contents
-      → theirs.tracker ≡ old.tracker → theirs.reassembly ≡ old.reassembly → MovesForward tsn (messages_skipped_in streams) theirs new
+      → theirs.tracker ≡ old.tracker → theirs.reassembly ≡ old.reassembly → MovesForward tsn (skipped_messages streams) theirs new
       → DirectionStep old (record old { tracker = new.tracker; reassembly = new.reassembly })
   -- The receiver acknowledges, now or later.
   tracks : (new : TrackerState) → new.cumulative ≡ old.tracker.cumulative → new.ranges ≡ old.tracker.ranges → DirectionStep old (record old { tracker = new })
@@ -261,7 +261,7 @@ pub data DirectionRun (options : Options) (first size : ℕ) : Direction → Typ
       → BeginsAs beginning queued sender_queues.queue → DirectionRun options first size (record old { queued = queued; queues = sender_queues; beginning = beginning })
 
 -- Each message that was read was queued, and none twice.
-pub record Delivered (queued : List Message) (read : List MessageContent) : Type 0 where
+pub record AreDelivered (queued : List Message) (read : List MessageContent) : Type 0 where
   pub places : List ℕ
   pub were_queued : WereQueued queued places read
   pub once : AreDistinct places
@@ -269,5 +269,5 @@ pub record Delivered (queued : List Message) (read : List MessageContent) : Type
 -- This holds for every run in which fewer than 2^31 TSNs were assigned.
 abbrev pub DirectionsDeliver : Type 0
 DirectionsDeliver =
-    (options : Options) (first size : ℕ) (direction : Direction) → DirectionRun options first size direction → first < 2 ^ 32 → assigned direction < 2 ^ 31 → length direction.queued < 2 ^ 64
-    → Delivered direction.queued direction.read
+    (options : Options) (first size : ℕ) (direction : Direction) → DirectionRun options first size direction → first < 2 ^ 32 → assigned_count direction < 2 ^ 31 → length direction.queued < 2 ^ 64
+    → AreDelivered direction.queued direction.read

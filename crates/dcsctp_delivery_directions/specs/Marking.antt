@@ -4,7 +4,7 @@ use Rattle.std.specs.Prelude.{◌≡◌, ◌<◌, ◌^◌, ℕ, false, Some, Lis
 use Rattle.dcsctp_spec.specs.types.declared.options.Options.{Options}
 use Rattle.dcsctp_delivery_sending.specs.Places.{HasEntry, at_place}
 use Rattle.dcsctp_delivery_sending.specs.Log.{Message}
-use Rattle.dcsctp_delivery_directions.specs.Directions.{Direction, DirectionRun, assigned, Delivered}
+use Rattle.dcsctp_delivery_directions.specs.Directions.{Direction, DirectionRun, assigned_count, AreDelivered}
 use Rattle.dcsctp_delivery_sending.specs.Marking.{WaitsNoLonger}
 
 -- The message of this place isn't marked as spent.
@@ -14,12 +14,12 @@ pub record IsUnspent (queued : List Message) (place : ℕ) : Type 0 where
   pub fresh : message.is_spent ≡ false
 
 -- Each message that was read was queued, none was read twice, none waits to be sent again, and none was marked as spent.
-pub record DeliveredForGood (direction : Direction) : Type 0 where
-  pub delivered : Delivered direction.queued direction.read
+pub record AreDeliveredForGood (direction : Direction) : Type 0 where
+  pub delivered : AreDelivered direction.queued direction.read
   pub waits_no_longer : (place : ℕ) → HasEntry place delivered.places → WaitsNoLonger place direction.queues.queue.streams
   pub fresh : (place : ℕ) → HasEntry place delivered.places → IsUnspent direction.queued place
 
 -- This holds for every run in which fewer than 2^31 TSNs were assigned.
 abbrev pub DirectionsDeliverForGood : Type 0
 DirectionsDeliverForGood =
-    (options : Options) (first size : ℕ) (direction : Direction) → DirectionRun options first size direction → first < 2 ^ 32 → assigned direction < 2 ^ 31 → length direction.queued < 2 ^ 64 → DeliveredForGood direction
+    (options : Options) (first size : ℕ) (direction : Direction) → DirectionRun options first size direction → first < 2 ^ 32 → assigned_count direction < 2 ^ 31 → length direction.queued < 2 ^ 64 → AreDeliveredForGood direction

@@ -43,9 +43,9 @@ requests_among [] = 0
 requests_among (content ∷ contents) = is_request content + requests_among contents
 
 -- and each in these packets
-abbrev pub requests_in : List Emission → ℕ
-requests_in [] = 0
-requests_in (emission ∷ emissions) = requests_among emission.packet.contents + requests_in emissions
+abbrev pub requests_among_packets : List Emission → ℕ
+requests_among_packets [] = 0
+requests_among_packets (emission ∷ emissions) = requests_among emission.packet.contents + requests_among_packets emissions
 
 -- and each in those of them that go to this verification tag
 abbrev pub requests_to : ℕ → List Emission → ℕ
@@ -54,4 +54,4 @@ requests_to tag (emission ∷ emissions) = (if emission.packet.tag == tag then r
 
 -- As many chunks with a request were sent as requests were begun, or more.
 abbrev pub RequestsAreSent : Type 0
-RequestsAreSent = (options : Options) (first size : ℕ) (direction : Direction) → DirectionRun options first size direction → length direction.asking.requests ≤ requests_in direction.sent
+RequestsAreSent = (options : Options) (first size : ℕ) (direction : Direction) → DirectionRun options first size direction → length direction.asking.requests ≤ requests_among_packets direction.sent

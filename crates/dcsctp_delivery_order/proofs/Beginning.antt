@@ -2,10 +2,10 @@
 use Rattle.std.proofs.Common.{◌≡◌, ℕ, Bool, true, false, ◌≤◌, ◌+◌, ◌%◌, ◌^◌, List, [], refl, sym, ◌∙◌, ap, arith, subst}
 use Rattle.std.specs.Prelude.{Option, None, Some}
 use Rattle.dcsctp_spec_lemmas.specs.types.declared.sending.UnderWay.{UnderWay}
-use Rattle.dcsctp_spec_lemmas.specs.types.queues.SendStreams.{Waiting, Stream, front_of, unused, stream_at}
+use Rattle.dcsctp_spec_lemmas.specs.types.queues.SendStreams.{Waiting, Stream, front_of, unused_stream, stream_at}
 use Rattle.dcsctp_spec_lemmas.specs.spec.queues.SendQueue.{SendQueueState}
 use Rattle.dcsctp_delivery_sending.specs.Log.{Message, new_history}
-use Rattle.dcsctp_delivery_sending.specs.Numbers.{stream_named, next_mid, CountsMessages, CountsSsns, CountsWhere}
+use Rattle.dcsctp_delivery_sending.specs.Numbers.{stream_named, next_mid, CountsMessages, CountsSsns, CountsByKind}
 use Rattle.dcsctp_delivery_sending.specs.Pieces.{IsThere, HoldsQueued}
 use Rattle.dcsctp_delivery_sending.specs.Queueing.{QueueWaits}
 use Rattle.dcsctp_delivery_sending.proofs.StreamsNamed.{found_at}
@@ -31,7 +31,7 @@ idle_counts streams =
 -- The floors of these streams, and the counts from there.
 record NumbersFrom (b : Bool) (streams : List Stream) (under_way : Option UnderWay) : Type 0 where
   floors : ℕ → Bool → ℕ
-  counts : CountsWhere b (new_history floors) streams under_way
+  counts : CountsByKind b (new_history floors) streams under_way
   zero : RestIsUnordered streams under_way → ((id : ℕ) → next_mid false (stream_named id streams) % 2 ^ 32 ≡ 0) → ((id : ℕ) → (stream_named id streams).next_ssn ≡ 0) → (id : ℕ) → floors id false % 2 ^ 32 ≡ 0
   plain : b ≡ false → RestIsUnordered streams under_way → ((id : ℕ) → (stream_named id streams).next_ssn ≡ 0) → (id : ℕ) → floors id false ≡ 0
 
@@ -94,7 +94,7 @@ ssns_from streams under_way rest =
 abbrev HasFront : List Stream → Option UnderWay → Type 0
 HasFront streams under_way = (u : UnderWay) → under_way ≡ Some u → (w : Waiting) × (front_of (stream_named u.stream_id.0 streams).messages ≡ Some w)
 
-numbers_from : (b : Bool) (streams : List Stream) (under_way : Option UnderWay) (floors : ℕ → Bool → ℕ) → HasFront streams under_way → CountsWhere b (new_history floors) streams under_way → NumbersFrom b streams under_way
+numbers_from : (b : Bool) (streams : List Stream) (under_way : Option UnderWay) (floors : ℕ → Bool → ℕ) → HasFront streams under_way → CountsByKind b (new_history floors) streams under_way → NumbersFrom b streams under_way
 unfolding next_of ssn_of
 numbers_from false streams None floors there c =
     record { floors = ssn_of streams; counts = ssns_from streams None (λ u is. absurd (cc)); zero = λ rest zero ssn id. ap (λ (k : ℕ). k % 2 ^ 32) (ssn id); plain = λ is rest ssn id. ssn id }
@@ -137,7 +137,7 @@ front_there queued streams (Some v) holds u is =
     let one : v ≡ u = cc in
     let there : IsThere streams v = holds.going.there in
     let named : stream_named v.stream_id.0 streams ≡ stream_at streams there.q =
-    subst (λ (k : ℕ). stream_named k streams ≡ stream_at streams there.q) there.is (found_at (unused 0 0 0) there.q streams there.within holds.distinct) in
+    subst (λ (k : ℕ). stream_named k streams ≡ stream_at streams there.q) there.is (found_at (unused_stream 0 0 0) there.q streams there.within holds.distinct) in
     (there.waiting, ap (λ (x : UnderWay). front_of (stream_named x.stream_id.0 streams).messages) (sym one) ∙ ap (λ (s : Stream). front_of s.messages) named ∙ there.front)
 
 -- What waits, waits from these floors.

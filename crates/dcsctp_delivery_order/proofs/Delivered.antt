@@ -10,12 +10,12 @@ use Rattle.dcsctp_delivery_order.specs.Queue.{IsOrderedOn, ComeInOrder, LeaveNoG
 use Rattle.dcsctp_delivery_order.specs.Reading.{CountsFromZero}
 use Rattle.dcsctp_delivery_order.specs.Gaps.{SendsInTurn}
 use Rattle.dcsctp_delivery_order.specs.Incoming.{IncomingOrdered}
-use Rattle.dcsctp_delivery_order.specs.Delivered.{DeliveredInOrder, DeliveredWithoutGaps}
+use Rattle.dcsctp_delivery_order.specs.Delivered.{AreDeliveredInOrder, AreDeliveredWithoutGaps}
 use Rattle.dcsctp_delivery_order.proofs.Gaps.{filled_no_gap}
 use Rattle.dcsctp_delivery_order.proofs.Incoming.{ordered_was_read}
 
 pub read_is_in_order : (gapless : ℕ → Bool) (queued : List Message) (history : History) (quiet : ℕ → Bool) (got : List ℕ) (base : ℕ) (places : List ℕ) (incoming : IncomingModel) (read : List MessageContent)
-    → WereQueued queued places read → AreDistinct places → ((id : ℕ) → CountsFromZero history id) → IncomingOrdered gapless queued history quiet got base places incoming → DeliveredInOrder queued read
+    → WereQueued queued places read → AreDistinct places → ((id : ℕ) → CountsFromZero history id) → IncomingOrdered gapless queued history quiet got base places incoming → AreDeliveredInOrder queued read
 read_is_in_order gapless queued history quiet got base places incoming read were once counts o =
     record {
       delivered = record { places = places; were_queued = were; once = once };
@@ -43,7 +43,7 @@ module _ (queued : List Message) (id : ℕ) where
 
 pub read_is_front : (queued : List Message) (history : History) (got : List ℕ) (base : ℕ) (places : List ℕ) (incoming : IncomingModel) (read : List MessageContent)
     → WereQueued queued places read → AreDistinct places → ((id : ℕ) → CountsFromZero history id) → ((id : ℕ) → SendsInTurn queued history id)
-    → IncomingOrdered (λ id. true) queued history (λ id. false) got base places incoming → DeliveredWithoutGaps queued read
+    → IncomingOrdered (λ id. true) queued history (λ id. false) got base places incoming → AreDeliveredWithoutGaps queued read
 read_is_front queued history got base places incoming read were once counts sends o =
     record {
       ordered = record {

@@ -8,7 +8,7 @@ use Rattle.dcsctp_spec_lemmas.specs.spec.endpoint.BegunResets.{BegunReset}
 use Rattle.dcsctp_spec_lemmas.specs.spec.endpoint.FlushOutcomes.{first_ask, packets_allowed}
 use Rattle.dcsctp_spec_lemmas.specs.spec.queues.OwnResets.{queue_committed}
 use Rattle.dcsctp_spec_lemmas.specs.spec.queues.Transfer.{EndpointQueues}
-use Rattle.dcsctp_delivery_sending.specs.Flushes.{reset_begun_by}
+use Rattle.dcsctp_delivery_sending.specs.Flushes.{begun_reset_of}
 use Rattle.dcsctp_delivery_sending.specs.Log.{Fits, Message, Slot, History, new_history}
 use Rattle.dcsctp_delivery_sending.specs.Numbers.{is_handed_out, stream_named}
 use Rattle.dcsctp_delivery_sending.specs.Queueing.{QueueWaits}
@@ -18,12 +18,12 @@ use Rattle.dcsctp_delivery_sending.proofs.NextIdentifiers.{flush_kind}
 use Rattle.dcsctp_delivery_sending.proofs.Prepared.{preparing_kind}
 use Rattle.dcsctp_delivery_sending.proofs.Settings.{setting_kind}
 use Rattle.dcsctp_delivery_receiving.specs.Ready.{AreDistinct, WereQueued}
-use Rattle.dcsctp_delivery_directions.specs.Directions.{Beginning, BeginsAs, Direction, Asking, asking_with, assigned, BeginsDirection, IsAwaited, NoneInFlight, DirectionRun, begins, goes_on, starts, DirectionStep, queues, sets, prepares, commits, rolls_back, flushes, resends, resends_nothing, speaks, asks_again, renews, turns_aside, acknowledges, loses, receives, forwards, receives_interleaved, forwards_interleaved, tracks, defers, performs, performs_earlier, resets, takes}
+use Rattle.dcsctp_delivery_directions.specs.Directions.{Beginning, BeginsAs, Direction, Asking, asking_with, assigned_count, BeginsDirection, IsAwaited, NoneInFlight, DirectionRun, begins, goes_on, starts, DirectionStep, queues, sets, prepares, commits, rolls_back, flushes, resends, resends_nothing, speaks, asks_again, renews, turns_aside, acknowledges, loses, receives, forwards, receives_interleaved, forwards_interleaved, tracks, defers, performs, performs_earlier, resets, takes}
 use Rattle.dcsctp_delivery_directions.proofs.Continuing.{NamedAreOut, EndsNone, Continues, step_continues, ended_raises, begun_history, started_history}
 use Rattle.dcsctp_delivery_directions.proofs.Directions.{begun_stands, started_stands}
 use Rattle.dcsctp_delivery_directions.proofs.Standing.{Stands}
 use Rattle.dcsctp_delivery_directions.proofs.Steps.{stepped, more_queued}
-use Rattle.dcsctp_delivery_order.specs.Delivered.{DeliveredInOrder}
+use Rattle.dcsctp_delivery_order.specs.Delivered.{AreDeliveredInOrder}
 use Rattle.dcsctp_delivery_order.specs.Reading.{CountsFromZero}
 use Rattle.dcsctp_delivery_order.specs.Incoming.{NoneLimitedOn}
 use Rattle.dcsctp_delivery_order.specs.Received.{none_quiet, none_gapless, ReassemblesInOrder, none_handled, some_handled}
@@ -100,7 +100,7 @@ step_keeps old _ (flushes e draft answers same no_data allowed) ends =
     record {
       start = refl;
       kind = flush_kind first_ask (packets_allowed e.options.max_burst e.core) e draft answers allowed ∙ ap (λ (b : EndpointQueues). b.queue.is_interleaved) same;
-      unended = begun_unended (reset_begun_by answers) old.asking;
+      unended = begun_unended (begun_reset_of answers) old.asking;
     }
 step_keeps old _ (resends now room transfer left tsns chunks emission known sends are contents) ends = record { start = refl; kind = refl; unended = λ u. u }
 step_keeps old _ (resends_nothing now room transfer left tsns known sends) ends = record { start = refl; kind = refl; unended = λ u. u }
@@ -219,8 +219,8 @@ run_in_order options first size _ small few (starts old queued below beginning r
     let none_queued : length old.queued ≡ 0 = ap (λ (l : List Message). length l) awaited.queued in
     starts_in_order first old queued below beginning small (run_in_order options first size old small (omega (arith, none_queued)) run) awaited fit waits idle begun
 
-pub directions_deliver_in_order : (options : Options) (first size : ℕ) (direction : Direction) → DirectionRun options first size direction → first < 2 ^ 32 → assigned direction < 2 ^ 31 → length direction.queued < 2 ^ 64
-    → direction.queues.queue.is_interleaved ≡ true → direction.beginning.from_zero ≡ true → DeliveredInOrder direction.queued direction.read
+pub directions_deliver_in_order : (options : Options) (first size : ℕ) (direction : Direction) → DirectionRun options first size direction → first < 2 ^ 32 → assigned_count direction < 2 ^ 31 → length direction.queued < 2 ^ 64
+    → direction.queues.queue.is_interleaved ≡ true → direction.beginning.from_zero ≡ true → AreDeliveredInOrder direction.queued direction.read
 directions_deliver_in_order options first size direction run small little few interleaved from =
     let g = run_in_order options first size direction small few run in
     let s = g.stands in
@@ -231,6 +231,6 @@ directions_deliver_in_order options first size direction run small little few in
     go s a.quiet a.received.got a.places a.were a.once counts a.received.holds
   where
     go : (s : Stands first direction) (quiet : ℕ → Bool) (got places : List ℕ) → WereQueued direction.queued places direction.read → AreDistinct places → ((id : ℕ) → CountsFromZero s.history id)
-        → ReassemblesInOrder none_gapless direction.queued s.history quiet first got places direction.reassembly.incoming → DeliveredInOrder direction.queued direction.read
+        → ReassemblesInOrder none_gapless direction.queued s.history quiet first got places direction.reassembly.incoming → AreDeliveredInOrder direction.queued direction.read
     go s quiet got places were once counts (none_handled none' last empty') = read_is_in_order none_gapless direction.queued s.history quiet [] 0 places direction.reassembly.incoming direction.read were once counts (empty' 0)
     go s quiet got places were once counts (some_handled base is holds) = read_is_in_order none_gapless direction.queued s.history quiet got base places direction.reassembly.incoming direction.read were once counts holds

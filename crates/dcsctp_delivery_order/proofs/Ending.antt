@@ -6,11 +6,11 @@ use Rattle.dcsctp_spec_lemmas.specs.spec.queues.Incoming.{IncomingModel, ResetsS
 use Rattle.dcsctp_spec_lemmas.specs.spec.queues.Reassembly.{WaitingModel, WaitingSkips, DeferralModel, ReassemblyState, names_stream, HandlesAll, SkipsThen, waiting_of, skips_of, EndsDeferral}
 use Rattle.dcsctp_spec_lemmas.specs.spec.queues.Tracker.{TrackerState}
 use Rattle.dcsctp_delivery_sending.specs.Places.{HasEntry}
-use Rattle.dcsctp_delivery_sending.specs.Log.{Message, History, Cut}
+use Rattle.dcsctp_delivery_sending.specs.Log.{Message, History, IsLogOfPieces}
 use Rattle.dcsctp_delivery_sending.specs.Numbers.{IsUnambiguous}
 use Rattle.dcsctp_delivery_receiving.specs.Clear.{NoneSkips, NoneWaits}
 use Rattle.dcsctp_delivery_receiving.specs.Ready.{AreDistinct}
-use Rattle.dcsctp_delivery_receiving.specs.Received.{kept_entries, SkipsWait, ForwardsWait, Placed, DefersData, Few}
+use Rattle.dcsctp_delivery_receiving.specs.Received.{kept_entries, SkipsWait, ForwardsWait, CountsFromBase, DefersData, Few}
 use Rattle.dcsctp_delivery_receiving.proofs.Kept.{later_named}
 use Rattle.dcsctp_delivery_receiving.proofs.Reassembled.{kept_last}
 use Rattle.dcsctp_delivery_order.specs.Incoming.{NoneLimitedOn}
@@ -22,11 +22,11 @@ use Rattle.dcsctp_delivery_order.proofs.Received.{loud_by, loud_entries, data_in
 abbrev pub quiet_with : (ℕ → Bool) → List ℕ → ℕ → Bool
 quiet_with quiet streams id = quiet id || names_stream streams id
 
-module _ (gapless : ℕ → Bool) (queued : List Message) (history : History) (first : ℕ) (cut : Cut queued history.log) (told : IsUnambiguous history) (f : Few history first) (free : NoneLimitedOn gapless history.log) (read : List ℕ) where
+module _ (gapless : ℕ → Bool) (queued : List Message) (history : History) (first : ℕ) (cut : IsLogOfPieces queued history.log) (told : IsUnambiguous history) (f : Few history first) (free : NoneLimitedOn gapless history.log) (read : List ℕ) where
   reset_in_order : (quiet : ℕ → Bool) (got streams : List ℕ) (old new : IncomingModel) → ReassemblesInOrder gapless queued history quiet first got read old → ResetsStreams streams old new
       → ReassemblesInOrder gapless queued history (quiet_with quiet streams) first got read new
   reset_in_order quiet got streams old new (some_handled base is holds) resets =
-      some_handled base (subst (λ (l : ℕ). Placed first base l) (sym (kept_last queued history first cut told f read streams old new resets)) is) (resetting_in_order gapless queued history quiet got base read streams old new holds resets)
+      some_handled base (subst (λ (l : ℕ). CountsFromBase first base l) (sym (kept_last queued history first cut told f read streams old new resets)) is) (resetting_in_order gapless queued history quiet got base read streams old new holds resets)
   reset_in_order quiet got streams old new (none_handled none last empty) resets =
       none_handled none (kept_last queued history first cut told f read streams old new resets ∙ last) (λ base. resetting_in_order gapless queued history quiet [] base read streams old new (empty base) resets)
 

@@ -10,13 +10,13 @@ use Rattle.dcsctp_spec_lemmas.specs.wire.Content.{data_chunk, i_data_chunk, forw
 use Rattle.dcsctp_spec_lemmas.specs.spec.Packet.{unworked, plain}
 use Rattle.dcsctp_spec_lemmas.specs.types.declared.arrivals.SkippedTo.{SkippedTo}
 use Rattle.dcsctp_spec_lemmas.specs.spec.queues.Skipping.{entry_bytes}
-use Rattle.dcsctp_spec_lemmas.specs.spec.queues.Arrivals.{Arrival, data_arrival, i_data_arrival, skipped_in, messages_skipped_in}
+use Rattle.dcsctp_spec_lemmas.specs.spec.queues.Arrivals.{Arrival, data_arrival, i_data_arrival, named_skips, skipped_messages}
 use Rattle.dcsctp_spec_lemmas.specs.spec.queues.Reassembly.{ReassemblyState}
 use Rattle.dcsctp_spec_lemmas.specs.spec.queues.Tracker.{TrackerState}
 use Rattle.dcsctp_spec_lemmas.specs.spec.queues.Transfer.{Transfer, EndpointQueues}
 use Rattle.dcsctp_spec_lemmas.specs.spec.endpoint.TransferMoves.{ReceivesData, MovesForward}
 use Rattle.dcsctp_delivery_sending.specs.Places.{HasEntry, at_place}
-use Rattle.dcsctp_delivery_sending.specs.Log.{Fits, Message, Mark, Slot, History, Cut, new_history}
+use Rattle.dcsctp_delivery_sending.specs.Log.{Fits, Message, Mark, Slot, History, IsLogOfPieces, new_history}
 use Rattle.dcsctp_delivery_sending.specs.Flushes.{AreForwardEntries, IsPassed, IsData, IsInterleaved, IsForward}
 use Rattle.dcsctp_delivery_sending.specs.Queueing.{QueueWaits, message_of}
 use Rattle.dcsctp_delivery_sending.proofs.Extended.{at_more}
@@ -27,14 +27,14 @@ use Rattle.dcsctp_delivery_receiving.proofs.Distinct.{distinct_with}
 use Rattle.dcsctp_delivery_receiving.proofs.Growing.{were_more}
 use Rattle.dcsctp_delivery_receiving.proofs.Waiting.{both_queued}
 use Rattle.dcsctp_delivery_directions.specs.Calm.{ResetsNothing}
-use Rattle.dcsctp_delivery_directions.specs.Directions.{Beginning, BeginsAs, Direction, Asking, assigned, BeginsDirection, IsAwaited, NoneInFlight, DirectionRun, begins, goes_on, starts, DirectionStep, queues, sets, prepares, commits, rolls_back, flushes, resends, resends_nothing, speaks, asks_again, renews, turns_aside, acknowledges, loses, receives, forwards, receives_interleaved, forwards_interleaved, tracks, defers, performs, resets, performs_earlier, takes}
+use Rattle.dcsctp_delivery_directions.specs.Directions.{Beginning, BeginsAs, Direction, Asking, assigned_count, BeginsDirection, IsAwaited, NoneInFlight, DirectionRun, begins, goes_on, starts, DirectionStep, queues, sets, prepares, commits, rolls_back, flushes, resends, resends_nothing, speaks, asks_again, renews, turns_aside, acknowledges, loses, receives, forwards, receives_interleaved, forwards_interleaved, tracks, defers, performs, resets, performs_earlier, takes}
 use Rattle.dcsctp_delivery_directions.proofs.Calm.{none_has, Continues, continues_same, calm_continues, stays_unperformed, none_asked, unasked_calm}
 use Rattle.dcsctp_delivery_directions.proofs.Continuing.{begun_history, started_history}
 use Rattle.dcsctp_delivery_directions.proofs.Directions.{begun_stands, started_stands}
 use Rattle.dcsctp_delivery_directions.proofs.Standing.{Stands, cut_queued, content_said, packet_said}
 use Rattle.dcsctp_delivery_directions.proofs.Steps.{stepped, more_queued}
 use Rattle.dcsctp_delivery_order.specs.Queue.{ComeInOrder}
-use Rattle.dcsctp_delivery_order.specs.Delivered.{DeliveredInOrder}
+use Rattle.dcsctp_delivery_order.specs.Delivered.{AreDeliveredInOrder}
 use Rattle.dcsctp_delivery_order.specs.PlainDirections.{FewOnEachStream}
 use Rattle.dcsctp_delivery_directions.proofs.Losing.{same_beginning}
 use Rattle.dcsctp_delivery_order.proofs.Beginning.{waits_from}
@@ -74,7 +74,7 @@ arrives_none first direction s floors is counts =
 
 -- ---- the history continues
 
-arrives_later : (first : ℕ) (history later : History) (queued more : List Message) → Cut (more ++ queued) later.log → CountsFew later → (read : List MessageContent) (tracker : TrackerState) (reassembly : ReassemblyState) → Continues history later
+arrives_later : (first : ℕ) (history later : History) (queued more : List Message) → IsLogOfPieces (more ++ queued) later.log → CountsFew later → (read : List MessageContent) (tracker : TrackerState) (reassembly : ReassemblyState) → Continues history later
     → ArrivesFew first history queued read tracker reassembly → ArrivesFew first later (more ++ queued) read tracker reassembly
 arrives_later first history later queued more cut counts read tracker reassembly c a =
     record {
@@ -118,9 +118,9 @@ module _ (first : ℕ) (old : Direction) (small : first < 2 ^ 32) (unasked : old
   idle_on _ (acknowledges now sack transfer new known valid reached does) calm = idle
   idle_on _ (loses now transfer known) calm = idle
   idle_on _ (receives emission chunk theirs new was holds some same same' does) calm = (stays_idle (data_arrival chunk) theirs new does (idle_then theirs new same')).0
-  idle_on _ (forwards emission tsn streams theirs new was holds same same' does) calm = forward_stays_idle tsn (skipped_in streams) theirs new does (idle_then theirs new same')
+  idle_on _ (forwards emission tsn streams theirs new was holds same same' does) calm = forward_stays_idle tsn (named_skips streams) theirs new does (idle_then theirs new same')
   idle_on _ (receives_interleaved emission chunk theirs new was holds some same same' does) calm = (stays_idle (i_data_arrival chunk) theirs new does (idle_then theirs new same')).0
-  idle_on _ (forwards_interleaved emission tsn streams theirs new was holds same same' does) calm = forward_stays_idle tsn (messages_skipped_in streams) theirs new does (idle_then theirs new same')
+  idle_on _ (forwards_interleaved emission tsn streams theirs new was holds same same' does) calm = forward_stays_idle tsn (skipped_messages streams) theirs new does (idle_then theirs new same')
   idle_on _ (tracks new cumulative ranges) calm = idle
   idle_on _ (defers last_tsn streams some) calm = absurd (none_has old.asking.requests streams some unasked)
   idle_on _ (performs newest earlier new asks unknown reached own leaves) calm = absurd calm
@@ -152,8 +152,8 @@ module _ (first : ℕ) (old : Direction) (small : first < 2 ^ 32) (unasked : old
               (subst (λ (j : ℕ). SkipTurns s.history j entries) (omega arith) skip) does
 
     -- no I-FORWARD-TSN names a message
-    none_interleaved : (passed : ℕ) (streams : List ℕ) (entries : List ((ℕ × Bool) × ℕ)) → streams ≡ flat_map (entry_bytes true) entries → AreForwardEntries true s.history passed entries → SkipTurns s.history passed (messages_skipped_in streams)
-    none_interleaved passed streams [] is names = subst (λ (l : List ℕ). SkipTurns s.history passed (messages_skipped_in l)) (sym is) tt
+    none_interleaved : (passed : ℕ) (streams : List ℕ) (entries : List ((ℕ × Bool) × ℕ)) → streams ≡ flat_map (entry_bytes true) entries → AreForwardEntries true s.history passed entries → SkipTurns s.history passed (skipped_messages streams)
+    none_interleaved passed streams [] is names = subst (λ (l : List ℕ). SkipTurns s.history passed (skipped_messages l)) (sym is) tt
     none_interleaved passed streams (entry ∷ entries) is names = absurd (let clash : true ≡ false = sym names.0.kind ∙ (counts.plain 0).kinds names.0.number names.0.piece names.0.at in cc)
 
     arrives_on : (direction : Direction) (step : DirectionStep old direction) → ResetsNothing old direction step → ArrivesFew first s.history old.queued old.read old.tracker old.reassembly
@@ -179,14 +179,14 @@ module _ (first : ℕ) (old : Direction) (small : first < 2 ^ 32) (unasked : old
     arrives_on _ (forwards emission tsn streams theirs new was holds same same' does) calm a =
         let is : IsForward false s.history first old.acknowledged tsn streams =
         content_said s.history first old.acknowledged (plain (unworked (forward_tsn_chunk tsn streams))) emission.packet.contents (packet_said s.history first old.acknowledged emission old.sent s.packets was) holds in
-        skips_arrive a theirs new same same' tsn (skipped_in streams) is.passed (forward_turns old.queued s.history first old.acknowledged tsn streams s.queues.cut s.fit none_begun is) does
+        skips_arrive a theirs new same same' tsn (named_skips streams) is.passed (forward_turns old.queued s.history first old.acknowledged tsn streams s.queues.cut s.fit none_begun is) does
     arrives_on _ (receives_interleaved emission chunk theirs new was holds some same same' does) calm a =
         let is : IsInterleaved s.history.log first chunk = content_said s.history first old.acknowledged (plain (unworked (i_data_chunk chunk))) emission.packet.contents (packet_said s.history first old.acknowledged emission old.sent s.packets was) holds in
         data_arrives a theirs new same same' is.number (i_data_arrival chunk) (carries_interleaved old.queued s.history.log first chunk s.queues.cut s.fit is some) does
     arrives_on _ (forwards_interleaved emission tsn streams theirs new was holds same same' does) calm a =
         let is : IsForward true s.history first old.acknowledged tsn streams =
         content_said s.history first old.acknowledged (plain (unworked (i_forward_tsn_chunk tsn streams))) emission.packet.contents (packet_said s.history first old.acknowledged emission old.sent s.packets was) holds in
-        skips_arrive a theirs new same same' tsn (messages_skipped_in streams) is.passed (none_interleaved is.passed.passed streams is.entries is.is is.names) does
+        skips_arrive a theirs new same same' tsn (skipped_messages streams) is.passed (none_interleaved is.passed.passed streams is.entries is.is is.names) does
     arrives_on _ (tracks new cumulative ranges) calm a =
         record { places = a.places; were = a.were; once = a.once; received = tracked_few old.queued s.history first a.places old.tracker new old.reassembly.incoming cumulative ranges a.received }
     arrives_on _ (defers last_tsn streams some) calm a = absurd (none_has old.asking.requests streams some unasked)
@@ -272,8 +272,8 @@ arrived_in_order first history queued read tracker reassembly a id = go a.receiv
     go got (some_handled base at o) = front got base o
 
 pub plain_few_deliver_in_order : (options : Options) (first size : ℕ) (direction : Direction) → DirectionRun options first size direction
-    → first < 2 ^ 32 → assigned direction < 2 ^ 31 → length direction.queued < 2 ^ 64 → direction.queues.queue.is_interleaved ≡ false
-    → direction.beginning.from_zero ≡ true → direction.asking.requests ≡ [] → FewOnEachStream direction.queued → DeliveredInOrder direction.queued direction.read
+    → first < 2 ^ 32 → assigned_count direction < 2 ^ 31 → length direction.queued < 2 ^ 64 → direction.queues.queue.is_interleaved ≡ false
+    → direction.beginning.from_zero ≡ true → direction.asking.requests ≡ [] → FewOnEachStream direction.queued → AreDeliveredInOrder direction.queued direction.read
 plain_few_deliver_in_order options first size direction run small little few kind from unasked low =
     let g = run_few options first size direction small few run unasked in
     let s = g.stands in

@@ -4,11 +4,11 @@ use Rattle.std.specs.Int.{w16, to_be_bytes, from_be_bytes}
 use Rattle.std.specs.List.{AllByRecursion, flat_map}
 use Rattle.std.proofs.lemmas.List.{length-append}
 use Rattle.std.proofs.lemmas.Nat.{from_be_bytes-to_be_bytes_2}
-use Rattle.dcsctp_spec_lemmas.specs.wire.Fields.{skipped_stream_at, u16_at}
+use Rattle.dcsctp_spec_lemmas.specs.wire.Fields.{numbered_skipped_stream, u16_at}
 use Rattle.dcsctp_spec_lemmas.specs.types.declared.arrivals.SkippedTo.{SkippedTo}
-use Rattle.dcsctp_spec_lemmas.specs.spec.queues.Arrivals.{skipped_to, first_skipped, skipped_in}
+use Rattle.dcsctp_spec_lemmas.specs.spec.queues.Arrivals.{skipped_to, first_skipped, named_skips}
 use Rattle.dcsctp_spec_lemmas.specs.spec.queues.Skipping.{entry_bytes}
-use Rattle.dcsctp_delivery_sending.specs.Log.{Message, History, Cut, Fits}
+use Rattle.dcsctp_delivery_sending.specs.Log.{Message, History, IsLogOfPieces, Fits}
 use Rattle.dcsctp_delivery_sending.specs.Flushes.{IsEntry, AreForwardEntries, IsForward}
 use Rattle.dcsctp_delivery_receiving.proofs.Arriving.{fits_at}
 use Rattle.dcsctp_delivery_order.proofs.FewSkipping.{SkipsTurnOf, SkipTurns}
@@ -25,9 +25,9 @@ four_on n k j entry rest is =
     let same : n ≡ suc (suc (suc (suc (4 * k + j)))) = omega arith in
     ap (λ (m : ℕ). drop m (entry_bytes false entry ++ rest)) same
 
-module _ (history : History) (passed : ℕ) (queued : List Message) (cut : Cut queued history.log) (fit : AllByRecursion Fits queued) (none : history.marks ≡ []) where
+module _ (history : History) (passed : ℕ) (queued : List Message) (cut : IsLogOfPieces queued history.log) (fit : AllByRecursion Fits queued) (none : history.marks ≡ []) where
   -- an entry is read at its place
-  entry_read : (entries : List ((ℕ × Bool) × ℕ)) → AreForwardEntries false history passed entries → (k : ℕ) → k < length entries → SkipsTurnOf history passed (skipped_to (skipped_stream_at k (flat_map (entry_bytes false) entries)))
+  entry_read : (entries : List ((ℕ × Bool) × ℕ)) → AreForwardEntries false history passed entries → (k : ℕ) → k < length entries → SkipsTurnOf history passed (skipped_to (numbered_skipped_stream k (flat_map (entry_bytes false) entries)))
   entry_read [] names k below = absurd (omega arith)
   entry_read (entry ∷ entries) names zero below =
       let e : IsEntry false history passed entry = names.0 in
@@ -51,15 +51,15 @@ module _ (history : History) (passed : ℕ) (queued : List Message) (cut : Cut q
   firsts_read : (entries : List ((ℕ × Bool) × ℕ)) → AreForwardEntries false history passed entries → (count : ℕ) → count ≤ length entries → SkipTurns history passed (first_skipped count (flat_map (entry_bytes false) entries))
   firsts_read entries names zero within = tt
   firsts_read entries names (suc count) within =
-      turns_append history passed (first_skipped count (flat_map (entry_bytes false) entries)) (skipped_to (skipped_stream_at count (flat_map (entry_bytes false) entries)) ∷ [])
+      turns_append history passed (first_skipped count (flat_map (entry_bytes false) entries)) (skipped_to (numbered_skipped_stream count (flat_map (entry_bytes false) entries)) ∷ [])
       (firsts_read entries names count (omega arith)) (entry_read entries names count (omega arith), tt)
 
 pub entries_long : (entries : List ((ℕ × Bool) × ℕ)) → length (flat_map (entry_bytes false) entries) ≡ 4 * length entries
 entries_long [] = refl
 entries_long (entry ∷ entries) = omega (arith, length-append (entry_bytes false entry) (flat_map (entry_bytes false) entries), entries_long entries)
 
-pub forward_turns : (queued : List Message) (history : History) (first acknowledged tsn : ℕ) (streams : List ℕ) → Cut queued history.log → AllByRecursion Fits queued → history.marks ≡ [] → (is : IsForward false history first acknowledged tsn streams)
-    → SkipTurns history is.passed.passed (skipped_in streams)
+pub forward_turns : (queued : List Message) (history : History) (first acknowledged tsn : ℕ) (streams : List ℕ) → IsLogOfPieces queued history.log → AllByRecursion Fits queued → history.marks ≡ [] → (is : IsForward false history first acknowledged tsn streams)
+    → SkipTurns history is.passed.passed (named_skips streams)
 forward_turns queued history first acknowledged tsn streams cut fit none f =
-    subst (λ (l : List ℕ). SkipTurns history f.passed.passed (skipped_in l)) (sym f.is)
+    subst (λ (l : List ℕ). SkipTurns history f.passed.passed (named_skips l)) (sym f.is)
     (firsts_read history f.passed.passed queued cut fit none f.entries f.names (length (flat_map (entry_bytes false) f.entries) / 4) (let long = entries_long f.entries in omega (arith, long)))

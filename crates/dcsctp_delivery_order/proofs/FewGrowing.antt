@@ -8,8 +8,8 @@ use Rattle.dcsctp_spec_lemmas.specs.spec.queues.Incoming.{IncomingModel, stream_
 use Rattle.dcsctp_spec_lemmas.specs.spec.queues.Tracker.{TrackerState}
 use Rattle.dcsctp_spec_lemmas.specs.spec.queues.Reassembly.{ReassemblyState}
 use Rattle.dcsctp_delivery_sending.specs.Places.{HasEntry, at_place}
-use Rattle.dcsctp_delivery_sending.specs.Log.{Message, Piece, Slot, History, Cut}
-use Rattle.dcsctp_delivery_sending.specs.Turns.{turn_at}
+use Rattle.dcsctp_delivery_sending.specs.Log.{Message, Piece, Slot, History, IsLogOfPieces}
+use Rattle.dcsctp_delivery_sending.specs.Turns.{turn_of_tsn}
 use Rattle.dcsctp_delivery_sending.proofs.Places.{at_below}
 use Rattle.dcsctp_delivery_sending.proofs.Turns.{turn_more}
 use Rattle.dcsctp_delivery_receiving.specs.Ready.{AreDistinct, WasQueued, WereQueued, HoldsIncoming}
@@ -20,7 +20,7 @@ use Rattle.dcsctp_delivery_receiving.proofs.Growing.{holds_more}
 use Rattle.dcsctp_delivery_receiving.proofs.Tracked.{more_given_out}
 use Rattle.dcsctp_delivery_receiving.proofs.Waiting.{both_queued}
 use Rattle.dcsctp_delivery_order.specs.Incoming.{IsWithin}
-use Rattle.dcsctp_delivery_order.specs.Plain.{turned, with_turns, number_at, CarriesOrdered}
+use Rattle.dcsctp_delivery_order.specs.Plain.{turned_log, with_turns, number_of_tsn, CarriesOrdered}
 use Rattle.dcsctp_delivery_order.proofs.Incoming.{queued_so, in_order_more, sent_more, read_more}
 use Rattle.dcsctp_delivery_order.proofs.PlainGrowing.{not_twice, counts_before, waits_none, in_order_none, is_first}
 use Rattle.dcsctp_delivery_order.proofs.PlainRows.{turned_slots, some_turn}
@@ -94,14 +94,14 @@ few_before history later slots is stays counts =
       plain = λ id. counts_before history later slots is id (counts.plain id);
       low = λ id n f of. (
           let low = counts.low id n f (record { at = stays n (Some f) of.at; stream = of.stream; ordered = of.ordered }) in
-          let same : turn_at id n later.log ≡ turn_at id n history.log = ap (λ (l : List Slot). turn_at id n l) is ∙ turn_more id n slots history.log (at_below n (Some f) history.log of.at) in
+          let same : turn_of_tsn id n later.log ≡ turn_of_tsn id n history.log = ap (λ (l : List Slot). turn_of_tsn id n l) is ∙ turn_more id n slots history.log (at_below n (Some f) history.log of.at) in
           omega (arith, low, same)
           );
     }
 
-module _ (queued more : List Message) (history later : History) (cut : Cut (more ++ queued) later.log) (counts : CountsFew later) (slots : List Slot) (is : later.log ≡ slots ++ history.log) (goes : GoesOn history later) (read : List ℕ) (contents : List MessageContent) (were : WereQueued queued read contents) where
-  turn_stays : (id n : ℕ) → n < length history.log → turn_at id n later.log ≡ turn_at id n history.log
-  turn_stays id n below = ap (λ (l : List Slot). turn_at id n l) is ∙ turn_more id n slots history.log below
+module _ (queued more : List Message) (history later : History) (cut : IsLogOfPieces (more ++ queued) later.log) (counts : CountsFew later) (slots : List Slot) (is : later.log ≡ slots ++ history.log) (goes : GoesOn history later) (read : List ℕ) (contents : List MessageContent) (were : WereQueued queued read contents) where
+  turn_stays : (id n : ℕ) → n < length history.log → turn_of_tsn id n later.log ≡ turn_of_tsn id n history.log
+  turn_stays id n below = ap (λ (l : List Slot). turn_of_tsn id n l) is ∙ turn_more id n slots history.log below
 
   ended_more : (id next : ℕ) → EndedBefore history id next → EndedBefore later id next
   ended_more id next (inl e) = inl e
@@ -112,7 +112,7 @@ module _ (queued more : List Message) (history later : History) (cut : Cut (more
       inr (record { offset = c.offset; slot = c.slot; at = goes.stays c.offset c.slot c.at; ends = c.ends; reached = omega (arith, same, reached) })
 
   -- what comes before the next one was sent before
-  before_then : (id next n : ℕ) (f : Piece) → EndedBefore history id next → CarriesOrdered later.log id n f → number_at id n later.log < next → n < length history.log
+  before_then : (id next n : ℕ) (f : Piece) → EndedBefore history id next → CarriesOrdered later.log id n f → number_of_tsn id n later.log < next → n < length history.log
   before_then id next n f (inl e) of less = absurd (let some = some_turn (more ++ queued) later cut id (counts.plain id) n f of in omega (arith, e, some, less))
   before_then id next n f (inr c) of less =
       let below = at_below c.offset c.slot history.log c.at in
@@ -126,7 +126,7 @@ module _ (queued more : List Message) (history later : History) (cut : Cut (more
   stream_more : (known : ℕ → Bool) (id : ℕ) (all waits : List ℕ) (texts : List MessageContent) (stream : StreamModel) → WereQueued queued all texts
       → FewStream queued history known id all waits stream → FewStream (more ++ queued) later known id all waits stream
   stream_more known id all waits texts stream queued_all s =
-      let inside : IsWithin (with_turns history) (with_turns later) = record { stays = λ n slot at. ap (λ (l : List Slot). at_place n (turned l)) is ∙ turned_slots slots history.log n slot at; floors = refl } in
+      let inside : IsWithin (with_turns history) (with_turns later) = record { stays = λ n slot at. ap (λ (l : List Slot). at_place n (turned_log l)) is ∙ turned_slots slots history.log n slot at; floors = refl } in
       record {
         order = record {
           in_order = in_order_more queued more (with_turns history) (with_turns later) id inside all texts queued_all s.order.in_order;

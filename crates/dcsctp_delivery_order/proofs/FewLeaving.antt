@@ -4,20 +4,20 @@ use Rattle.std.specs.Prelude.{MatchBool, if◌then◌else◌}
 use Rattle.std.proofs.lemmas.List.{append-nil}
 use Rattle.dcsctp_spec_lemmas.specs.types.queues.Messages.{MessageContent}
 use Rattle.dcsctp_spec_lemmas.specs.types.declared.arrivals.Taken.{Taken}
-use Rattle.dcsctp_spec_lemmas.specs.spec.queues.Runs.{RunModel, PartModel, WholeModel, Assembled, part_dropped, part_kept, message_whole}
+use Rattle.dcsctp_spec_lemmas.specs.spec.queues.Runs.{RunModel, PartModel, WholeModel, Assembly, part_dropped, part_kept, message_whole}
 use Rattle.dcsctp_spec_lemmas.specs.spec.queues.IncomingStreams.{StreamModel, delivered_as, next_after, due, not_due, ready_with, WaitsAmong, OrderedOutcome, UnorderedOutcome, TakesOrdered}
 use Rattle.dcsctp_spec_lemmas.specs.spec.queues.Incoming.{IncomingModel, stream_on}
-use Rattle.dcsctp_delivery_sending.specs.Places.{HasEntry, set_at}
-use Rattle.dcsctp_delivery_sending.specs.Log.{Message, Piece, History, Cut}
+use Rattle.dcsctp_delivery_sending.specs.Places.{HasEntry, table_with}
+use Rattle.dcsctp_delivery_sending.specs.Log.{Message, Piece, History, IsLogOfPieces}
 use Rattle.dcsctp_delivery_sending.proofs.Places.{decide, set_same, set_other}
 use Rattle.dcsctp_delivery_receiving.specs.Rows.{AreRows, Spent, IsQueued, MakesQueued}
 use Rattle.dcsctp_delivery_receiving.specs.Ready.{IsOn, IsOfStream, unordered_base, StreamRows, StreamHolds, AreDistinct, WereQueued, WaitQueued, HoldsAll}
 use Rattle.dcsctp_delivery_receiving.proofs.Distinct.{appended, has_left, has_either, distinct_with, distinct_left, distinct_apart}
 use Rattle.dcsctp_delivery_receiving.proofs.SpentRows.{of_message, IsOfMessage}
 use Rattle.dcsctp_delivery_receiving.proofs.Waiting.{OfStream, both_queued, wait_spent, split_due}
-use Rattle.dcsctp_delivery_order.specs.Rising.{DeliversRow, IsAhead, ready_by}
+use Rattle.dcsctp_delivery_order.specs.Rising.{DeliversRow, IsAhead, ready_with_part}
 use Rattle.dcsctp_delivery_order.specs.Order.{IsReadAs, AreReadAs}
-use Rattle.dcsctp_delivery_order.specs.Plain.{number_at, with_turns, CountsPlain, CarriesOrdered}
+use Rattle.dcsctp_delivery_order.specs.Plain.{number_of_tsn, with_turns, CountsPlain, CarriesOrdered}
 use Rattle.dcsctp_delivery_order.proofs.Rising.{parts_deliver_rows}
 use Rattle.dcsctp_delivery_order.proofs.Order.{read_among}
 use Rattle.dcsctp_delivery_order.proofs.Leaving.{IsOnIt, one_stream, delivered_so, on_it, of_stream, wait_on_it, wait_with, take_drop, due_all, split_read}
@@ -71,13 +71,13 @@ module _ (queued : List Message) (history : History) (now : List ℕ) (known : �
 
   -- ---- an unordered part
 
-  pub apart_left : (all places waits : List ℕ) (id p : ℕ) (part : PartModel) (new : StreamModel) (before after : List MessageContent) (outcome : Assembled) (taken : Taken)
+  pub apart_left : (all places waits : List ℕ) (id p : ℕ) (part : PartModel) (new : StreamModel) (before after : List MessageContent) (outcome : Assembly) (taken : Taken)
       → WereQueued queued places before → WaitQueued queued history now id waits new.waiting → MakesQueued queued history.log now (OfStream id) p outcome → AreDistinct (all ++ waits) → (HasEntry p (all ++ waits) → ⊥)
       → ((more : List ℕ) → ((q : ℕ) → HasEntry q more → q ≡ p) → FewStream queued history known id (all ++ more) waits new)
       → UnorderedOutcome part (delivered_as id) before outcome taken after → LeavesFew all places id new after
   apart_left all places waits id p part new before after outcome taken were wait makes once fresh ordered does = go outcome makes does
     where
-      go : (outcome : Assembled) → MakesQueued queued history.log now (OfStream id) p outcome → UnorderedOutcome part (delivered_as id) before outcome taken after → LeavesFew all places id new after
+      go : (outcome : Assembly) → MakesQueued queued history.log now (OfStream id) p outcome → UnorderedOutcome part (delivered_as id) before outcome taken after → LeavesFew all places id new after
       go part_dropped makes' does' = none_left all places waits id new before after were wait once does'.0 (ordered [] (λ q h. absurd h))
       go part_kept makes' does' = none_left all places waits id new before after were wait once does'.0 (ordered [] (λ q h. absurd h))
       go (message_whole whole) makes' does' =
@@ -85,8 +85,8 @@ module _ (queued : List Message) (history : History) (now : List ℕ) (known : �
 
 -- ---- an ordered part
 
-module _ (queued : List Message) (history : History) (cut : Cut queued history.log) (counts : (id : ℕ) → CountsPlain id history) (got : List ℕ) (known : ℕ → Bool) (id : ℕ) (n : ℕ) (f : Piece) (is : CarriesOrdered history.log id n f) (has_known : (k : ℕ) → HasEntry k (n ∷ got) → known k ≡ true)
-    (part : PartModel) (number_is : part.number ≡ number_at id n history.log)
+module _ (queued : List Message) (history : History) (cut : IsLogOfPieces queued history.log) (counts : (id : ℕ) → CountsPlain id history) (got : List ℕ) (known : ℕ → Bool) (id : ℕ) (n : ℕ) (f : Piece) (is : CarriesOrdered history.log id n f) (has_known : (k : ℕ) → HasEntry k (n ∷ got) → known k ≡ true)
+    (part : PartModel) (number_is : part.number ≡ number_of_tsn id n history.log)
     (old new : StreamModel) (before after : List MessageContent) (taken : Taken) (does : TakesOrdered part old before taken new after)
     (all places waits : List ℕ) (s : FewStream queued history known id all waits old)
     (same : id ≡ old.id) (were : WereQueued queued places before) (wait : WaitQueued queued history (n ∷ got) id waits old.waiting) (once : AreDistinct (all ++ waits)) (fresh : HasEntry f.place (all ++ waits) → ⊥)
@@ -94,7 +94,7 @@ module _ (queued : List Message) (history : History) (cut : Cut queued history.l
   abbrev now : List ℕ
   now = n ∷ got
 
-  row : DeliversRow old before new after (ready_by old does.outcome)
+  row : DeliversRow old before new after (ready_with_part old does.outcome)
   row = parts_deliver_rows part old before taken new after s.order.ahead ahead does
 
   its : IsReadAs (with_turns history) id f.place part.number
@@ -154,8 +154,8 @@ module _ (queued : List Message) (history : History) (cut : Cut queued history.l
   unfolding row
   ordered_left makes = go does.outcome does.does (of_message part old.ordered new.ordered does.outcome does.parts) makes row
     where
-      go : (outcome : Assembled) → OrderedOutcome part old before outcome taken new after → IsOfMessage part.number outcome → MakesQueued queued history.log now (IsOn history id) f.place outcome
-          → DeliversRow old before new after (ready_by old outcome) → LeavesFew queued history now known all places id new after
+      go : (outcome : Assembly) → OrderedOutcome part old before outcome taken new after → IsOfMessage part.number outcome → MakesQueued queued history.log now (IsOn history id) f.place outcome
+          → DeliversRow old before new after (ready_with_part old outcome) → LeavesFew queued history now known all places id new after
       go part_dropped does' of makes' delivers =
           none_left queued history now known all places waits id new before after were (subst (λ (x : StreamModel). WaitQueued queued history now id waits x.waiting) (sym does'.0) wait) once does'.1
           (then_few [] waits [] delivers tt (subst (λ (x : StreamModel). AreReadAs (with_turns history) id waits x.waiting) (sym does'.0) s.order.waiting) (λ q h. absurd h))
@@ -181,10 +181,10 @@ pub few_left : (queued : List Message) (history : History) (got : List ℕ) (kno
 few_left queued history got known base read id streams later unordered runs ready after o rows apart others leaves =
     record {
       holds = record {
-        waits = set_at id leaves.waits o.holds.waits;
+        waits = table_with id leaves.waits o.holds.waits;
         streams_hold = λ other. elim (decide other id) [
           | inl e ↦
-              subst (λ (k : ℕ). StreamHolds queued history got base k (set_at id leaves.waits o.holds.waits k) (later k)) (sym e)
+              subst (λ (k : ℕ). StreamHolds queued history got base k (table_with id leaves.waits o.holds.waits k) (later k)) (sym e)
               (subst (λ (l : List ℕ). StreamHolds queued history got base id l (later id)) (sym (set_same id leaves.waits o.holds.waits)) (record { rows = rows; wait = leaves.wait }))
           | inr ne ↦
               subst (λ (l : List ℕ). StreamHolds queued history got base other l (later other)) (sym (set_other id other leaves.waits o.holds.waits ne))
@@ -197,10 +197,10 @@ few_left queued history got known base read id streams later unordered runs read
           | inl l ↦ o.holds.spent q l
           | inr r ↦ leaves.spent q r
         ];
-        once = λ other. subst (λ (l : List ℕ). AreDistinct (l ++ set_at id leaves.waits o.holds.waits other)) (appended read o.holds.places leaves.more)
+        once = λ other. subst (λ (l : List ℕ). AreDistinct (l ++ table_with id leaves.waits o.holds.waits other)) (appended read o.holds.places leaves.more)
             (elim (decide other id) [
               | inl e ↦
-                  subst (λ (l : List ℕ). AreDistinct (((read ++ o.holds.places) ++ leaves.more) ++ l)) (sym (ap (set_at id leaves.waits o.holds.waits) e ∙ set_same id leaves.waits o.holds.waits)) leaves.once
+                  subst (λ (l : List ℕ). AreDistinct (((read ++ o.holds.places) ++ leaves.more) ++ l)) (sym (ap (table_with id leaves.waits o.holds.waits) e ∙ set_same id leaves.waits o.holds.waits)) leaves.once
               | inr ne ↦
                   subst (λ (l : List ℕ). AreDistinct (((read ++ o.holds.places) ++ leaves.more) ++ l)) (sym (set_other id other leaves.waits o.holds.waits ne))
                   (distinct_apart (read ++ o.holds.places) leaves.more (o.holds.waits other) (distinct_left ((read ++ o.holds.places) ++ leaves.more) leaves.waits leaves.once) (o.holds.once other)
@@ -209,7 +209,7 @@ few_left queued history got known base read id streams later unordered runs read
       };
       order = λ other. elim (decide other id) [
         | inl e ↦
-            subst (λ (k : ℕ). FewStream queued history known k (read ++ (o.holds.places ++ leaves.more)) (set_at id leaves.waits o.holds.waits k) (later k)) (sym e)
+            subst (λ (k : ℕ). FewStream queued history known k (read ++ (o.holds.places ++ leaves.more)) (table_with id leaves.waits o.holds.waits k) (later k)) (sym e)
             (subst (λ (l : List ℕ). FewStream queued history known id (read ++ (o.holds.places ++ leaves.more)) l (later id)) (sym (set_same id leaves.waits o.holds.waits))
             (subst (λ (l : List ℕ). FewStream queued history known id l leaves.waits (later id)) (appended read o.holds.places leaves.more) leaves.order))
         | inr ne ↦

@@ -7,13 +7,13 @@ use Rattle.dcsctp_spec_lemmas.specs.types.declared.arrivals.Numbering.{Numbering
 use Rattle.dcsctp_spec_lemmas.specs.types.declared.arrivals.Numbering.TheVariants.{Ordered, Unordered, InterleavedOrdered, InterleavedUnordered}
 use Rattle.dcsctp_spec_lemmas.specs.types.declared.arrivals.Taken.{Taken}
 use Rattle.dcsctp_spec_lemmas.specs.spec.queues.Numbers.{number_near, short_number_from, fragment_place}
-use Rattle.dcsctp_spec_lemmas.specs.spec.queues.Runs.{RunModel, Assembled, part_dropped, part_kept, message_whole}
+use Rattle.dcsctp_spec_lemmas.specs.spec.queues.Runs.{RunModel, Assembly, part_dropped, part_kept, message_whole}
 use Rattle.dcsctp_spec_lemmas.specs.spec.queues.IncomingStreams.{StreamModel, ChunkModel, data_part, delivered_as, UnorderedOutcome, TakesAhead, TakesNumbered}
 use Rattle.dcsctp_spec_lemmas.specs.spec.queues.Incoming.{IncomingModel, stream_on, TakesChunk, TakesIncomingChunk}
 use Rattle.dcsctp_delivery_sending.specs.Places.{HasEntry}
-use Rattle.dcsctp_delivery_sending.specs.Log.{Message, Piece, History, Cut}
+use Rattle.dcsctp_delivery_sending.specs.Log.{Message, Piece, History, IsLogOfPieces}
 use Rattle.dcsctp_delivery_sending.specs.Numbers.{IsUnambiguous, plain}
-use Rattle.dcsctp_delivery_sending.specs.Turns.{turn_at, IsSsnOfTurn}
+use Rattle.dcsctp_delivery_sending.specs.Turns.{turn_of_tsn, IsSsnOfTurn}
 use Rattle.dcsctp_delivery_receiving.specs.Rows.{IsPart, AreRows, Spent, MakesQueued}
 use Rattle.dcsctp_delivery_receiving.specs.Ready.{IsOn, IsApart, IsOfStream, ReadsMids, ordered_base, unordered_base, StreamHolds, IsNumbered, BearsPiece}
 use Rattle.dcsctp_delivery_receiving.proofs.Chaining.{one_kind}
@@ -24,7 +24,7 @@ use Rattle.dcsctp_delivery_receiving.proofs.Reading.{tells_as, tells_plain, orde
 use Rattle.dcsctp_delivery_receiving.proofs.Parts.{part_of, ordered_placed, unordered_placed}
 use Rattle.dcsctp_delivery_order.specs.Queue.{IsOrderedOn}
 use Rattle.dcsctp_delivery_order.specs.Rising.{IsAhead}
-use Rattle.dcsctp_delivery_order.specs.Plain.{number_at, CarriesOrdered}
+use Rattle.dcsctp_delivery_order.specs.Plain.{number_of_tsn, CarriesOrdered}
 use Rattle.dcsctp_delivery_order.proofs.PlainRows.{some_turn}
 use Rattle.dcsctp_delivery_order.proofs.PlainReading.{from_exact, ssn_agrees, none_waits}
 use Rattle.dcsctp_delivery_order.proofs.FewTurns.{CountsFew}
@@ -33,7 +33,7 @@ use Rattle.dcsctp_delivery_order.proofs.FewLeaving.{apart_left, ordered_left, Ho
 
 -- ---- a chunk
 
-module _ (queued : List Message) (history : History) (cut : Cut queued history.log) (counts : CountsFew history) (got : List ℕ) (known later_known : ℕ → Bool) (base : ℕ) (read : List ℕ) (grows : (k : ℕ) → known k ≡ true → later_known k ≡ true) where
+module _ (queued : List Message) (history : History) (cut : IsLogOfPieces queued history.log) (counts : CountsFew history) (got : List ℕ) (known later_known : ℕ → Bool) (base : ℕ) (read : List ℕ) (grows : (k : ℕ) → known k ≡ true → later_known k ≡ true) where
   abbrev told : IsUnambiguous history
   told = plain (counts.plain 0).kinds
 
@@ -41,19 +41,19 @@ module _ (queued : List Message) (history : History) (cut : Cut queued history.l
 
   -- A message whose TSN isn't known doesn't come before the next.
   pub ssn_is_read : (id n : ℕ) (f : Piece) (all waits : List ℕ) (stream : StreamModel) → FewStream queued history known id all waits stream → CarriesOrdered history.log id n f → (known n ≡ true → ⊥)
-      → (stream.next ≤ number_at id n history.log) × (short_number_from stream.next (f.ssn % 2 ^ 16) ≡ number_at id n history.log)
+      → (stream.next ≤ number_of_tsn id n history.log) × (short_number_from stream.next (f.ssn % 2 ^ 16) ≡ number_of_tsn id n history.log)
   ssn_is_read id n f all waits stream s is unknown =
-      let turn : IsSsnOfTurn f.ssn (turn_at id n history.log) = (counts.plain id).sent n f is in
+      let turn : IsSsnOfTurn f.ssn (turn_of_tsn id n history.log) = (counts.plain id).sent n f is in
       let some = turn.some in
       let low = counts.low id n f is in
       let from = s.from in
-      let up : stream.next ≤ number_at id n history.log = elim (leb_tells stream.next (number_at id n history.log)) [
+      let up : stream.next ≤ number_of_tsn id n history.log = elim (leb_tells stream.next (number_of_tsn id n history.log)) [
         | inl e ↦ e.1
         | inr e ↦ absurd (unknown (s.over n f is e.1))
       ] in (
         up,
-        ap (short_number_from stream.next) (ssn_agrees f.ssn (turn_at id n history.log) (number_at id n history.log) turn.some turn.is (omega (arith, some)))
-            ∙ from_exact stream.next (number_at id n history.log) up (omega (arith, some, low, from)) (omega (arith, some, low)),
+        ap (short_number_from stream.next) (ssn_agrees f.ssn (turn_of_tsn id n history.log) (number_of_tsn id n history.log) turn.some turn.is (omega (arith, some)))
+            ∙ from_exact stream.next (number_of_tsn id n history.log) up (omega (arith, some, low, from)) (omega (arith, some, low)),
       )
 
   module _ (tsn_number : ℕ) (chunk : ChunkModel) (bears : BearsPiece history base tsn_number chunk) (is_new : HasEntry bears.offset got → ⊥) (has_known : (k : ℕ) → HasEntry k (bears.offset ∷ got) → later_known k ≡ true)
@@ -93,7 +93,7 @@ module _ (queued : List Message) (history : History) (cut : Cut queued history.l
     -- ---- an ordered one
 
     abbrev own_number : ℕ
-    own_number = number_at chunk.stream bears.offset history.log
+    own_number = number_of_tsn chunk.stream bears.offset history.log
 
     ahead : (later : ℕ → StreamModel) (runs : List RunModel) (after : List MessageContent) (taken : Taken) → bears.piece.is_interleaved ≡ false → bears.piece.message.is_unordered ≡ false → (streams chunk.stream).next ≤ own_number
         → runs ≡ unordered → ((other : ℕ) → other ≢ chunk.stream → later other ≡ streams other)
@@ -140,13 +140,13 @@ module _ (queued : List Message) (history : History) (cut : Cut queued history.l
         let clash : true ≡ false = sym unordered_is ∙ ap (λ (m : Message). m.is_unordered) same ∙ on.ordered in
         absurd (cc)
 
-    makes_on : (outcome : Assembled) → MakesQueued queued history.log now IsOfStream bears.piece.place outcome → IsOfMessage chunk.stream outcome → MakesQueued queued history.log now (OfStream chunk.stream) bears.piece.place outcome
+    makes_on : (outcome : Assembly) → MakesQueued queued history.log now IsOfStream bears.piece.place outcome → IsOfMessage chunk.stream outcome → MakesQueued queued history.log now (OfStream chunk.stream) bears.piece.place outcome
     makes_on part_dropped makes of = tt
     makes_on part_kept makes of = tt
     makes_on (message_whole whole) makes of =
         record { offset = makes.offset; head = makes.head; at = makes.at; is = makes.is; queued_at = makes.queued_at; number = makes.number.0 ∙ of; ppid = makes.ppid; payload = makes.payload; spent = makes.spent }
 
-    unordered_chunk : (later : ℕ → StreamModel) (runs : List RunModel) (after : List MessageContent) (outcome : Assembled) (taken : Taken) → bears.piece.message.is_unordered ≡ true → later ≡ streams
+    unordered_chunk : (later : ℕ → StreamModel) (runs : List RunModel) (after : List MessageContent) (outcome : Assembly) (taken : Taken) → bears.piece.message.is_unordered ≡ true → later ≡ streams
         → AreRows history.log now (unordered_base base) IsOfStream runs → MakesQueued queued history.log now (OfStream chunk.stream) bears.piece.place outcome
         → UnorderedOutcome (data_part chunk tsn_number chunk.stream) (delivered_as chunk.stream) ready outcome taken after → HoldsFew queued history now later_known base read later runs after
     unfolding all
@@ -166,7 +166,7 @@ module _ (queued : List Message) (history : History) (cut : Cut queued history.l
   by_numbering tsn_number (Ordered ssn) chunk old new is bears numbered is_new unknown has_known o takes =
       let reads = ssn_is_read chunk.stream bears.offset bears.piece (read ++ o.holds.places) (o.holds.waits chunk.stream) (stream_on chunk.stream old.streams) (o.order chunk.stream)
       (record { at = bears.at; stream = sym bears.stream; ordered = numbered.1 }) unknown in
-      let number : short_number_from (stream_on chunk.stream old.streams).next ssn ≡ number_at chunk.stream bears.offset history.log = ap (short_number_from (stream_on chunk.stream old.streams).next) numbered.2 ∙ reads.1 in
+      let number : short_number_from (stream_on chunk.stream old.streams).next ssn ≡ number_of_tsn chunk.stream bears.offset history.log = ap (short_number_from (stream_on chunk.stream old.streams).next) numbered.2 ∙ reads.1 in
       let does : TakesAhead (data_part chunk (fragment_place (short_number_from (stream_on chunk.stream old.streams).next ssn) tsn_number) (short_number_from (stream_on chunk.stream old.streams).next ssn))
       (stream_on chunk.stream old.streams) old.ready takes.taken (stream_on chunk.stream new.streams) new.ready =
       subst (λ (n : Numbering). TakesNumbered tsn_number chunk n (stream_on chunk.stream old.streams) old.ready takes.taken (stream_on chunk.stream new.streams) new.ready) is takes.does in

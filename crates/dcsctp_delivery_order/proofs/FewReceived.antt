@@ -10,15 +10,15 @@ use Rattle.dcsctp_spec_lemmas.specs.spec.queues.Ranges.{is_received}
 use Rattle.dcsctp_spec_lemmas.specs.spec.queues.IncomingStreams.{ChunkModel}
 use Rattle.dcsctp_spec_lemmas.specs.spec.queues.Incoming.{IncomingModel, TakesIncomingChunk, MovesOn}
 use Rattle.dcsctp_spec_lemmas.specs.spec.queues.Reassembly.{ReassemblyState, DeferralModel, can_count, is_data_deferred, is_forward_deferred, AddsData}
-use Rattle.dcsctp_spec_lemmas.specs.spec.queues.Tracker.{TrackerState, has_received, is_new_tsn, observed, is_valid_tsn, is_forward, after_forward, moved_forward, delay_over, nearest_number}
+use Rattle.dcsctp_spec_lemmas.specs.spec.queues.Tracker.{TrackerState, has_received, is_new_tsn, tracker_after_data, is_valid_tsn, is_forward, after_forward, moved_forward, delay_over, nearest_number}
 use Rattle.dcsctp_spec_lemmas.specs.spec.queues.Transfer.{Transfer}
-use Rattle.dcsctp_spec_lemmas.specs.spec.endpoint.TransferMoves.{AddsWhere, has_room, dropping, ReceivesWhere, ReceivesData, TakesData as TakesArrival, SkipsWhere, GoesForward, MovesWhere, MovesForward}
+use Rattle.dcsctp_spec_lemmas.specs.spec.endpoint.TransferMoves.{AddsIfNew, has_room, dropping, ReceivesIfRoom, ReceivesData, TakesData as TakesArrival, SkipsIfMoved, GoesForward, MovesIfForward, MovesForward}
 use Rattle.dcsctp_spec_lemmas.proofs.RangesLemmas.{received_members, forwarded_members}
 use Rattle.dcsctp_delivery_sending.specs.Places.{HasEntry}
-use Rattle.dcsctp_delivery_sending.specs.Log.{Message, History, Cut}
+use Rattle.dcsctp_delivery_sending.specs.Log.{Message, History, IsLogOfPieces}
 use Rattle.dcsctp_delivery_sending.proofs.Places.{at_below}
-use Rattle.dcsctp_delivery_receiving.specs.Received.{Carries, CarriesCurrent, Placed, IsTsn}
-use Rattle.dcsctp_delivery_receiving.specs.Tracked.{tracked, Tracks}
+use Rattle.dcsctp_delivery_receiving.specs.Received.{Carries, CarriesCurrent, CountsFromBase, IsTsn}
+use Rattle.dcsctp_delivery_receiving.specs.Tracked.{tracked_number, Tracks}
 use Rattle.dcsctp_delivery_receiving.proofs.Reassembled.{first_number, first_base, first_near, number_read, bears_of}
 use Rattle.dcsctp_delivery_receiving.proofs.Taking.{nothing_passed}
 use Rattle.dcsctp_delivery_receiving.proofs.Tracked.{number_is, new_is_new, passing_keeps, forward_beyond}
@@ -32,11 +32,11 @@ use Rattle.dcsctp_delivery_order.proofs.FewSkipping.{SkipTurns, skipping_few}
 -- No TSN was handled yet; or the number of the first is known, and all that is held is in order.
 pub data ReassemblesFew (queued : List Message) (history : History) (known : ℕ → Bool) (first : ℕ) (got read : List ℕ) (incoming : IncomingModel) : Type 0 where
   none_handled : got ≡ [] → incoming.last_tsn_number ≡ 2 ^ 32 → ((base : ℕ) → IncomingFew queued history [] known base read incoming) → ReassemblesFew queued history known first got read incoming
-  some_handled : (base : ℕ) → Placed first base incoming.last_tsn_number → IncomingFew queued history got known base read incoming → ReassemblesFew queued history known first got read incoming
+  some_handled : (base : ℕ) → CountsFromBase first base incoming.last_tsn_number → IncomingFew queued history got known base read incoming → ReassemblesFew queued history known first got read incoming
 
 -- does the tracker know the TSN that is so many after the first?
 abbrev pub known_by : ℕ → TrackerState → ℕ → Bool
-known_by first tracker offset = has_received tracker (tracked first offset)
+known_by first tracker offset = has_received tracker (tracked_number first offset)
 
 -- All that an association has received in order whose peer has this log. `got` has the offsets that the reassembly queue has
 -- handled.
@@ -65,14 +65,14 @@ module _ (queued : List Message) (history : History) (first : ℕ) (read : List 
   pub tracked_few : (tracker now : TrackerState) (incoming : IncomingModel) → now.cumulative ≡ tracker.cumulative → now.ranges ≡ tracker.ranges → HasReceivedFew queued history first read tracker incoming
       → HasReceivedFew queued history first read now incoming
   tracked_few tracker now incoming same same' r =
-      tracker_few tracker now incoming r (tracks_alike first (length history.log) r.got tracker now same same' r.tracks) (λ k is. alike (tracked first k) ∙ is)
+      tracker_few tracker now incoming r (tracks_alike first (length history.log) r.got tracker now same same' r.tracks) (λ k is. alike (tracked_number first k) ∙ is)
     where
       alike : (number : ℕ) → has_received now number ≡ has_received tracker number
       alike number = ap (λ (c : ℕ). is_received c number now.ranges) same ∙ ap (λ (l : List TsnRange). is_received tracker.cumulative number l) same'
 
 -- ---- data
 
-module _ (queued : List Message) (history : History) (first : ℕ) (cut : Cut queued history.log) (counts : CountsFew history) (small : first < 2 ^ 32) (read : List ℕ) where
+module _ (queued : List Message) (history : History) (first : ℕ) (cut : IsLogOfPieces queued history.log) (counts : CountsFew history) (small : first < 2 ^ 32) (read : List ℕ) where
   data_few : (got : List ℕ) (known later : ℕ → Bool) (offset tsn : ℕ) (chunk : ChunkModel) (old new : IncomingModel) → ((k : ℕ) → known k ≡ true → later k ≡ true) → CarriesCurrent history first offset tsn chunk
       → (HasEntry offset got → ⊥) → (known offset ≡ true → ⊥) → ((k : ℕ) → HasEntry k (offset ∷ got) → later k ≡ true) → ReassemblesFew queued history known first got read old → TakesIncomingChunk tsn chunk old new
       → ReassemblesFew queued history later first (offset ∷ got) read new
@@ -102,15 +102,15 @@ module _ (queued : List Message) (history : History) (first : ℕ) (cut : Cut qu
     below = at_below offset (Some c.piece) history.log c.at
 
     now : TrackerState
-    now = observed arrival.tsn arrival.immediate_ack old.tracker
+    now = tracker_after_data arrival.tsn arrival.immediate_ack old.tracker
 
-    here : nearest_number old.tracker.cumulative ((first + offset) % 2 ^ 32) ≡ tracked first offset
+    here : nearest_number old.tracker.cumulative ((first + offset) % 2 ^ 32) ≡ tracked_number first offset
     here = number_is first (length history.log) offset old.tracker.cumulative small (counts.plain 0).few below r.tracks.reached r.tracks.started
 
     its_tracks : Tracks first (length history.log) (offset ∷ r.got) now
     unfolding now
     its_tracks =
-        subst (λ (t : ℕ). Tracks first (length history.log) (offset ∷ r.got) (observed t arrival.immediate_ack old.tracker)) (sym c.is)
+        subst (λ (t : ℕ). Tracks first (length history.log) (offset ∷ r.got) (tracker_after_data t arrival.immediate_ack old.tracker)) (sym c.is)
         (new_is_new first (length history.log) offset arrival.immediate_ack r.got old.tracker small (counts.plain 0).few below r.tracks).0
 
     still : (a b : Bool) → a ≡ true → (a || b) ≡ true
@@ -121,12 +121,12 @@ module _ (queued : List Message) (history : History) (first : ℕ) (cut : Cut qu
     grows : (k : ℕ) → known_by first old.tracker k ≡ true → known_by first now k ≡ true
     unfolding now
     grows k is =
-        received_members (nearest_number old.tracker.cumulative arrival.tsn) old.tracker.cumulative old.tracker.ranges r.tracks.beyond (tracked first k)
-        ∙ still (has_received old.tracker (tracked first k)) (tracked first k == nearest_number old.tracker.cumulative arrival.tsn) is
+        received_members (nearest_number old.tracker.cumulative arrival.tsn) old.tracker.cumulative old.tracker.ranges r.tracks.beyond (tracked_number first k)
+        ∙ still (has_received old.tracker (tracked_number first k)) (tracked_number first k == nearest_number old.tracker.cumulative arrival.tsn) is
 
     unknown_by : is_new_tsn arrival.tsn old.tracker ≡ true → known_by first old.tracker offset ≡ true → ⊥
     unknown_by is known =
-        let same : nearest_number old.tracker.cumulative arrival.tsn ≡ tracked first offset = ap (nearest_number old.tracker.cumulative) c.is ∙ here in
+        let same : nearest_number old.tracker.cumulative arrival.tsn ≡ tracked_number first offset = ap (nearest_number old.tracker.cumulative) c.is ∙ here in
         let clash : false ≡ true = sym (ap not (ap (has_received old.tracker) same ∙ known)) ∙ is in
         absurd (cc)
 
@@ -147,8 +147,8 @@ module _ (queued : List Message) (history : History) (first : ℕ) (cut : Cut qu
         subst (λ (t : TrackerState). HasReceivedFew queued history first read t new.reassembly.incoming) (sym (ap (λ (t : Transfer). t.tracker) takes.rest)) (go (is_new_tsn arrival.tsn old.tracker) refl takes.reassembly)
       where
         counted : is_new_tsn arrival.tsn old.tracker ≡ true → AddsData arrival.tsn arrival.chunk old.reassembly new.reassembly → (b : Bool) → can_count (length arrival.chunk.payload) old.reassembly ≡ b
-            → HasReceivedFew queued history first read (observed arrival.tsn arrival.immediate_ack old.tracker) new.reassembly.incoming
-        counted is adds false e = subst (λ (s : ReassemblyState). HasReceivedFew queued history first read (observed arrival.tsn arrival.immediate_ack old.tracker) s.incoming) (sym (adds.too_much e)) alone
+            → HasReceivedFew queued history first read (tracker_after_data arrival.tsn arrival.immediate_ack old.tracker) new.reassembly.incoming
+        counted is adds false e = subst (λ (s : ReassemblyState). HasReceivedFew queued history first read (tracker_after_data arrival.tsn arrival.immediate_ack old.tracker) s.incoming) (sym (adds.too_much e)) alone
         counted is adds true e =
             let taken = adds.taken e (not_deferred old.reassembly.deferral idle) in
             let is_new = (new_is_new first (length history.log) offset arrival.immediate_ack r.got old.tracker small (counts.plain 0).few below r.tracks).1 (subst (λ (t : ℕ). is_new_tsn t old.tracker ≡ true) c.is is) in
@@ -158,10 +158,10 @@ module _ (queued : List Message) (history : History) (first : ℕ) (cut : Cut qu
               holds = data_few r.got (known_by first old.tracker) (known_by first now) offset arrival.tsn arrival.chunk old.reassembly.incoming new.reassembly.incoming grows current is_new (unknown_by is) its_tracks.received r.holds taken.incoming;
             }
 
-        go : (b : Bool) → is_new_tsn arrival.tsn old.tracker ≡ b → AddsWhere b arrival.tsn arrival.chunk old.reassembly new.reassembly
-            → HasReceivedFew queued history first read (observed arrival.tsn arrival.immediate_ack old.tracker) new.reassembly.incoming
+        go : (b : Bool) → is_new_tsn arrival.tsn old.tracker ≡ b → AddsIfNew b arrival.tsn arrival.chunk old.reassembly new.reassembly
+            → HasReceivedFew queued history first read (tracker_after_data arrival.tsn arrival.immediate_ack old.tracker) new.reassembly.incoming
         go true is adds = counted is adds (can_count (length arrival.chunk.payload) old.reassembly) refl
-        go false is adds = subst (λ (s : ReassemblyState). HasReceivedFew queued history first read (observed arrival.tsn arrival.immediate_ack old.tracker) s.incoming) (sym adds) alone
+        go false is adds = subst (λ (s : ReassemblyState). HasReceivedFew queued history first read (tracker_after_data arrival.tsn arrival.immediate_ack old.tracker) s.incoming) (sym adds) alone
 
     dropped_few : (b : Bool) → new ≡ dropping b old → HasReceivedFew queued history first read new.tracker new.reassembly.incoming
     dropped_few true same =
@@ -171,7 +171,7 @@ module _ (queued : List Message) (history : History) (first : ℕ) (cut : Cut qu
     pub received_few : ReceivesData arrival old new → HasReceivedFew queued history first read new.tracker new.reassembly.incoming
     received_few receives = go (has_room arrival.tsn old && is_valid_tsn old.tracker.cumulative arrival.tsn) receives
       where
-        go : (b : Bool) → ReceivesWhere b arrival old new → HasReceivedFew queued history first read new.tracker new.reassembly.incoming
+        go : (b : Bool) → ReceivesIfRoom b arrival old new → HasReceivedFew queued history first read new.tracker new.reassembly.incoming
         go true takes = taken_few takes
         go false same = dropped_few (old.tracker.follows_rfc && is_valid_tsn old.tracker.cumulative arrival.tsn) same
 
@@ -218,7 +218,7 @@ module _ (queued : List Message) (history : History) (first : ℕ) (cut : Cut qu
         by_offset : is_forward old.tracker.cumulative tsn ≡ true → is_forward old.tracker.cumulative ((first + t.offset) % 2 ^ 32) ≡ true
         by_offset is = subst (λ (n : ℕ). is_forward old.tracker.cumulative n ≡ true) t.is is
 
-        here : nearest_number old.tracker.cumulative tsn ≡ tracked first t.offset
+        here : nearest_number old.tracker.cumulative tsn ≡ tracked_number first t.offset
         here = ap (nearest_number old.tracker.cumulative) t.is ∙ number_is first (length history.log) t.offset old.tracker.cumulative small (counts.plain 0).few t.below r.tracks.reached r.tracks.started
 
         tracks : is_forward old.tracker.cumulative tsn ≡ true → Tracks first (length history.log) r.got (after_forward tsn old.tracker)
@@ -227,11 +227,11 @@ module _ (queued : List Message) (history : History) (first : ℕ) (cut : Cut qu
         moved : is_forward old.tracker.cumulative tsn ≡ true → after_forward tsn old.tracker ≡ moved_forward tsn old.tracker
         moved is = subst (λ (c : Bool). (if c then moved_forward tsn old.tracker else delay_over old.tracker) ≡ moved_forward tsn old.tracker) (sym is) refl
 
-        members : is_forward old.tracker.cumulative tsn ≡ true → (k : ℕ) → known_by first (after_forward tsn old.tracker) k ≡ (known_by first old.tracker k || nat_le (tracked first k) (nearest_number old.tracker.cumulative tsn))
+        members : is_forward old.tracker.cumulative tsn ≡ true → (k : ℕ) → known_by first (after_forward tsn old.tracker) k ≡ (known_by first old.tracker k || nat_le (tracked_number first k) (nearest_number old.tracker.cumulative tsn))
         members is k =
             let ahead = forward_beyond first (length history.log) t.offset r.got old.tracker small (counts.plain 0).few t.below r.tracks (by_offset is) in
-            ap (λ (s : TrackerState). has_received s (tracked first k)) (moved is)
-            ∙ forwarded_members (nearest_number old.tracker.cumulative tsn) old.tracker.cumulative old.tracker.ranges (omega (arith, ahead, here)) r.tracks.beyond (tracked first k)
+            ap (λ (s : TrackerState). has_received s (tracked_number first k)) (moved is)
+            ∙ forwarded_members (nearest_number old.tracker.cumulative tsn) old.tracker.cumulative old.tracker.ranges (omega (arith, ahead, here)) r.tracks.beyond (tracked_number first k)
 
         either : (a b : Bool) → b ≡ true → (a || b) ≡ true
         either true b e = refl
@@ -241,24 +241,24 @@ module _ (queued : List Message) (history : History) (first : ℕ) (cut : Cut qu
         one true b e = refl
         one false b e = absurd (cc)
 
-        go : (b : Bool) → is_forward old.tracker.cumulative tsn ≡ b → SkipsWhere b tsn entries old.reassembly new.reassembly → HasReceivedFew queued history first read (after_forward tsn old.tracker) new.reassembly.incoming
+        go : (b : Bool) → is_forward old.tracker.cumulative tsn ≡ b → SkipsIfMoved b tsn entries old.reassembly new.reassembly → HasReceivedFew queued history first read (after_forward tsn old.tracker) new.reassembly.incoming
         go false is same = subst (λ (s : ReassemblyState). HasReceivedFew queued history first read (after_forward tsn old.tracker) s.incoming) (sym same) (delayed is)
         go true is skips =
             let handles = skips.moved (forward_idle old.reassembly.deferral idle) in
             let known_then : ((k : ℕ) → known_by first old.tracker k ≡ true → known_by first (after_forward tsn old.tracker) k ≡ true) =
-            λ k known. members is k ∙ one (known_by first old.tracker k) (nat_le (tracked first k) (nearest_number old.tracker.cumulative tsn)) known in
+            λ k known. members is k ∙ one (known_by first old.tracker k) (nat_le (tracked_number first k) (nearest_number old.tracker.cumulative tsn)) known in
             record {
               got = r.got;
               tracks = tracks is;
               holds = forward_few r.got (known_by first (after_forward tsn old.tracker)) tsn entries old.reassembly.incoming new.reassembly.incoming t skip (tracks is).received
-                  (λ k low. members is k ∙ either (known_by first old.tracker k) (nat_le (tracked first k) (nearest_number old.tracker.cumulative tsn)) (grind (arith, nat_tests, here, low)))
+                  (λ k low. members is k ∙ either (known_by first old.tracker k) (nat_le (tracked_number first k) (nearest_number old.tracker.cumulative tsn)) (grind (arith, nat_tests, here, low)))
                   (holds_known queued history first read (known_by first old.tracker) (known_by first (after_forward tsn old.tracker)) r.got old.reassembly.incoming known_then r.holds) handles.incoming;
             }
 
     pub forwarded_few : (t : IsTsn history.log first tsn) → SkipTurns history (t.offset + 1) entries → MovesForward tsn entries old new → HasReceivedFew queued history first read new.tracker new.reassembly.incoming
     forwarded_few t skip moves = go (is_valid_tsn old.tracker.cumulative tsn) moves
       where
-        go : (b : Bool) → MovesWhere b tsn entries old new → HasReceivedFew queued history first read new.tracker new.reassembly.incoming
+        go : (b : Bool) → MovesIfForward b tsn entries old new → HasReceivedFew queued history first read new.tracker new.reassembly.incoming
         go true goes = gone_few t skip goes
         go false same = same_transfer same
 
@@ -269,10 +269,10 @@ module _ (queued : List Message) (history : History) (first : ℕ) (cut : Cut qu
         none : is_forward old.tracker.cumulative tsn ≡ false
         none = nothing_passed first (length history.log) old.tracker.cumulative tsn small (counts.plain 0).few r.tracks.reached r.tracks.started is
 
-        go : (b : Bool) → MovesWhere b tsn entries old new → HasReceivedFew queued history first read new.tracker new.reassembly.incoming
+        go : (b : Bool) → MovesIfForward b tsn entries old new → HasReceivedFew queued history first read new.tracker new.reassembly.incoming
         go false same = same_transfer same
         go true goes =
-            let kept : new.reassembly ≡ old.reassembly = subst (λ (c : Bool). SkipsWhere c tsn entries old.reassembly new.reassembly) none goes.reassembly in
+            let kept : new.reassembly ≡ old.reassembly = subst (λ (c : Bool). SkipsIfMoved c tsn entries old.reassembly new.reassembly) none goes.reassembly in
             subst (λ (k : TrackerState). HasReceivedFew queued history first read k new.reassembly.incoming) (sym (ap (λ (k : Transfer). k.tracker) goes.rest))
             (subst (λ (s : ReassemblyState). HasReceivedFew queued history first read (after_forward tsn old.tracker) s.incoming) (sym kept) (delayed none))
 
@@ -284,10 +284,10 @@ forward_stays_idle tsn entries old new moves idle = go (is_valid_tsn old.tracker
     forward_idle None is = refl
     forward_idle (Some deferral) is = absurd (cc)
 
-    skips : (b : Bool) → SkipsWhere b tsn entries old.reassembly new.reassembly → new.reassembly.deferral ≡ None
+    skips : (b : Bool) → SkipsIfMoved b tsn entries old.reassembly new.reassembly → new.reassembly.deferral ≡ None
     skips true skipped = (skipped.moved (forward_idle old.reassembly.deferral idle)).deferral ∙ idle
     skips false same = ap (λ (s : ReassemblyState). s.deferral) same ∙ idle
 
-    go : (b : Bool) → MovesWhere b tsn entries old new → new.reassembly.deferral ≡ None
+    go : (b : Bool) → MovesIfForward b tsn entries old new → new.reassembly.deferral ≡ None
     go true goes = skips (is_forward old.tracker.cumulative tsn) goes.reassembly
     go false same = ap (λ (t : Transfer). t.reassembly.deferral) same ∙ idle

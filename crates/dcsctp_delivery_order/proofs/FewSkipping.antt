@@ -9,12 +9,12 @@ use Rattle.dcsctp_spec_lemmas.specs.types.declared.arrivals.SkippedTo.{SkippedTo
 use Rattle.dcsctp_spec_lemmas.specs.types.declared.arrivals.SkippedTo.TheVariants.{Ssn, Mid}
 use Rattle.dcsctp_spec_lemmas.specs.spec.queues.Numbers.{number_near, short_number_near}
 use Rattle.dcsctp_spec_lemmas.specs.spec.queues.Runs.{RunModel, WholeModel, behind_place}
-use Rattle.dcsctp_spec_lemmas.specs.spec.queues.IncomingStreams.{StreamModel, delivered_as, due, not_due, next_due, next_past, skipped_stream, skipped, skip_deliveries}
-use Rattle.dcsctp_spec_lemmas.specs.spec.queues.Incoming.{IncomingModel, stream_on, skipped_on, skipped_by, deliveries_by, MovesOn}
+use Rattle.dcsctp_spec_lemmas.specs.spec.queues.IncomingStreams.{StreamModel, delivered_as, due, not_due, next_due, next_past, skipped_stream, stream_after_skip, skip_deliveries}
+use Rattle.dcsctp_spec_lemmas.specs.spec.queues.Incoming.{IncomingModel, stream_on, skipped_on, stream_skipping, deliveries_of_skips, MovesOn}
 use Rattle.dcsctp_delivery_sending.specs.Places.{HasEntry, at_place}
-use Rattle.dcsctp_delivery_sending.specs.Log.{Message, Piece, History, Cut}
+use Rattle.dcsctp_delivery_sending.specs.Log.{Message, Piece, History, IsLogOfPieces}
 use Rattle.dcsctp_delivery_sending.specs.Flushes.{EndsWithin}
-use Rattle.dcsctp_delivery_sending.specs.Turns.{turn_at, IsSsnOfTurn}
+use Rattle.dcsctp_delivery_sending.specs.Turns.{turn_of_tsn, IsSsnOfTurn}
 use Rattle.dcsctp_delivery_sending.proofs.Places.{at_below}
 use Rattle.dcsctp_delivery_receiving.specs.Rows.{AreRows}
 use Rattle.dcsctp_delivery_receiving.specs.Ready.{IsOn, IsOfStream, ordered_base, unordered_base, StreamRows, StreamHolds, AreDistinct, WereQueued}
@@ -22,7 +22,7 @@ use Rattle.dcsctp_delivery_receiving.proofs.Distinct.{has_left, appended}
 use Rattle.dcsctp_delivery_receiving.proofs.Waiting.{both_queued, wait_spent, split_due}
 use Rattle.dcsctp_delivery_order.specs.Rising.{AscendFrom}
 use Rattle.dcsctp_delivery_order.specs.Order.{AreReadAs}
-use Rattle.dcsctp_delivery_order.specs.Plain.{number_at, with_turns, CarriesOrdered}
+use Rattle.dcsctp_delivery_order.specs.Plain.{number_of_tsn, with_turns, CarriesOrdered}
 use Rattle.dcsctp_delivery_order.proofs.Rising.{skips_deliver_rising}
 use Rattle.dcsctp_delivery_order.proofs.Leaving.{wait_on_it, due_all, split_read}
 use Rattle.dcsctp_delivery_order.proofs.PlainTurns.{turn_up}
@@ -67,7 +67,7 @@ due_up next (w ∷ waiting) low up = go (nat_le w.number next) (λ (k : ℕ). du
           | inr e ↦ (let more = rest next in rw e.0 more)
         ]
 
-module _ (queued : List Message) (history : History) (cut : Cut queued history.log) (counts : CountsFew history) (got : List ℕ) (known : ℕ → Bool) (has_known : (k : ℕ) → HasEntry k got → known k ≡ true)
+module _ (queued : List Message) (history : History) (cut : IsLogOfPieces queued history.log) (counts : CountsFew history) (got : List ℕ) (known : ℕ → Bool) (has_known : (k : ℕ) → HasEntry k got → known k ≡ true)
     (passed base : ℕ) (are_known : (k : ℕ) → k < passed → known k ≡ true) (read : List ℕ) where
   rows_filter : (from : ℕ → ℕ) (Named : Piece → ℕ → Type 0) (test : RunModel → Bool) (runs : List RunModel) → AreRows history.log got from Named runs → AreRows history.log got from Named (filter test runs)
   rows_filter from Named test [] are = tt
@@ -90,17 +90,17 @@ module _ (queued : List Message) (history : History) (cut : Cut queued history.l
     its = record { at = skips.at; stream = sym skips.stream; ordered = skips.ordered }
 
     abbrev number : ℕ
-    number = number_at id skips.number history.log
+    number = number_of_tsn id skips.number history.log
 
     -- its number is read right
     number_is : short_number_near stream.next ssn ≡ number
     number_is =
-        let turn : IsSsnOfTurn skips.piece.ssn (turn_at id skips.number history.log) = (counts.plain id).sent skips.number skips.piece its in
+        let turn : IsSsnOfTurn skips.piece.ssn (turn_of_tsn id skips.number history.log) = (counts.plain id).sent skips.number skips.piece its in
         let some = turn.some in
         let low = counts.low id skips.number skips.piece its in
         let from = s.from in
         let high = closed_low queued history cut counts.plain counts id stream.next s.from s.ended in
-        ap (short_number_near stream.next) (skips.is ∙ ssn_agrees skips.piece.ssn (turn_at id skips.number history.log) number turn.some turn.is (omega (arith, some)))
+        ap (short_number_near stream.next) (skips.is ∙ ssn_agrees skips.piece.ssn (turn_of_tsn id skips.number history.log) number turn.some turn.is (omega (arith, some)))
         ∙ near_exact stream.next number (omega (arith, some, low, from)) (omega (arith, some, high)) (omega (arith, some, low)) (omega (arith, from))
 
     abbrev start : ℕ
@@ -142,14 +142,14 @@ module _ (queued : List Message) (history : History) (cut : Cut queued history.l
             let up = (turn_up id skips.number o.offset history.log o.from (at_below o.offset o.slot history.log o.at)).0 in
             let some = some_turn queued history cut id (counts.plain id) skips.number skips.piece its in
             let some' = some_turn queued history cut id (counts.plain id) n f is in
-            let c : IsClosed history.log id (turn_at id skips.number history.log) = record { offset = o.offset; slot = o.slot; at = o.at; ends = o.ends; reached = up } in
-            let before = none_after queued history cut counts.plain id (turn_at id skips.number history.log) n f c is (omega (arith, less, e, some, some')) in
+            let c : IsClosed history.log id (turn_of_tsn id skips.number history.log) = record { offset = o.offset; slot = o.slot; at = o.at; ends = o.ends; reached = up } in
+            let before = none_after queued history cut counts.plain id (turn_of_tsn id skips.number history.log) n f c is (omega (arith, less, e, some, some')) in
             let to = o.to in
             are_known n (omega (arith, before, to))
 
   -- what is due becomes ready
   leaves_due : (id ssn : ℕ) (skips : SkipsTurn history passed id ssn) (all places waits : List ℕ) (stream : StreamModel) (before : List MessageContent) → StreamHolds queued history got base id waits stream → WereQueued queued places before
-      → AreDistinct (all ++ waits) → FewStream queued history known id all waits stream → LeavesFew queued history got known all places id (skipped (Ssn (record { 0 = id }) ssn) stream) (before ++ skip_deliveries (Ssn (record { 0 = id }) ssn) stream)
+      → AreDistinct (all ++ waits) → FewStream queued history known id all waits stream → LeavesFew queued history got known all places id (stream_after_skip (Ssn (record { 0 = id }) ssn) stream) (before ++ skip_deliveries (Ssn (record { 0 = id }) ssn) stream)
   leaves_due id ssn skips all places waits stream before holds were once s =
       let next : ℕ = next_past (short_number_near stream.next ssn) stream.next in
       let split = split_due queued history got id next waits stream.waiting holds.wait in
@@ -165,7 +165,7 @@ module _ (queued : List Message) (history : History) (cut : Cut queued history.l
         once = subst (λ (l : List ℕ). AreDistinct l) (sym (appended all split.front split.back)) (subst (λ (l : List ℕ). AreDistinct (all ++ l)) split.parts once);
         on = λ q h. wait_on_it queued history got id q waits stream.waiting holds.wait (subst (λ (l : List ℕ). HasEntry q l) (sym split.parts) (has_left q split.front split.back h));
         spent = λ q h. wait_spent queued history got id q waits stream.waiting holds.wait (subst (λ (l : List ℕ). HasEntry q l) (sym split.parts) (has_left q split.front split.back h));
-        order = few_then queued history cut counts.plain got known has_known id all waits stream s.order next split.front split.back (due next stream.waiting) (skipped (Ssn (record { 0 = id }) ssn) stream) before
+        order = few_then queued history cut counts.plain got known has_known id all waits stream s.order next split.front split.back (due next stream.waiting) (stream_after_skip (Ssn (record { 0 = id }) ssn) stream) before
             (before ++ skip_deliveries (Ssn (record { 0 = id }) ssn) stream) (skips_deliver_rising (Ssn (record { 0 = id }) ssn) stream before s.order.ahead) halves.0 halves.1
             (λ q h. wait_spent queued history got id q waits stream.waiting holds.wait (subst (λ (l : List ℕ). HasEntry q l) (sym split.parts) (has_left q split.front split.back h)))
             (let low = s.from in let up = from_next in omega (arith, low, up)) (due_up next stream.waiting (stream.next + 1) s.order.ahead)
@@ -174,13 +174,13 @@ module _ (queued : List Message) (history : History) (cut : Cut queued history.l
             (due_has (stream.next + 1) next stream.waiting s.order.ahead);
       }
     where
-      same : short_number_near stream.next ssn ≡ number_at id skips.number history.log
+      same : short_number_near stream.next ssn ≡ number_of_tsn id skips.number history.log
       same = number_is id ssn skips all waits stream s
 
       from_next : stream.next ≤ next_past (short_number_near stream.next ssn) stream.next
       from_next = subst (λ (k : ℕ). stream.next ≤ next_past k stream.next) (sym same) (start_is id ssn skips all waits stream s).0
 
-  skipped_rows : (id ssn : ℕ) (waits : List ℕ) (stream : StreamModel) → SkipsTurn history passed id ssn → StreamHolds queued history got base id waits stream → StreamRows history got base id (skipped (Ssn (record { 0 = id }) ssn) stream)
+  skipped_rows : (id ssn : ℕ) (waits : List ℕ) (stream : StreamModel) → SkipsTurn history passed id ssn → StreamHolds queued history got base id waits stream → StreamRows history got base id (stream_after_skip (Ssn (record { 0 = id }) ssn) stream)
   skipped_rows id ssn waits stream skips holds =
       record {
         is = holds.rows.is;
@@ -192,17 +192,17 @@ module _ (queued : List Message) (history : History) (cut : Cut queued history.l
 
   -- ---- all streams
 
-  on_itself : (entry : SkippedTo) (stream : StreamModel) → skipped_on entry (skipped_stream entry) stream ≡ skipped entry stream
+  on_itself : (entry : SkippedTo) (stream : StreamModel) → skipped_on entry (skipped_stream entry) stream ≡ stream_after_skip entry stream
   on_itself entry stream = go (skipped_stream entry == skipped_stream entry) (elim (eqb_tells (skipped_stream entry) (skipped_stream entry)) [ inl e ↦ e.0 | inr e ↦ absurd (e.1 refl) ])
     where
-      go : (b : Bool) → b ≡ true → (if b then skipped entry stream else stream) ≡ skipped entry stream
+      go : (b : Bool) → b ≡ true → (if b then stream_after_skip entry stream else stream) ≡ stream_after_skip entry stream
       go true e = refl
       go false e = absurd (cc)
 
   on_others : (entry : SkippedTo) (other : ℕ) (stream : StreamModel) → other ≢ skipped_stream entry → skipped_on entry other stream ≡ stream
   on_others entry other stream ne = go (skipped_stream entry == other) (elim (eqb_tells (skipped_stream entry) other) [ inl e ↦ absurd (ne (sym e.1)) | inr e ↦ e.0 ])
     where
-      go : (b : Bool) → b ≡ false → (if b then skipped entry stream else stream) ≡ stream
+      go : (b : Bool) → b ≡ false → (if b then stream_after_skip entry stream else stream) ≡ stream
       go true e = absurd (cc)
       go false e = refl
 
@@ -219,11 +219,11 @@ module _ (queued : List Message) (history : History) (cut : Cut queued history.l
       (leaves_due on.0 ssn skips (read ++ o.holds.places) o.holds.places (o.holds.waits on.0) (streams on.0) ready here o.holds.were_queued (o.holds.once on.0) (o.order on.0)))
 
   all_skipped : (entries : List SkippedTo) (streams : ℕ → StreamModel) (unordered : List RunModel) (ready : List MessageContent) → HoldsFew queued history got known base read streams unordered ready
-      → SkipTurns history passed entries → HoldsFew queued history got known base read (λ id. skipped_by entries id (streams id)) unordered (ready ++ deliveries_by entries streams)
+      → SkipTurns history passed entries → HoldsFew queued history got known base read (λ id. stream_skipping entries id (streams id)) unordered (ready ++ deliveries_of_skips entries streams)
   all_skipped [] streams unordered ready o skip = subst (λ (l : List MessageContent). HoldsFew queued history got known base read streams unordered l) (sym (append-nil ready)) o
   all_skipped (entry ∷ entries) streams unordered ready o skip =
-      subst (λ (l : List MessageContent). HoldsFew queued history got known base read (λ id. skipped_by (entry ∷ entries) id (streams id)) unordered l)
-      (messages_appended ready (skip_deliveries entry (streams (skipped_stream entry))) (deliveries_by entries (λ id. skipped_on entry id (streams id))))
+      subst (λ (l : List MessageContent). HoldsFew queued history got known base read (λ id. stream_skipping (entry ∷ entries) id (streams id)) unordered l)
+      (messages_appended ready (skip_deliveries entry (streams (skipped_stream entry))) (deliveries_of_skips entries (λ id. skipped_on entry id (streams id))))
       (all_skipped entries (λ id. skipped_on entry id (streams id)) unordered (ready ++ skip_deliveries entry (streams (skipped_stream entry))) (one_skipped entry streams unordered ready o skip.0) skip.1)
     where
       messages_appended : (xs ys zs : List MessageContent) → (xs ++ ys) ++ zs ≡ xs ++ (ys ++ zs)
@@ -252,4 +252,4 @@ module _ (queued : List Message) (history : History) (cut : Cut queued history.l
       let skipped_all = all_skipped entries (λ id. stream_on id old.streams) old.unordered old.ready o skip in
       let rows : AreRows history.log got (unordered_base base) IsOfStream new.unordered = subst (λ (l : List RunModel). AreRows history.log got (unordered_base base) IsOfStream l) (sym moves.unordered) (rows_behind (unordered_base base) IsOfStream (number_near old.last_tsn_number tsn) old.unordered o.holds.rows) in
       subst (λ (l : List MessageContent). HoldsFew queued history got known base read (λ id. stream_on id new.streams) new.unordered l) (sym moves.ready)
-      (holds_same (λ id. skipped_by entries id (stream_on id old.streams)) (λ id. stream_on id new.streams) old.unordered new.unordered (old.ready ++ deliveries_by entries (λ id. stream_on id old.streams)) moves.streams rows skipped_all)
+      (holds_same (λ id. stream_skipping entries id (stream_on id old.streams)) (λ id. stream_on id new.streams) old.unordered new.unordered (old.ready ++ deliveries_of_skips entries (λ id. stream_on id old.streams)) moves.streams rows skipped_all)

@@ -6,13 +6,13 @@ use Rattle.dcsctp_spec_lemmas.specs.types.queues.Messages.{MessageContent}
 use Rattle.dcsctp_spec_lemmas.specs.spec.queues.Runs.{WholeModel}
 use Rattle.dcsctp_spec_lemmas.specs.spec.queues.IncomingStreams.{StreamModel, new_stream, due, next_after, next_due}
 use Rattle.dcsctp_delivery_sending.specs.Places.{HasEntry, at_place}
-use Rattle.dcsctp_delivery_sending.specs.Log.{Message, Piece, History, Cut}
+use Rattle.dcsctp_delivery_sending.specs.Log.{Message, Piece, History, IsLogOfPieces}
 use Rattle.dcsctp_delivery_receiving.specs.Rows.{Spent}
 use Rattle.dcsctp_delivery_receiving.proofs.SpentRows.{was_handled}
 use Rattle.dcsctp_delivery_order.specs.Queue.{IsOrderedOn}
 use Rattle.dcsctp_delivery_order.specs.Rising.{FillRow, AscendFrom, DeliversRising}
 use Rattle.dcsctp_delivery_order.specs.Order.{IsReadAs, IsReadBelow, AreReadAs, StreamInOrder}
-use Rattle.dcsctp_delivery_order.specs.Plain.{number_at, with_turns, CountsPlain, CarriesOrdered}
+use Rattle.dcsctp_delivery_order.specs.Plain.{number_of_tsn, with_turns, CountsPlain, CarriesOrdered}
 use Rattle.dcsctp_delivery_order.proofs.Order.{order_then, others_stay, new_in_order}
 use Rattle.dcsctp_delivery_order.proofs.PlainRows.{turns_follow, sent_from, some_turn}
 use Rattle.dcsctp_delivery_order.proofs.PlainReading.{is_it}
@@ -24,7 +24,7 @@ EndedBefore history id next = (next ≡ 2 ^ 32) ⊎ IsClosed history.log id (nex
 
 -- The tracker knows all TSNs of the messages of the stream before this number.
 abbrev pub KnownBefore : History → (ℕ → Bool) → ℕ → ℕ → Type 0
-KnownBefore history known id next = (n : ℕ) (f : Piece) → CarriesOrdered history.log id n f → number_at id n history.log < next → known n ≡ true
+KnownBefore history known id next = (n : ℕ) (f : Piece) → CarriesOrdered history.log id n f → number_of_tsn id n history.log < next → known n ≡ true
 
 -- The stream is in order. All messages before the next one have ended, and their TSNs are known to the tracker, whether they were
 -- received or passed.
@@ -84,7 +84,7 @@ place_of history id (p ∷ places) (v ∷ wholes) w are has =
 -- ---- what a stream has then
 
 -- a stream on which nothing was received
-pub new_few : (queued : List Message) (history : History) (cut : Cut queued history.log) (counts : (id : ℕ) → CountsPlain id history) (known : ℕ → Bool) (id : ℕ) → FewStream queued history known id [] [] (new_stream id)
+pub new_few : (queued : List Message) (history : History) (cut : IsLogOfPieces queued history.log) (counts : (id : ℕ) → CountsPlain id history) (known : ℕ → Bool) (id : ℕ) → FewStream queued history known id [] [] (new_stream id)
 new_few queued history cut counts known id =
     record {
       order = new_in_order queued (with_turns history) id;
@@ -120,7 +120,7 @@ alike_few queued history known id all waits old new next waiting s =
       over = subst (λ (k : ℕ). KnownBefore history known id k) (sym next) s.over;
     }
 
-module _ (queued : List Message) (history : History) (cut : Cut queued history.log) (counts : (id : ℕ) → CountsPlain id history) (got : List ℕ) (known : ℕ → Bool) (has_known : (k : ℕ) → HasEntry k got → known k ≡ true)
+module _ (queued : List Message) (history : History) (cut : IsLogOfPieces queued history.log) (counts : (id : ℕ) → CountsPlain id history) (got : List ℕ) (known : ℕ → Bool) (has_known : (k : ℕ) → HasEntry k got → known k ≡ true)
     (id : ℕ) (all waits : List ℕ) (old : StreamModel) (order : StreamInOrder queued (with_turns history) id all waits old) where
   -- These become ready: all from a number on, before which all messages have ended.
   pub few_then : (start : ℕ) (more later : List ℕ) (delivered : List WholeModel) (new : StreamModel) (before after : List MessageContent) → DeliversRising old before new after delivered → AreReadAs (with_turns history) id more delivered
@@ -134,10 +134,10 @@ module _ (queued : List Message) (history : History) (cut : Cut queued history.l
           | inl e ↦ subst (λ (k : ℕ). EndedBefore history id k) (sym e.1) ended
           | inr e ↦ inr (closed (let ne : new.next ≡ start → ⊥ = e.1 in omega (arith, ne, up)))
         ];
-        over = λ n f is less. elim (leb_tells start (number_at id n history.log)) [
+        over = λ n f is less. elim (leb_tells start (number_of_tsn id n history.log)) [
           | inr e ↦ over n f is e.1
           | inl e ↦
-              (let one = have (number_at id n history.log) e.1 less in
+              (let one = have (number_of_tsn id n history.log) e.1 less in
               let its = place_of (with_turns history) id more delivered one.0 are one.1 in
               let same = is_it queued history cut id (counts id) n f its.0 is (subst (λ (k : ℕ). IsReadAs (with_turns history) id its.0 k) one.2 its.2) in
               has_known n (was_handled queued history.log cut got its.0 (spent its.0 its.1) n f is.at (sym same)))

@@ -4,8 +4,8 @@ use Rattle.std.specs.Prelude.{◌&&◌, ◌⊎◌, not, nat_lt, None, Some, if�
 use Rattle.std.proofs.lemmas.Bool.{eqb-true}
 use Rattle.std.proofs.lemmas.Bool.Decides.{nat_tests, eqb_tells, leb_tells}
 use Rattle.dcsctp_delivery_sending.specs.Places.{at_place}
-use Rattle.dcsctp_delivery_sending.specs.Log.{Message, Piece, Slot, IsEndSlot, History, Cut, is_end}
-use Rattle.dcsctp_delivery_sending.specs.Turns.{turn_at}
+use Rattle.dcsctp_delivery_sending.specs.Log.{Message, Piece, Slot, IsEndSlot, History, IsLogOfPieces, is_end}
+use Rattle.dcsctp_delivery_sending.specs.Turns.{turn_of_tsn}
 use Rattle.dcsctp_delivery_sending.proofs.Places.{at_below, at_cases}
 use Rattle.dcsctp_delivery_order.specs.Plain.{CountsPlain, CarriesOrdered}
 use Rattle.dcsctp_delivery_order.specs.PlainDirections.{ordered_on, FewOnEachStream}
@@ -91,9 +91,9 @@ before_one id place message (m ∷ queued) at on =
 -- The SSNs of the log count its messages, of which fewer than 2^15 were begun on each stream.
 pub record CountsFew (history : History) : Type 0 where
   pub plain : (id : ℕ) → CountsPlain id history
-  pub low : (id n : ℕ) (f : Piece) → CarriesOrdered history.log id n f → turn_at id n history.log < 2 ^ 15
+  pub low : (id n : ℕ) (f : Piece) → CarriesOrdered history.log id n f → turn_of_tsn id n history.log < 2 ^ 15
 
-module _ (queued : List Message) (history : History) (cut : Cut queued history.log) (id : ℕ) (counts : CountsPlain id history) where
+module _ (queued : List Message) (history : History) (cut : IsLogOfPieces queued history.log) (id : ℕ) (counts : CountsPlain id history) where
   on_stream : (n : ℕ) (f : Piece) → CarriesOrdered history.log id n f → is_on id f.message ≡ true
   unfolding is_on
   on_stream n f is = elim (eqb_tells f.message.stream id) [
@@ -102,7 +102,7 @@ module _ (queued : List Message) (history : History) (cut : Cut queued history.l
   ]
 
   -- each message that was begun up to this one was queued up to it
-  turn_queued : (turn n : ℕ) (f : Piece) → CarriesOrdered history.log id n f → turn_at id n history.log ≡ turn → turn ≤ before id (f.place + 1) queued
+  turn_queued : (turn n : ℕ) (f : Piece) → CarriesOrdered history.log id n f → turn_of_tsn id n history.log ≡ turn → turn ≤ before id (f.place + 1) queued
   turn_queued zero n f is same = omega arith
   turn_queued (suc turn) n f is same =
       let one = before_one id f.place f.message queued (cut.pieces n f is.at).at (on_stream n f is) in
@@ -118,13 +118,13 @@ module _ (queued : List Message) (history : History) (cut : Cut queued history.l
             omega (arith, rest, up, one))
       ]
 
-  begins_few : ordered_on id queued < 2 ^ 15 → (n : ℕ) (f : Piece) → CarriesOrdered history.log id n f → turn_at id n history.log < 2 ^ 15
+  begins_few : ordered_on id queued < 2 ^ 15 → (n : ℕ) (f : Piece) → CarriesOrdered history.log id n f → turn_of_tsn id n history.log < 2 ^ 15
   begins_few few n f is =
-      let up = turn_queued (turn_at id n history.log) n f is refl in
+      let up = turn_queued (turn_of_tsn id n history.log) n f is refl in
       let all = before_all id (f.place + 1) queued in
       omega (arith, up, all, few)
 
-pub counts_few : (queued : List Message) (history : History) → Cut queued history.log → ((id : ℕ) → CountsPlain id history) → FewOnEachStream queued → CountsFew history
+pub counts_few : (queued : List Message) (history : History) → IsLogOfPieces queued history.log → ((id : ℕ) → CountsPlain id history) → FewOnEachStream queued → CountsFew history
 counts_few queued history cut counts few = record { plain = counts; low = λ id. begins_few queued history cut id (counts id) (few id) }
 
 -- ---- messages that have ended
@@ -135,11 +135,11 @@ pub record IsClosed (log : List Slot) (id turn : ℕ) : Type 0 where
   pub slot : Slot
   pub at : at_place offset log ≡ Some slot
   pub ends : IsEndSlot slot ⊎ (2 ^ 31 ≤ offset + 2)
-  pub reached : turn ≤ turn_at id offset log
+  pub reached : turn ≤ turn_of_tsn id offset log
 
-module _ (queued : List Message) (history : History) (cut : Cut queued history.log) (counts : (id : ℕ) → CountsPlain id history) where
+module _ (queued : List Message) (history : History) (cut : IsLogOfPieces queued history.log) (counts : (id : ℕ) → CountsPlain id history) where
   -- their TSNs come before that
-  pub none_after : (id turn n : ℕ) (f : Piece) (c : IsClosed history.log id turn) → CarriesOrdered history.log id n f → turn_at id n history.log ≤ turn → n ≤ c.offset
+  pub none_after : (id turn n : ℕ) (f : Piece) (c : IsClosed history.log id turn) → CarriesOrdered history.log id n f → turn_of_tsn id n history.log ≤ turn → n ≤ c.offset
   none_after id turn n f c is low =
       elim (leb_tells n c.offset) [
         | inl e ↦ e.1
@@ -177,13 +177,13 @@ module _ (queued : List Message) (history : History) (cut : Cut queued history.l
           ended (Some p) g one two e = (let both : Some (Some p) ≡ Some (Some g) = sym one ∙ two in let same : p ≡ g = cc in ap (λ (x : Piece). is_end x) (sym same) ∙ e)
 
   -- the pieces of a message have one count
-  pub one_turn : (id m n : ℕ) (f g : Piece) → CarriesOrdered history.log id m f → CarriesOrdered history.log id n g → f.place ≡ g.place → turn_at id m history.log ≡ turn_at id n history.log
+  pub one_turn : (id m n : ℕ) (f g : Piece) → CarriesOrdered history.log id m f → CarriesOrdered history.log id n g → f.place ≡ g.place → turn_of_tsn id m history.log ≡ turn_of_tsn id n history.log
   one_turn id m n f g is is' same =
-      elim (leb_tells (turn_at id m history.log) (turn_at id n history.log)) [
+      elim (leb_tells (turn_of_tsn id m history.log) (turn_of_tsn id n history.log)) [
         | inr e ↦ absurd (let up = later_turn queued history cut id (counts id) n m g f is' is e.1 in omega (arith, up, same))
-        | inl e ↦ elim (leb_tells (turn_at id n history.log) (turn_at id m history.log)) [
+        | inl e ↦ elim (leb_tells (turn_of_tsn id n history.log) (turn_of_tsn id m history.log)) [
           | inr e' ↦ absurd (let up = later_turn queued history cut id (counts id) m n f g is is' e'.1 in omega (arith, up, same))
-          | inl e' ↦ (let a : turn_at id m history.log ≤ turn_at id n history.log = e.1 in let b : turn_at id n history.log ≤ turn_at id m history.log = e'.1 in omega (arith, a, b))
+          | inl e' ↦ (let a : turn_of_tsn id m history.log ≤ turn_of_tsn id n history.log = e.1 in let b : turn_of_tsn id n history.log ≤ turn_of_tsn id m history.log = e'.1 in omega (arith, a, b))
         ]
       ]
 

@@ -3,7 +3,7 @@ use Rattle.std.proofs.Common.{◌≡◌, ℕ, zero, suc, true, false, ◌<◌, �
 use Rattle.std.specs.Prelude.{◌⊎◌, Some}
 use Rattle.std.proofs.lemmas.Bool.Decides.{eqb_tells, leb_tells}
 use Rattle.dcsctp_delivery_sending.specs.Places.{at_place}
-use Rattle.dcsctp_delivery_sending.specs.Log.{Message, Piece, Slot, Cut, History}
+use Rattle.dcsctp_delivery_sending.specs.Log.{Message, Piece, Slot, IsLogOfPieces, History}
 use Rattle.dcsctp_delivery_sending.specs.Numbers.{AreOfKind, IsUnambiguous, plain, interleaved}
 use Rattle.dcsctp_delivery_order.specs.Queue.{FollowsQueue}
 use Rattle.dcsctp_delivery_order.specs.Reading.{CountsFromZero}
@@ -21,7 +21,7 @@ record GoesBack (log : List Slot) (n : ℕ) (f : Piece) : Type 0 where
 same_piece : (log : List Slot) (m n : ℕ) (f g : Piece) → m ≡ n → at_place m log ≡ Some (Some f) → at_place n log ≡ Some (Some g) → f ≡ g
 same_piece log m n f g e at at' = (let both : Some (Some f) ≡ Some (Some g) = sym at ∙ ap (λ (k : ℕ). at_place k log) e ∙ at' in cc)
 
-module _ (queued : List Message) (log : List Slot) (cut : Cut queued log) where
+module _ (queued : List Message) (log : List Slot) (cut : IsLogOfPieces queued log) where
   alone : (n : ℕ) (f : Piece) → at_place n log ≡ Some (Some f) → (f.start ≡ 0) ⊎ (n ≡ 0) → GoesBack log n f
   alone n f at starts =
       record {
@@ -103,7 +103,7 @@ module _ (queued : List Message) (log : List Slot) (cut : Cut queued log) where
             ]
 
 -- So the numbers of each stream count from zero, if its floor is one of those that are read as 0.
-pub counts_from_zero : (queued : List Message) (history : History) (id : ℕ) → Cut queued history.log → IsUnambiguous history → AreOfKind true history.log → history.floors id false % 2 ^ 32 ≡ 0 → CountsFromZero history id
+pub counts_from_zero : (queued : List Message) (history : History) (id : ℕ) → IsLogOfPieces queued history.log → IsUnambiguous history → AreOfKind true history.log → history.floors id false % 2 ^ 32 ≡ 0 → CountsFromZero history id
 counts_from_zero queued history id cut (interleaved kinds small few apart) are floor =
     record {
       kinds = kinds;

@@ -16,7 +16,7 @@ use Rattle.dcsctp_delivery_receiving.proofs.Skipping.{rows_filter, new_rows, hol
 use Rattle.dcsctp_delivery_order.specs.Queue.{IsOrderedOn, ComeInOrder}
 use Rattle.dcsctp_delivery_order.specs.Order.{IsSentAs, AreReadAs, IsBetweenResets}
 use Rattle.dcsctp_delivery_order.specs.Reading.{CountsFromZero}
-use Rattle.dcsctp_delivery_order.specs.Incoming.{OrderWhere, HoldsOrdered, IncomingOrdered, ReadsInOrder, IsWithin}
+use Rattle.dcsctp_delivery_order.specs.Incoming.{IsOrderedOrReset, HoldsOrdered, IncomingOrdered, ReadsInOrder, IsWithin}
 use Rattle.dcsctp_delivery_order.proofs.Order.{come_between, new_in_order}
 use Rattle.dcsctp_delivery_order.proofs.Gaps.{new_filled}
 
@@ -37,13 +37,13 @@ beginning_in_order gapless queued history quiet base =
       order = λ id counts. first id (quiet id);
     }
   where
-    first : (id : ℕ) (b : Bool) → OrderWhere (gapless id) b queued history id [] [] (new_stream id)
+    first : (id : ℕ) (b : Bool) → IsOrderedOrReset (gapless id) b queued history id [] [] (new_stream id)
     first id false = record { order = new_in_order queued history id; reach = record { from = omega arith; up_to = omega arith }; filled = λ is. new_filled history id }
     first id true = record { in_order = tt; sent = λ place has on. absurd has }
 
 -- ---- streams that are reset
 
-pub quiet_where : (gapless : Bool) (queued : List Message) (history : History) (b : Bool) (id : ℕ) (all waits : List ℕ) (stream : StreamModel) → OrderWhere gapless b queued history id all waits stream → IsBetweenResets queued history id all
+pub quiet_where : (gapless : Bool) (queued : List Message) (history : History) (b : Bool) (id : ℕ) (all waits : List ℕ) (stream : StreamModel) → IsOrderedOrReset gapless b queued history id all waits stream → IsBetweenResets queued history id all
 quiet_where gapless queued history false id all waits stream o = come_between queued history id all waits stream o.order
 quiet_where gapless queued history true id all waits stream between = between
 
@@ -55,12 +55,12 @@ module _ (gapless : ℕ → Bool) (queued : List Message) (history : History) (q
   renewed named streams later unordered others ready are rows o =
       record {
         holds = holds_renewed queued history got base read named streams later unordered others ready are rows o.holds;
-        order = λ id counts. subst (λ (s : StreamModel). OrderWhere (gapless id) (quiet id || named id) queued history id (read ++ o.holds.places) (if named id then [] else o.holds.waits id) s) (sym (are id))
+        order = λ id counts. subst (λ (s : StreamModel). IsOrderedOrReset (gapless id) (quiet id || named id) queued history id (read ++ o.holds.places) (if named id then [] else o.holds.waits id) s) (sym (are id))
             (left_order id (quiet id) (named id) (o.order id counts));
       }
     where
-      left_order : (id : ℕ) (was b : Bool) → OrderWhere (gapless id) was queued history id (read ++ o.holds.places) (o.holds.waits id) (streams id)
-          → OrderWhere (gapless id) (was || b) queued history id (read ++ o.holds.places) (if b then [] else o.holds.waits id) (if b then new_stream id else streams id)
+      left_order : (id : ℕ) (was b : Bool) → IsOrderedOrReset (gapless id) was queued history id (read ++ o.holds.places) (o.holds.waits id) (streams id)
+          → IsOrderedOrReset (gapless id) (was || b) queued history id (read ++ o.holds.places) (if b then [] else o.holds.waits id) (if b then new_stream id else streams id)
       left_order id true true between = between
       left_order id true false between = between
       left_order id false true ordered = quiet_where (gapless id) queued history false id (read ++ o.holds.places) (o.holds.waits id) (streams id) ordered
@@ -108,7 +108,7 @@ module _ (gapless : ℕ → Bool) (queued : List Message) (history : History) (q
                 spent = λ q h. o.holds.spent q (subst (λ (l : List ℕ). HasEntry q l) (sym all) h);
                 once = λ id. subst (λ (l : List ℕ). AreDistinct (l ++ o.holds.waits id)) all (o.holds.once id);
               };
-              order = λ id counts. subst (λ (l : List ℕ). OrderWhere (gapless id) (quiet id) queued history id l (o.holds.waits id) (stream_on id incoming.streams)) all (o.order id counts);
+              order = λ id counts. subst (λ (l : List ℕ). IsOrderedOrReset (gapless id) (quiet id) queued history id l (o.holds.waits id) (stream_on id incoming.streams)) all (o.order id counts);
             };
           }
 
@@ -171,8 +171,8 @@ module _ (queued more : List Message) (history later : History) (id : ℕ) (with
   read_more (p ∷ places) (w ∷ wholes) are = (record { mid = are.0.mid; sent = sent_more p are.0.mid are.0.sent; counted = (let counted = are.0.counted in omega (arith, counted, same_floor)) }, read_more places wholes are.1)
 
 pub growing_in_order : (gapless : Bool) (queued more : List Message) (history later : History) (quiet : Bool) (id : ℕ) (all waits : List ℕ) (contents : List MessageContent) (stream : StreamModel)
-    → IsWithin history later → WereQueued queued all contents → CountsFromZero later id → (CountsFromZero history id → OrderWhere gapless quiet queued history id all waits stream)
-    → OrderWhere gapless quiet (more ++ queued) later id all waits stream
+    → IsWithin history later → WereQueued queued all contents → CountsFromZero later id → (CountsFromZero history id → IsOrderedOrReset gapless quiet queued history id all waits stream)
+    → IsOrderedOrReset gapless quiet (more ++ queued) later id all waits stream
 growing_in_order gapless queued more history later false id all waits contents stream within were counts ordered =
     let o = ordered (counts_before queued more history later id within counts) in
     record {

@@ -4,7 +4,7 @@ use Rattle.std.specs.Prelude.{Some, nat_le, MatchBool, if◌then◌else◌}
 use Rattle.std.proofs.lemmas.List.{append-nil}
 use Rattle.dcsctp_spec_lemmas.specs.types.queues.Messages.{MessageContent}
 use Rattle.dcsctp_spec_lemmas.specs.types.declared.arrivals.Taken.{Taken}
-use Rattle.dcsctp_spec_lemmas.specs.spec.queues.Runs.{PartModel, WholeModel, Assembled, part_dropped, part_kept, message_whole}
+use Rattle.dcsctp_spec_lemmas.specs.spec.queues.Runs.{PartModel, WholeModel, Assembly, part_dropped, part_kept, message_whole}
 use Rattle.dcsctp_spec_lemmas.specs.spec.queues.IncomingStreams.{StreamModel, delivered_as, next_after, due, not_due, ready_with, WaitsAmong, OrderedOutcome, UnorderedOutcome, TakesOrdered}
 use Rattle.dcsctp_delivery_sending.specs.Places.{HasEntry, at_place}
 use Rattle.dcsctp_delivery_sending.specs.Log.{Message, History}
@@ -14,10 +14,10 @@ use Rattle.dcsctp_delivery_receiving.proofs.Distinct.{appended, has_left, has_ri
 use Rattle.dcsctp_delivery_receiving.proofs.SpentRows.{of_message, IsOfMessage}
 use Rattle.dcsctp_delivery_receiving.proofs.Waiting.{OfStream, both_queued, renamed, wait_spent, Split, split_due}
 use Rattle.dcsctp_delivery_order.specs.Queue.{IsOrderedOn}
-use Rattle.dcsctp_delivery_order.specs.Rising.{AscendFrom, DeliversRow, IsAhead, ready_by}
+use Rattle.dcsctp_delivery_order.specs.Rising.{AscendFrom, DeliversRow, IsAhead, ready_with_part}
 use Rattle.dcsctp_delivery_order.specs.Order.{IsReadAs, IsReadBelow, AreReadAs, AreFilled}
 use Rattle.dcsctp_delivery_order.specs.Reading.{CountsFromZero, IsInReach, OrderedStream}
-use Rattle.dcsctp_delivery_order.specs.Incoming.{OrderWhere}
+use Rattle.dcsctp_delivery_order.specs.Incoming.{IsOrderedOrReset}
 use Rattle.dcsctp_delivery_order.proofs.Rising.{parts_deliver_rows}
 use Rattle.dcsctp_delivery_order.proofs.Gaps.{rows_fill}
 use Rattle.dcsctp_delivery_order.proofs.Order.{order_then, read_among, others_stay, others_between}
@@ -63,7 +63,7 @@ alike_ordered gapless queued history id all waits old new next waiting o =
 
 -- messages of other streams, or unordered ones
 pub others_where : (gapless : Bool) (queued : List Message) (history : History) (quiet : Bool) (id : ℕ) (all waits more : List ℕ) (stream : StreamModel) → ((place : ℕ) → HasEntry place more → IsOrderedOn queued id place → ⊥)
-    → OrderWhere gapless quiet queued history id all waits stream → OrderWhere gapless quiet queued history id (all ++ more) waits stream
+    → IsOrderedOrReset gapless quiet queued history id all waits stream → IsOrderedOrReset gapless quiet queued history id (all ++ more) waits stream
 others_where gapless queued history false id all waits more stream none o = record { order = others_stay queued history id all waits more stream none o.order; reach = o.reach; filled = λ is. more_filled history id stream.next all more (o.filled is) }
 others_where gapless queued history true id all waits more stream none between = others_between queued history id all more none between
 
@@ -215,8 +215,8 @@ module _ (gapless : Bool) (queued : List Message) (history : History) (got : Lis
           filled = λ none. rows_fill history id old.next new.next all [] [] tt (rises counts).row ((ordered counts).filled none);
         })
 
-    by_outcome : (outcome : Assembled) → OrderedOutcome part old before outcome taken new after → IsOfMessage part.number outcome → MakesQueued queued history.log got (IsOn history id) p outcome
-        → (CountsFromZero history id → DeliversRow old before new after (ready_by old outcome)) → (CountsFromZero history id → IsInReach new) → LeavesOrder all places id new after
+    by_outcome : (outcome : Assembly) → OrderedOutcome part old before outcome taken new after → IsOfMessage part.number outcome → MakesQueued queued history.log got (IsOn history id) p outcome
+        → (CountsFromZero history id → DeliversRow old before new after (ready_with_part old outcome)) → (CountsFromZero history id → IsInReach new) → LeavesOrder all places id new after
     by_outcome part_dropped does of makes rises reach =
         none_left all places waits id new before after were (subst (λ (s : StreamModel). WaitQueued queued history got id waits s.waiting) (sym does.0) wait) once does.1
         (λ counts. record {
@@ -246,7 +246,7 @@ module _ (gapless : Bool) (queued : List Message) (history : History) (got : Lis
 
   -- ---- one that may come at any time
 
-  pub apart_left : (all places waits : List ℕ) (on id p : ℕ) (part : PartModel) (new : StreamModel) (before after : List MessageContent) (outcome : Assembled) (taken : Taken) → id ≡ on
+  pub apart_left : (all places waits : List ℕ) (on id p : ℕ) (part : PartModel) (new : StreamModel) (before after : List MessageContent) (outcome : Assembly) (taken : Taken) → id ≡ on
       → WereQueued queued places before → WaitQueued queued history got id waits new.waiting → MakesQueued queued history.log got (OfStream id) p outcome → AreDistinct (all ++ waits) → (HasEntry p (all ++ waits) → ⊥)
       → (CountsFromZero history id → OrderedStream gapless queued history id all waits new) → (CountsFromZero history id → IsOrderedOn queued id p → ⊥)
       → UnorderedOutcome part (delivered_as on) before outcome taken after → LeavesOrder all places id new after
@@ -255,7 +255,7 @@ module _ (gapless : Bool) (queued : List Message) (history : History) (got : Lis
       none_more : CountsFromZero history id → OrderedStream gapless queued history id (all ++ []) waits new
       none_more counts = subst (λ (l : List ℕ). OrderedStream gapless queued history id l waits new) (sym (append-nil all)) (ordered counts)
 
-      go : (outcome : Assembled) → MakesQueued queued history.log got (OfStream id) p outcome → UnorderedOutcome part (delivered_as on) before outcome taken after → LeavesOrder all places id new after
+      go : (outcome : Assembly) → MakesQueued queued history.log got (OfStream id) p outcome → UnorderedOutcome part (delivered_as on) before outcome taken after → LeavesOrder all places id new after
       go part_dropped makes' does' = none_left all places waits id new before after were wait once does'.0 none_more
       go part_kept makes' does' = none_left all places waits id new before after were wait once does'.0 none_more
       go (message_whole whole) makes' does' =

@@ -6,14 +6,14 @@ use Rattle.dcsctp_spec_lemmas.specs.types.declared.arrivals.SkippedTo.{SkippedTo
 use Rattle.dcsctp_spec_lemmas.specs.types.declared.arrivals.SkippedTo.TheVariants.{Ssn, Mid}
 use Rattle.dcsctp_spec_lemmas.specs.types.declared.arrivals.Taken.{Taken}
 use Rattle.dcsctp_spec_lemmas.specs.spec.queues.Numbers.{number_near, short_number_near}
-use Rattle.dcsctp_spec_lemmas.specs.spec.queues.Runs.{PartModel, WholeModel, Assembled, part_dropped, part_kept, message_whole}
-use Rattle.dcsctp_spec_lemmas.specs.spec.queues.IncomingStreams.{StreamModel, new_stream, next_after, due, not_due, next_past, WaitsAmong, OrderedOutcome, TakesOrdered, skipped, skip_deliveries}
+use Rattle.dcsctp_spec_lemmas.specs.spec.queues.Runs.{PartModel, WholeModel, Assembly, part_dropped, part_kept, message_whole}
+use Rattle.dcsctp_spec_lemmas.specs.spec.queues.IncomingStreams.{StreamModel, new_stream, next_after, due, not_due, next_past, WaitsAmong, OrderedOutcome, TakesOrdered, stream_after_skip, skip_deliveries}
 use Rattle.dcsctp_delivery_sending.specs.Places.{HasEntry, at_place}
 use Rattle.dcsctp_delivery_sending.specs.Log.{Message, Piece, History}
 use Rattle.dcsctp_delivery_receiving.proofs.Distinct.{has_either}
 use Rattle.dcsctp_delivery_receiving.proofs.SpentRows.{of_message, IsOfMessage}
 use Rattle.dcsctp_delivery_order.specs.Queue.{IsOrderedOn, ComeInOrder, FollowsOn}
-use Rattle.dcsctp_delivery_order.specs.Rising.{Rise, DeliversRising, IsAhead, ready_by, ready_past}
+use Rattle.dcsctp_delivery_order.specs.Rising.{Rise, DeliversRising, IsAhead, ready_with_part, ready_past}
 use Rattle.dcsctp_delivery_order.specs.Order.{IsSentAs, IsReadAs, IsReadBelow, AreReadAs, StreamInOrder, StaysInOrder, IsBetweenResets}
 use Rattle.dcsctp_delivery_order.proofs.Rising.{parts_deliver_rows, skips_deliver_rising}
 
@@ -140,14 +140,14 @@ module _ (queued : List Message) (history : History) (id : ℕ) (all : List ℕ)
 
   pub parts_stay : (place : ℕ) (waits : List ℕ) (part : PartModel) (old : StreamModel) (before : List MessageContent) (taken : Taken) (new : StreamModel) (after : List MessageContent)
       → FollowsOn id history.log → StreamInOrder queued history id all waits old → IsReadAs history id place part.number → IsAhead part old → (does : TakesOrdered part old before taken new after)
-      → StaysInOrder queued history id all (ready_by old does.outcome) new
+      → StaysInOrder queued history id all (ready_with_part old does.outcome) new
   parts_stay place waits part old before taken new after follows order is ahead does =
       by_outcome does.outcome does.does (of_message part old.ordered new.ordered does.outcome does.parts) (parts_deliver_rows part old before taken new after order.ahead ahead does).rising
     where
       kept : new.waiting ≡ old.waiting → AreReadAs history id waits new.waiting
       kept same = subst (λ (l : List WholeModel). AreReadAs history id waits l) (sym same) order.waiting
 
-      by_outcome : (outcome : Assembled) → OrderedOutcome part old before outcome taken new after → IsOfMessage part.number outcome → DeliversRising old before new after (ready_by old outcome) → StaysInOrder queued history id all (ready_by old outcome) new
+      by_outcome : (outcome : Assembly) → OrderedOutcome part old before outcome taken new after → IsOfMessage part.number outcome → DeliversRising old before new after (ready_with_part old outcome) → StaysInOrder queued history id all (ready_with_part old outcome) new
       by_outcome part_dropped same of rising = then_in_order waits [] waits old new before after [] follows order rising tt (kept (ap (λ (s : StreamModel). s.waiting) same.0))
       by_outcome part_kept same of rising = then_in_order waits [] waits old new before after [] follows order rising tt (kept same.1)
       by_outcome (message_whole whole) t of rising = go (whole.number == old.next) t.waiting rising
@@ -166,15 +166,15 @@ module _ (queued : List Message) (history : History) (id : ℕ) (all : List ℕ)
               then_in_order waits [] (take among.at waits ++ place ∷ drop among.at waits) old new before after [] follows order rising' tt
               (subst (λ (l : List WholeModel). AreReadAs history id (take among.at waits ++ place ∷ drop among.at waits) l) (sym among.waiting) (read_among history id place among.at whole waits old.waiting its order.waiting))
 
-  pub skips_stay : (waits : List ℕ) (entry : SkippedTo) (old : StreamModel) → FollowsOn id history.log → StreamInOrder queued history id all waits old → StaysInOrder queued history id all (ready_past entry old) (skipped entry old)
+  pub skips_stay : (waits : List ℕ) (entry : SkippedTo) (old : StreamModel) → FollowsOn id history.log → StreamInOrder queued history id all waits old → StaysInOrder queued history id all (ready_past entry old) (stream_after_skip entry old)
   skips_stay waits (Ssn on ssn) old follows order =
       let split = parts_due history id (next_past (short_number_near old.next ssn) old.next) waits old.waiting order.waiting in
-      then_in_order waits split.front split.back old (skipped (Ssn on ssn) old) [] ([] ++ skip_deliveries (Ssn on ssn) old) (ready_past (Ssn on ssn) old) follows order (skips_deliver_rising (Ssn on ssn) old [] order.ahead) split.are split.rest
+      then_in_order waits split.front split.back old (stream_after_skip (Ssn on ssn) old) [] ([] ++ skip_deliveries (Ssn on ssn) old) (ready_past (Ssn on ssn) old) follows order (skips_deliver_rising (Ssn on ssn) old [] order.ahead) split.are split.rest
   skips_stay waits (Mid on false mid) old follows order =
       let split = parts_due history id (next_past (number_near old.next mid) old.next) waits old.waiting order.waiting in
-      then_in_order waits split.front split.back old (skipped (Mid on false mid) old) [] ([] ++ skip_deliveries (Mid on false mid) old) (ready_past (Mid on false mid) old) follows order (skips_deliver_rising (Mid on false mid) old [] order.ahead) split.are split.rest
+      then_in_order waits split.front split.back old (stream_after_skip (Mid on false mid) old) [] ([] ++ skip_deliveries (Mid on false mid) old) (ready_past (Mid on false mid) old) follows order (skips_deliver_rising (Mid on false mid) old [] order.ahead) split.are split.rest
   skips_stay waits (Mid on true mid) old follows order =
-      then_in_order waits [] waits old (skipped (Mid on true mid) old) [] ([] ++ skip_deliveries (Mid on true mid) old) [] follows order (skips_deliver_rising (Mid on true mid) old [] order.ahead) tt order.waiting
+      then_in_order waits [] waits old (stream_after_skip (Mid on true mid) old) [] ([] ++ skip_deliveries (Mid on true mid) old) [] follows order (skips_deliver_rising (Mid on true mid) old [] order.ahead) tt order.waiting
 
   pub others_stay : (waits more : List ℕ) (stream : StreamModel) → ((place : ℕ) → HasEntry place more → IsOrderedOn queued id place → ⊥) → StreamInOrder queued history id all waits stream → StreamInOrder queued history id (all ++ more) waits stream
   others_stay waits more stream none order =

@@ -9,16 +9,16 @@ use Rattle.dcsctp_spec_lemmas.specs.types.queues.Messages.{MessageContent}
 use Rattle.dcsctp_spec_lemmas.specs.types.queues.SendStreams.{Waiting, Stream, front_of, stream_at}
 use Rattle.dcsctp_spec_lemmas.specs.spec.queues.Incoming.{stream_on}
 use Rattle.dcsctp_delivery_sending.specs.Places.{HasEntry, at_place}
-use Rattle.dcsctp_delivery_sending.specs.Log.{Message, Piece, Slot, History, Cut, newest, is_end}
+use Rattle.dcsctp_delivery_sending.specs.Log.{Message, Piece, Slot, History, IsLogOfPieces, newest, is_end}
 use Rattle.dcsctp_delivery_sending.specs.Losing.{WasSentOf, StillWaits}
-use Rattle.dcsctp_delivery_sending.specs.Numbers.{CountsSsns, CountsWhere}
+use Rattle.dcsctp_delivery_sending.specs.Numbers.{CountsSsns, CountsByKind}
 use Rattle.dcsctp_delivery_sending.specs.Pieces.{Going}
 use Rattle.dcsctp_delivery_sending.proofs.Places.{at_below, at_cases, at_some}
 use Rattle.dcsctp_delivery_receiving.specs.Ready.{WereQueued}
-use Rattle.dcsctp_delivery_receiving.specs.Tracked.{tracked}
-use Rattle.dcsctp_delivery_directions.specs.Directions.{Direction, DirectionRun, assigned}
+use Rattle.dcsctp_delivery_receiving.specs.Tracked.{tracked_number}
+use Rattle.dcsctp_delivery_directions.specs.Directions.{Direction, DirectionRun, assigned_count}
 use Rattle.dcsctp_delivery_directions.proofs.Reached.{acknowledgements_are_true}
-use Rattle.dcsctp_delivery_order.specs.Complete.{HasNothingLeft, DeliveredAllOn}
+use Rattle.dcsctp_delivery_order.specs.Complete.{HasNothingLeft, AreAllDelivered}
 use Rattle.dcsctp_delivery_order.specs.Plain.{CountsPlain, CarriesOrdered, IncomingPlain}
 use Rattle.dcsctp_delivery_order.specs.Queue.{IsOrderedOn}
 use Rattle.dcsctp_delivery_order.specs.Streams.{IsKeptReliable}
@@ -45,7 +45,7 @@ record EndsAt (log : List Slot) (id place : ℕ) : Type 0 where
   place_is : piece.place ≡ place
   ends : is_end piece ≡ true
 
-module _ (queued : List Message) (history : History) (cut : Cut queued history.log) (id : ℕ) (counts : CountsPlain id history) (rests : (f : Piece) → newest history.log ≡ Some (Some f) → is_end f ≡ true)
+module _ (queued : List Message) (history : History) (cut : IsLogOfPieces queued history.log) (id : ℕ) (counts : CountsPlain id history) (rests : (f : Piece) → newest history.log ≡ Some (Some f) → is_end f ≡ true)
     (unlimited : (n : ℕ) (f : Piece) → CarriesOrdered history.log id n f → f.message.is_limited ≡ false) where
   -- It goes on with the next TSN, or ends.
   goes_on : (d : ℕ) → ((m : ℕ) (g : Piece) → CarriesOrdered history.log id m g → m + d ≡ length history.log → EndsAt history.log id g.place) → (n : ℕ) (f : Piece) → CarriesOrdered history.log id n f → n + suc d ≡ length history.log
@@ -104,17 +104,17 @@ has_none w [] none has = has
 has_none w (m ∷ messages) none has = absurd (cc)
 
 module _ (these : ℕ → Bool) (first size : ℕ) (small : first < 2 ^ 32) (direction : Direction) (c : CameOn these first direction) (kind : direction.queues.queue.is_interleaved ≡ false) (left : HasNothingLeft direction.queues)
-    (covered : tracked first (length c.stands.history.log) ≤ direction.tracker.cumulative + 1) (none : direction.reassembly.incoming.ready ≡ []) (id : ℕ) (mine : these id ≡ true) where
+    (covered : tracked_number first (length c.stands.history.log) ≤ direction.tracker.cumulative + 1) (none : direction.reassembly.incoming.ready ≡ []) (id : ℕ) (mine : these id ≡ true) where
   abbrev history : History
   history = c.stands.history
 
-  cut : Cut direction.queued history.log
+  cut : IsLogOfPieces direction.queued history.log
   cut = c.stands.queues.cut
 
   rests : (f : Piece) → newest history.log ≡ Some (Some f) → is_end f ≡ true
   rests =
       let ssns : CountsSsns history direction.queues.queue.streams direction.queues.queue.under_way =
-      subst (λ (b : Bool). CountsWhere b history direction.queues.queue.streams direction.queues.queue.under_way) kind c.stands.queues.numbers.counts in
+      subst (λ (b : Bool). CountsByKind b history direction.queues.queue.streams direction.queues.queue.under_way) kind c.stands.queues.numbers.counts in
       ssns.rests (none_under_way direction.queued history.log direction.queues.queue.streams direction.queues.queue.under_way left.waits c.stands.queues.queue_holds.going)
 
   unlimited : (n : ℕ) (f : Piece) → CarriesOrdered history.log id n f → f.message.is_limited ≡ false
@@ -153,8 +153,8 @@ module _ (these : ℕ → Bool) (first size : ℕ) (small : first < 2 ^ 32) (dir
       ]
 
 pub plain_streams_arrive : (these : ℕ → Bool) (options : Options) (first size : ℕ) (direction : Direction) → DirectionRun options first size direction
-    → first < 2 ^ 32 → assigned direction < 2 ^ 31 → length direction.queued < 2 ^ 64 → size ≤ 2 ^ 63 → direction.queues.queue.is_interleaved ≡ false → direction.beginning.from_zero ≡ true
-    → ((id : ℕ) → these id ≡ true → IsKeptReliable direction id) → HasNothingLeft direction.queues → direction.reassembly.incoming.ready ≡ [] → DeliveredAllOn these direction.queued direction.read
+    → first < 2 ^ 32 → assigned_count direction < 2 ^ 31 → length direction.queued < 2 ^ 64 → size ≤ 2 ^ 63 → direction.queues.queue.is_interleaved ≡ false → direction.beginning.from_zero ≡ true
+    → ((id : ℕ) → these id ≡ true → IsKeptReliable direction id) → HasNothingLeft direction.queues → direction.reassembly.incoming.ready ≡ [] → AreAllDelivered these direction.queued direction.read
 plain_streams_arrive these options first size direction run small little few window kind from reliable left none =
     let c = came_on these options first size direction run small little few window kind from reliable in
     let true_so = acknowledgements_are_true options first size direction run small little few in

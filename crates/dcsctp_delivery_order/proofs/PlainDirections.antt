@@ -14,7 +14,7 @@ use Rattle.dcsctp_spec_lemmas.specs.types.declared.options.Options.{Options}
 use Rattle.dcsctp_spec_lemmas.specs.types.queues.Messages.{MessageContent}
 use Rattle.dcsctp_spec_lemmas.specs.wire.Content.{data_chunk, i_data_chunk, forward_tsn_chunk, i_forward_tsn_chunk}
 use Rattle.dcsctp_spec_lemmas.specs.spec.Packet.{unworked, plain, Emission}
-use Rattle.dcsctp_spec_lemmas.specs.spec.queues.Arrivals.{Arrival, data_arrival, i_data_arrival, skipped_in, messages_skipped_in}
+use Rattle.dcsctp_spec_lemmas.specs.spec.queues.Arrivals.{Arrival, data_arrival, i_data_arrival, named_skips, skipped_messages}
 use Rattle.dcsctp_spec_lemmas.specs.spec.queues.Reassembly.{ReassemblyState, DeferralModel, names_stream, new_reassembly, deferring, EndsDeferral}
 use Rattle.dcsctp_spec_lemmas.specs.spec.queues.Tracker.{TrackerState}
 use Rattle.dcsctp_spec_lemmas.specs.spec.queues.Transfer.{Transfer, EndpointQueues, part_overhead}
@@ -23,7 +23,7 @@ use Rattle.dcsctp_delivery_sending.specs.Places.{HasEntry, at_place}
 use Rattle.dcsctp_delivery_sending.specs.Log.{Fits, Message, Mark, Piece, Slot, History, Resets, new_history}
 use Rattle.dcsctp_delivery_sending.specs.Flushes.{IsData, IsInterleaved, IsPassed, PassesAcknowledged, IsForward, AreForwardEntries}
 use Rattle.dcsctp_delivery_sending.specs.Losing.{IsOpenOn, AreUnlimitedOn}
-use Rattle.dcsctp_delivery_sending.specs.Numbers.{AreOfKind, CountsSsns, CountsWhere}
+use Rattle.dcsctp_delivery_sending.specs.Numbers.{AreOfKind, CountsSsns, CountsByKind}
 use Rattle.dcsctp_delivery_sending.proofs.HeldOn.{unlimited_on_at}
 use Rattle.dcsctp_delivery_receiving.proofs.Entries.{forward_skips}
 use Rattle.dcsctp_delivery_sending.specs.Queueing.{QueueWaits, message_of}
@@ -31,12 +31,12 @@ use Rattle.dcsctp_delivery_sending.proofs.Extended.{at_more}
 use Rattle.dcsctp_delivery_sending.proofs.Places.{at_cases}
 use Rattle.dcsctp_delivery_receiving.specs.Ready.{AreDistinct, WereQueued, AreNamed}
 use Rattle.dcsctp_delivery_receiving.specs.Received.{Carries}
-use Rattle.dcsctp_delivery_receiving.specs.Tracked.{tracked}
+use Rattle.dcsctp_delivery_receiving.specs.Tracked.{tracked_number}
 use Rattle.dcsctp_delivery_receiving.proofs.Arriving.{fits_at, carries_piece, carries_interleaved}
 use Rattle.dcsctp_delivery_receiving.proofs.Distinct.{distinct_with}
 use Rattle.dcsctp_delivery_receiving.proofs.Growing.{were_more}
 use Rattle.dcsctp_delivery_receiving.proofs.Waiting.{both_queued}
-use Rattle.dcsctp_delivery_directions.specs.Directions.{Beginning, BeginsAs, Direction, Asking, HasAsked, nothing_asked, assigned, BeginsDirection, IsAwaited, NoneInFlight, DirectionRun, begins, goes_on, starts, DirectionStep, queues, sets, prepares, commits, rolls_back, flushes, resends, resends_nothing, speaks, asks_again, renews, turns_aside, acknowledges, loses, receives, forwards, receives_interleaved, forwards_interleaved, tracks, defers, performs, resets, performs_earlier, takes}
+use Rattle.dcsctp_delivery_directions.specs.Directions.{Beginning, BeginsAs, Direction, Asking, HasAsked, nothing_asked, assigned_count, BeginsDirection, IsAwaited, NoneInFlight, DirectionRun, begins, goes_on, starts, DirectionStep, queues, sets, prepares, commits, rolls_back, flushes, resends, resends_nothing, speaks, asks_again, renews, turns_aside, acknowledges, loses, receives, forwards, receives_interleaved, forwards_interleaved, tracks, defers, performs, resets, performs_earlier, takes}
 use Rattle.dcsctp_delivery_directions.proofs.Calm.{Continues, continues_same, calm_continues}
 use Rattle.dcsctp_delivery_directions.proofs.Awaited.{unsent_nothing}
 use Rattle.dcsctp_delivery_directions.proofs.Continuing.{begun_history, started_history}
@@ -45,7 +45,7 @@ use Rattle.dcsctp_delivery_directions.proofs.Reached.{Covers, run_covers}
 use Rattle.dcsctp_delivery_directions.proofs.Standing.{Stands, content_said, packet_said}
 use Rattle.dcsctp_delivery_directions.proofs.Steps.{stepped, more_queued}
 use Rattle.dcsctp_delivery_order.specs.Queue.{ComeInOrder}
-use Rattle.dcsctp_delivery_order.specs.Delivered.{DeliveredInOrder}
+use Rattle.dcsctp_delivery_order.specs.Delivered.{AreDeliveredInOrder}
 use Rattle.dcsctp_delivery_order.specs.Plain.{CountsPlain, CountsThese, IncomingPlain}
 use Rattle.dcsctp_delivery_order.proofs.PlainEntries.{forward_others}
 use Rattle.dcsctp_delivery_order.proofs.PlainSkipping.{plain_named, forwarded_plain, nothing_plain, forward_steady}
@@ -148,12 +148,12 @@ module _ (whole : Bool) (these : ℕ → Bool) (first size : ℕ) (old : Directi
   unlimited_these some n f at mine = unlimited_on_at f.message.stream old.queued f.place f.message (free.1 some f.message.stream mine) (s.queues.cut.pieces n f at).at refl
 
   -- a FORWARD-TSN is for others
-  others_skipped : whole ≡ false → (tsn : ℕ) (streams : List ℕ) → IsForward false s.history first old.acknowledged tsn streams → SkipOthers these (skipped_in streams)
+  others_skipped : whole ≡ false → (tsn : ℕ) (streams : List ℕ) → IsForward false s.history first old.acknowledged tsn streams → SkipOthers these (named_skips streams)
   others_skipped some tsn streams is = forward_others these s.history is.passed.passed old.queued s.queues.cut s.fit (unlimited_these some) first old.acknowledged tsn streams is refl
 
   -- and an I-FORWARD-TSN for none
-  none_skipped : (passed : ℕ) (streams : List ℕ) (entries : List ((ℕ × Bool) × ℕ)) → streams ≡ flat_map (entry_bytes true) entries → AreForwardEntries true s.history passed entries → messages_skipped_in streams ≡ []
-  none_skipped passed streams [] is names = ap (λ (l : List ℕ). messages_skipped_in l) is
+  none_skipped : (passed : ℕ) (streams : List ℕ) (entries : List ((ℕ × Bool) × ℕ)) → streams ≡ flat_map (entry_bytes true) entries → AreForwardEntries true s.history passed entries → skipped_messages streams ≡ []
+  none_skipped passed streams [] is names = ap (λ (l : List ℕ). skipped_messages l) is
   none_skipped passed streams (entry ∷ entries) is names = absurd (let clash : true ≡ false = sym names.0.kind ∙ kinds names.0.number names.0.piece names.0.at in cc)
 
   said_plain : (emission : Emission) (tsn : ℕ) (streams : List ℕ) → HasEntry emission old.sent → HasEntry (plain (unworked (forward_tsn_chunk tsn streams))) emission.packet.contents → IsForward false s.history first old.acknowledged tsn streams
@@ -163,26 +163,26 @@ module _ (whole : Bool) (these : ℕ → Bool) (first size : ℕ) (old : Directi
   said_interleaved emission tsn streams was holds = content_said s.history first old.acknowledged (plain (unworked (i_forward_tsn_chunk tsn streams))) emission.packet.contents (packet_said s.history first old.acknowledged emission old.sent s.packets was) holds
 
   forwarded_steady : (emission : Emission) (tsn : ℕ) (streams : List ℕ) (theirs new : Transfer) → HasEntry emission old.sent → HasEntry (plain (unworked (forward_tsn_chunk tsn streams))) emission.packet.contents → theirs.reassembly ≡ old.reassembly
-      → MovesForward tsn (skipped_in streams) theirs new → IsSteadyAs these old.reassembly new.reassembly
+      → MovesForward tsn (named_skips streams) theirs new → IsSteadyAs these old.reassembly new.reassembly
   forwarded_steady emission tsn streams theirs new was holds same' does = go whole refl
     where
       go : (b : Bool) → whole ≡ b → IsSteadyAs these old.reassembly new.reassembly
       go true exact = absurd (forwards_never emission tsn streams old.sent (free.0 exact) was holds)
       go false some =
           steady_then theirs new same'
-          (forward_steady these tsn (skipped_in streams) theirs new (others_skipped some tsn streams (said_plain emission tsn streams was holds)) (subst (λ (r : ReassemblyState). DefersBeside these r.deferral) (sym same') beside) does)
+          (forward_steady these tsn (named_skips streams) theirs new (others_skipped some tsn streams (said_plain emission tsn streams was holds)) (subst (λ (r : ReassemblyState). DefersBeside these r.deferral) (sym same') beside) does)
 
   forwarded_i_steady : (emission : Emission) (tsn : ℕ) (streams : List ℕ) (theirs new : Transfer) → HasEntry emission old.sent → HasEntry (plain (unworked (i_forward_tsn_chunk tsn streams))) emission.packet.contents → theirs.reassembly ≡ old.reassembly
-      → MovesForward tsn (messages_skipped_in streams) theirs new → IsSteadyAs these old.reassembly new.reassembly
+      → MovesForward tsn (skipped_messages streams) theirs new → IsSteadyAs these old.reassembly new.reassembly
   forwarded_i_steady emission tsn streams theirs new was holds same' does = go whole refl
     where
       go : (b : Bool) → whole ≡ b → IsSteadyAs these old.reassembly new.reassembly
       go true exact = absurd (i_forwards_never emission tsn streams old.sent (free.0 exact) was holds)
       go false some =
           let is = said_interleaved emission tsn streams was holds in
-          let none : messages_skipped_in streams ≡ [] = none_skipped is.passed.passed streams is.entries is.is is.names in
+          let none : skipped_messages streams ≡ [] = none_skipped is.passed.passed streams is.entries is.is is.names in
           steady_then theirs new same'
-          (forward_steady these tsn (messages_skipped_in streams) theirs new (subst (λ (l : List SkippedTo). SkipOthers these l) (sym none) tt) (subst (λ (r : ReassemblyState). DefersBeside these r.deferral) (sym same') beside) does)
+          (forward_steady these tsn (skipped_messages streams) theirs new (subst (λ (l : List SkippedTo). SkipOthers these l) (sym none) tt) (subst (λ (r : ReassemblyState). DefersBeside these r.deferral) (sym same') beside) does)
 
   pub steady_on : (direction : Direction) → DirectionStep old direction → IsSteadyAs these old.reassembly direction.reassembly
   steady_on _ (queues now sending fits some) = (beside, refl)
@@ -238,13 +238,13 @@ module _ (whole : Bool) (these : ℕ → Bool) (first size : ℕ) (old : Directi
 
     -- what is acknowledged the tracker has passed
     passed_before : whole ≡ false → (tracker : TrackerState) → tracker ≡ old.tracker → (passed : ℕ) → PassesAcknowledged s.history.log old.acknowledged passed
-        → (n : ℕ) (f : Piece) → at_place n s.history.log ≡ Some (Some f) → these f.message.stream ≡ true → n < passed → tracked first n ≤ tracker.cumulative
+        → (n : ℕ) (f : Piece) → at_place n s.history.log ≡ Some (Some f) → these f.message.stream ≡ true → n < passed → tracked_number first n ≤ tracker.cumulative
     passed_before some tracker same passed reliable n f at mine low =
         let below : n < old.acknowledged = reliable n f at low (unlimited_these some n f at mine) in
         let count = s.count in
         let few = counts.few in
         let reached = covers.covered (omega (arith, count, few)) in
-        subst (λ (t : TrackerState). tracked first n ≤ t.cumulative) (sym same) (omega (arith, below, reached))
+        subst (λ (t : TrackerState). tracked_number first n ≤ t.cumulative) (sym same) (omega (arith, below, reached))
 
     skipped_arrives : whole ≡ false → (a : Arrives whole these first s.history old.queued old.read old.tracker old.reassembly) (tsn : ℕ) (entries : List SkippedTo) (theirs new : Transfer) → theirs.tracker ≡ old.tracker → theirs.reassembly ≡ old.reassembly
         → (passed : IsPassed s.history.log first tsn) → PassesAcknowledged s.history.log old.acknowledged passed.passed → SkipOthers these entries → AreNamed s.history entries → MovesForward tsn entries theirs new → Arrives whole these first s.history old.queued old.read new.tracker new.reassembly
@@ -258,7 +258,7 @@ module _ (whole : Bool) (these : ℕ → Bool) (first size : ℕ) (old : Directi
             (λ n f at mine up. passed_before some theirs.tracker same (suc k) known n f at mine (omega (arith, up))) (theirs_have a theirs same same') does
 
     forwarded_arrives : (a : Arrives whole these first s.history old.queued old.read old.tracker old.reassembly) (emission : Emission) (tsn : ℕ) (streams : List ℕ) (theirs new : Transfer) → HasEntry emission old.sent
-        → HasEntry (plain (unworked (forward_tsn_chunk tsn streams))) emission.packet.contents → theirs.tracker ≡ old.tracker → theirs.reassembly ≡ old.reassembly → MovesForward tsn (skipped_in streams) theirs new
+        → HasEntry (plain (unworked (forward_tsn_chunk tsn streams))) emission.packet.contents → theirs.tracker ≡ old.tracker → theirs.reassembly ≡ old.reassembly → MovesForward tsn (named_skips streams) theirs new
         → Arrives whole these first s.history old.queued old.read new.tracker new.reassembly
     forwarded_arrives a emission tsn streams theirs new was holds same same' does = go whole refl
       where
@@ -266,10 +266,10 @@ module _ (whole : Bool) (these : ℕ → Bool) (first size : ℕ) (old : Directi
         go true exact = absurd (forwards_never emission tsn streams old.sent (free.0 exact) was holds)
         go false some =
             let is = said_plain emission tsn streams was holds in
-            skipped_arrives some a tsn (skipped_in streams) theirs new same same' is.passed is.reliable (others_skipped some tsn streams is) (plain_named s.history is.passed.passed (skipped_in streams) kinds (forward_skips s.history first old.acknowledged tsn streams is)) does
+            skipped_arrives some a tsn (named_skips streams) theirs new same same' is.passed is.reliable (others_skipped some tsn streams is) (plain_named s.history is.passed.passed (named_skips streams) kinds (forward_skips s.history first old.acknowledged tsn streams is)) does
 
     forwarded_i_arrives : (a : Arrives whole these first s.history old.queued old.read old.tracker old.reassembly) (emission : Emission) (tsn : ℕ) (streams : List ℕ) (theirs new : Transfer) → HasEntry emission old.sent
-        → HasEntry (plain (unworked (i_forward_tsn_chunk tsn streams))) emission.packet.contents → theirs.tracker ≡ old.tracker → theirs.reassembly ≡ old.reassembly → MovesForward tsn (messages_skipped_in streams) theirs new
+        → HasEntry (plain (unworked (i_forward_tsn_chunk tsn streams))) emission.packet.contents → theirs.tracker ≡ old.tracker → theirs.reassembly ≡ old.reassembly → MovesForward tsn (skipped_messages streams) theirs new
         → Arrives whole these first s.history old.queued old.read new.tracker new.reassembly
     forwarded_i_arrives a emission tsn streams theirs new was holds same same' does = go whole refl
       where
@@ -277,8 +277,8 @@ module _ (whole : Bool) (these : ℕ → Bool) (first size : ℕ) (old : Directi
         go true exact = absurd (i_forwards_never emission tsn streams old.sent (free.0 exact) was holds)
         go false some =
             let is = said_interleaved emission tsn streams was holds in
-            let none : messages_skipped_in streams ≡ [] = none_skipped is.passed.passed streams is.entries is.is is.names in
-            skipped_arrives some a tsn (messages_skipped_in streams) theirs new same same' is.passed is.reliable (subst (λ (l : List SkippedTo). SkipOthers these l) (sym none) tt) (subst (λ (l : List SkippedTo). AreNamed s.history l) (sym none) tt) does
+            let none : skipped_messages streams ≡ [] = none_skipped is.passed.passed streams is.entries is.is is.names in
+            skipped_arrives some a tsn (skipped_messages streams) theirs new same same' is.passed is.reliable (subst (λ (l : List SkippedTo). SkipOthers these l) (sym none) tt) (subst (λ (l : List SkippedTo). AreNamed s.history l) (sym none) tt) does
 
     arrives_on : (direction : Direction) → DirectionStep old direction → Arrives whole these first s.history old.queued old.read old.tracker old.reassembly
         → Arrives whole these first s.history direction.queued direction.read direction.tracker direction.reassembly
@@ -447,7 +447,7 @@ module _ (first : ℕ) (direction : Direction) (s : Stands first direction) (kin
   pub counts_plain : (id : ℕ) → ((begun : BegunReset) → HasEntry begun direction.asking.requests → names_stream begun.reset.streams id ≡ false) → CountsPlain id s.history
   counts_plain id unnamed =
       let c : CountsSsns s.history direction.queues.queue.streams direction.queues.queue.under_way =
-      subst (λ (b : Bool). CountsWhere b s.history direction.queues.queue.streams direction.queues.queue.under_way) kind s.queues.numbers.counts in
+      subst (λ (b : Bool). CountsByKind b s.history direction.queues.queue.streams direction.queues.queue.under_way) kind s.queues.numbers.counts in
       record {
         kinds = λ n f at. s.queues.numbers.kinds n f at ∙ kind;
         sent = λ n f of. (
@@ -476,8 +476,8 @@ arrived_in_order whole these first history queued read tracker reassembly a id m
     go got (some_handled base at o) = front got base o
 
 pub plain_directions_deliver_in_order : (options : Options) (first size : ℕ) (direction : Direction) → DirectionRun options first size direction
-    → first < 2 ^ 32 → assigned direction < 2 ^ 31 → length direction.queued < 2 ^ 64 → size ≤ 2 ^ 63 → direction.queues.queue.is_interleaved ≡ false
-    → direction.beginning.from_zero ≡ true → direction.asking.requests ≡ [] → NoneForwards direction.sent → DeliveredInOrder direction.queued direction.read
+    → first < 2 ^ 32 → assigned_count direction < 2 ^ 31 → length direction.queued < 2 ^ 64 → size ≤ 2 ^ 63 → direction.queues.queue.is_interleaved ≡ false
+    → direction.beginning.from_zero ≡ true → direction.asking.requests ≡ [] → NoneForwards direction.sent → AreDeliveredInOrder direction.queued direction.read
 plain_directions_deliver_in_order options first size direction run small little few window kind from unasked none =
     let g = run_plain true (λ id. true) options first size direction small few run kind in
     let can = can_count size direction.queued window (direction_queues options first size direction run small few).1 in

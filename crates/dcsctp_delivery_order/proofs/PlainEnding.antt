@@ -5,13 +5,13 @@ use Rattle.dcsctp_spec_lemmas.specs.types.queues.Messages.{MessageContent}
 use Rattle.dcsctp_spec_lemmas.specs.spec.queues.Runs.{RunModel}
 use Rattle.dcsctp_spec_lemmas.specs.spec.queues.IncomingStreams.{StreamModel, new_stream}
 use Rattle.dcsctp_spec_lemmas.specs.spec.queues.Incoming.{IncomingModel, is_named, stream_on, ResetsStreams}
-use Rattle.dcsctp_spec_lemmas.specs.spec.queues.Reassembly.{WaitingModel, DeferralModel, ReassemblyState, names_stream, HandlesAll, waiting_of, entered, deferring, EndsDeferral}
+use Rattle.dcsctp_spec_lemmas.specs.spec.queues.Reassembly.{WaitingModel, DeferralModel, ReassemblyState, names_stream, HandlesAll, waiting_of, begun_deferral, deferring, EndsDeferral}
 use Rattle.dcsctp_spec_lemmas.specs.spec.queues.Tracker.{TrackerState}
 use Rattle.dcsctp_delivery_sending.specs.Places.{HasEntry, at_place}
-use Rattle.dcsctp_delivery_sending.specs.Log.{Message, Piece, History, Cut}
+use Rattle.dcsctp_delivery_sending.specs.Log.{Message, Piece, History, IsLogOfPieces}
 use Rattle.dcsctp_delivery_receiving.specs.Rows.{AreRows}
 use Rattle.dcsctp_delivery_receiving.specs.Ready.{IsOfStream, unordered_base, AreDistinct}
-use Rattle.dcsctp_delivery_receiving.specs.Received.{Placed, DefersData, ForwardsWait}
+use Rattle.dcsctp_delivery_receiving.specs.Received.{CountsFromBase, DefersData, ForwardsWait}
 use Rattle.dcsctp_delivery_order.proofs.PlainSkipping.{skips_plain}
 use Rattle.dcsctp_delivery_order.specs.Plain.{CountsThese, PlainStream, HoldsPlain, IncomingPlain}
 use Rattle.dcsctp_delivery_receiving.proofs.Skipping.{rows_filter, holds_renewed}
@@ -56,10 +56,10 @@ kept_last (reset ∷ others) old new resets = resets.kept.last
 
 -- ---- what waited is handled
 
-module _ (queued : List Message) (history : History) (first size : ℕ) (cut : Cut queued history.log) (whole : Bool) (these : ℕ → Bool) (counts : CountsThese whole these history) (small : first < 2 ^ 32) (read : List ℕ) where
+module _ (queued : List Message) (history : History) (first size : ℕ) (cut : IsLogOfPieces queued history.log) (whole : Bool) (these : ℕ → Bool) (counts : CountsThese whole these history) (small : first < 2 ^ 32) (read : List ℕ) where
   reset_plain : (got streams : List ℕ) (old new : IncomingModel) → AreUnnamed these streams → ReassemblesPlain these queued history first got read old → ResetsStreams streams old new → ReassemblesPlain these queued history first got read new
   reset_plain got streams old new apart (some_handled base is holds) resets =
-      some_handled base (subst (λ (l : ℕ). Placed first base l) (sym (kept_last streams old new resets)) is) (resetting_plain these queued history got base read streams old new apart holds resets)
+      some_handled base (subst (λ (l : ℕ). CountsFromBase first base l) (sym (kept_last streams old new resets)) is) (resetting_plain these queued history got base read streams old new apart holds resets)
   reset_plain got streams old new apart (none_handled none last empty) resets =
       none_handled none (kept_last streams old new resets ∙ last) (λ base. resetting_plain these queued history [] base read streams old new apart (empty base) resets)
 
@@ -125,7 +125,7 @@ module _ (queued : List Message) (history : History) (first size : ℕ) (cut : C
 
 -- ---- a reset is deferred
 
-pub deferring_beside : (these : ℕ → Bool) (last_tsn : ℕ) (streams : List ℕ) (deferral : Option DeferralModel) → AreUnnamed these streams → DefersBeside these deferral → DefersBeside these (entered last_tsn streams deferral)
+pub deferring_beside : (these : ℕ → Bool) (last_tsn : ℕ) (streams : List ℕ) (deferral : Option DeferralModel) → AreUnnamed these streams → DefersBeside these deferral → DefersBeside these (begun_deferral last_tsn streams deferral)
 deferring_beside these last_tsn streams None apart beside = (apart, tt)
 deferring_beside these last_tsn streams (Some d) apart beside = beside
 
@@ -149,6 +149,6 @@ deferring_plain whole these queued history first read last_tsn streams tracker r
       others = r.others;
     }
   where
-    go : (d : Option DeferralModel) → DefersData history first r.later (waiting_of d) → DefersData history first r.later (waiting_of (entered last_tsn streams d))
+    go : (d : Option DeferralModel) → DefersData history first r.later (waiting_of d) → DefersData history first r.later (waiting_of (begun_deferral last_tsn streams d))
     go None defers = defers
     go (Some d) defers = defers

@@ -7,17 +7,17 @@ use Rattle.dcsctp_spec_lemmas.specs.spec.queues.Incoming.{stream_on}
 use Rattle.dcsctp_spec_lemmas.specs.spec.queues.Reassembly.{ReassemblyState}
 use Rattle.dcsctp_spec_lemmas.specs.spec.queues.SendQueue.{SendQueueState}
 use Rattle.dcsctp_spec_lemmas.specs.spec.queues.Tracker.{TrackerState}
-use Rattle.dcsctp_delivery_sending.specs.Log.{Message, History, Cut}
+use Rattle.dcsctp_delivery_sending.specs.Log.{Message, History, IsLogOfPieces}
 use Rattle.dcsctp_delivery_sending.specs.Losing.{AreUnlimited, AreUnlimitedOn}
 use Rattle.dcsctp_delivery_sending.specs.Pieces.{HoldsQueued}
-use Rattle.dcsctp_delivery_sending.specs.Turns.{turn_at}
-use Rattle.dcsctp_delivery_directions.specs.Directions.{Direction, KeepsAll, DirectionRun, assigned}
+use Rattle.dcsctp_delivery_sending.specs.Turns.{turn_of_tsn}
+use Rattle.dcsctp_delivery_directions.specs.Directions.{Direction, KeepsAll, DirectionRun, assigned_count}
 use Rattle.dcsctp_delivery_order.specs.Queue.{LeaveNoGap}
-use Rattle.dcsctp_delivery_order.specs.Delivered.{DeliveredWithoutGaps}
+use Rattle.dcsctp_delivery_order.specs.Delivered.{AreDeliveredWithoutGaps}
 use Rattle.dcsctp_delivery_order.specs.Gaps.{SendsInTurn}
 use Rattle.dcsctp_delivery_order.specs.Order.{IsSentAs}
 use Rattle.dcsctp_delivery_order.specs.Plain.{with_turns, CountsPlain, CountsThese, IncomingPlain}
-use Rattle.dcsctp_delivery_order.specs.Streams.{NoneLostOn, IsKeptReliable, DeliveredOn}
+use Rattle.dcsctp_delivery_order.specs.Streams.{NoneLostOn, IsKeptReliable, AreDeliveredOnStreams}
 use Rattle.dcsctp_delivery_directions.proofs.Directions.{direction_queues}
 use Rattle.dcsctp_delivery_directions.proofs.Standing.{Stands}
 use Rattle.dcsctp_delivery_order.proofs.PlainSteps.{can_count}
@@ -28,15 +28,15 @@ use Rattle.dcsctp_delivery_order.proofs.PlainReceived.{ReassemblesPlain, none_ha
 use Rattle.dcsctp_delivery_order.proofs.PlainRows.{sent_as, sent_from, one_message, turns_follow}
 use Rattle.dcsctp_delivery_order.proofs.Sending.{sent_before}
 
-module _ (queued : List Message) (history : History) (cut : Cut queued history.log) (id : ℕ) (counts : CountsPlain id history) where
+module _ (queued : List Message) (history : History) (cut : IsLogOfPieces queued history.log) (id : ℕ) (counts : CountsPlain id history) where
   -- The messages of a stream are sent in turn where none is left out.
   plain_in_turn : (queue : SendQueueState) → HoldsQueued queued history.log queue.streams queue.under_way → NoneLostOn id queued history.log queue.streams → SendsInTurn queued (with_turns history) id
   plain_in_turn queue holds lost earlier later mid on sent less =
       let s = sent_from queued history cut id counts later mid sent in
       let before : earlier < s.piece.place = (let is = s.place_is in omega (arith, is, less)) in
       let was = sent_before queued history.log queue cut holds id earlier s.offset lost s.piece on s.is.at s.is.stream before in (
-        turn_at id was.offset history.log - 1,
-        subst (λ (k : ℕ). IsSentAs (with_turns history) id k (turn_at id was.offset history.log - 1)) was.is
+        turn_of_tsn id was.offset history.log - 1,
+        subst (λ (k : ℕ). IsSentAs (with_turns history) id k (turn_of_tsn id was.offset history.log - 1)) was.is
             (sent_as queued history cut id counts was.offset was.piece (record { at = was.at; stream = was.stream; ordered = was.ordered })),
         omega arith,
       )
@@ -74,7 +74,7 @@ pub record CameOn (these : ℕ → Bool) (first : ℕ) (direction : Direction) :
   pub no_gap : (id : ℕ) → these id ≡ true → LeaveNoGap direction.queued id arrives.places
 
 pub came_on : (these : ℕ → Bool) (options : Options) (first size : ℕ) (direction : Direction) → DirectionRun options first size direction
-    → first < 2 ^ 32 → assigned direction < 2 ^ 31 → length direction.queued < 2 ^ 64 → size ≤ 2 ^ 63 → direction.queues.queue.is_interleaved ≡ false → direction.beginning.from_zero ≡ true
+    → first < 2 ^ 32 → assigned_count direction < 2 ^ 31 → length direction.queued < 2 ^ 64 → size ≤ 2 ^ 63 → direction.queues.queue.is_interleaved ≡ false → direction.beginning.from_zero ≡ true
     → ((id : ℕ) → these id ≡ true → IsKeptReliable direction id) → CameOn these first direction
 came_on these options first size direction run small little few window kind from reliable =
     let g = run_plain false these options first size direction small few run kind in
@@ -99,7 +99,7 @@ came_on these options first size direction run small little few window kind from
     }
 
 -- So it is of what was read.
-abbrev pub read_on : (these : ℕ → Bool) (first : ℕ) (direction : Direction) → CameOn these first direction → DeliveredOn these direction.queued direction.read
+abbrev pub read_on : (these : ℕ → Bool) (first : ℕ) (direction : Direction) → CameOn these first direction → AreDeliveredOnStreams these direction.queued direction.read
 read_on these first direction c =
     record {
       delivered = record { places = c.arrives.places; were_queued = c.arrives.were; once = c.arrives.once };
@@ -108,14 +108,14 @@ read_on these first direction c =
     }
 
 pub plain_streams_deliver_without_gaps : (these : ℕ → Bool) (options : Options) (first size : ℕ) (direction : Direction) → DirectionRun options first size direction
-    → first < 2 ^ 32 → assigned direction < 2 ^ 31 → length direction.queued < 2 ^ 64 → size ≤ 2 ^ 63 → direction.queues.queue.is_interleaved ≡ false → direction.beginning.from_zero ≡ true
-    → ((id : ℕ) → these id ≡ true → IsKeptReliable direction id) → DeliveredOn these direction.queued direction.read
+    → first < 2 ^ 32 → assigned_count direction < 2 ^ 31 → length direction.queued < 2 ^ 64 → size ≤ 2 ^ 63 → direction.queues.queue.is_interleaved ≡ false → direction.beginning.from_zero ≡ true
+    → ((id : ℕ) → these id ≡ true → IsKeptReliable direction id) → AreDeliveredOnStreams these direction.queued direction.read
 plain_streams_deliver_without_gaps these options first size direction run small little few window kind from reliable =
     read_on these first direction (came_on these options first size direction run small little few window kind from reliable)
 
 pub plain_directions_deliver_without_gaps : (options : Options) (first size : ℕ) (direction : Direction) → DirectionRun options first size direction
-    → first < 2 ^ 32 → assigned direction < 2 ^ 31 → length direction.queued < 2 ^ 64 → size ≤ 2 ^ 63 → direction.queues.queue.is_interleaved ≡ false
-    → direction.beginning.from_zero ≡ true → KeepsAll direction.beginning → AreUnlimited direction.queued → DeliveredWithoutGaps direction.queued direction.read
+    → first < 2 ^ 32 → assigned_count direction < 2 ^ 31 → length direction.queued < 2 ^ 64 → size ≤ 2 ^ 63 → direction.queues.queue.is_interleaved ≡ false
+    → direction.beginning.from_zero ≡ true → KeepsAll direction.beginning → AreUnlimited direction.queued → AreDeliveredWithoutGaps direction.queued direction.read
 plain_directions_deliver_without_gaps options first size direction run small little few window kind from keeps are =
     let d = plain_streams_deliver_without_gaps (λ id. true) options first size direction run small little few window kind from (λ id mine. record { keeps = keeps id; unlimited = unlimited_on id direction.queued are }) in
     record { ordered = record { delivered = d.delivered; in_order = λ id. d.in_order id refl }; no_gap = λ id. d.no_gap id refl }

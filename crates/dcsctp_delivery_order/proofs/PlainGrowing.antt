@@ -11,14 +11,14 @@ use Rattle.dcsctp_spec_lemmas.specs.spec.queues.Tracker.{TrackerState, has_recei
 use Rattle.dcsctp_spec_lemmas.specs.spec.queues.Reassembly.{ReassemblyState, waiting_of, with_ready}
 use Rattle.dcsctp_delivery_sending.specs.Places.{HasEntry, at_place}
 use Rattle.dcsctp_delivery_sending.specs.Log.{Message, Piece, Slot, History}
-use Rattle.dcsctp_delivery_sending.specs.Turns.{turn_at, IsSsnOfTurn}
+use Rattle.dcsctp_delivery_sending.specs.Turns.{turn_of_tsn, IsSsnOfTurn}
 use Rattle.dcsctp_delivery_sending.proofs.Extended.{at_more}
 use Rattle.dcsctp_delivery_sending.proofs.Places.{at_some, at_below}
 use Rattle.dcsctp_delivery_sending.proofs.Turns.{turn_more}
 use Rattle.dcsctp_delivery_receiving.specs.Rows.{AreRows}
 use Rattle.dcsctp_delivery_receiving.specs.Ready.{IsOn, ordered_base, AreDistinct, WasQueued, WereQueued, WaitQueued, IsNear, fresh, near, HoldsIncoming}
 use Rattle.dcsctp_delivery_receiving.specs.Received.{Reassembles, untouched, placed, HasReceived}
-use Rattle.dcsctp_delivery_receiving.specs.Tracked.{tracked}
+use Rattle.dcsctp_delivery_receiving.specs.Tracked.{tracked_number}
 use Rattle.dcsctp_delivery_receiving.proofs.Continuing.{GoesOn, defers_more}
 use Rattle.dcsctp_delivery_receiving.proofs.Distinct.{appended, distinct_left, has_left, has_right}
 use Rattle.dcsctp_delivery_receiving.proofs.Growing.{holds_more}
@@ -26,10 +26,10 @@ use Rattle.dcsctp_delivery_receiving.proofs.Tracked.{more_given_out}
 use Rattle.dcsctp_delivery_receiving.proofs.Waiting.{both_queued}
 use Rattle.dcsctp_delivery_order.specs.Queue.{ComeInOrder}
 use Rattle.dcsctp_delivery_order.specs.Rising.{AscendFrom}
-use Rattle.dcsctp_delivery_order.specs.Runs.{LieApart, HeldAs}
+use Rattle.dcsctp_delivery_order.specs.Runs.{LieApart, IsHeldForMessage}
 use Rattle.dcsctp_delivery_order.specs.Order.{AreReadAs}
 use Rattle.dcsctp_delivery_order.specs.Incoming.{IsWithin}
-use Rattle.dcsctp_delivery_order.specs.Plain.{turned, with_turns, number_at, CountsPlain, CountsThese, CarriesOrdered, PlainStream, IncomingPlain}
+use Rattle.dcsctp_delivery_order.specs.Plain.{turned_log, with_turns, number_of_tsn, CountsPlain, CountsThese, CarriesOrdered, PlainStream, IncomingPlain}
 use Rattle.dcsctp_delivery_order.proofs.Incoming.{queued_so, in_order_more, sent_more, read_more}
 use Rattle.dcsctp_delivery_order.proofs.PlainRows.{turned_slots}
 use Rattle.dcsctp_delivery_order.proofs.PlainReceived.{ReassemblesPlain, none_handled, some_handled, HasReceivedPlain}
@@ -126,8 +126,8 @@ module _ (history later : History) (slots : List Slot) (is : later.log ≡ slots
   fewer_before : length later.log < 2 ^ 31 → length history.log < 2 ^ 31
   fewer_before few = (let sizes : length later.log ≡ length (slots ++ history.log) = ap (λ (l : List Slot). length l) is in omega (arith, few, sizes, length-append slots history.log))
 
-  same_turn_before : (id n : ℕ) → n < length history.log → turn_at id n later.log ≡ turn_at id n history.log
-  same_turn_before id n below = ap (λ (l : List Slot). turn_at id n l) is ∙ turn_more id n slots history.log below
+  same_turn_before : (id n : ℕ) → n < length history.log → turn_of_tsn id n later.log ≡ turn_of_tsn id n history.log
+  same_turn_before id n below = ap (λ (l : List Slot). turn_of_tsn id n l) is ∙ turn_more id n slots history.log below
 
   pub counts_before : (id : ℕ) → CountsPlain id later → CountsPlain id history
   counts_before id counts =
@@ -148,14 +148,14 @@ module _ (history later : History) (slots : List Slot) (is : later.log ≡ slots
       }
 
 module _ (queued more : List Message) (history later : History) (slots : List Slot) (is : later.log ≡ slots ++ history.log) (goes : GoesOn history later) (read : List ℕ) (contents : List MessageContent) (were : WereQueued queued read contents) where
-  number_more : (id n : ℕ) → n < length history.log → number_at id n later.log ≡ number_at id n history.log
-  number_more id n below = ap (λ (l : List Slot). number_at id n l) is ∙ ap (λ (k : ℕ). 2 ^ 32 + k - 1) (turn_more id n slots history.log below)
+  number_more : (id n : ℕ) → n < length history.log → number_of_tsn id n later.log ≡ number_of_tsn id n history.log
+  number_more id n below = ap (λ (l : List Slot). number_of_tsn id n l) is ∙ ap (λ (k : ℕ). 2 ^ 32 + k - 1) (turn_more id n slots history.log below)
 
   -- the numbers stay
   within : IsWithin (with_turns history) (with_turns later)
   within =
       record {
-        stays = λ n slot at. ap (λ (l : List Slot). at_place n (turned l)) is ∙ turned_slots slots history.log n slot at;
+        stays = λ n slot at. ap (λ (l : List Slot). at_place n (turned_log l)) is ∙ turned_slots slots history.log n slot at;
         floors = refl;
       }
 
@@ -199,7 +199,7 @@ module _ (queued more : List Message) (history later : History) (slots : List Sl
             let (g, at) = pieces n has in
             let below = at_below n (Some g) history.log at in
             let number = number_more id n below in
-            subst (λ (k : ℕ). HeldAs stream.ordered (fragment_place k base + n) k ⊎ (is_number_waiting k stream.waiting ≡ true)) (sym number)
+            subst (λ (k : ℕ). IsHeldForMessage stream.ordered (fragment_place k base + n) k ⊎ (is_number_waiting k stream.waiting ≡ true)) (sym number)
             (s.held n f (at_before id n f below of g at) has (omega (arith, number, up)))
             );
       }
@@ -243,9 +243,9 @@ module _ (queued more : List Message) (history later : History) (slots : List Sl
       }
     where
       -- a TSN that was received was assigned before
-      sure_before : (k : ℕ) (f : Piece) → at_place k later.log ≡ Some (Some f) → these f.message.stream ≡ true → has_received tracker (tracked first k) ≡ true → HasEntry k r.taken
+      sure_before : (k : ℕ) (f : Piece) → at_place k later.log ≡ Some (Some f) → these f.message.stream ≡ true → has_received tracker (tracked_number first k) ≡ true → HasEntry k r.taken
       sure_before k f at mine is =
-          let (slot, was) = at_some k history.log (let sent = r.tracks.sent (tracked first k) is in omega (arith, sent)) in
+          let (slot, was) = at_some k history.log (let sent = r.tracks.sent (tracked_number first k) is in omega (arith, sent)) in
           let both : Some slot ≡ Some (Some f) = sym (goes.stays k slot was) ∙ at in
           r.exact k (inr (f, was ∙ both, mine)) is
 
@@ -327,10 +327,10 @@ module _ (queued : List Message) (history : History) (empty : history.log ≡ []
         others = λ k h f at. absurd (nowhere k (Some f) at);
       }
     where
-      unknown : (k : ℕ) → has_received tracker (tracked first k) ≡ true → ⊥
+      unknown : (k : ℕ) → has_received tracker (tracked_number first k) ≡ true → ⊥
       unknown k is =
           let none : length history.log ≡ 0 = ap (λ (l : List Slot). length l) empty in
-          let sent = r.tracks.sent (tracked first k) is in
+          let sent = r.tracks.sent (tracked_number first k) is in
           omega (arith, none, sent)
 
       go : Reassembles queued history first r.got read reassembly.incoming → ReassemblesPlain these queued history first r.got read reassembly.incoming

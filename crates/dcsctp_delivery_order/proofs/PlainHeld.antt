@@ -5,7 +5,7 @@ use Rattle.std.proofs.lemmas.Bool.Decides.{nat_tests, eqb_tells, leb_tells}
 use Rattle.dcsctp_spec_lemmas.specs.types.queues.Messages.{MessageContent}
 use Rattle.dcsctp_spec_lemmas.specs.types.declared.arrivals.Taken.{Taken}
 use Rattle.dcsctp_spec_lemmas.specs.spec.queues.Numbers.{fragment_place}
-use Rattle.dcsctp_spec_lemmas.specs.spec.queues.Runs.{RunModel, PartModel, WholeModel, Assembled, part_dropped, part_kept, message_whole, entry_before, holds_some, is_held_before, merged, chosen, front_end, back_start, with_part, without_runs, AddsPart, run_before, run_behind}
+use Rattle.dcsctp_spec_lemmas.specs.spec.queues.Runs.{RunModel, PartModel, WholeModel, Assembly, part_dropped, part_kept, message_whole, entry_before, holds_some, is_held_before, run_with_part, chosen, front_end, back_start, with_part, without_runs, AddsPart, run_before, run_behind}
 use Rattle.dcsctp_spec_lemmas.specs.spec.queues.IncomingStreams.{StreamModel, next_after, due, not_due, next_due, is_number_waiting, WaitsAmong, OrderedOutcome, TakesOrdered}
 use Rattle.dcsctp_delivery_sending.specs.Places.{HasEntry}
 use Rattle.dcsctp_delivery_sending.specs.Log.{Piece, Slot, History}
@@ -15,9 +15,9 @@ use Rattle.dcsctp_delivery_receiving.specs.Ready.{IsOn, ordered_base}
 use Rattle.dcsctp_delivery_receiving.proofs.Chaining.{placed_plain}
 use Rattle.dcsctp_delivery_receiving.proofs.Joining.{both}
 use Rattle.dcsctp_delivery_receiving.proofs.SpentRows.{of_message}
-use Rattle.dcsctp_delivery_order.specs.Rising.{Rise, DeliversRow, ready_by}
-use Rattle.dcsctp_delivery_order.specs.Runs.{place_after, HeldAs, LeavesPartsHeld}
-use Rattle.dcsctp_delivery_order.specs.Plain.{number_at, CountsPlain, CarriesOrdered, IsNumberedRun, IsHeldOrWaits}
+use Rattle.dcsctp_delivery_order.specs.Rising.{Rise, DeliversRow, ready_with_part}
+use Rattle.dcsctp_delivery_order.specs.Runs.{place_after, IsHeldForMessage, LeavesPartsHeld}
+use Rattle.dcsctp_delivery_order.specs.Plain.{number_of_tsn, CountsPlain, CarriesOrdered, IsNumberedRun, IsHeldOrWaits}
 use Rattle.dcsctp_delivery_order.proofs.Held.{parts_leave_held}
 use Rattle.dcsctp_delivery_order.proofs.PlainMissing.{row_in}
 
@@ -58,7 +58,7 @@ in_before r (suc at) xs e = in_get r at xs e
 
 -- each run begins as one that was there, or as the part
 module _ (P : ℕ → ℕ → Type 0) (part : PartModel) (old : List RunModel) (each : (run : RunModel) → HasEntry run old → P run.first run.number) (its : P part.place part.number) where
-  begins_merged : (front back : Option RunModel) → ((run : RunModel) → front ≡ Some run → P run.first run.number) → P (merged front part back).first (merged front part back).number
+  begins_merged : (front back : Option RunModel) → ((run : RunModel) → front ≡ Some run → P run.first run.number) → P (run_with_part front part back).first (run_with_part front part back).number
   begins_merged None None is = its
   begins_merged None (Some back) is = its
   begins_merged (Some front) None is = is front refl
@@ -66,7 +66,7 @@ module _ (P : ℕ → ℕ → Type 0) (part : PartModel) (old : List RunModel) (
 
   begins_with : (b c : Bool) (at : ℕ) (run : RunModel) → HasEntry run (with_part b c at part old) → P run.first run.number
   begins_with b c at run has =
-      elim (in_either run (take (front_end b at) old) (merged (chosen b (entry_before at old)) part (chosen c (slice_get old at)) ∷ drop (back_start c at) old) has) [
+      elim (in_either run (take (front_end b at) old) (run_with_part (chosen b (entry_before at old)) part (chosen c (slice_get old at)) ∷ drop (back_start c at) old) has) [
         | inl l ↦ each run (in_take run (front_end b at) old l)
         | inr r ↦ elim r [
           | inl e ↦ subst (λ (x : RunModel). P x.first x.number) (sym e) (begins_merged (chosen b (entry_before at old)) (chosen c (slice_get old at)) (front b))
@@ -85,7 +85,7 @@ module _ (P : ℕ → ℕ → Type 0) (part : PartModel) (old : List RunModel) (
         | inr r ↦ each run (in_drop run (back_start c at) old r)
       ]
 
-  begins_so : (outcome : Assembled) (new : List RunModel) → AddsPart part old outcome new → (run : RunModel) → HasEntry run new → P run.first run.number
+  begins_so : (outcome : Assembly) (new : List RunModel) → AddsPart part old outcome new → (run : RunModel) → HasEntry run new → P run.first run.number
   begins_so part_dropped new adds run has = each run (subst (λ (l : List RunModel). HasEntry run l) adds.adds.1 has)
   begins_so part_kept new adds run has =
       begins_with (is_some (run_before adds.at old part)) (is_some (run_behind part adds.at old)) adds.at run (subst (λ (l : List RunModel). HasEntry run l) adds.adds.2 has)
@@ -142,15 +142,15 @@ record BeginsAt (log : List Slot) (base id first number : ℕ) : Type 0 where
   offset : ℕ
   piece : Piece
   is : CarriesOrdered log id offset piece
-  number_is : number ≡ number_at id offset log
+  number_is : number ≡ number_of_tsn id offset log
   first_is : first ≡ fragment_place number base + offset
 
 module _ (history : History) (id : ℕ) (counts : CountsPlain id history) (got : List ℕ) (base : ℕ) (small : base + 2 ^ 32 < 2 ^ 64)
     (old : StreamModel) (rows : AreRows history.log got (ordered_base base) (IsOn history id) old.ordered) (runs : (run : RunModel) → HasEntry run old.ordered → IsNumberedRun history.log base id run)
     (n : ℕ) (f : Piece) (is : CarriesOrdered history.log id n f)
-    (part : PartModel) (number_is : part.number ≡ number_at id n history.log) (place_is : part.place ≡ fragment_place part.number base + n) where
+    (part : PartModel) (number_is : part.number ≡ number_of_tsn id n history.log) (place_is : part.place ≡ fragment_place part.number base + n) where
   -- runs begin at their places
-  pub runs_stay : (outcome : Assembled) (later : List RunModel) → AddsPart part old.ordered outcome later → (run : RunModel) → HasEntry run later → IsNumberedRun history.log base id run
+  pub runs_stay : (outcome : Assembly) (later : List RunModel) → AddsPart part old.ordered outcome later → (run : RunModel) → HasEntry run later → IsNumberedRun history.log base id run
   runs_stay outcome later adds run has =
       let b = begins_so (BeginsAt history.log base id) part old.ordered (λ r h. (let k = runs r h in record { offset = k.offset; piece = k.piece; is = k.is; number_is = k.number; first_is = k.first }))
       (record { offset = n; piece = f; is = is; number_is = number_is; first_is = place_is }) outcome later adds run has in
@@ -181,47 +181,47 @@ module _ (history : History) (id : ℕ) (counts : CountsPlain id history) (got :
           fresh (held_got run (in_before run at old.ordered before) from (omega (arith, from, to)))
 
   module _ (new : StreamModel) (before after : List MessageContent) (taken : Taken) (fresh : HasEntry n got → ⊥) (from : old.next ≤ part.number)
-      (held : (m : ℕ) (g : Piece) → CarriesOrdered history.log id m g → HasEntry m got → old.next ≤ number_at id m history.log → IsHeldOrWaits history.log base id old m) where
+      (held : (m : ℕ) (g : Piece) → CarriesOrdered history.log id m g → HasEntry m got → old.next ≤ number_of_tsn id m history.log → IsHeldOrWaits history.log base id old m) where
     abbrev Stays : Type 0
-    Stays = (m : ℕ) (g : Piece) → CarriesOrdered history.log id m g → HasEntry m (n ∷ got) → new.next ≤ number_at id m history.log → IsHeldOrWaits history.log base id new m
+    Stays = (m : ℕ) (g : Piece) → CarriesOrdered history.log id m g → HasEntry m (n ∷ got) → new.next ≤ number_of_tsn id m history.log → IsHeldOrWaits history.log base id new m
 
-    kept_stays : HeldAs new.ordered part.place part.number → ((place number : ℕ) → HeldAs old.ordered place number → HeldAs new.ordered place number) → new.next ≡ old.next → new.waiting ≡ old.waiting → Stays
+    kept_stays : IsHeldForMessage new.ordered part.place part.number → ((place number : ℕ) → IsHeldForMessage old.ordered place number → IsHeldForMessage new.ordered place number) → new.next ≡ old.next → new.waiting ≡ old.waiting → Stays
     kept_stays its more next waiting m g is' has up =
         elim has [
           | inl same ↦
               inl
-              (subst (λ (k : ℕ). HeldAs new.ordered (fragment_place (number_at id k history.log) base + k) (number_at id k history.log)) (sym same)
-              (subst (λ (k : ℕ). HeldAs new.ordered (fragment_place k base + n) k) number_is (subst (λ (k : ℕ). HeldAs new.ordered k part.number) place_is its)))
+              (subst (λ (k : ℕ). IsHeldForMessage new.ordered (fragment_place (number_of_tsn id k history.log) base + k) (number_of_tsn id k history.log)) (sym same)
+              (subst (λ (k : ℕ). IsHeldForMessage new.ordered (fragment_place k base + n) k) number_is (subst (λ (k : ℕ). IsHeldForMessage new.ordered k part.number) place_is its)))
           | inr t ↦ elim (held m g is' t (omega (arith, up, next))) [
             | inl h ↦ inl (more _ _ h)
-            | inr w ↦ inr (subst (λ (l : List WholeModel). is_number_waiting (number_at id m history.log) l ≡ true) (sym waiting) w)
+            | inr w ↦ inr (subst (λ (l : List WholeModel). is_number_waiting (number_of_tsn id m history.log) l ≡ true) (sym waiting) w)
           ]
         ]
 
-    whole_stays : (whole : WholeModel) → whole.number ≡ part.number → ((place number : ℕ) → HeldAs old.ordered place number → HeldAs new.ordered place number ⊎ (number ≡ part.number))
+    whole_stays : (whole : WholeModel) → whole.number ≡ part.number → ((place number : ℕ) → IsHeldForMessage old.ordered place number → IsHeldForMessage new.ordered place number ⊎ (number ≡ part.number))
         → (b : Bool) → new.next ≡ (if b then next_due (next_after old.next whole) old.waiting else old.next)
         → MatchBool b (new.waiting ≡ not_due (next_after old.next whole) old.waiting) (WaitsAmong whole old.waiting new.waiting)
         → Rise old.next new.next (if b then whole ∷ due (next_after old.next whole) old.waiting else []) → Stays
     whole_stays whole of more true next left rise m g is' has up =
         let above : whole.number + 1 ≤ new.next = rise_end (whole.number + 1) new.next (due (next_after old.next whole) old.waiting) rise.1 in
         elim has [
-          | inl same ↦ absurd (let number : number_at id m history.log ≡ part.number = ap (λ (k : ℕ). number_at id k history.log) same ∙ sym number_is in omega (arith, number, above, of, up))
+          | inl same ↦ absurd (let number : number_of_tsn id m history.log ≡ part.number = ap (λ (k : ℕ). number_of_tsn id k history.log) same ∙ sym number_is in omega (arith, number, above, of, up))
           | inr t ↦ elim (held m g is' t (omega (arith, above, of, up, from))) [
             | inl h ↦ elim (more _ _ h) [
               | inl h' ↦ inl h'
               | inr same ↦ absurd (omega (arith, same, above, of, up))
             ]
-            | inr w ↦ elim (due_or_not (number_at id m history.log) (whole.number + 1) (next_after old.next whole) old.waiting (subst (λ (k : ℕ). Rise (whole.number + 1) k (due (next_after old.next whole) old.waiting)) next rise.1) w) [
+            | inr w ↦ elim (due_or_not (number_of_tsn id m history.log) (whole.number + 1) (next_after old.next whole) old.waiting (subst (λ (k : ℕ). Rise (whole.number + 1) k (due (next_after old.next whole) old.waiting)) next rise.1) w) [
               | inl less ↦ absurd (omega (arith, less, next, up))
-              | inr w' ↦ inr (subst (λ (l : List WholeModel). is_number_waiting (number_at id m history.log) l ≡ true) (sym left) w')
+              | inr w' ↦ inr (subst (λ (l : List WholeModel). is_number_waiting (number_of_tsn id m history.log) l ≡ true) (sym left) w')
             ]
           ]
         ]
     whole_stays whole of more false next among rise m g is' has up =
-        let waits : (whole.number ≡ number_at id m history.log) ⊎ (is_number_waiting (number_at id m history.log) old.waiting ≡ true) → is_number_waiting (number_at id m history.log) new.waiting ≡ true =
-        λ e. subst (λ (l : List WholeModel). is_number_waiting (number_at id m history.log) l ≡ true) (sym among.waiting) (waits_among (number_at id m history.log) among.at whole old.waiting e) in
+        let waits : (whole.number ≡ number_of_tsn id m history.log) ⊎ (is_number_waiting (number_of_tsn id m history.log) old.waiting ≡ true) → is_number_waiting (number_of_tsn id m history.log) new.waiting ≡ true =
+        λ e. subst (λ (l : List WholeModel). is_number_waiting (number_of_tsn id m history.log) l ≡ true) (sym among.waiting) (waits_among (number_of_tsn id m history.log) among.at whole old.waiting e) in
         elim has [
-          | inl same ↦ inr (waits (inl (of ∙ number_is ∙ ap (λ (k : ℕ). number_at id k history.log) (sym same))))
+          | inl same ↦ inr (waits (inl (of ∙ number_is ∙ ap (λ (k : ℕ). number_of_tsn id k history.log) (sym same))))
           | inr t ↦ elim (held m g is' t (omega (arith, up, next))) [
             | inl h ↦ elim (more _ _ h) [
               | inl h' ↦ inl h'
@@ -231,10 +231,10 @@ module _ (history : History) (id : ℕ) (counts : CountsPlain id history) (got :
           ]
         ]
 
-    pub held_stays : (does : TakesOrdered part old before taken new after) → DeliversRow old before new after (ready_by old does.outcome) → Stays
+    pub held_stays : (does : TakesOrdered part old before taken new after) → DeliversRow old before new after (ready_with_part old does.outcome) → Stays
     held_stays does row = go does.outcome does.parts does.does row.rising.rise
       where
-        go : (outcome : Assembled) → AddsPart part old.ordered outcome new.ordered → OrderedOutcome part old before outcome taken new after → Rise old.next new.next (ready_by old outcome) → Stays
+        go : (outcome : Assembly) → AddsPart part old.ordered outcome new.ordered → OrderedOutcome part old before outcome taken new after → Rise old.next new.next (ready_with_part old outcome) → Stays
         go part_dropped adds does' rise m g is' has up = absurd (not_dropped fresh adds.at adds.adds.0)
         go part_kept adds does' rise m g is' has up =
             let leave : LeavesPartsHeld part old.ordered part_kept new.ordered = parts_leave_held part old.ordered new.ordered part_kept adds in

@@ -5,19 +5,19 @@ use Rattle.std.proofs.lemmas.List.{append-nil}
 use Rattle.dcsctp_spec_lemmas.specs.types.queues.Messages.{MessageContent}
 use Rattle.dcsctp_spec_lemmas.specs.types.declared.arrivals.Taken.{Taken}
 use Rattle.dcsctp_spec_lemmas.specs.spec.queues.Numbers.{fragment_place}
-use Rattle.dcsctp_spec_lemmas.specs.spec.queues.Runs.{PartModel, WholeModel, Assembled, part_dropped, part_kept, message_whole}
+use Rattle.dcsctp_spec_lemmas.specs.spec.queues.Runs.{PartModel, WholeModel, Assembly, part_dropped, part_kept, message_whole}
 use Rattle.dcsctp_spec_lemmas.specs.spec.queues.IncomingStreams.{StreamModel, delivered_as, next_after, due, not_due, ready_with, WaitsAmong, OrderedOutcome, UnorderedOutcome, TakesOrdered}
 use Rattle.dcsctp_delivery_sending.specs.Places.{HasEntry}
-use Rattle.dcsctp_delivery_sending.specs.Log.{Message, Piece, History, Cut}
+use Rattle.dcsctp_delivery_sending.specs.Log.{Message, Piece, History, IsLogOfPieces}
 use Rattle.dcsctp_delivery_receiving.specs.Rows.{AreRows, Spent, IsQueued, MakesQueued}
 use Rattle.dcsctp_delivery_receiving.specs.Ready.{IsOn, ordered_base, AreDistinct, WereQueued, WaitQueued}
 use Rattle.dcsctp_delivery_receiving.proofs.Distinct.{appended, has_left, distinct_with}
 use Rattle.dcsctp_delivery_receiving.proofs.SpentRows.{of_message, IsOfMessage}
 use Rattle.dcsctp_delivery_receiving.proofs.Waiting.{OfStream, both_queued, wait_spent, split_due}
 use Rattle.dcsctp_delivery_order.specs.Queue.{IsOrderedOn}
-use Rattle.dcsctp_delivery_order.specs.Rising.{DeliversRow, IsAhead, ready_by}
+use Rattle.dcsctp_delivery_order.specs.Rising.{DeliversRow, IsAhead, ready_with_part}
 use Rattle.dcsctp_delivery_order.specs.Order.{IsReadAs, AreReadAs}
-use Rattle.dcsctp_delivery_order.specs.Plain.{number_at, with_turns, CountsPlain, CarriesOrdered, PlainStream}
+use Rattle.dcsctp_delivery_order.specs.Plain.{number_of_tsn, with_turns, CountsPlain, CarriesOrdered, PlainStream}
 use Rattle.dcsctp_delivery_order.proofs.Rising.{parts_deliver_rows}
 use Rattle.dcsctp_delivery_order.proofs.Gaps.{rows_fill}
 use Rattle.dcsctp_delivery_order.proofs.Order.{order_then, read_among, others_stay}
@@ -91,13 +91,13 @@ module _ (queued : List Message) (history : History) (now : List ℕ) (base : �
 
   -- ---- an unordered part
 
-  pub apart_left : (all places waits : List ℕ) (id p : ℕ) (part : PartModel) (new : StreamModel) (before after : List MessageContent) (outcome : Assembled) (taken : Taken)
+  pub apart_left : (all places waits : List ℕ) (id p : ℕ) (part : PartModel) (new : StreamModel) (before after : List MessageContent) (outcome : Assembly) (taken : Taken)
       → WereQueued queued places before → WaitQueued queued history now id waits new.waiting → MakesQueued queued history.log now (OfStream id) p outcome → AreDistinct (all ++ waits) → (HasEntry p (all ++ waits) → ⊥)
       → ((more : List ℕ) → ((q : ℕ) → HasEntry q more → q ≡ p) → PlainStream queued history now base id (all ++ more) waits new)
       → UnorderedOutcome part (delivered_as id) before outcome taken after → LeavesPlain all places id new after
   apart_left all places waits id p part new before after outcome taken were wait makes once fresh ordered does = go outcome makes does
     where
-      go : (outcome : Assembled) → MakesQueued queued history.log now (OfStream id) p outcome → UnorderedOutcome part (delivered_as id) before outcome taken after → LeavesPlain all places id new after
+      go : (outcome : Assembly) → MakesQueued queued history.log now (OfStream id) p outcome → UnorderedOutcome part (delivered_as id) before outcome taken after → LeavesPlain all places id new after
       go part_dropped makes' does' = none_left all places waits id new before after were wait once does'.0 (ordered [] (λ q h. absurd h))
       go part_kept makes' does' = none_left all places waits id new before after were wait once does'.0 (ordered [] (λ q h. absurd h))
       go (message_whole whole) makes' does' =
@@ -105,8 +105,8 @@ module _ (queued : List Message) (history : History) (now : List ℕ) (base : �
 
 -- ---- an ordered part
 
-module _ (queued : List Message) (history : History) (cut : Cut queued history.log) (id : ℕ) (counts : CountsPlain id history) (got : List ℕ) (base : ℕ) (small : base + 2 ^ 32 < 2 ^ 64) (n : ℕ) (f : Piece) (is : CarriesOrdered history.log id n f) (is_new : HasEntry n got → ⊥)
-    (part : PartModel) (number_is : part.number ≡ number_at id n history.log) (place_is : part.place ≡ fragment_place part.number base + n)
+module _ (queued : List Message) (history : History) (cut : IsLogOfPieces queued history.log) (id : ℕ) (counts : CountsPlain id history) (got : List ℕ) (base : ℕ) (small : base + 2 ^ 32 < 2 ^ 64) (n : ℕ) (f : Piece) (is : CarriesOrdered history.log id n f) (is_new : HasEntry n got → ⊥)
+    (part : PartModel) (number_is : part.number ≡ number_of_tsn id n history.log) (place_is : part.place ≡ fragment_place part.number base + n)
     (old new : StreamModel) (rows : AreRows history.log got (ordered_base base) (IsOn history id) old.ordered) (before after : List MessageContent) (taken : Taken) (does : TakesOrdered part old before taken new after)
     (all places waits : List ℕ) (s : PlainStream queued history got base id all waits old) (from : old.next ≤ part.number)
     (same : id ≡ old.id) (were : WereQueued queued places before) (wait : WaitQueued queued history (n ∷ got) id waits old.waiting) (once : AreDistinct (all ++ waits)) (fresh : HasEntry f.place (all ++ waits) → ⊥)
@@ -114,7 +114,7 @@ module _ (queued : List Message) (history : History) (cut : Cut queued history.l
   abbrev now : List ℕ
   now = n ∷ got
 
-  row : DeliversRow old before new after (ready_by old does.outcome)
+  row : DeliversRow old before new after (ready_with_part old does.outcome)
   row = parts_deliver_rows part old before taken new after s.order.ahead ahead does
 
   its : IsReadAs (with_turns history) id f.place part.number
@@ -179,8 +179,8 @@ module _ (queued : List Message) (history : History) (cut : Cut queued history.l
   unfolding row
   ordered_left makes = go does.outcome does.does (of_message part old.ordered new.ordered does.outcome does.parts) makes row
     where
-      go : (outcome : Assembled) → OrderedOutcome part old before outcome taken new after → IsOfMessage part.number outcome → MakesQueued queued history.log now (IsOn history id) f.place outcome
-          → DeliversRow old before new after (ready_by old outcome) → LeavesPlain queued history now base all places id new after
+      go : (outcome : Assembly) → OrderedOutcome part old before outcome taken new after → IsOfMessage part.number outcome → MakesQueued queued history.log now (IsOn history id) f.place outcome
+          → DeliversRow old before new after (ready_with_part old outcome) → LeavesPlain queued history now base all places id new after
       go part_dropped does' of makes' delivers =
           none_left queued history now base all places waits id new before after were (subst (λ (x : StreamModel). WaitQueued queued history now id waits x.waiting) (sym does'.0) wait) once does'.1
           (then_plain [] waits [] delivers tt (subst (λ (x : StreamModel). AreReadAs (with_turns history) id waits x.waiting) (sym does'.0) s.order.waiting))

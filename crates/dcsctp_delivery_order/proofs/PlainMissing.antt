@@ -8,15 +8,15 @@ use Rattle.dcsctp_spec_lemmas.specs.spec.queues.Numbers.{fragment_place}
 use Rattle.dcsctp_spec_lemmas.specs.spec.queues.Runs.{RunModel, WholeModel}
 use Rattle.dcsctp_spec_lemmas.specs.spec.queues.IncomingStreams.{StreamModel, is_number_waiting}
 use Rattle.dcsctp_delivery_sending.specs.Places.{HasEntry, at_place}
-use Rattle.dcsctp_delivery_sending.specs.Log.{Message, Piece, Slot, History, Cut, is_beginning, is_end}
-use Rattle.dcsctp_delivery_sending.specs.Turns.{turn_at}
+use Rattle.dcsctp_delivery_sending.specs.Log.{Message, Piece, Slot, History, IsLogOfPieces, is_beginning, is_end}
+use Rattle.dcsctp_delivery_sending.specs.Turns.{turn_of_tsn}
 use Rattle.dcsctp_delivery_sending.proofs.Places.{at_some, at_below}
 use Rattle.dcsctp_delivery_receiving.specs.Rows.{IsPieceRow, AreRows}
 use Rattle.dcsctp_delivery_receiving.specs.Ready.{IsOn, ordered_base}
 use Rattle.dcsctp_delivery_receiving.proofs.Chaining.{placed_plain}
 use Rattle.dcsctp_delivery_order.specs.Rising.{AscendFrom}
-use Rattle.dcsctp_delivery_order.specs.Runs.{place_after, LieApart, HeldAs, SpansMessage}
-use Rattle.dcsctp_delivery_order.specs.Plain.{number_at, CountsPlain, CarriesOrdered, IsNumberedRun, IsHeldOrWaits}
+use Rattle.dcsctp_delivery_order.specs.Runs.{place_after, LieApart, IsHeldForMessage, SpansMessage}
+use Rattle.dcsctp_delivery_order.specs.Plain.{number_of_tsn, CountsPlain, CarriesOrdered, IsNumberedRun, IsHeldOrWaits}
 use Rattle.dcsctp_delivery_order.proofs.Held.{one_is_missing}
 use Rattle.dcsctp_delivery_order.proofs.PlainTurns.{turn_inside, IsFirstAt, one_first}
 use Rattle.dcsctp_delivery_order.proofs.PlainRows.{ContinuesAt, RowOf, some_turn, row_of, one_beginning}
@@ -43,7 +43,7 @@ pub record PassedOn (log : List Slot) (got : List ℕ) (id n : ℕ) : Type 0 whe
   pub handled : (f : Piece) → at_place n log ≡ Some (Some f) → f.message.stream ≡ id → HasEntry n got
   pub never_shuts : (m : ℕ) (f : Piece) → m + 1 ≡ n → CarriesOrdered log id m f → at_place n log ≡ Some None → ⊥
 
-module _ (queued : List Message) (history : History) (cut : Cut queued history.log) (id : ℕ) (counts : CountsPlain id history) where
+module _ (queued : List Message) (history : History) (cut : IsLogOfPieces queued history.log) (id : ℕ) (counts : CountsPlain id history) where
   -- pieces of one message say so
   one_text : (m n : ℕ) (f g : Piece) → at_place m history.log ≡ Some (Some f) → at_place n history.log ≡ Some (Some g) → f.place ≡ g.place → f.message ≡ g.message
   one_text m n f g at at' same =
@@ -133,7 +133,7 @@ module _ (queued : List Message) (history : History) (cut : Cut queued history.l
       piece : Piece
       is : CarriesOrdered history.log id k piece
       place : piece.place ≡ first.piece.place
-      turn : turn_at id k history.log ≡ turn_at id b history.log
+      turn : turn_of_tsn id k history.log ≡ turn_of_tsn id b history.log
 
     module _ (end : ℕ) (r : Row end) where
       part_at : (d : ℕ) → b + d ≤ r.last → PartAt (b + d)
@@ -186,7 +186,7 @@ module _ (queued : List Message) (history : History) (cut : Cut queued history.l
             omega (arith, stop, start, sizes, some, inside))
       ]
 
-      first_at : (k : ℕ) (f : Piece) → (row' : RowOf history.log id f.place k) → turn_at id k history.log ≡ turn_at id b history.log → row'.from ≡ b
+      first_at : (k : ℕ) (f : Piece) → (row' : RowOf history.log id f.place k) → turn_of_tsn id k history.log ≡ turn_of_tsn id b history.log → row'.from ≡ b
       first_at k f row' turn = one_first history.log id row'.from b row'.first first (row'.turn ∙ turn)
 
       -- rows of one message begin at one TSN
@@ -196,7 +196,7 @@ module _ (queued : List Message) (history : History) (cut : Cut queued history.l
       -- ---- a run of it
 
       module _ (got : List ℕ) (base : ℕ) (stream : StreamModel) (rows : AreRows history.log got (ordered_base base) (IsOn history id) stream.ordered)
-          (runs : (run : RunModel) → HasEntry run stream.ordered → IsNumberedRun history.log base id run) (number_is : number_at id b history.log ≡ stream.next) where
+          (runs : (run : RunModel) → HasEntry run stream.ordered → IsNumberedRun history.log base id run) (number_is : number_of_tsn id b history.log ≡ stream.next) where
         -- It lies where the row says.
         record RunAt (run : RunModel) : Type 0 where
           offset : ℕ
@@ -208,7 +208,7 @@ module _ (queued : List Message) (history : History) (cut : Cut queued history.l
           text : last.message ≡ first.piece.message
           low : b ≤ offset
           up : last_offset ≤ r.last
-          turn : turn_at id offset history.log ≡ turn_at id b history.log
+          turn : turn_of_tsn id offset history.log ≡ turn_of_tsn id b history.log
           begins_at : run.first ≡ fragment_place stream.next base + offset
           ends_at : place_after run ≡ fragment_place stream.next base + last_offset + 1
           beginning : run.has_beginning ≡ is_beginning its
@@ -221,7 +221,7 @@ module _ (queued : List Message) (history : History) (cut : Cut queued history.l
         place_so : (place number offset : ℕ) → place ≡ fragment_place number base + offset → number ≡ stream.next → place ≡ fragment_place stream.next base + offset
         place_so place number offset is named = is ∙ ap (λ (k : ℕ). fragment_place k base + offset) named
 
-        turn_of : (k : ℕ) (f : Piece) → CarriesOrdered history.log id k f → number_at id k history.log ≡ stream.next → turn_at id k history.log ≡ turn_at id b history.log
+        turn_of : (k : ℕ) (f : Piece) → CarriesOrdered history.log id k f → number_of_tsn id k history.log ≡ stream.next → turn_of_tsn id k history.log ≡ turn_of_tsn id b history.log
         turn_of k f is number =
             let some = some_turn queued history cut id counts k f is in
             let some_b = some_turn queued history cut id counts b first.piece first.is in
@@ -236,8 +236,8 @@ module _ (queued : List Message) (history : History) (cut : Cut queued history.l
             let one : n.piece ≡ w.head = one_piece n.offset w.offset n.piece w.head n.is.at w.at_head same in
             let is : CarriesOrdered history.log id w.offset w.head = record { at = w.at_head; stream = ap (λ (x : Piece). x.message.stream) (sym one) ∙ n.is.stream; ordered = ap (λ (x : Piece). x.message.is_unordered) (sym one) ∙ n.is.ordered } in
             let is_last : CarriesOrdered history.log id w.last_offset w.last = record { at = w.at_last; stream = ap (λ (m : Message). m.stream) w.message ∙ is.stream; ordered = ap (λ (m : Message). m.is_unordered) w.message ∙ is.ordered } in
-            let turn : turn_at id w.offset history.log ≡ turn_at id b history.log =
-            turn_of w.offset w.head is (ap (λ (k : ℕ). number_at id k history.log) (sym same) ∙ sym n.number ∙ named) in
+            let turn : turn_of_tsn id w.offset history.log ≡ turn_of_tsn id b history.log =
+            turn_of w.offset w.head is (ap (λ (k : ℕ). number_of_tsn id k history.log) (sym same) ∙ sym n.number ∙ named) in
             let one_row = row_of queued history cut id counts w.offset w.head is in
             let last_row = row_of queued history cut id counts w.last_offset w.last is_last in
             let from : one_row.from ≡ b = first_at w.offset w.head one_row turn in
@@ -318,7 +318,7 @@ module _ (queued : List Message) (history : History) (cut : Cut queued history.l
 
         -- all parts are held then, and the message would be whole
         not_all : LieApart 0 stream.ordered → AscendFrom (stream.next + 1) stream.waiting
-            → ((n : ℕ) (f : Piece) → CarriesOrdered history.log id n f → HasEntry n got → stream.next ≤ number_at id n history.log → IsHeldOrWaits history.log base id stream n)
+            → ((n : ℕ) (f : Piece) → CarriesOrdered history.log id n f → HasEntry n got → stream.next ≤ number_of_tsn id n history.log → IsHeldOrWaits history.log base id stream n)
             → ((k : ℕ) → b ≤ k → k ≤ r.last → HasEntry k got) → ⊥
         not_all apart waits held all =
             one_is_missing stream.ordered stream.next (fragment_place stream.next base + b) (fragment_place stream.next base + r.last) apart spans (let low = r.from in omega (arith, low))
@@ -328,11 +328,11 @@ module _ (queued : List Message) (history : History) (cut : Cut queued history.l
             let to : place - fragment_place stream.next base ≤ r.last = omega (arith, up) in
             let at : fragment_place stream.next base + (place - fragment_place stream.next base) ≡ place = omega (arith, low) in
             let p = part (place - fragment_place stream.next base) from to in
-            let number : number_at id (place - fragment_place stream.next base) history.log ≡ stream.next = ap (λ (t : ℕ). 2 ^ 32 + t - 1) p.turn ∙ number_is in
+            let number : number_of_tsn id (place - fragment_place stream.next base) history.log ≡ stream.next = ap (λ (t : ℕ). 2 ^ 32 + t - 1) p.turn ∙ number_is in
             elim (held (place - fragment_place stream.next base) p.piece p.is (all (place - fragment_place stream.next base) from to) (omega (arith, number))) [
               | inl h ↦
-                  subst (λ (q : ℕ). HeldAs stream.ordered q stream.next) at
-                  (subst (λ (j : ℕ). HeldAs stream.ordered (fragment_place j base + (place - fragment_place stream.next base)) j) number h)
+                  subst (λ (q : ℕ). IsHeldForMessage stream.ordered q stream.next) at
+                  (subst (λ (j : ℕ). IsHeldForMessage stream.ordered (fragment_place j base + (place - fragment_place stream.next base)) j) number h)
               | inr w ↦
                   absurd
                   (let here : is_number_waiting stream.next stream.waiting ≡ true = subst (λ (j : ℕ). is_number_waiting j stream.waiting ≡ true) number w in
@@ -344,8 +344,8 @@ module _ (queued : List Message) (history : History) (cut : Cut queued history.l
     -- So not all TSNs up to a later message were handled.
     pub incomplete : (end : ℕ) (later : IsFirstAt history.log id end) (got : List ℕ) (base : ℕ) (stream : StreamModel) → b < end
         → AreRows history.log got (ordered_base base) (IsOn history id) stream.ordered → ((run : RunModel) → HasEntry run stream.ordered → IsNumberedRun history.log base id run)
-        → number_at id b history.log ≡ stream.next → LieApart 0 stream.ordered → AscendFrom (stream.next + 1) stream.waiting
-        → ((n : ℕ) (f : Piece) → CarriesOrdered history.log id n f → HasEntry n got → stream.next ≤ number_at id n history.log → IsHeldOrWaits history.log base id stream n)
+        → number_of_tsn id b history.log ≡ stream.next → LieApart 0 stream.ordered → AscendFrom (stream.next + 1) stream.waiting
+        → ((n : ℕ) (f : Piece) → CarriesOrdered history.log id n f → HasEntry n got → stream.next ≤ number_of_tsn id n history.log → IsHeldOrWaits history.log base id stream n)
         → ((k : ℕ) → b ≤ k → k < end → PassedOn history.log got id k) → ⊥
     incomplete end later got base stream less rows runs number apart waits held all =
         let r = row end later next_piece less in
@@ -366,8 +366,8 @@ module _ (queued : List Message) (history : History) (cut : Cut queued history.l
     -- Nor were all of its own, once its last one was sent.
     pub incomplete_last : (n : ℕ) (f : Piece) (row' : RowOf history.log id f.place n) → CarriesOrdered history.log id n f → is_end f ≡ true → row'.from ≡ b → (got : List ℕ) (base : ℕ) (stream : StreamModel)
         → AreRows history.log got (ordered_base base) (IsOn history id) stream.ordered → ((run : RunModel) → HasEntry run stream.ordered → IsNumberedRun history.log base id run)
-        → number_at id b history.log ≡ stream.next → LieApart 0 stream.ordered → AscendFrom (stream.next + 1) stream.waiting
-        → ((n : ℕ) (f : Piece) → CarriesOrdered history.log id n f → HasEntry n got → stream.next ≤ number_at id n history.log → IsHeldOrWaits history.log base id stream n)
+        → number_of_tsn id b history.log ≡ stream.next → LieApart 0 stream.ordered → AscendFrom (stream.next + 1) stream.waiting
+        → ((n : ℕ) (f : Piece) → CarriesOrdered history.log id n f → HasEntry n got → stream.next ≤ number_of_tsn id n history.log → IsHeldOrWaits history.log base id stream n)
         → ((k : ℕ) → b ≤ k → k ≤ n → PassedOn history.log got id k) → ⊥
     unfolding GoesUpTo
     incomplete_last n f row' of e same got base stream rows runs number apart waits held all =

@@ -6,11 +6,11 @@ use Rattle.dcsctp_spec_lemmas.specs.types.declared.arrivals.Numbering.{Numbering
 use Rattle.dcsctp_spec_lemmas.specs.types.declared.arrivals.Numbering.TheVariants.{Ordered, Unordered, InterleavedOrdered, InterleavedUnordered}
 use Rattle.dcsctp_spec_lemmas.specs.types.declared.arrivals.Taken.{Taken}
 use Rattle.dcsctp_spec_lemmas.specs.spec.queues.Numbers.{number_near, short_number_from, fragment_place}
-use Rattle.dcsctp_spec_lemmas.specs.spec.queues.Runs.{RunModel, Assembled, part_dropped, part_kept, message_whole}
+use Rattle.dcsctp_spec_lemmas.specs.spec.queues.Runs.{RunModel, Assembly, part_dropped, part_kept, message_whole}
 use Rattle.dcsctp_spec_lemmas.specs.spec.queues.IncomingStreams.{StreamModel, ChunkModel, data_part, delivered_as, UnorderedOutcome, TakesAhead, TakesNumbered}
 use Rattle.dcsctp_spec_lemmas.specs.spec.queues.Incoming.{IncomingModel, stream_on, TakesChunk, TakesIncomingChunk}
-use Rattle.dcsctp_delivery_sending.specs.Places.{HasEntry, set_at}
-use Rattle.dcsctp_delivery_sending.specs.Log.{Message, Piece, History, Cut}
+use Rattle.dcsctp_delivery_sending.specs.Places.{HasEntry, table_with}
+use Rattle.dcsctp_delivery_sending.specs.Log.{Message, Piece, History, IsLogOfPieces}
 use Rattle.dcsctp_delivery_sending.specs.Numbers.{IsUnambiguous, plain}
 use Rattle.dcsctp_delivery_sending.proofs.Places.{decide, set_same, set_other}
 use Rattle.dcsctp_delivery_receiving.specs.Rows.{IsPart, AreRows, Spent, MakesQueued}
@@ -23,7 +23,7 @@ use Rattle.dcsctp_delivery_receiving.proofs.Reading.{tells_as, tells_plain, orde
 use Rattle.dcsctp_delivery_receiving.proofs.Parts.{part_of, ordered_placed, unordered_placed}
 use Rattle.dcsctp_delivery_order.specs.Queue.{IsOrderedOn}
 use Rattle.dcsctp_delivery_order.specs.Rising.{IsAhead}
-use Rattle.dcsctp_delivery_order.specs.Plain.{number_at, CountsThese, CarriesOrdered, PlainStream, HoldsPlain, IncomingPlain}
+use Rattle.dcsctp_delivery_order.specs.Plain.{number_of_tsn, CountsThese, CarriesOrdered, PlainStream, HoldsPlain, IncomingPlain}
 use Rattle.dcsctp_delivery_order.proofs.PlainMissing.{PassedOn}
 use Rattle.dcsctp_delivery_receiving.proofs.Ready.{holds_beside}
 use Rattle.dcsctp_delivery_receiving.proofs.Waiting.{HoldsBeside}
@@ -33,7 +33,7 @@ use Rattle.dcsctp_delivery_order.proofs.PlainLeaving.{others_plain, LeavesPlain,
 
 -- ---- a chunk
 
-module _ (queued : List Message) (history : History) (cut : Cut queued history.log) (whole : Bool) (these : ℕ → Bool) (counts : CountsThese whole these history) (got : List ℕ) (base : ℕ) (small : base + 2 ^ 32 < 2 ^ 64) (read : List ℕ) where
+module _ (queued : List Message) (history : History) (cut : IsLogOfPieces queued history.log) (whole : Bool) (these : ℕ → Bool) (counts : CountsThese whole these history) (got : List ℕ) (base : ℕ) (small : base + 2 ^ 32 < 2 ^ 64) (read : List ℕ) where
   abbrev told : IsUnambiguous history
   told = plain counts.kinds
 
@@ -84,10 +84,10 @@ module _ (queued : List Message) (history : History) (cut : Cut queued history.l
     holds_then later runs after rows apart others leaves =
         record {
           holds = record {
-            waits = set_at chunk.stream leaves.waits o.holds.waits;
+            waits = table_with chunk.stream leaves.waits o.holds.waits;
             streams_hold = λ other. elim (decide other chunk.stream) [
               | inl e ↦
-                  subst (λ (k : ℕ). StreamHolds queued history now base k (set_at chunk.stream leaves.waits o.holds.waits k) (later k)) (sym e)
+                  subst (λ (k : ℕ). StreamHolds queued history now base k (table_with chunk.stream leaves.waits o.holds.waits k) (later k)) (sym e)
                   (subst (λ (l : List ℕ). StreamHolds queued history now base chunk.stream l (later chunk.stream)) (sym (set_same chunk.stream leaves.waits o.holds.waits)) (record { rows = rows; wait = leaves.wait }))
               | inr ne ↦
                   subst (λ (l : List ℕ). StreamHolds queued history now base other l (later other)) (sym (set_other chunk.stream other leaves.waits o.holds.waits ne))
@@ -101,10 +101,10 @@ module _ (queued : List Message) (history : History) (cut : Cut queued history.l
               | inl l ↦ spent_got history.log got bears.offset q (o.holds.spent q l)
               | inr r ↦ leaves.spent q r
             ];
-            once = λ other. subst (λ (l : List ℕ). AreDistinct (l ++ set_at chunk.stream leaves.waits o.holds.waits other)) (appended read o.holds.places leaves.more)
+            once = λ other. subst (λ (l : List ℕ). AreDistinct (l ++ table_with chunk.stream leaves.waits o.holds.waits other)) (appended read o.holds.places leaves.more)
                 (elim (decide other chunk.stream) [
                   | inl e ↦
-                      subst (λ (l : List ℕ). AreDistinct (((read ++ o.holds.places) ++ leaves.more) ++ l)) (sym (ap (set_at chunk.stream leaves.waits o.holds.waits) e ∙ set_same chunk.stream leaves.waits o.holds.waits)) leaves.once
+                      subst (λ (l : List ℕ). AreDistinct (((read ++ o.holds.places) ++ leaves.more) ++ l)) (sym (ap (table_with chunk.stream leaves.waits o.holds.waits) e ∙ set_same chunk.stream leaves.waits o.holds.waits)) leaves.once
                   | inr ne ↦
                       subst (λ (l : List ℕ). AreDistinct (((read ++ o.holds.places) ++ leaves.more) ++ l)) (sym (set_other chunk.stream other leaves.waits o.holds.waits ne))
                       (distinct_apart (read ++ o.holds.places) leaves.more (o.holds.waits other) (distinct_left ((read ++ o.holds.places) ++ leaves.more) leaves.waits leaves.once) (o.holds.once other)
@@ -113,7 +113,7 @@ module _ (queued : List Message) (history : History) (cut : Cut queued history.l
           };
           order = λ other kept. elim (decide other chunk.stream) [
             | inl e ↦
-                subst (λ (k : ℕ). PlainStream queued history now base k (read ++ (o.holds.places ++ leaves.more)) (set_at chunk.stream leaves.waits o.holds.waits k) (later k)) (sym e)
+                subst (λ (k : ℕ). PlainStream queued history now base k (read ++ (o.holds.places ++ leaves.more)) (table_with chunk.stream leaves.waits o.holds.waits k) (later k)) (sym e)
                 (subst (λ (l : List ℕ). PlainStream queued history now base chunk.stream (read ++ (o.holds.places ++ leaves.more)) l (later chunk.stream)) (sym (set_same chunk.stream leaves.waits o.holds.waits))
                 (subst (λ (l : List ℕ). PlainStream queued history now base chunk.stream l leaves.waits (later chunk.stream)) (all_then leaves.more) leaves.order))
             | inr ne ↦
@@ -148,7 +148,7 @@ module _ (queued : List Message) (history : History) (cut : Cut queued history.l
     is_ordered ordered = record { at = bears.at; stream = sym bears.stream; ordered = ordered }
 
     abbrev own_number : ℕ
-    own_number = number_at chunk.stream bears.offset history.log
+    own_number = number_of_tsn chunk.stream bears.offset history.log
 
     ahead : these chunk.stream ≡ true → (later : ℕ → StreamModel) (runs : List RunModel) (after : List MessageContent) (taken : Taken) → bears.piece.is_interleaved ≡ false → bears.piece.message.is_unordered ≡ false → (streams chunk.stream).next ≤ own_number
         → runs ≡ unordered → ((other : ℕ) → other ≢ chunk.stream → later other ≡ streams other)
@@ -193,13 +193,13 @@ module _ (queued : List Message) (history : History) (cut : Cut queued history.l
         let clash : true ≡ false = sym unordered_is ∙ ap (λ (x : Piece). x.message.is_unordered) (sym same) ∙ is.ordered in
         absurd (cc)
 
-    makes_on : (outcome : Assembled) → MakesQueued queued history.log now IsOfStream bears.piece.place outcome → IsOfMessage chunk.stream outcome → MakesQueued queued history.log now (OfStream chunk.stream) bears.piece.place outcome
+    makes_on : (outcome : Assembly) → MakesQueued queued history.log now IsOfStream bears.piece.place outcome → IsOfMessage chunk.stream outcome → MakesQueued queued history.log now (OfStream chunk.stream) bears.piece.place outcome
     makes_on part_dropped makes of = tt
     makes_on part_kept makes of = tt
     makes_on (message_whole whole) makes of =
         record { offset = makes.offset; head = makes.head; at = makes.at; is = makes.is; queued_at = makes.queued_at; number = makes.number.0 ∙ of; ppid = makes.ppid; payload = makes.payload; spent = makes.spent }
 
-    unordered_chunk : these chunk.stream ≡ true → (later : ℕ → StreamModel) (runs : List RunModel) (after : List MessageContent) (outcome : Assembled) (taken : Taken) → bears.piece.message.is_unordered ≡ true → later ≡ streams
+    unordered_chunk : these chunk.stream ≡ true → (later : ℕ → StreamModel) (runs : List RunModel) (after : List MessageContent) (outcome : Assembly) (taken : Taken) → bears.piece.message.is_unordered ≡ true → later ≡ streams
         → AreRows history.log now (unordered_base base) IsOfStream runs → MakesQueued queued history.log now (OfStream chunk.stream) bears.piece.place outcome
         → UnorderedOutcome (data_part chunk tsn_number chunk.stream) (delivered_as chunk.stream) ready outcome taken after → HoldsPlain these queued history now base read later runs after
     unfolding all
@@ -250,7 +250,7 @@ module _ (queued : List Message) (history : History) (cut : Cut queued history.l
     by_numbering tsn_number (Ordered ssn) chunk old new is bears numbered is_new window mine o takes =
         let reads = ssn_is_read queued history cut chunk.stream (counts.each chunk.stream mine) got base (read ++ o.holds.places) (o.holds.waits chunk.stream) (stream_on chunk.stream old.streams) (o.order chunk.stream mine)
         (o.holds.streams_hold chunk.stream).rows.ordered (λ p h. o.holds.spent p h) cumulative (passed chunk.stream mine) bears.offset bears.piece (record { at = bears.at; stream = sym bears.stream; ordered = numbered.1 }) is_new window in
-        let number : short_number_from (stream_on chunk.stream old.streams).next ssn ≡ number_at chunk.stream bears.offset history.log = ap (short_number_from (stream_on chunk.stream old.streams).next) numbered.2 ∙ reads.1 in
+        let number : short_number_from (stream_on chunk.stream old.streams).next ssn ≡ number_of_tsn chunk.stream bears.offset history.log = ap (short_number_from (stream_on chunk.stream old.streams).next) numbered.2 ∙ reads.1 in
         let does : TakesAhead (data_part chunk (fragment_place (short_number_from (stream_on chunk.stream old.streams).next ssn) tsn_number) (short_number_from (stream_on chunk.stream old.streams).next ssn))
         (stream_on chunk.stream old.streams) old.ready takes.taken (stream_on chunk.stream new.streams) new.ready =
         subst (λ (n : Numbering). TakesNumbered tsn_number chunk n (stream_on chunk.stream old.streams) old.ready takes.taken (stream_on chunk.stream new.streams) new.ready) is takes.does in

@@ -13,16 +13,16 @@ use Rattle.dcsctp_spec_lemmas.specs.types.declared.arrivals.SkippedTo.{SkippedTo
 use Rattle.std.specs.List.{AllByRecursion}
 use Rattle.dcsctp_spec_lemmas.specs.spec.queues.Incoming.{IncomingModel, TakesIncomingChunk}
 use Rattle.dcsctp_spec_lemmas.specs.spec.queues.Reassembly.{WaitingModel, ReassemblyState, DeferralModel, can_count, window_used, is_data_deferred, names_stream, with_waiting, waiting_of, AddsData}
-use Rattle.dcsctp_spec_lemmas.specs.spec.queues.Tracker.{TrackerState, has_received, is_new_tsn, observed, is_valid_tsn, delay_over, nearest_number, is_below_highest, is_first_missing}
+use Rattle.dcsctp_spec_lemmas.specs.spec.queues.Tracker.{TrackerState, has_received, is_new_tsn, tracker_after_data, is_valid_tsn, delay_over, nearest_number, is_below_highest, is_first_missing}
 use Rattle.dcsctp_spec_lemmas.specs.spec.queues.Transfer.{Transfer}
-use Rattle.dcsctp_spec_lemmas.specs.spec.endpoint.TransferMoves.{AddsWhere, has_room, dropping, ReceivesWhere, ReceivesData, TakesData as TakesArrival}
+use Rattle.dcsctp_spec_lemmas.specs.spec.endpoint.TransferMoves.{AddsIfNew, has_room, dropping, ReceivesIfRoom, ReceivesData, TakesData as TakesArrival}
 use Rattle.dcsctp_spec_lemmas.proofs.RangesLemmas.{received_members}
 use Rattle.dcsctp_delivery_sending.specs.Places.{HasEntry, at_place}
-use Rattle.dcsctp_delivery_sending.specs.Log.{Message, Piece, Slot, History, Cut, piece_bytes}
+use Rattle.dcsctp_delivery_sending.specs.Log.{Message, Piece, Slot, History, IsLogOfPieces, piece_bytes}
 use Rattle.dcsctp_delivery_sending.proofs.Places.{at_below}
 use Rattle.dcsctp_delivery_receiving.specs.Ready.{AreDistinct}
-use Rattle.dcsctp_delivery_receiving.specs.Received.{Carries, CarriesCurrent, DefersData, Placed, kept_entries}
-use Rattle.dcsctp_delivery_receiving.specs.Tracked.{tracked, Tracks}
+use Rattle.dcsctp_delivery_receiving.specs.Received.{Carries, CarriesCurrent, DefersData, CountsFromBase, kept_entries}
+use Rattle.dcsctp_delivery_receiving.specs.Tracked.{tracked_number, Tracks}
 use Rattle.dcsctp_delivery_receiving.proofs.Joining.{both}
 use Rattle.dcsctp_delivery_receiving.proofs.Distinct.{distinct_with, has_either, has_left, has_right}
 use Rattle.dcsctp_delivery_receiving.proofs.Reassembled.{waiting_data, first_number, first_base, first_near, number_read, bears_of}
@@ -35,7 +35,7 @@ use Rattle.dcsctp_delivery_order.proofs.PlainSteps.{IsCounted}
 -- No TSN was handled yet; or the number of the first is known, and all that is held is in order.
 pub data ReassemblesPlain (these : ℕ → Bool) (queued : List Message) (history : History) (first : ℕ) (got read : List ℕ) (incoming : IncomingModel) : Type 0 where
   none_handled : got ≡ [] → incoming.last_tsn_number ≡ 2 ^ 32 → ((base : ℕ) → IncomingPlain these queued history [] base read incoming) → ReassemblesPlain these queued history first got read incoming
-  some_handled : (base : ℕ) → Placed first base incoming.last_tsn_number → IncomingPlain these queued history got base read incoming → ReassemblesPlain these queued history first got read incoming
+  some_handled : (base : ℕ) → CountsFromBase first base incoming.last_tsn_number → IncomingPlain these queued history got base read incoming → ReassemblesPlain these queued history first got read incoming
 
 -- A TSN that counts as received was, if nothing is skipped on any stream, or if it carries a piece of one of these.
 abbrev pub IsSure : Bool → (ℕ → Bool) → List Slot → ℕ → Type 0
@@ -49,7 +49,7 @@ pub record HasReceivedPlain (whole : Bool) (these : ℕ → Bool) (queued : List
   pub got : List ℕ
   pub later : List ℕ
   pub tracks : Tracks first (length history.log) taken tracker
-  pub exact : (offset : ℕ) → IsSure whole these history.log offset → has_received tracker (tracked first offset) ≡ true → HasEntry offset taken
+  pub exact : (offset : ℕ) → IsSure whole these history.log offset → has_received tracker (tracked_number first offset) ≡ true → HasEntry offset taken
   pub pieces : (k : ℕ) → HasEntry k taken → (f : Piece) × (at_place k history.log ≡ Some (Some f))
   pub got_taken : (k : ℕ) → HasEntry k got → HasEntry k taken
   pub later_taken : (k : ℕ) → HasEntry k later → HasEntry k taken
@@ -71,32 +71,32 @@ DefersBeside these (Some deferral) = ((id : ℕ) → these id ≡ true → names
 
 -- ---- the tracker
 
-tracked_apart : (first m n : ℕ) → tracked first m ≡ tracked first n → m ≡ n
+tracked_apart : (first m n : ℕ) → tracked_number first m ≡ tracked_number first n → m ≡ n
 tracked_apart first m n same = omega (arith, same)
 
 -- what it knows once a TSN was observed
 module _ (first count offset : ℕ) (immediate : Bool) (tracker : TrackerState) (got : List ℕ) (small : first < 2 ^ 32) (few : count < 2 ^ 31) (below : offset < count) (tracks : Tracks first count got tracker)
-    (Sure : ℕ → Type 0) (exact : (k : ℕ) → Sure k → has_received tracker (tracked first k) ≡ true → HasEntry k got) where
+    (Sure : ℕ → Type 0) (exact : (k : ℕ) → Sure k → has_received tracker (tracked_number first k) ≡ true → HasEntry k got) where
   tsn : ℕ
   tsn = (first + offset) % 2 ^ 32
 
   number : ℕ
   number = nearest_number tracker.cumulative ((first + offset) % 2 ^ 32)
 
-  here : nearest_number tracker.cumulative ((first + offset) % 2 ^ 32) ≡ tracked first offset
+  here : nearest_number tracker.cumulative ((first + offset) % 2 ^ 32) ≡ tracked_number first offset
   here = number_is first count offset tracker.cumulative small few below tracks.reached tracks.started
 
-  pub observed_exact : (k : ℕ) → Sure k → has_received (observed ((first + offset) % 2 ^ 32) immediate tracker) (tracked first k) ≡ true → HasEntry k (offset ∷ got)
-  observed_exact k sure e = go (has_received tracker (tracked first k)) refl (sym (received_members (nearest_number tracker.cumulative ((first + offset) % 2 ^ 32)) tracker.cumulative tracker.ranges tracks.beyond (tracked first k)) ∙ e)
+  pub observed_exact : (k : ℕ) → Sure k → has_received (tracker_after_data ((first + offset) % 2 ^ 32) immediate tracker) (tracked_number first k) ≡ true → HasEntry k (offset ∷ got)
+  observed_exact k sure e = go (has_received tracker (tracked_number first k)) refl (sym (received_members (nearest_number tracker.cumulative ((first + offset) % 2 ^ 32)) tracker.cumulative tracker.ranges tracks.beyond (tracked_number first k)) ∙ e)
     where
-      go : (b : Bool) → has_received tracker (tracked first k) ≡ b → (b || (tracked first k == nearest_number tracker.cumulative ((first + offset) % 2 ^ 32))) ≡ true → HasEntry k (offset ∷ got)
+      go : (b : Bool) → has_received tracker (tracked_number first k) ≡ b → (b || (tracked_number first k == nearest_number tracker.cumulative ((first + offset) % 2 ^ 32))) ≡ true → HasEntry k (offset ∷ got)
       go true known either = inr (exact k sure known)
-      go false known either = inl (tracked_apart first k offset (eqb-true (tracked first k) (nearest_number tracker.cumulative ((first + offset) % 2 ^ 32)) either ∙ here))
+      go false known either = inl (tracked_apart first k offset (eqb-true (tracked_number first k) (nearest_number tracker.cumulative ((first + offset) % 2 ^ 32)) either ∙ here))
 
-  pub known_exact : is_new_tsn ((first + offset) % 2 ^ 32) tracker ≡ false → (k : ℕ) → Sure k → has_received (observed ((first + offset) % 2 ^ 32) immediate tracker) (tracked first k) ≡ true → HasEntry k got
+  pub known_exact : is_new_tsn ((first + offset) % 2 ^ 32) tracker ≡ false → (k : ℕ) → Sure k → has_received (tracker_after_data ((first + offset) % 2 ^ 32) immediate tracker) (tracked_number first k) ≡ true → HasEntry k got
   known_exact known k sure e =
       elim (observed_exact k sure e) [
-        | inl same ↦ exact k sure (ap (λ (j : ℕ). has_received tracker (tracked first j)) same ∙ ap (has_received tracker) (sym here) ∙ not_false (has_received tracker (nearest_number tracker.cumulative ((first + offset) % 2 ^ 32))) known)
+        | inl same ↦ exact k sure (ap (λ (j : ℕ). has_received tracker (tracked_number first j)) same ∙ ap (has_received tracker) (sym here) ∙ not_false (has_received tracker (nearest_number tracker.cumulative ((first + offset) % 2 ^ 32))) known)
         | inr old ↦ old
       ]
     where
@@ -105,15 +105,15 @@ module _ (first count offset : ℕ) (immediate : Bool) (tracker : TrackerState) 
       not_false false e' = absurd (cc)
 
   -- it lies within the window
-  pub in_window : is_valid_tsn tracker.cumulative ((first + offset) % 2 ^ 32) ≡ true → offset < tracker.cumulative + 1 - tracked first 0 + 2 ^ 16
+  pub in_window : is_valid_tsn tracker.cumulative ((first + offset) % 2 ^ 32) ≡ true → offset < tracker.cumulative + 1 - tracked_number first 0 + 2 ^ 16
   in_window valid =
       let near : nearest_number tracker.cumulative ((first + offset) % 2 ^ 32) ≤ tracker.cumulative + 65535 = grind (arith, nat_tests, valid) in
       let started = tracks.started in
       omega (arith, near, here, started)
 
 -- each TSN up to the cumulative one counts as received
-passed_so : (first count : ℕ) (tracker : TrackerState) (got : List ℕ) → Tracks first count got tracker → (k : ℕ) → k < tracker.cumulative + 1 - tracked first 0 → has_received tracker (tracked first k) ≡ true
-passed_so first count tracker got tracks k less = (up_to tracker.cumulative (tracked first k) tracker.ranges (let started = tracks.started in omega (arith, less, started)))
+passed_so : (first count : ℕ) (tracker : TrackerState) (got : List ℕ) → Tracks first count got tracker → (k : ℕ) → k < tracker.cumulative + 1 - tracked_number first 0 → has_received tracker (tracked_number first k) ≡ true
+passed_so first count tracker got tracks k less = (up_to tracker.cumulative (tracked_number first k) tracker.ranges (let started = tracks.started in omega (arith, less, started)))
 
 tracks_fewer : (first count : ℕ) (taken got : List ℕ) (tracker : TrackerState) → ((k : ℕ) → HasEntry k got → HasEntry k taken) → Tracks first count taken tracker → Tracks first count got tracker
 tracks_fewer first count taken got tracker among t = record { beyond = t.beyond; reached = t.reached; started = t.started; sent = t.sent; received = λ offset h. t.received offset (among offset h) }
@@ -121,7 +121,7 @@ tracks_fewer first count taken got tracker among t = record { beyond = t.beyond;
 module _ (whole : Bool) (these : ℕ → Bool) (queued : List Message) (history : History) (first : ℕ) (read : List ℕ) where
   -- the tracker moves alone
   pub tracked_on : (tracker now : TrackerState) (reassembly : ReassemblyState) (r : HasReceivedPlain whole these queued history first read tracker reassembly) → Tracks first (length history.log) r.taken now
-      → ((offset : ℕ) → IsSure whole these history.log offset → has_received now (tracked first offset) ≡ true → HasEntry offset r.taken) → HasReceivedPlain whole these queued history first read now reassembly
+      → ((offset : ℕ) → IsSure whole these history.log offset → has_received now (tracked_number first offset) ≡ true → HasEntry offset r.taken) → HasReceivedPlain whole these queued history first read now reassembly
   tracked_on tracker now reassembly r tracks exact =
       record {
         taken = r.taken;
@@ -150,9 +150,9 @@ module _ (whole : Bool) (these : ℕ → Bool) (queued : List Message) (history 
         reached = (let reached = r.tracks.reached in omega (arith, same, reached));
         started = (let started = r.tracks.started in omega (arith, same, started));
         sent = λ number is. r.tracks.sent number (sym (alike number) ∙ is);
-        received = λ offset h. alike (tracked first offset) ∙ r.tracks.received offset h;
+        received = λ offset h. alike (tracked_number first offset) ∙ r.tracks.received offset h;
       })
-      (λ offset sure is. r.exact offset sure (sym (alike (tracked first offset)) ∙ is))
+      (λ offset sure is. r.exact offset sure (sym (alike (tracked_number first offset)) ∙ is))
     where
       alike : (number : ℕ) → has_received now number ≡ has_received tracker number
       alike number = ap (λ (c : ℕ). is_received c number now.ranges) same ∙ ap (λ (l : List TsnRange). is_received tracker.cumulative number l) same'
@@ -195,7 +195,7 @@ counted_so tsn size transfer room counts =
 
 -- ---- data
 
-module _ (queued : List Message) (history : History) (first size : ℕ) (cut : Cut queued history.log) (whole : Bool) (these : ℕ → Bool) (counts : CountsThese whole these history) (small : first < 2 ^ 32) (read : List ℕ) where
+module _ (queued : List Message) (history : History) (first size : ℕ) (cut : IsLogOfPieces queued history.log) (whole : Bool) (these : ℕ → Bool) (counts : CountsThese whole these history) (small : first < 2 ^ 32) (read : List ℕ) where
   data_plain : (got : List ℕ) (cumulative offset tsn : ℕ) (chunk : ChunkModel) (old new : IncomingModel) → ((id : ℕ) → these id ≡ true → (k : ℕ) → k < cumulative → PassedOn history.log got id k)
       → CarriesCurrent history first offset tsn chunk → (HasEntry offset got → ⊥) → offset < cumulative + 2 ^ 16 → ReassemblesPlain these queued history first got read old → TakesIncomingChunk tsn chunk old new
       → ReassemblesPlain these queued history first (offset ∷ got) read new
@@ -241,7 +241,7 @@ module _ (queued : List Message) (history : History) (first size : ℕ) (cut : C
       (subst (λ (l : List ℕ). IncomingPlain these queued history l base read old) (sym none) (empty base)) takes)
 
   -- what the tracker has passed is handled, where it is of these streams
-  pub passed_on : (tracker : TrackerState) (reassembly : ReassemblyState) (r : HasReceivedPlain whole these queued history first read tracker reassembly) → (id : ℕ) → these id ≡ true → (k : ℕ) → k < tracker.cumulative + 1 - tracked first 0
+  pub passed_on : (tracker : TrackerState) (reassembly : ReassemblyState) (r : HasReceivedPlain whole these queued history first read tracker reassembly) → (id : ℕ) → these id ≡ true → (k : ℕ) → k < tracker.cumulative + 1 - tracked_number first 0
       → PassedOn history.log r.got id k
   passed_on tracker reassembly r id mine k less =
       record {
@@ -252,7 +252,7 @@ module _ (queued : List Message) (history : History) (first size : ℕ) (cut : C
         never_shuts = λ m f next of none. go whole refl m f next of none;
       }
     where
-      known : has_received tracker (tracked first k) ≡ true
+      known : has_received tracker (tracked_number first k) ≡ true
       known = passed_so first (length history.log) tracker r.taken r.tracks k less
 
       -- No such end was received; or the message may not be abandoned.
@@ -273,18 +273,18 @@ module _ (queued : List Message) (history : History) (first size : ℕ) (cut : C
     below = at_below offset (Some c.piece) history.log c.at
 
     now : TrackerState
-    now = observed arrival.tsn arrival.immediate_ack old.tracker
+    now = tracker_after_data arrival.tsn arrival.immediate_ack old.tracker
 
     its_tracks : Tracks first (length history.log) (offset ∷ r.taken) now
     unfolding now
     its_tracks =
-        subst (λ (t : ℕ). Tracks first (length history.log) (offset ∷ r.taken) (observed t arrival.immediate_ack old.tracker)) (sym c.is)
+        subst (λ (t : ℕ). Tracks first (length history.log) (offset ∷ r.taken) (tracker_after_data t arrival.immediate_ack old.tracker)) (sym c.is)
         (new_is_new first (length history.log) offset arrival.immediate_ack r.taken old.tracker small counts.few below r.tracks).0
 
-    its_exact : (k : ℕ) → IsSure whole these history.log k → has_received now (tracked first k) ≡ true → HasEntry k (offset ∷ r.taken)
+    its_exact : (k : ℕ) → IsSure whole these history.log k → has_received now (tracked_number first k) ≡ true → HasEntry k (offset ∷ r.taken)
     unfolding now
     its_exact =
-        subst (λ (t : ℕ). (k : ℕ) → IsSure whole these history.log k → has_received (observed t arrival.immediate_ack old.tracker) (tracked first k) ≡ true → HasEntry k (offset ∷ r.taken)) (sym c.is)
+        subst (λ (t : ℕ). (k : ℕ) → IsSure whole these history.log k → has_received (tracker_after_data t arrival.immediate_ack old.tracker) (tracked_number first k) ≡ true → HasEntry k (offset ∷ r.taken)) (sym c.is)
         (observed_exact first (length history.log) offset arrival.immediate_ack old.tracker r.taken small counts.few below r.tracks (IsSure whole these history.log) r.exact)
 
     its_pieces : (k : ℕ) → HasEntry k (offset ∷ r.taken) → (f : Piece) × (at_place k history.log ≡ Some (Some f))
@@ -370,7 +370,7 @@ module _ (queued : List Message) (history : History) (first size : ℕ) (cut : C
           either = λ k h. elim h [ inl e ↦ inl (inl e) | inr t ↦ elim (r.either k t) [ inl g ↦ inl (inr g) | inr l ↦ inr l ] ];
           apart = λ k h g. elim g [ inl e ↦ is_new (r.later_taken offset (subst (λ (j : ℕ). HasEntry j r.later) e h)) | inr t ↦ r.apart k h t ];
           distinct = r.distinct;
-          holds = data_plain r.got (old.tracker.cumulative + 1 - tracked first 0) offset arrival.tsn arrival.chunk old.reassembly.incoming new.reassembly.incoming
+          holds = data_plain r.got (old.tracker.cumulative + 1 - tracked_number first 0) offset arrival.tsn arrival.chunk old.reassembly.incoming new.reassembly.incoming
               (passed_on old.tracker old.reassembly r) current (λ h. is_new (r.got_taken offset h))
               (in_window first (length history.log) offset arrival.immediate_ack old.tracker r.taken small counts.few below r.tracks (IsSure whole these history.log) r.exact (subst (λ (t : ℕ). is_valid_tsn old.tracker.cumulative t ≡ true) c.is valid)) r.holds taken.incoming;
           defers = subst (λ (d : Option DeferralModel). DefersData history first r.later (waiting_of d)) (sym taken.deferral) r.defers;
@@ -382,8 +382,8 @@ module _ (queued : List Message) (history : History) (first size : ℕ) (cut : C
     taken_plain room valid takes =
         subst (λ (t : TrackerState). HasReceivedPlain whole these queued history first read t new.reassembly) (sym (ap (λ (t : Transfer). t.tracker) takes.rest)) (go (is_new_tsn arrival.tsn old.tracker) refl takes.reassembly)
       where
-        go : (b : Bool) → is_new_tsn arrival.tsn old.tracker ≡ b → AddsWhere b arrival.tsn arrival.chunk old.reassembly new.reassembly
-            → HasReceivedPlain whole these queued history first read (observed arrival.tsn arrival.immediate_ack old.tracker) new.reassembly
+        go : (b : Bool) → is_new_tsn arrival.tsn old.tracker ≡ b → AddsIfNew b arrival.tsn arrival.chunk old.reassembly new.reassembly
+            → HasReceivedPlain whole these queued history first read (tracker_after_data arrival.tsn arrival.immediate_ack old.tracker) new.reassembly
         go true is adds =
             by_count (can_count (length arrival.chunk.payload) old.reassembly) refl
           where
@@ -392,18 +392,18 @@ module _ (queued : List Message) (history : History) (first size : ℕ) (cut : C
                 let payload = payload_small in
                 counted_so arrival.tsn (length arrival.chunk.payload) old room (record { whole = omega (arith, bounded, fits.whole, payload); half = omega (arith, fits.half, payload) })
 
-            by_count : (counts : Bool) → can_count (length arrival.chunk.payload) old.reassembly ≡ counts → HasReceivedPlain whole these queued history first read (observed arrival.tsn arrival.immediate_ack old.tracker) new.reassembly
+            by_count : (counts : Bool) → can_count (length arrival.chunk.payload) old.reassembly ≡ counts → HasReceivedPlain whole these queued history first read (tracker_after_data arrival.tsn arrival.immediate_ack old.tracker) new.reassembly
             by_count true e = added valid is e (is_data_deferred arrival.tsn arrival.chunk.stream old.reassembly.deferral) refl adds
             by_count false e =
-                subst (λ (s : ReassemblyState). HasReceivedPlain whole these queued history first read (observed arrival.tsn arrival.immediate_ack old.tracker) s) (sym (adds.too_much e))
-                (tracked_on whole these queued history first read old.tracker (observed arrival.tsn arrival.immediate_ack old.tracker) old.reassembly r
-                (tracks_fewer first (length history.log) (offset ∷ r.taken) r.taken (observed arrival.tsn arrival.immediate_ack old.tracker) (λ k h. inr h) its_tracks)
+                subst (λ (s : ReassemblyState). HasReceivedPlain whole these queued history first read (tracker_after_data arrival.tsn arrival.immediate_ack old.tracker) s) (sym (adds.too_much e))
+                (tracked_on whole these queued history first read old.tracker (tracker_after_data arrival.tsn arrival.immediate_ack old.tracker) old.reassembly r
+                (tracks_fewer first (length history.log) (offset ∷ r.taken) r.taken (tracker_after_data arrival.tsn arrival.immediate_ack old.tracker) (λ k h. inr h) its_tracks)
                 (λ k sure is'. absurd (let clash : true ≡ false = sym counted ∙ e in cc)))
         go false is adds =
-            subst (λ (s : ReassemblyState). HasReceivedPlain whole these queued history first read (observed arrival.tsn arrival.immediate_ack old.tracker) s) (sym adds)
-            (tracked_on whole these queued history first read old.tracker (observed arrival.tsn arrival.immediate_ack old.tracker) old.reassembly r
-            (tracks_fewer first (length history.log) (offset ∷ r.taken) r.taken (observed arrival.tsn arrival.immediate_ack old.tracker) (λ k h. inr h) its_tracks)
-            (subst (λ (t : ℕ). (k : ℕ) → IsSure whole these history.log k → has_received (observed t arrival.immediate_ack old.tracker) (tracked first k) ≡ true → HasEntry k r.taken) (sym c.is)
+            subst (λ (s : ReassemblyState). HasReceivedPlain whole these queued history first read (tracker_after_data arrival.tsn arrival.immediate_ack old.tracker) s) (sym adds)
+            (tracked_on whole these queued history first read old.tracker (tracker_after_data arrival.tsn arrival.immediate_ack old.tracker) old.reassembly r
+            (tracks_fewer first (length history.log) (offset ∷ r.taken) r.taken (tracker_after_data arrival.tsn arrival.immediate_ack old.tracker) (λ k h. inr h) its_tracks)
+            (subst (λ (t : ℕ). (k : ℕ) → IsSure whole these history.log k → has_received (tracker_after_data t arrival.immediate_ack old.tracker) (tracked_number first k) ≡ true → HasEntry k r.taken) (sym c.is)
             (known_exact first (length history.log) offset arrival.immediate_ack old.tracker r.taken small counts.few below r.tracks (IsSure whole these history.log) r.exact (by_offset false is))))
 
     dropped_plain : (b : Bool) → new ≡ dropping b old → HasReceivedPlain whole these queued history first read new.tracker new.reassembly
@@ -415,7 +415,7 @@ module _ (queued : List Message) (history : History) (first size : ℕ) (cut : C
     pub received_plain : ReceivesData arrival old new → HasReceivedPlain whole these queued history first read new.tracker new.reassembly
     received_plain receives = go (has_room arrival.tsn old && is_valid_tsn old.tracker.cumulative arrival.tsn) refl receives
       where
-        go : (b : Bool) → (has_room arrival.tsn old && is_valid_tsn old.tracker.cumulative arrival.tsn) ≡ b → ReceivesWhere b arrival old new → HasReceivedPlain whole these queued history first read new.tracker new.reassembly
+        go : (b : Bool) → (has_room arrival.tsn old && is_valid_tsn old.tracker.cumulative arrival.tsn) ≡ b → ReceivesIfRoom b arrival old new → HasReceivedPlain whole these queued history first read new.tracker new.reassembly
         go true e takes = (let (room, valid) = both (has_room arrival.tsn old) (is_valid_tsn old.tracker.cumulative arrival.tsn) e in taken_plain room valid takes)
         go false e same = dropped_plain (old.tracker.follows_rfc && is_valid_tsn old.tracker.cumulative arrival.tsn) same
 
@@ -443,7 +443,7 @@ stays_idle arrival old new receives idle = by_room (has_room arrival.tsn old && 
     by_count adds true e = by_deferral adds e (is_data_deferred arrival.tsn arrival.chunk.stream old.reassembly.deferral) refl
     by_count adds false e = same_state new.reassembly (adds.too_much e)
 
-    by_new : (b : Bool) → AddsWhere b arrival.tsn arrival.chunk old.reassembly new.reassembly → IsIdleAs old.reassembly new.reassembly
+    by_new : (b : Bool) → AddsIfNew b arrival.tsn arrival.chunk old.reassembly new.reassembly → IsIdleAs old.reassembly new.reassembly
     by_new true adds = by_count adds (can_count (length arrival.chunk.payload) old.reassembly) refl
     by_new false same = same_state new.reassembly same
 
@@ -451,7 +451,7 @@ stays_idle arrival old new receives idle = by_room (has_room arrival.tsn old && 
     dropped true same = ap (λ (t : Transfer). t.reassembly) same
     dropped false same = ap (λ (t : Transfer). t.reassembly) same
 
-    by_room : (b : Bool) → ReceivesWhere b arrival old new → IsIdleAs old.reassembly new.reassembly
+    by_room : (b : Bool) → ReceivesIfRoom b arrival old new → IsIdleAs old.reassembly new.reassembly
     by_room true takes = by_new (is_new_tsn arrival.tsn old.tracker) takes.reassembly
     by_room false same = same_state new.reassembly (dropped (old.tracker.follows_rfc && is_valid_tsn old.tracker.cumulative arrival.tsn) same)
 
@@ -481,7 +481,7 @@ stays_steady these arrival old new receives beside = by_room (has_room arrival.t
     by_count adds true e = by_deferral adds e (is_data_deferred arrival.tsn arrival.chunk.stream old.reassembly.deferral) refl
     by_count adds false e = same_state new.reassembly (adds.too_much e)
 
-    by_new : (b : Bool) → AddsWhere b arrival.tsn arrival.chunk old.reassembly new.reassembly → IsSteadyAs these old.reassembly new.reassembly
+    by_new : (b : Bool) → AddsIfNew b arrival.tsn arrival.chunk old.reassembly new.reassembly → IsSteadyAs these old.reassembly new.reassembly
     by_new true adds = by_count adds (can_count (length arrival.chunk.payload) old.reassembly) refl
     by_new false same = same_state new.reassembly same
 
@@ -489,6 +489,6 @@ stays_steady these arrival old new receives beside = by_room (has_room arrival.t
     dropped true same = ap (λ (t : Transfer). t.reassembly) same
     dropped false same = ap (λ (t : Transfer). t.reassembly) same
 
-    by_room : (b : Bool) → ReceivesWhere b arrival old new → IsSteadyAs these old.reassembly new.reassembly
+    by_room : (b : Bool) → ReceivesIfRoom b arrival old new → IsSteadyAs these old.reassembly new.reassembly
     by_room true takes = by_new (is_new_tsn arrival.tsn old.tracker) takes.reassembly
     by_room false same = same_state new.reassembly (dropped (old.tracker.follows_rfc && is_valid_tsn old.tracker.cumulative arrival.tsn) same)

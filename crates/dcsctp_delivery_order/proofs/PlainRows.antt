@@ -3,52 +3,52 @@ use Rattle.std.proofs.Common.{◌≡◌, ℕ, zero, suc, Bool, true, false, ◌<
 use Rattle.std.specs.Prelude.{None, Some, if◌then◌else◌}
 use Rattle.std.proofs.lemmas.Bool.Decides.{eqb_tells, leb_tells}
 use Rattle.dcsctp_delivery_sending.specs.Places.{at_place}
-use Rattle.dcsctp_delivery_sending.specs.Log.{Message, Piece, Slot, History, Cut}
-use Rattle.dcsctp_delivery_sending.specs.Turns.{begun_on, turn_at}
+use Rattle.dcsctp_delivery_sending.specs.Log.{Message, Piece, Slot, History, IsLogOfPieces}
+use Rattle.dcsctp_delivery_sending.specs.Turns.{begun_on, turn_of_tsn}
 use Rattle.dcsctp_delivery_sending.proofs.Places.{at_below, at_cases, at_stays}
 use Rattle.dcsctp_delivery_sending.proofs.Turns.{turn_new, turn_old}
 use Rattle.dcsctp_delivery_order.specs.Queue.{FollowsOn}
 use Rattle.dcsctp_delivery_order.specs.Order.{IsSentAs}
-use Rattle.dcsctp_delivery_order.specs.Plain.{turned_piece, turned_slot, turned, with_turns, CountsPlain, CarriesOrdered}
+use Rattle.dcsctp_delivery_order.specs.Plain.{turned_piece, turned_slot, turned_log, with_turns, CountsPlain, CarriesOrdered}
 use Rattle.dcsctp_delivery_order.proofs.PlainTurns.{turn_up, turn_inside, turn_none, IsFirstAt, one_first}
 
 -- ---- what the log with numbers has
 
-pub turned_length : (log : List Slot) → length (turned log) ≡ length log
+pub turned_length : (log : List Slot) → length (turned_log log) ≡ length log
 turned_length [] = refl
 turned_length (slot ∷ log) = ap suc (turned_length log)
 
 at_last : (slot : Slot) (log : List Slot) (n : ℕ) → n ≡ length log → at_place n (slot ∷ log) ≡ Some slot
 at_last slot log n is = elim (eqb_tells n (length log)) [ inl e ↦ rw e.0 refl | inr e ↦ absurd (e.1 is) ]
 
-pub turned_at : (n : ℕ) (f : Piece) (log : List Slot) → at_place n log ≡ Some (Some f) → at_place n (turned log) ≡ Some (Some (turned_piece f (turn_at f.message.stream n log)))
+pub turned_at : (n : ℕ) (f : Piece) (log : List Slot) → at_place n log ≡ Some (Some f) → at_place n (turned_log log) ≡ Some (Some (turned_piece f (turn_of_tsn f.message.stream n log)))
 turned_at n f [] at = absurd (cc)
 turned_at n f (slot ∷ log) at =
     elim (at_cases n slot (Some f) log at) [
       | inl e ↦
-          (let here : turn_at f.message.stream n (slot ∷ log) ≡ begun_on f.message.stream (slot ∷ log) = ap (λ (k : ℕ). turn_at f.message.stream k (slot ∷ log)) e.0 ∙ turn_new f.message.stream slot log in
-          at_last (turned_slot slot log) (turned log) n (e.0 ∙ sym (turned_length log)) ∙ ap (λ (s : Slot). Some (turned_slot s log)) e.1
+          (let here : turn_of_tsn f.message.stream n (slot ∷ log) ≡ begun_on f.message.stream (slot ∷ log) = ap (λ (k : ℕ). turn_of_tsn f.message.stream k (slot ∷ log)) e.0 ∙ turn_new f.message.stream slot log in
+          at_last (turned_slot slot log) (turned_log log) n (e.0 ∙ sym (turned_length log)) ∙ ap (λ (s : Slot). Some (turned_slot s log)) e.1
           ∙ ap (λ (k : ℕ). Some (Some (turned_piece f k))) (ap (λ (s : Slot). begun_on f.message.stream (s ∷ log)) (sym e.1) ∙ sym here))
       | inr old ↦
           (let low = at_below n (Some f) log old in
-          at_stays n (turned_slot slot log) (Some (turned_piece f (turn_at f.message.stream n log))) (turned log) (turned_at n f log old)
+          at_stays n (turned_slot slot log) (Some (turned_piece f (turn_of_tsn f.message.stream n log))) (turned_log log) (turned_at n f log old)
           ∙ ap (λ (k : ℕ). Some (Some (turned_piece f k))) (sym (turn_old f.message.stream n slot log low)))
     ]
 
-pub turned_slots : (more log : List Slot) (n : ℕ) (slot : Slot) → at_place n (turned log) ≡ Some slot → at_place n (turned (more ++ log)) ≡ Some slot
+pub turned_slots : (more log : List Slot) (n : ℕ) (slot : Slot) → at_place n (turned_log log) ≡ Some slot → at_place n (turned_log (more ++ log)) ≡ Some slot
 turned_slots [] log n slot at = at
-turned_slots (s ∷ more) log n slot at = at_stays n (turned_slot s (more ++ log)) slot (turned (more ++ log)) (turned_slots more log n slot at)
+turned_slots (s ∷ more) log n slot at = at_stays n (turned_slot s (more ++ log)) slot (turned_log (more ++ log)) (turned_slots more log n slot at)
 
 -- a piece of it is one of the log
 pub record IsTurnedAt (log : List Slot) (n : ℕ) (g : Piece) : Type 0 where
   pub piece : Piece
   pub at : at_place n log ≡ Some (Some piece)
-  pub is : turned_piece piece (turn_at piece.message.stream n log) ≡ g
+  pub is : turned_piece piece (turn_of_tsn piece.message.stream n log) ≡ g
 
-pub at_turned : (n : ℕ) (g : Piece) (log : List Slot) → at_place n (turned log) ≡ Some (Some g) → IsTurnedAt log n g
+pub at_turned : (n : ℕ) (g : Piece) (log : List Slot) → at_place n (turned_log log) ≡ Some (Some g) → IsTurnedAt log n g
 at_turned n g [] at = absurd (cc)
 at_turned n g (slot ∷ log) at =
-    elim (at_cases n (turned_slot slot log) (Some g) (turned log) at) [
+    elim (at_cases n (turned_slot slot log) (Some g) (turned_log log) at) [
       | inl e ↦ here slot e.1 (e.0 ∙ turned_length log)
       | inr old ↦
           (let rest = at_turned n g log old in
@@ -67,7 +67,7 @@ at_turned n g (slot ∷ log) at =
         record {
           piece = piece;
           at = at_last (Some piece) log n last;
-          is = ap (turned_piece piece) (ap (λ (k : ℕ). turn_at piece.message.stream k (Some piece ∷ log)) last ∙ turn_new piece.message.stream (Some piece) log) ∙ same;
+          is = ap (turned_piece piece) (ap (λ (k : ℕ). turn_of_tsn piece.message.stream k (Some piece ∷ log)) last ∙ turn_new piece.message.stream (Some piece) log) ∙ same;
         }
 
 -- ---- the pieces of a message
@@ -85,12 +85,12 @@ pub record RowOf (log : List Slot) (id place n : ℕ) : Type 0 where
   pub first : IsFirstAt log id from
   pub up_to : from ≤ n
   pub is : first.piece.place ≡ place
-  pub turn : turn_at id from log ≡ turn_at id n log
+  pub turn : turn_of_tsn id from log ≡ turn_of_tsn id n log
   pub inside : (k : ℕ) → from < k → k ≤ n → ContinuesAt log place k
 
-module _ (queued : List Message) (history : History) (cut : Cut queued history.log) (id : ℕ) (counts : CountsPlain id history) where
+module _ (queued : List Message) (history : History) (cut : IsLogOfPieces queued history.log) (id : ℕ) (counts : CountsPlain id history) where
   -- it was counted
-  pub some_turn : (n : ℕ) (f : Piece) → CarriesOrdered history.log id n f → 0 < turn_at id n history.log
+  pub some_turn : (n : ℕ) (f : Piece) → CarriesOrdered history.log id n f → 0 < turn_of_tsn id n history.log
   some_turn n f is = (counts.sent n f is).some
 
   row_alone : (n : ℕ) (f : Piece) → CarriesOrdered history.log id n f → f.start ≡ 0 → RowOf history.log id f.place n
@@ -126,7 +126,7 @@ module _ (queued : List Message) (history : History) (cut : Cut queued history.l
             first = rest.first;
             up_to = (let low = rest.up_to in omega (arith, low));
             is = rest.is ∙ before.place;
-            turn = rest.turn ∙ sym (turn_inside id n f history.log (ap (λ (k : ℕ). at_place k history.log) one ∙ is.at) inside) ∙ ap (λ (k : ℕ). turn_at id k history.log) one;
+            turn = rest.turn ∙ sym (turn_inside id n f history.log (ap (λ (k : ℕ). at_place k history.log) one ∙ is.at) inside) ∙ ap (λ (k : ℕ). turn_of_tsn id k history.log) one;
             inside = λ k low high. elim (eqb_tells k (suc n)) [
               | inl t ↦ record { piece = f; at = ap (λ (j : ℕ). at_place j history.log) t.1 ∙ is.at; inside = inside; is = refl }
               | inr t ↦
@@ -137,7 +137,7 @@ module _ (queued : List Message) (history : History) (cut : Cut queued history.l
           }
 
   -- of two messages the one with the higher count was queued later
-  pub later_turn : (m n : ℕ) (f g : Piece) → CarriesOrdered history.log id m f → CarriesOrdered history.log id n g → turn_at id m history.log < turn_at id n history.log → f.place < g.place
+  pub later_turn : (m n : ℕ) (f g : Piece) → CarriesOrdered history.log id m f → CarriesOrdered history.log id n g → turn_of_tsn id m history.log < turn_of_tsn id n history.log → f.place < g.place
   later_turn m n f g is is' less =
       let row = row_of n g is' in
       let before : m < row.from = elim (leb_tells row.from m) [
@@ -149,7 +149,7 @@ module _ (queued : List Message) (history : History) (cut : Cut queued history.l
       omega (arith, up, same)
 
   -- those with one count are one
-  pub same_turn : (m n : ℕ) (f g : Piece) → CarriesOrdered history.log id m f → CarriesOrdered history.log id n g → turn_at id m history.log ≡ turn_at id n history.log → f.place ≡ g.place
+  pub same_turn : (m n : ℕ) (f g : Piece) → CarriesOrdered history.log id m f → CarriesOrdered history.log id n g → turn_of_tsn id m history.log ≡ turn_of_tsn id n history.log → f.place ≡ g.place
   same_turn m n f g is is' same =
       let one = row_of m f is in
       let two = row_of n g is' in
@@ -170,16 +170,16 @@ module _ (queued : List Message) (history : History) (cut : Cut queued history.l
 
   -- ---- as the receiver has it
 
-  pub sent_as : (n : ℕ) (f : Piece) → CarriesOrdered history.log id n f → IsSentAs (with_turns history) id f.place (turn_at id n history.log - 1)
+  pub sent_as : (n : ℕ) (f : Piece) → CarriesOrdered history.log id n f → IsSentAs (with_turns history) id f.place (turn_of_tsn id n history.log - 1)
   sent_as n f is =
       record {
         offset = n;
-        piece = turned_piece f (turn_at f.message.stream n history.log);
+        piece = turned_piece f (turn_of_tsn f.message.stream n history.log);
         at = turned_at n f history.log is.at;
         is = refl;
         stream = is.stream;
         ordered = is.ordered;
-        under = ap (λ (b : Bool). if b then 0 else turn_at f.message.stream n history.log - 1) is.ordered ∙ ap (λ (k : ℕ). turn_at k n history.log - 1) is.stream;
+        under = ap (λ (b : Bool). if b then 0 else turn_of_tsn f.message.stream n history.log - 1) is.ordered ∙ ap (λ (k : ℕ). turn_of_tsn k n history.log - 1) is.stream;
       }
 
   -- A message of this number is one of the log.
@@ -188,7 +188,7 @@ module _ (queued : List Message) (history : History) (cut : Cut queued history.l
     pub piece : Piece
     pub is : CarriesOrdered history.log id offset piece
     pub place_is : piece.place ≡ place
-    pub turn : turn_at id offset history.log ≡ mid + 1
+    pub turn : turn_of_tsn id offset history.log ≡ mid + 1
 
   pub sent_from : (place mid : ℕ) → IsSentAs (with_turns history) id place mid → SentFrom place mid
   sent_from place mid sent =
@@ -196,8 +196,8 @@ module _ (queued : List Message) (history : History) (cut : Cut queued history.l
       let on : t.piece.message.stream ≡ id = ap (λ (x : Piece). x.message.stream) t.is ∙ sent.stream in
       let ordered : t.piece.message.is_unordered ≡ false = ap (λ (x : Piece). x.message.is_unordered) t.is ∙ sent.ordered in
       let is : CarriesOrdered history.log id sent.offset t.piece = record { at = t.at; stream = on; ordered = ordered } in
-      let number : turn_at id sent.offset history.log - 1 ≡ mid =
-      ap (λ (k : ℕ). turn_at k sent.offset history.log - 1) (sym on) ∙ ap (λ (b : Bool). if b then 0 else turn_at t.piece.message.stream sent.offset history.log - 1) (sym ordered)
+      let number : turn_of_tsn id sent.offset history.log - 1 ≡ mid =
+      ap (λ (k : ℕ). turn_of_tsn k sent.offset history.log - 1) (sym on) ∙ ap (λ (b : Bool). if b then 0 else turn_of_tsn t.piece.message.stream sent.offset history.log - 1) (sym ordered)
       ∙ ap (λ (x : Piece). x.mid) t.is ∙ sent.under in
       let some = some_turn sent.offset t.piece is in
       record { offset = sent.offset; piece = t.piece; is = is; place_is = ap (λ (x : Piece). x.place) t.is ∙ sent.is; turn = omega (arith, number, some) }
@@ -208,7 +208,7 @@ module _ (queued : List Message) (history : History) (cut : Cut queued history.l
       let b = sent_from q n two in
       sym a.place_is ∙ same_turn a.offset b.offset a.piece b.piece a.is b.is (a.turn ∙ ap (λ (k : ℕ). k + 1) same ∙ sym b.turn) ∙ b.place_is
 
-  pub turns_follow : FollowsOn id (turned history.log)
+  pub turns_follow : FollowsOn id (turned_log history.log)
   turns_follow m n f g at at' of of' kind less = go (at_turned m f history.log at) (at_turned n g history.log at')
     where
       go : IsTurnedAt history.log m f → IsTurnedAt history.log n g → f.place < g.place
@@ -223,22 +223,22 @@ module _ (queued : List Message) (history : History) (cut : Cut queued history.l
           on_b : b.piece.message.stream ≡ id
           on_b = ap (λ (x : Piece). x.message.stream) b.is ∙ of'
 
-          f_mid : f.mid ≡ (if a.piece.message.is_unordered then 0 else turn_at a.piece.message.stream m history.log - 1)
+          f_mid : f.mid ≡ (if a.piece.message.is_unordered then 0 else turn_of_tsn a.piece.message.stream m history.log - 1)
           f_mid = ap (λ (x : Piece). x.mid) (sym a.is)
 
-          g_mid : g.mid ≡ (if b.piece.message.is_unordered then 0 else turn_at b.piece.message.stream n history.log - 1)
+          g_mid : g.mid ≡ (if b.piece.message.is_unordered then 0 else turn_of_tsn b.piece.message.stream n history.log - 1)
           g_mid = ap (λ (x : Piece). x.mid) (sym b.is)
 
           by_kind : (c : Bool) → a.piece.message.is_unordered ≡ c → f.place < g.place
           by_kind true unordered =
-              let one : f.mid ≡ 0 = f_mid ∙ ap (λ (c : Bool). if c then 0 else turn_at a.piece.message.stream m history.log - 1) unordered in
-              let two : g.mid ≡ 0 = g_mid ∙ ap (λ (c : Bool). if c then 0 else turn_at b.piece.message.stream n history.log - 1) (sym same_kind ∙ unordered) in
+              let one : f.mid ≡ 0 = f_mid ∙ ap (λ (c : Bool). if c then 0 else turn_of_tsn a.piece.message.stream m history.log - 1) unordered in
+              let two : g.mid ≡ 0 = g_mid ∙ ap (λ (c : Bool). if c then 0 else turn_of_tsn b.piece.message.stream n history.log - 1) (sym same_kind ∙ unordered) in
               absurd (omega (arith, one, two, less))
           by_kind false ordered =
-              let one : f.mid ≡ turn_at id m history.log - 1 =
-              f_mid ∙ ap (λ (c : Bool). if c then 0 else turn_at a.piece.message.stream m history.log - 1) ordered ∙ ap (λ (k : ℕ). turn_at k m history.log - 1) on_a in
-              let two : g.mid ≡ turn_at id n history.log - 1 =
-              g_mid ∙ ap (λ (c : Bool). if c then 0 else turn_at b.piece.message.stream n history.log - 1) (sym same_kind ∙ ordered) ∙ ap (λ (k : ℕ). turn_at k n history.log - 1) on_b in
+              let one : f.mid ≡ turn_of_tsn id m history.log - 1 =
+              f_mid ∙ ap (λ (c : Bool). if c then 0 else turn_of_tsn a.piece.message.stream m history.log - 1) ordered ∙ ap (λ (k : ℕ). turn_of_tsn k m history.log - 1) on_a in
+              let two : g.mid ≡ turn_of_tsn id n history.log - 1 =
+              g_mid ∙ ap (λ (c : Bool). if c then 0 else turn_of_tsn b.piece.message.stream n history.log - 1) (sym same_kind ∙ ordered) ∙ ap (λ (k : ℕ). turn_of_tsn k n history.log - 1) on_b in
               let up = later_turn m n a.piece b.piece (record { at = a.at; stream = on_a; ordered = ordered }) (record { at = b.at; stream = on_b; ordered = sym same_kind ∙ ordered }) (omega (arith, one, two, less)) in
               let p : a.piece.place ≡ f.place = ap (λ (x : Piece). x.place) a.is in
               let q : b.piece.place ≡ g.place = ap (λ (x : Piece). x.place) b.is in

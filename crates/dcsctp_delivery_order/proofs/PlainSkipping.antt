@@ -5,18 +5,18 @@ use Rattle.std.proofs.lemmas.Bool.Decides.{eqb_tells}
 use Rattle.dcsctp_spec_lemmas.specs.types.declared.arrivals.SkippedTo.{SkippedTo}
 use Rattle.dcsctp_spec_lemmas.specs.types.declared.arrivals.SkippedTo.TheVariants.{Ssn, Mid}
 use Rattle.dcsctp_spec_lemmas.specs.spec.queues.Numbers.{number_near}
-use Rattle.dcsctp_spec_lemmas.specs.spec.queues.IncomingStreams.{StreamModel, skipped, skipped_stream}
-use Rattle.dcsctp_spec_lemmas.specs.spec.queues.Incoming.{IncomingModel, stream_on, skipped_by, MovesOn}
+use Rattle.dcsctp_spec_lemmas.specs.spec.queues.IncomingStreams.{StreamModel, stream_after_skip, skipped_stream}
+use Rattle.dcsctp_spec_lemmas.specs.spec.queues.Incoming.{IncomingModel, stream_on, stream_skipping, MovesOn}
 use Rattle.dcsctp_spec_lemmas.specs.spec.queues.Reassembly.{ReassemblyState, DeferralModel, WaitingSkips, entries_beside, entries_within, is_forward_deferred, names_stream, waiting_of, skips_of, SkipsThen, SkipsData}
 use Rattle.dcsctp_spec_lemmas.specs.spec.queues.Tracker.{TrackerState, has_received, is_forward, is_valid_tsn, after_forward, moved_forward, delay_over}
 use Rattle.dcsctp_spec_lemmas.specs.spec.queues.Transfer.{Transfer}
-use Rattle.dcsctp_spec_lemmas.specs.spec.endpoint.TransferMoves.{SkipsWhere, MovesWhere, MovesForward}
+use Rattle.dcsctp_spec_lemmas.specs.spec.endpoint.TransferMoves.{SkipsIfMoved, MovesIfForward, MovesForward}
 use Rattle.dcsctp_delivery_sending.specs.Places.{HasEntry, at_place}
-use Rattle.dcsctp_delivery_sending.specs.Log.{Message, Piece, History, Cut}
+use Rattle.dcsctp_delivery_sending.specs.Log.{Message, Piece, History, IsLogOfPieces}
 use Rattle.dcsctp_delivery_sending.specs.Numbers.{AreOfKind}
 use Rattle.dcsctp_delivery_receiving.specs.Ready.{AreNamed, IsNamedEntry, SkipAll}
 use Rattle.dcsctp_delivery_receiving.specs.Received.{IsTsn, DefersData, SkipsWait, ForwardsWait, kept_entries}
-use Rattle.dcsctp_delivery_receiving.specs.Tracked.{tracked, Tracks}
+use Rattle.dcsctp_delivery_receiving.specs.Tracked.{tracked_number, Tracks}
 use Rattle.dcsctp_delivery_receiving.proofs.Distinct.{appended}
 use Rattle.dcsctp_delivery_receiving.proofs.Kept.{all_left, all_kept, deferred_by, later_named}
 use Rattle.dcsctp_delivery_receiving.proofs.Reassembled.{first_number, first_base, first_near, number_read}
@@ -54,12 +54,12 @@ not_skipped these (entry ∷ entries) id others mine skipped_is =
     ]
 
 -- so it is left as it is
-left_alone : (entries : List SkippedTo) (id : ℕ) (stream : StreamModel) → (IsSkipped entries id → ⊥) → skipped_by entries id stream ≡ stream
+left_alone : (entries : List SkippedTo) (id : ℕ) (stream : StreamModel) → (IsSkipped entries id → ⊥) → stream_skipping entries id stream ≡ stream
 left_alone [] id stream none = refl
 left_alone (entry ∷ entries) id stream none =
-    ap (λ (s : StreamModel). skipped_by entries id s) (here (skipped_stream entry == id) refl) ∙ left_alone entries id stream (λ rest. none (inr rest))
+    ap (λ (s : StreamModel). stream_skipping entries id s) (here (skipped_stream entry == id) refl) ∙ left_alone entries id stream (λ rest. none (inr rest))
   where
-    here : (b : Bool) → (skipped_stream entry == id) ≡ b → (if b then skipped entry stream else stream) ≡ stream
+    here : (b : Bool) → (skipped_stream entry == id) ≡ b → (if b then stream_after_skip entry stream else stream) ≡ stream
     here false e = refl
     here true e = elim (eqb_tells (skipped_stream entry) id) [
       | inl same ↦ absurd (none (inl (sym same.1)))
@@ -91,7 +91,7 @@ module _ (these : ℕ → Bool) (queued : List Message) (history : History) (got
             );
       }
 
-module _ (queued : List Message) (history : History) (first : ℕ) (cut : Cut queued history.log) (whole : Bool) (these : ℕ → Bool) (counts : CountsThese whole these history) (small : first < 2 ^ 32) (read : List ℕ) where
+module _ (queued : List Message) (history : History) (first : ℕ) (cut : IsLogOfPieces queued history.log) (whole : Bool) (these : ℕ → Bool) (counts : CountsThese whole these history) (small : first < 2 ^ 32) (read : List ℕ) where
   pub forward_plain : (got : List ℕ) (tsn : ℕ) (entries : List SkippedTo) (old new : IncomingModel) → IsTsn history.log first tsn → SkipOthers these entries → AreNamed history entries
       → ReassemblesPlain these queued history first got read old → MovesOn tsn entries old new → ReassemblesPlain these queued history first got read new
   forward_plain got tsn entries old new t others names (some_handled base is holds) moves =
@@ -114,9 +114,9 @@ module _ (queued : List Message) (history : History) (first : ℕ) (cut : Cut qu
   module _ (some : whole ≡ false) (tsn : ℕ) (entries : List SkippedTo) (t : IsTsn history.log first tsn) (others : SkipOthers these entries) (named : AreNamed history entries) where
     -- What the tracker counts as received of these streams was, if all that the chunk passes of them was.
     passed_exact : (tracker : TrackerState) (taken : List ℕ) → Tracks first (length history.log) taken tracker → is_forward tracker.cumulative ((first + t.offset) % 2 ^ 32) ≡ true
-        → ((k : ℕ) → IsSure whole these history.log k → has_received tracker (tracked first k) ≡ true → HasEntry k taken)
-        → ((n : ℕ) (f : Piece) → at_place n history.log ≡ Some (Some f) → these f.message.stream ≡ true → n < t.offset + 1 → tracked first n ≤ tracker.cumulative)
-        → (k : ℕ) → IsSure whole these history.log k → has_received (after_forward ((first + t.offset) % 2 ^ 32) tracker) (tracked first k) ≡ true → HasEntry k taken
+        → ((k : ℕ) → IsSure whole these history.log k → has_received tracker (tracked_number first k) ≡ true → HasEntry k taken)
+        → ((n : ℕ) (f : Piece) → at_place n history.log ≡ Some (Some f) → these f.message.stream ≡ true → n < t.offset + 1 → tracked_number first n ≤ tracker.cumulative)
+        → (k : ℕ) → IsSure whole these history.log k → has_received (after_forward ((first + t.offset) % 2 ^ 32) tracker) (tracked_number first k) ≡ true → HasEntry k taken
     passed_exact tracker taken tracks forward exact known k sure is =
         elim (passed_either first (length history.log) t.offset taken tracker small counts.few t.below tracks forward k is) [
           | inl before ↦ exact k sure before
@@ -125,10 +125,10 @@ module _ (queued : List Message) (history : History) (first : ℕ) (cut : Cut qu
       where
         of_passed : IsSure whole these history.log k → k < t.offset + 1 → HasEntry k taken
         of_passed (inl whole_is) up = absurd (let clash : true ≡ false = sym whole_is ∙ some in cc)
-        of_passed (inr s) up = exact k (inr s) (up_to tracker.cumulative (tracked first k) tracker.ranges (known k s.0 s.1 s.2 up))
+        of_passed (inr s) up = exact k (inr s) (up_to tracker.cumulative (tracked_number first k) tracker.ranges (known k s.0 s.1 s.2 up))
 
     skipped_plain : (tracker now : TrackerState) (old new : ReassemblyState) → (r : HasReceivedPlain whole these queued history first read tracker old) → Tracks first (length history.log) r.taken now
-        → ((k : ℕ) → IsSure whole these history.log k → has_received now (tracked first k) ≡ true → HasEntry k r.taken) → SkipsData tsn entries old new
+        → ((k : ℕ) → IsSure whole these history.log k → has_received now (tracked_number first k) ≡ true → HasEntry k r.taken) → SkipsData tsn entries old new
         → HasReceivedPlain whole these queued history first read now new
     skipped_plain tracker now old new r tracks exact skips = go (is_forward_deferred tsn old.deferral) refl
       where
@@ -170,12 +170,12 @@ module _ (queued : List Message) (history : History) (first : ℕ) (cut : Cut qu
         subst (λ (s : ReassemblyState). HasReceivedPlain whole these queued history first read (after_forward tsn tracker) s) (sym same)
         (tracked_on whole these queued history first read tracker (after_forward tsn tracker) old r
         (subst (λ (k : TrackerState). Tracks first (length history.log) r.taken k) (sym not_passed) (delayed_tracks first (length history.log) r.taken tracker r.tracks))
-        (λ k sure received. r.exact k sure (ap (λ (n : TrackerState). has_received n (tracked first k)) (sym not_passed) ∙ received)))
+        (λ k sure received. r.exact k sure (ap (λ (n : TrackerState). has_received n (tracked_number first k)) (sym not_passed) ∙ received)))
       where
         not_passed : after_forward tsn tracker ≡ delay_over tracker
         not_passed = subst (λ (c : Bool). (if c then moved_forward tsn tracker else delay_over tracker) ≡ delay_over tracker) (sym is) refl
 
-    pub forwarded_plain : (old new : Transfer) → ((n : ℕ) (f : Piece) → at_place n history.log ≡ Some (Some f) → these f.message.stream ≡ true → n < t.offset + 1 → tracked first n ≤ old.tracker.cumulative)
+    pub forwarded_plain : (old new : Transfer) → ((n : ℕ) (f : Piece) → at_place n history.log ≡ Some (Some f) → these f.message.stream ≡ true → n < t.offset + 1 → tracked_number first n ≤ old.tracker.cumulative)
         → HasReceivedPlain whole these queued history first read old.tracker old.reassembly → MovesForward tsn entries old new → HasReceivedPlain whole these queued history first read new.tracker new.reassembly
     forwarded_plain old new known r moves = go (is_valid_tsn old.tracker.cumulative tsn) moves
       where
@@ -187,16 +187,16 @@ module _ (queued : List Message) (history : History) (first : ℕ) (cut : Cut qu
             subst (λ (n : ℕ). Tracks first (length history.log) r.taken (after_forward n old.tracker)) (sym t.is)
             (passing_keeps first (length history.log) t.offset r.taken old.tracker small counts.few t.below r.tracks (by_offset is))
 
-        exact : is_forward old.tracker.cumulative tsn ≡ true → (k : ℕ) → IsSure whole these history.log k → has_received (after_forward tsn old.tracker) (tracked first k) ≡ true → HasEntry k r.taken
+        exact : is_forward old.tracker.cumulative tsn ≡ true → (k : ℕ) → IsSure whole these history.log k → has_received (after_forward tsn old.tracker) (tracked_number first k) ≡ true → HasEntry k r.taken
         exact is =
-            subst (λ (n : ℕ). (k : ℕ) → IsSure whole these history.log k → has_received (after_forward n old.tracker) (tracked first k) ≡ true → HasEntry k r.taken) (sym t.is)
+            subst (λ (n : ℕ). (k : ℕ) → IsSure whole these history.log k → has_received (after_forward n old.tracker) (tracked_number first k) ≡ true → HasEntry k r.taken) (sym t.is)
             (passed_exact old.tracker r.taken r.tracks (by_offset is) r.exact known)
 
-        gone : (b : Bool) → is_forward old.tracker.cumulative tsn ≡ b → SkipsWhere b tsn entries old.reassembly new.reassembly → HasReceivedPlain whole these queued history first read (after_forward tsn old.tracker) new.reassembly
+        gone : (b : Bool) → is_forward old.tracker.cumulative tsn ≡ b → SkipsIfMoved b tsn entries old.reassembly new.reassembly → HasReceivedPlain whole these queued history first read (after_forward tsn old.tracker) new.reassembly
         gone true is skips = skipped_plain old.tracker (after_forward tsn old.tracker) old.reassembly new.reassembly r (passed is) (exact is) skips
         gone false is same = delayed old.tracker old.reassembly new.reassembly is same r
 
-        go : (b : Bool) → MovesWhere b tsn entries old new → HasReceivedPlain whole these queued history first read new.tracker new.reassembly
+        go : (b : Bool) → MovesIfForward b tsn entries old new → HasReceivedPlain whole these queued history first read new.tracker new.reassembly
         go false same = subst (λ (k : Transfer). HasReceivedPlain whole these queued history first read k.tracker k.reassembly) (sym same) r
         go true goes =
             subst (λ (k : TrackerState). HasReceivedPlain whole these queued history first read k new.reassembly) (sym (ap (λ (k : Transfer). k.tracker) goes.rest))
@@ -218,13 +218,13 @@ module _ (queued : List Message) (history : History) (first : ℕ) (cut : Cut qu
           subst (λ (s : ReassemblyState). HasReceivedPlain whole these queued history first read (after_forward tsn old.tracker) s) (sym same)
           (tracked_on whole these queued history first read old.tracker (after_forward tsn old.tracker) old.reassembly r
           (subst (λ (k : TrackerState). Tracks first (length history.log) r.taken k) (sym not_passed) (delayed_tracks first (length history.log) r.taken old.tracker r.tracks))
-          (λ k sure received. r.exact k sure (ap (λ (n : TrackerState). has_received n (tracked first k)) (sym not_passed) ∙ received)))
+          (λ k sure received. r.exact k sure (ap (λ (n : TrackerState). has_received n (tracked_number first k)) (sym not_passed) ∙ received)))
 
-      go : (b : Bool) → MovesWhere b tsn entries old new → HasReceivedPlain whole these queued history first read new.tracker new.reassembly
+      go : (b : Bool) → MovesIfForward b tsn entries old new → HasReceivedPlain whole these queued history first read new.tracker new.reassembly
       go false same = subst (λ (k : Transfer). HasReceivedPlain whole these queued history first read k.tracker k.reassembly) (sym same) r
       go true goes =
           subst (λ (k : TrackerState). HasReceivedPlain whole these queued history first read k new.reassembly) (sym (ap (λ (k : Transfer). k.tracker) goes.rest))
-          (stays (subst (λ (c : Bool). SkipsWhere c tsn entries old.reassembly new.reassembly) none goes.reassembly))
+          (stays (subst (λ (c : Bool). SkipsIfMoved c tsn entries old.reassembly new.reassembly) none goes.reassembly))
 
   -- what was kept of FORWARD-TSNs is skipped at the end of a deferral
   pub skips_plain : (got : List ℕ) (deferral : Option DeferralModel) (old new : IncomingModel) → DefersBeside these deferral → ForwardsWait history first deferral → ReassemblesPlain these queued history first got read old
@@ -259,10 +259,10 @@ forward_steady these tsn entries old new others beside moves = go (is_valid_tsn 
     same_state : (s : ReassemblyState) → s ≡ old.reassembly → IsSteadyAs these old.reassembly s
     same_state s same = (subst (λ (x : ReassemblyState). DefersBeside these x.deferral) (sym same) beside, ap (λ (x : ReassemblyState). x.max_size) same)
 
-    gone : (b : Bool) → SkipsWhere b tsn entries old.reassembly new.reassembly → IsSteadyAs these old.reassembly new.reassembly
+    gone : (b : Bool) → SkipsIfMoved b tsn entries old.reassembly new.reassembly → IsSteadyAs these old.reassembly new.reassembly
     gone true skips = skips_beside_steady these tsn entries old.reassembly new.reassembly others beside skips
     gone false same = same_state new.reassembly same
 
-    go : (b : Bool) → MovesWhere b tsn entries old new → IsSteadyAs these old.reassembly new.reassembly
+    go : (b : Bool) → MovesIfForward b tsn entries old new → IsSteadyAs these old.reassembly new.reassembly
     go false same = same_state new.reassembly (ap (λ (t : Transfer). t.reassembly) same)
     go true goes = gone (is_forward old.tracker.cumulative tsn) goes.reassembly

@@ -5,12 +5,12 @@ use Rattle.dcsctp_spec_lemmas.specs.types.queues.SendStreams.{Stream}
 use Rattle.dcsctp_spec_lemmas.specs.spec.endpoint.BegunResets.{BegunReset}
 use Rattle.dcsctp_spec_lemmas.specs.spec.queues.Reassembly.{names_stream}
 use Rattle.dcsctp_delivery_sending.specs.Places.{HasEntry}
-use Rattle.dcsctp_delivery_sending.specs.Flushes.{reset_begun_by}
+use Rattle.dcsctp_delivery_sending.specs.Flushes.{begun_reset_of}
 use Rattle.dcsctp_delivery_sending.specs.Numbers.{is_handed_out, stream_named}
 use Rattle.dcsctp_delivery_directions.proofs.Flushing.{flush_hands}
 use Rattle.dcsctp_delivery_directions.proofs.Standing.{Stands}
 use Rattle.dcsctp_spec_lemmas.specs.spec.Packet.{Emission}
-use Rattle.dcsctp_spec_lemmas.specs.spec.endpoint.Event.{packets_in}
+use Rattle.dcsctp_spec_lemmas.specs.spec.endpoint.Event.{packets_of_events}
 use Rattle.dcsctp_spec_lemmas.specs.spec.endpoint.FlushOutcomes.{first_ask, packets_allowed, flush_of}
 use Rattle.dcsctp_spec_lemmas.specs.spec.queues.Transfer.{EndpointQueues}
 use Rattle.std.specs.List.{AllByRecursion}
@@ -76,7 +76,7 @@ none_before old _ (sets setting fits) none = none
 none_before old _ (prepares ids fit kept) none = none
 none_before old _ (commits go_on) none = none
 none_before old _ (rolls_back unmixed) none = none
-none_before old _ (flushes e draft answers same no_data allowed) none = fewer old.sent (packets_in (flush_of e draft answers).events) none
+none_before old _ (flushes e draft answers same no_data allowed) none = fewer old.sent (packets_of_events (flush_of e draft answers).events) none
 none_before old _ (resends now room transfer left tsns chunks emission known sends are contents) none = fewer old.sent (emission ∷ []) none
 none_before old _ (resends_nothing now room transfer left tsns known sends) none = none
 none_before old _ (speaks emission no_data) none = fewer old.sent (emission ∷ []) none
@@ -133,7 +133,7 @@ asked_before old _ (sets setting fits) begun has = has
 asked_before old _ (prepares ids fit kept) begun has = has
 asked_before old _ (commits go_on) begun has = has
 asked_before old _ (rolls_back unmixed) begun has = has
-asked_before old _ (flushes e draft answers same no_data allowed) begun has = asked_with (reset_begun_by answers) old.asking begun has
+asked_before old _ (flushes e draft answers same no_data allowed) begun has = asked_with (begun_reset_of answers) old.asking begun has
 asked_before old _ (resends now room transfer left tsns chunks emission known sends are contents) begun has = has
 asked_before old _ (resends_nothing now room transfer left tsns known sends) begun has = has
 asked_before old _ (speaks emission no_data) begun has = has
@@ -172,7 +172,7 @@ module _ (id first : ℕ) (old : Direction) (s : Stands first old) (unnamed : (b
   stays_unnamed _ (commits go_on) shut begun has = unnamed begun has
   stays_unnamed _ (rolls_back unmixed) shut begun has = unnamed begun has
   stays_unnamed _ (flushes e draft answers same no_data allowed) shut begun has =
-      none_begun (reset_begun_by answers) old.asking unnamed
+      none_begun (begun_reset_of answers) old.asking unnamed
       (λ one is. not_handed_out (names_stream one.reset.streams id) (flush_of e draft answers).after.queues.queue.streams shut (flush_hands first old s e draft answers same no_data allowed one is id)) begun has
   stays_unnamed _ (resends now room transfer left tsns chunks emission known sends are contents) shut begun has = unnamed begun has
   stays_unnamed _ (resends_nothing now room transfer left tsns known sends) shut begun has = unnamed begun has

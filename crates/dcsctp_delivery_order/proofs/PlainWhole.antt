@@ -4,22 +4,22 @@ use Rattle.std.specs.Prelude.{Some}
 use Rattle.std.proofs.lemmas.Bool.Decides.{eqb_tells, leb_tells}
 use Rattle.dcsctp_spec_lemmas.specs.spec.queues.IncomingStreams.{StreamModel}
 use Rattle.dcsctp_delivery_sending.specs.Places.{HasEntry}
-use Rattle.dcsctp_delivery_sending.specs.Log.{Message, Piece, History, Cut, is_end}
-use Rattle.dcsctp_delivery_sending.specs.Turns.{turn_at}
+use Rattle.dcsctp_delivery_sending.specs.Log.{Message, Piece, History, IsLogOfPieces, is_end}
+use Rattle.dcsctp_delivery_sending.specs.Turns.{turn_of_tsn}
 use Rattle.dcsctp_delivery_sending.proofs.Places.{at_below}
 use Rattle.dcsctp_delivery_receiving.specs.Rows.{AreRows}
 use Rattle.dcsctp_delivery_receiving.specs.Ready.{IsOn, ordered_base}
-use Rattle.dcsctp_delivery_order.specs.Plain.{number_at, CountsPlain, CarriesOrdered, PlainStream}
+use Rattle.dcsctp_delivery_order.specs.Plain.{number_of_tsn, CountsPlain, CarriesOrdered, PlainStream}
 use Rattle.dcsctp_delivery_order.proofs.PlainMissing.{PassedOn, incomplete, incomplete_last}
 use Rattle.dcsctp_delivery_order.proofs.PlainReading.{is_it, in_reach}
 use Rattle.dcsctp_delivery_order.proofs.PlainRows.{RowOf, row_of, some_turn}
 use Rattle.dcsctp_delivery_order.proofs.PlainTurns.{FirstOf, first_with, one_first, turn_up}
 
-module _ (queued : List Message) (history : History) (cut : Cut queued history.log) (id : ℕ) (counts : CountsPlain id history) (got : List ℕ) (base : ℕ) (all waits : List ℕ) (stream : StreamModel)
+module _ (queued : List Message) (history : History) (cut : IsLogOfPieces queued history.log) (id : ℕ) (counts : CountsPlain id history) (got : List ℕ) (base : ℕ) (all waits : List ℕ) (stream : StreamModel)
     (s : PlainStream queued history got base id all waits stream) (rows : AreRows history.log got (ordered_base base) (IsOn history id) stream.ordered) where
   module _ (n : ℕ) (f : Piece) (of : CarriesOrdered history.log id n f) (ends : is_end f ≡ true) (passed : (k : ℕ) → k ≤ n → PassedOn history.log got id k) where
     -- The next message isn't this one, nor one before it.
-    not_next : stream.next ≤ number_at id n history.log → ⊥
+    not_next : stream.next ≤ number_of_tsn id n history.log → ⊥
     not_next late = go (first_with history.log id (stream.next - 2 ^ 32 + 1) n below (omega arith) (omega (arith, late, low, some)))
       where
         below : n < length history.log
@@ -28,7 +28,7 @@ module _ (queued : List Message) (history : History) (cut : Cut queued history.l
         low : 2 ^ 32 ≤ stream.next
         low = s.from
 
-        some : 0 < turn_at id n history.log
+        some : 0 < turn_of_tsn id n history.log
         some = some_turn queued history cut id counts n f of
 
         row : RowOf history.log id f.place n
@@ -37,7 +37,7 @@ module _ (queued : List Message) (history : History) (cut : Cut queued history.l
         go : FirstOf history.log id (stream.next - 2 ^ 32 + 1) n → ⊥
         go next =
             let turn = next.is in
-            let number : number_at id next.offset history.log ≡ stream.next = omega (arith, turn, low) in
+            let number : number_of_tsn id next.offset history.log ≡ stream.next = omega (arith, turn, low) in
             elim (eqb_tells row.from next.offset) [
               | inl e ↦
                   incomplete_last queued history cut id counts next.offset next.first n f row of ends e.1 got base stream rows s.runs number s.apart s.order.ahead s.held (λ k from to. passed k to)
@@ -51,7 +51,7 @@ module _ (queued : List Message) (history : History) (cut : Cut queued history.l
                         absurd
                         (let back : row.from ≤ next.offset = t.1 in
                         let up = (turn_up id row.from next.offset history.log back (let end = next.up_to in omega (arith, end, below))).0 in
-                        let same : turn_at id row.from history.log ≡ turn_at id next.offset history.log = omega (arith, up, turns, turn, late, low, some) in
+                        let same : turn_of_tsn id row.from history.log ≡ turn_of_tsn id next.offset history.log = omega (arith, up, turns, turn, late, low, some) in
                         ne (one_first history.log id row.from next.offset row.first next.first same))
                   ] in
                   incomplete queued history cut id counts next.offset next.first row.from row.first got base stream before rows s.runs number s.apart s.order.ahead s.held
@@ -62,6 +62,6 @@ module _ (queued : List Message) (history : History) (cut : Cut queued history.l
     pub is_there : HasEntry f.place all
     is_there =
         let reach = in_reach queued history cut id counts n f of in
-        let before : number_at id n history.log < stream.next = elim (leb_tells stream.next (number_at id n history.log)) [ inl e ↦ absurd (not_next e.1) | inr e ↦ e.1 ] in
-        let found = s.filled (number_at id n history.log) reach.0 before in
+        let before : number_of_tsn id n history.log < stream.next = elim (leb_tells stream.next (number_of_tsn id n history.log)) [ inl e ↦ absurd (not_next e.1) | inr e ↦ e.1 ] in
+        let found = s.filled (number_of_tsn id n history.log) reach.0 before in
         subst (λ (p : ℕ). HasEntry p all) (is_it queued history cut id counts n f found.place of found.is) found.has

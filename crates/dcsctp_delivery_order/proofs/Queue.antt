@@ -5,12 +5,12 @@ use Rattle.std.proofs.lemmas.Bool.{eq-eqb, eqb-true}
 use Rattle.std.proofs.lemmas.Bool.Decides.{eqb_tells}
 use Rattle.dcsctp_spec_lemmas.specs.spec.endpoint.Event.{Event}
 use Rattle.dcsctp_spec_lemmas.specs.types.declared.sending.UnderWay.{UnderWay}
-use Rattle.dcsctp_spec_lemmas.specs.types.queues.SendStreams.{Stream, stream_at, unused}
+use Rattle.dcsctp_spec_lemmas.specs.types.queues.SendStreams.{Stream, stream_at, unused_stream}
 use Rattle.dcsctp_spec_lemmas.specs.spec.queues.SendQueue.{SendQueueState}
 use Rattle.dcsctp_spec_lemmas.specs.spec.queues.Sending.{Fragment, Chooses, TakesFragment}
 use Rattle.dcsctp_delivery_sending.specs.Places.{at_place}
 use Rattle.dcsctp_delivery_sending.specs.Log.{Message, Piece, Slot, History, with_slot}
-use Rattle.dcsctp_delivery_sending.specs.Numbers.{stream_named, next_mid, CountsMessages, CountsWhere, Numbered, IsCurrent}
+use Rattle.dcsctp_delivery_sending.specs.Numbers.{stream_named, next_mid, CountsMessages, CountsByKind, NumbersMessages, IsCurrent}
 use Rattle.dcsctp_delivery_sending.specs.Pieces.{HoldsQueued, HandsOutPiece}
 use Rattle.dcsctp_delivery_sending.proofs.Places.{at_cases, at_new}
 use Rattle.dcsctp_delivery_sending.proofs.Streams.{drops_hold}
@@ -20,7 +20,7 @@ use Rattle.dcsctp_delivery_sending.proofs.Produced.{within_streams}
 use Rattle.dcsctp_delivery_sending.proofs.ProducedNumbers.{produced_kind}
 use Rattle.dcsctp_delivery_order.specs.Queue.{FollowsQueue}
 
-counted_so : (b : Bool) (history : History) (streams : List Stream) (u : Option UnderWay) → b ≡ true → CountsWhere b history streams u → CountsMessages history streams u
+counted_so : (b : Bool) (history : History) (streams : List Stream) (u : Option UnderWay) → b ≡ true → CountsByKind b history streams u → CountsMessages history streams u
 counted_so true history streams u is counts = counts
 counted_so false history streams u is counts = absurd (cc)
 
@@ -85,7 +85,7 @@ same_number : (floor count number length : ℕ) → number % 2 ^ 32 ≡ (floor +
 same_number floor count number length same low high few small = omega (arith, same, low, high, few, small)
 
 module _ (queued : List Message) (history : History) (now max : ℕ) (old new : SendQueueState) (told_before told_after : List (Event (List ℕ))) (part : Fragment)
-    (holds : HoldsQueued queued history.log old.streams old.under_way) (numbers : Numbered history old) (interleaved : old.is_interleaved ≡ true) (small : length history.log + 2 < 2 ^ 32)
+    (holds : HoldsQueued queued history.log old.streams old.under_way) (numbers : NumbersMessages history old) (interleaved : old.is_interleaved ≡ true) (small : length history.log + 2 < 2 ^ 32)
     (does : TakesFragment now max old told_before part new told_after) (hands : HandsOutPiece queued history part new) where
   new_kind : new.is_interleaved ≡ true
   new_kind =
@@ -118,7 +118,7 @@ module _ (queued : List Message) (history : History) (now max : ℕ) (old new : 
       let kind : Bool = hands.piece.message.is_unordered in
       let left = drops_hold queued history.log now old does.drops.events does.queue does.drops.drops holds' in
       let found : stream_named (stream_at does.queue.streams does.place).id does.queue.streams ≡ stream_at does.queue.streams does.place =
-      found_at (unused 0 0 0) does.place does.queue.streams (within_streams does.queue.streams does.place does.message does.front) left.distinct in
+      found_at (unused_stream 0 0 0) does.place does.queue.streams (within_streams does.queue.streams does.place does.message does.front) left.distinct in
       let on : id ≡ (stream_at does.queue.streams does.place).id =
       sym hands.says.stream ∙ ap (λ (f : Fragment). f.stream) does.is ∙ ap (λ (u : UnderWay). u.stream_id.0) chosen.2 in
       let same_kind : kind ≡ does.message.is_unordered = sym hands.says.unordered ∙ ap (λ (f : Fragment). f.is_unordered) does.is in

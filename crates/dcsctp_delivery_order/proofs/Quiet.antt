@@ -19,7 +19,7 @@ use Rattle.dcsctp_delivery_sending.proofs.Extended.{at_more}
 use Rattle.dcsctp_delivery_receiving.specs.Clear.{NoneSkips, NoneWaits, IsClear, IsOver, IsOwn}
 use Rattle.dcsctp_delivery_receiving.specs.Ready.{AreDistinct, WereQueued}
 use Rattle.dcsctp_delivery_receiving.specs.Received.{kept_entries, HasReceived, Few}
-use Rattle.dcsctp_delivery_receiving.specs.Tracked.{tracked}
+use Rattle.dcsctp_delivery_receiving.specs.Tracked.{tracked_number}
 use Rattle.dcsctp_delivery_receiving.proofs.Clear.{left_clear, clear_through_resets}
 use Rattle.dcsctp_delivery_receiving.proofs.Clearing.{none_waits, none_kept}
 use Rattle.dcsctp_delivery_receiving.proofs.Growing.{were_more}
@@ -124,7 +124,7 @@ module _ (gapless : ℕ → Bool) (first : ℕ) (old : Direction) (small : first
   within : m.mark.bound ≤ length s.history.log
   within = (s.queues.marks m.mark has).within
 
-  passed : tracked first m.mark.bound ≤ old.tracker.cumulative + 1
+  passed : tracked_number first m.mark.bound ≤ old.tracker.cumulative + 1
   passed =
       passed_before first m.mark.bound old.tracker.cumulative all.tracks.started (let within = within in omega (arith, within, little))
       (subst (λ (k : ℕ). not (is_tsn_beyond k (old.tracker.cumulative % 2 ^ 32)) ≡ true) last reached)

@@ -9,7 +9,7 @@ use Rattle.dcsctp_spec_lemmas.specs.spec.queues.Reassembly.{ReassemblyState, wai
 use Rattle.dcsctp_spec_lemmas.specs.types.queues.SendStreams.{Stream}
 use Rattle.dcsctp_spec_lemmas.specs.spec.queues.Tracker.{TrackerState}
 use Rattle.dcsctp_delivery_sending.specs.Places.{at_place}
-use Rattle.dcsctp_delivery_sending.specs.Log.{Message, Piece, History, Cut}
+use Rattle.dcsctp_delivery_sending.specs.Log.{Message, Piece, History, IsLogOfPieces}
 use Rattle.dcsctp_delivery_sending.specs.Numbers.{AreOfKind, is_handed_out, stream_named}
 use Rattle.dcsctp_delivery_sending.specs.Queueing.{floors_raised}
 use Rattle.dcsctp_delivery_receiving.specs.Clear.{IsClear, IsOver, Unsent}
@@ -17,7 +17,7 @@ use Rattle.dcsctp_delivery_receiving.specs.Ready.{WaitQueued, HoldsIncoming}
 use Rattle.dcsctp_delivery_receiving.proofs.Raising.{KeptOr, kept_or_clear, holds_keeps, defers_keeps}
 use Rattle.dcsctp_delivery_order.specs.Order.{IsSentAs, AreReadAs}
 use Rattle.dcsctp_delivery_order.specs.Reading.{CountsFromZero, OrderedStream}
-use Rattle.dcsctp_delivery_order.specs.Incoming.{OrderWhere, IncomingOrdered}
+use Rattle.dcsctp_delivery_order.specs.Incoming.{IsOrderedOrReset, IncomingOrdered}
 use Rattle.dcsctp_delivery_order.specs.Received.{none_quiet, ReassemblesInOrder, none_handled, some_handled, HasReceivedInOrder}
 use Rattle.dcsctp_delivery_order.proofs.Incoming.{quiet_where}
 use Rattle.dcsctp_delivery_order.proofs.Order.{resets_stay}
@@ -61,7 +61,7 @@ module _ (queued : List Message) (history : History) (floors : ℕ → Bool → 
 
 -- ---- all streams
 
-module _ (gapless : ℕ → Bool) (queued : List Message) (history : History) (streams : List Stream) (cut : Cut queued history.log) (kinds : AreOfKind true history.log) (counts : (id : ℕ) → CountsFromZero history id) (quiet : ℕ → Bool)
+module _ (gapless : ℕ → Bool) (queued : List Message) (history : History) (streams : List Stream) (cut : IsLogOfPieces queued history.log) (kinds : AreOfKind true history.log) (counts : (id : ℕ) → CountsFromZero history id) (quiet : ℕ → Bool)
     (silent : (id : ℕ) → quiet id ≡ true → is_handed_out (stream_named id streams).pause ≡ true) (first cumulative : ℕ) (reassembly : ReassemblyState)
     (out : (id : ℕ) → is_handed_out (stream_named id streams).pause ≡ true → Unsent history.log id ⊎ (IsOver history first cumulative id × IsClear id reassembly)) where
   abbrev raised : History
@@ -115,7 +115,7 @@ module _ (gapless : ℕ → Bool) (queued : List Message) (history : History) (s
           let same : raised.floors id false ≡ history.floors id false =
           subst (λ (b : Bool). (if b then 2 ^ 32 * (history.floors id false + length history.log + 1) else history.floors id false) ≡ history.floors id false) (sym shut) refl in
           ordered_now queued history raised.floors id same (gapless id) (read ++ o.holds.places) (o.holds.waits id) (stream_on id reassembly.incoming.streams)
-          (subst (λ (b : Bool). OrderWhere (gapless id) b queued history id (read ++ o.holds.places) (o.holds.waits id) (stream_on id reassembly.incoming.streams)) loud (o.order id (counts id)))
+          (subst (λ (b : Bool). IsOrderedOrReset (gapless id) b queued history id (read ++ o.holds.places) (o.holds.waits id) (stream_on id reassembly.incoming.streams)) loud (o.order id (counts id)))
 
   pub raised_in_order : (read : List ℕ) (tracker : TrackerState) → HasReceivedInOrder gapless queued history quiet first read tracker reassembly → HasReceivedInOrder gapless queued raised none_quiet first read tracker reassembly
   raised_in_order read tracker r =

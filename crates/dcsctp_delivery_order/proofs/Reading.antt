@@ -7,10 +7,10 @@ use Rattle.dcsctp_spec_lemmas.specs.types.declared.ids.StreamId.{StreamId}
 use Rattle.dcsctp_spec_lemmas.specs.types.declared.arrivals.SkippedTo.TheVariants.{Mid}
 use Rattle.dcsctp_spec_lemmas.specs.spec.queues.Numbers.{number_near}
 use Rattle.dcsctp_spec_lemmas.specs.spec.queues.Runs.{PartModel, WholeModel}
-use Rattle.dcsctp_spec_lemmas.specs.spec.queues.IncomingStreams.{StreamModel, next_after, next_due, next_past, is_number_waiting, TakesOrdered, skipped}
+use Rattle.dcsctp_spec_lemmas.specs.spec.queues.IncomingStreams.{StreamModel, next_after, next_due, next_past, is_number_waiting, TakesOrdered, stream_after_skip}
 use Rattle.dcsctp_delivery_sending.specs.Places.{HasEntry}
 use Rattle.dcsctp_delivery_sending.specs.Log.{Message, Piece, History}
-use Rattle.dcsctp_delivery_order.specs.Rising.{FillRow, IsAhead, ready_by}
+use Rattle.dcsctp_delivery_order.specs.Rising.{FillRow, IsAhead, ready_with_part}
 use Rattle.dcsctp_delivery_order.specs.Order.{IsReadAs, AreReadAs, StreamInOrder}
 use Rattle.dcsctp_delivery_order.specs.Reading.{CountsFromZero, IsInReach, IsSince}
 use Rattle.dcsctp_delivery_order.proofs.Rising.{parts_deliver_rows}
@@ -105,11 +105,11 @@ pub parts_in_reach : (queued : List Message) (history : History) (id place : ℕ
     → CountsFromZero history id → StreamInOrder queued history id all waits old → IsReadAs history id place part.number → IsAhead part old → TakesOrdered part old before taken new after → IsInReach old → IsInReach new
 parts_in_reach queued history id place all waits part old before taken new after counts order is ahead does reach =
     let stays = parts_stay queued history id all place waits part old before taken new after counts.follows order is ahead does in
-    let ends = row_in_reach history id counts old.next new.next stays.more (ready_by old does.outcome) stays.are (parts_deliver_rows part old before taken new after order.ahead ahead does).row reach.up_to in
+    let ends = row_in_reach history id counts old.next new.next stays.more (ready_with_part old does.outcome) stays.are (parts_deliver_rows part old before taken new after order.ahead ahead does).row reach.up_to in
     record { from = (let low = reach.from in let up = ends.0 in omega (arith, low, up)); up_to = ends.1 }
 
 pub skips_in_reach : (queued : List Message) (history : History) (id place mid : ℕ) (all waits : List ℕ) (on : StreamId) (old : StreamModel)
-    → CountsFromZero history id → StreamInOrder queued history id all waits old → IsReadAs history id place (number_near old.next mid) → IsInReach old → IsInReach (skipped (Mid on false mid) old)
+    → CountsFromZero history id → StreamInOrder queued history id all waits old → IsReadAs history id place (number_near old.next mid) → IsInReach old → IsInReach (stream_after_skip (Mid on false mid) old)
 skips_in_reach queued history id place mid all waits on old counts order is reach =
     let below = in_reach history id counts place (number_near old.next mid) is in
     let high = reach.up_to in

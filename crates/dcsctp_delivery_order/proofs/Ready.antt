@@ -5,11 +5,11 @@ use Rattle.dcsctp_spec_lemmas.specs.types.declared.arrivals.Numbering.{Numbering
 use Rattle.dcsctp_spec_lemmas.specs.types.declared.arrivals.Numbering.TheVariants.{Ordered, Unordered, InterleavedOrdered, InterleavedUnordered}
 use Rattle.dcsctp_spec_lemmas.specs.types.declared.arrivals.Taken.{Taken}
 use Rattle.dcsctp_spec_lemmas.specs.spec.queues.Numbers.{number_near, short_number_from, fragment_place}
-use Rattle.dcsctp_spec_lemmas.specs.spec.queues.Runs.{RunModel, WholeModel, Assembled, part_dropped, part_kept, message_whole}
+use Rattle.dcsctp_spec_lemmas.specs.spec.queues.Runs.{RunModel, WholeModel, Assembly, part_dropped, part_kept, message_whole}
 use Rattle.dcsctp_spec_lemmas.specs.spec.queues.IncomingStreams.{StreamModel, ChunkModel, data_part, delivered_as, UnorderedOutcome, TakesAhead, TakesInOrder, TakesOutOfOrder, is_number_waiting, TakesNumbered}
 use Rattle.dcsctp_spec_lemmas.specs.spec.queues.Incoming.{IncomingModel, stream_on, TakesChunk, TakesIncomingChunk}
-use Rattle.dcsctp_delivery_sending.specs.Places.{HasEntry, set_at}
-use Rattle.dcsctp_delivery_sending.specs.Log.{Message, History, Cut}
+use Rattle.dcsctp_delivery_sending.specs.Places.{HasEntry, table_with}
+use Rattle.dcsctp_delivery_sending.specs.Log.{Message, History, IsLogOfPieces}
 use Rattle.dcsctp_delivery_receiving.specs.Rows.{IsPiecePlaced, IsPart, AreRows, Spent, MakesQueued}
 use Rattle.dcsctp_delivery_receiving.specs.Ready.{IsOn, IsApart, IsOfStream, ReadsMids, ordered_base, unordered_base, StreamRows, AreDistinct, WaitQueued, StreamHolds, IsNumbered, BearsPiece}
 use Rattle.dcsctp_delivery_sending.proofs.Places.{decide, set_same, set_other}
@@ -26,14 +26,14 @@ use Rattle.std.proofs.lemmas.List.{append-nil}
 use Rattle.dcsctp_delivery_order.specs.Queue.{IsOrderedOn}
 use Rattle.dcsctp_delivery_order.specs.Order.{IsReadAs}
 use Rattle.dcsctp_delivery_order.specs.Reading.{CountsFromZero, OrderedStream}
-use Rattle.dcsctp_delivery_order.specs.Incoming.{OrderWhere, HoldsOrdered, IncomingOrdered}
+use Rattle.dcsctp_delivery_order.specs.Incoming.{IsOrderedOrReset, HoldsOrdered, IncomingOrdered}
 use Rattle.dcsctp_delivery_order.proofs.Leaving.{others_where}
 use Rattle.dcsctp_delivery_order.proofs.Reading.{mids_are_read, numbers_are_fresh}
 use Rattle.dcsctp_delivery_order.proofs.Leaving.{IsOnIt, one_stream, wait_on_it, LeavesOrder, none_left, ordered_left, apart_left, alike_ordered}
 
 -- ---- a chunk
 
-module _ (gapless : ℕ → Bool) (queued : List Message) (history : History) (quiet : ℕ → Bool) (cut : Cut queued history.log) (told : IsUnambiguous history) (got : List ℕ) (base : ℕ) (read : List ℕ) where
+module _ (gapless : ℕ → Bool) (queued : List Message) (history : History) (quiet : ℕ → Bool) (cut : IsLogOfPieces queued history.log) (told : IsUnambiguous history) (got : List ℕ) (base : ℕ) (read : List ℕ) where
   module _ (tsn_number : ℕ) (chunk : ChunkModel) (bears : BearsPiece history base tsn_number chunk) (is_new : HasEntry bears.offset got → ⊥) (aloud : quiet chunk.stream ≡ false) (streams : ℕ → StreamModel) (unordered : List RunModel) (ready : List MessageContent)
       (o : HoldsOrdered gapless queued history quiet got base read streams unordered ready) where
     all : List ℕ
@@ -59,10 +59,10 @@ module _ (gapless : ℕ → Bool) (queued : List Message) (history : History) (q
 
     -- other streams stay in order
     others_then : (id other : ℕ) (more : List ℕ) → ((q : ℕ) → HasEntry q more → IsOnIt queued id q) → other ≢ id → CountsFromZero history other
-        → OrderWhere (gapless other) (quiet other) queued history other (read ++ (o.holds.places ++ more)) (o.holds.waits other) (streams other)
+        → IsOrderedOrReset (gapless other) (quiet other) queued history other (read ++ (o.holds.places ++ more)) (o.holds.waits other) (streams other)
     unfolding all
     others_then id other more on ne counts =
-        subst (λ (l : List ℕ). OrderWhere (gapless other) (quiet other) queued history other l (o.holds.waits other) (streams other)) (all_then more)
+        subst (λ (l : List ℕ). IsOrderedOrReset (gapless other) (quiet other) queued history other l (o.holds.waits other) (streams other)) (all_then more)
         (others_where (gapless other) queued history (quiet other) other all (o.holds.waits other) more (streams other) (λ place h is. ne (sym (one_stream queued id other place (on place h) (is.message, is.at, is.stream)))) (o.order other counts))
 
     -- the invariant once its stream is left so
@@ -73,10 +73,10 @@ module _ (gapless : ℕ → Bool) (queued : List Message) (history : History) (q
     holds_then id loud later runs after rows apart others leaves =
         record {
           holds = record {
-            waits = set_at id leaves.waits o.holds.waits;
+            waits = table_with id leaves.waits o.holds.waits;
             streams_hold = λ other. elim (decide other id) [
               | inl e ↦
-                  subst (λ (k : ℕ). StreamHolds queued history now base k (set_at id leaves.waits o.holds.waits k) (later k)) (sym e)
+                  subst (λ (k : ℕ). StreamHolds queued history now base k (table_with id leaves.waits o.holds.waits k) (later k)) (sym e)
                   (subst (λ (l : List ℕ). StreamHolds queued history now base id l (later id)) (sym (set_same id leaves.waits o.holds.waits)) (record { rows = rows; wait = leaves.wait }))
               | inr ne ↦
                   subst (λ (l : List ℕ). StreamHolds queued history now base other l (later other)) (sym (set_other id other leaves.waits o.holds.waits ne))
@@ -90,10 +90,10 @@ module _ (gapless : ℕ → Bool) (queued : List Message) (history : History) (q
               | inl l ↦ spent_got history.log got bears.offset q (o.holds.spent q l)
               | inr r ↦ leaves.spent q r
             ];
-            once = λ other. subst (λ (l : List ℕ). AreDistinct (l ++ set_at id leaves.waits o.holds.waits other)) (appended read o.holds.places leaves.more)
+            once = λ other. subst (λ (l : List ℕ). AreDistinct (l ++ table_with id leaves.waits o.holds.waits other)) (appended read o.holds.places leaves.more)
                 (elim (decide other id) [
                   | inl e ↦
-                      subst (λ (l : List ℕ). AreDistinct (((read ++ o.holds.places) ++ leaves.more) ++ l)) (sym (ap (set_at id leaves.waits o.holds.waits) e ∙ set_same id leaves.waits o.holds.waits)) leaves.once
+                      subst (λ (l : List ℕ). AreDistinct (((read ++ o.holds.places) ++ leaves.more) ++ l)) (sym (ap (table_with id leaves.waits o.holds.waits) e ∙ set_same id leaves.waits o.holds.waits)) leaves.once
                   | inr ne ↦
                       subst (λ (l : List ℕ). AreDistinct (((read ++ o.holds.places) ++ leaves.more) ++ l)) (sym (set_other id other leaves.waits o.holds.waits ne))
                       (distinct_apart (read ++ o.holds.places) leaves.more (o.holds.waits other) (distinct_left ((read ++ o.holds.places) ++ leaves.more) leaves.waits leaves.once) (o.holds.once other)
@@ -102,13 +102,13 @@ module _ (gapless : ℕ → Bool) (queued : List Message) (history : History) (q
           };
           order = λ other counts. elim (decide other id) [
             | inl e ↦
-                subst (λ (k : ℕ). OrderWhere (gapless k) (quiet k) queued history k (read ++ (o.holds.places ++ leaves.more)) (set_at id leaves.waits o.holds.waits k) (later k)) (sym e)
-                (subst (λ (l : List ℕ). OrderWhere (gapless id) (quiet id) queued history id (read ++ (o.holds.places ++ leaves.more)) l (later id)) (sym (set_same id leaves.waits o.holds.waits))
-                (subst (λ (b : Bool). OrderWhere (gapless id) b queued history id (read ++ (o.holds.places ++ leaves.more)) leaves.waits (later id)) (sym loud)
+                subst (λ (k : ℕ). IsOrderedOrReset (gapless k) (quiet k) queued history k (read ++ (o.holds.places ++ leaves.more)) (table_with id leaves.waits o.holds.waits k) (later k)) (sym e)
+                (subst (λ (l : List ℕ). IsOrderedOrReset (gapless id) (quiet id) queued history id (read ++ (o.holds.places ++ leaves.more)) l (later id)) (sym (set_same id leaves.waits o.holds.waits))
+                (subst (λ (b : Bool). IsOrderedOrReset (gapless id) b queued history id (read ++ (o.holds.places ++ leaves.more)) leaves.waits (later id)) (sym loud)
                 (subst (λ (l : List ℕ). OrderedStream (gapless id) queued history id l leaves.waits (later id)) (all_then leaves.more) (leaves.order (subst (λ (k : ℕ). CountsFromZero history k) e counts)))))
             | inr ne ↦
-                subst (λ (l : List ℕ). OrderWhere (gapless other) (quiet other) queued history other (read ++ (o.holds.places ++ leaves.more)) l (later other)) (sym (set_other id other leaves.waits o.holds.waits ne))
-                (subst (λ (s : StreamModel). OrderWhere (gapless other) (quiet other) queued history other (read ++ (o.holds.places ++ leaves.more)) (o.holds.waits other) s) (sym (others other ne))
+                subst (λ (l : List ℕ). IsOrderedOrReset (gapless other) (quiet other) queued history other (read ++ (o.holds.places ++ leaves.more)) l (later other)) (sym (set_other id other leaves.waits o.holds.waits ne))
+                (subst (λ (s : StreamModel). IsOrderedOrReset (gapless other) (quiet other) queued history other (read ++ (o.holds.places ++ leaves.more)) (o.holds.waits other) s) (sym (others other ne))
                 (others_then id other leaves.more leaves.on ne counts))
           ];
         }
@@ -116,7 +116,7 @@ module _ (gapless : ℕ → Bool) (queued : List Message) (history : History) (q
     -- its stream is in order, and stays so where nothing changes
     here_order : CountsFromZero history chunk.stream → OrderedStream (gapless chunk.stream) queued history chunk.stream all (o.holds.waits chunk.stream) (streams chunk.stream)
     unfolding all
-    here_order counts = subst (λ (b : Bool). OrderWhere (gapless chunk.stream) b queued history chunk.stream all (o.holds.waits chunk.stream) (streams chunk.stream)) aloud (o.order chunk.stream counts)
+    here_order counts = subst (λ (b : Bool). IsOrderedOrReset (gapless chunk.stream) b queued history chunk.stream all (o.holds.waits chunk.stream) (streams chunk.stream)) aloud (o.order chunk.stream counts)
 
     same_order : (later : StreamModel) → later.next ≡ (streams chunk.stream).next → later.waiting ≡ (streams chunk.stream).waiting → CountsFromZero history chunk.stream → OrderedStream (gapless chunk.stream) queued history chunk.stream all (o.holds.waits chunk.stream) later
     same_order later next waiting counts = alike_ordered (gapless chunk.stream) queued history chunk.stream all (o.holds.waits chunk.stream) (streams chunk.stream) later next waiting (here_order counts)
@@ -242,13 +242,13 @@ module _ (gapless : ℕ → Bool) (queued : List Message) (history : History) (q
         (same_order (later chunk.stream) takes.others.1 takes.others.2) (λ counts on. not_ordered unordered_is on) takes.unordered.does)
 
     -- an unordered message of DATA that is whole, or a part of one
-    makes_on : (place number : ℕ) (outcome : Assembled) → number ≡ chunk.stream → MakesQueued queued history.log now IsOfStream place outcome → IsOfMessage number outcome → MakesQueued queued history.log now (OfStream chunk.stream) place outcome
+    makes_on : (place number : ℕ) (outcome : Assembly) → number ≡ chunk.stream → MakesQueued queued history.log now IsOfStream place outcome → IsOfMessage number outcome → MakesQueued queued history.log now (OfStream chunk.stream) place outcome
     makes_on place number part_dropped same makes of = tt
     makes_on place number part_kept same makes of = tt
     makes_on place number (message_whole whole) same makes of =
         record { offset = makes.offset; head = makes.head; at = makes.at; is = makes.is; queued_at = makes.queued_at; number = makes.number.0 ∙ of ∙ same; ppid = makes.ppid; payload = makes.payload; spent = makes.spent }
 
-    unordered_chunk : (later : ℕ → StreamModel) (runs : List RunModel) (after : List MessageContent) (outcome : Assembled) (taken : Taken) → bears.piece.is_interleaved ≡ false → later ≡ streams → AreRows history.log now (unordered_base base) IsOfStream runs
+    unordered_chunk : (later : ℕ → StreamModel) (runs : List RunModel) (after : List MessageContent) (outcome : Assembly) (taken : Taken) → bears.piece.is_interleaved ≡ false → later ≡ streams → AreRows history.log now (unordered_base base) IsOfStream runs
         → MakesQueued queued history.log now (OfStream chunk.stream) bears.piece.place outcome → UnorderedOutcome (data_part chunk tsn_number chunk.stream) (delivered_as chunk.stream) ready outcome taken after → HoldsOrdered gapless queued history quiet now base read later runs after
     unfolding all
     unordered_chunk later runs after outcome taken kind same rows makes does =
@@ -287,7 +287,7 @@ module _ (gapless : ℕ → Bool) (queued : List Message) (history : History) (q
       reads : CountsFromZero history chunk.stream → IsReadAs history chunk.stream bears.piece.place (number_near (stream_on chunk.stream old.streams).next mid)
       reads counts =
           subst (λ (k : ℕ). IsReadAs history chunk.stream bears.piece.place (number_near (stream_on chunk.stream old.streams).next k)) (sym numbered.2)
-          (mids_are_read history chunk.stream bears.offset bears.piece (stream_on chunk.stream old.streams) counts (subst (λ (b : Bool). OrderWhere (gapless chunk.stream) b queued history chunk.stream (read ++ o.holds.places) (o.holds.waits chunk.stream) (stream_on chunk.stream old.streams)) aloud (o.order chunk.stream counts)).reach (record { at = bears.at; stream = sym bears.stream; ordered = numbered.1; current = bears.current numbered.0 }))
+          (mids_are_read history chunk.stream bears.offset bears.piece (stream_on chunk.stream old.streams) counts (subst (λ (b : Bool). IsOrderedOrReset (gapless chunk.stream) b queued history chunk.stream (read ++ o.holds.places) (o.holds.waits chunk.stream) (stream_on chunk.stream old.streams)) aloud (o.order chunk.stream counts)).reach (record { at = bears.at; stream = sym bears.stream; ordered = numbered.1; current = bears.current numbered.0 }))
   by_numbering tsn_number (InterleavedUnordered mid fsn) chunk old new is bears numbered is_new aloud o takes =
       let last : ℕ = (stream_on chunk.stream old.streams).last_unordered in
       let named = named_so history base told tsn_number mid true chunk bears last numbered.0 numbered.1 numbered.2 (o.holds.streams_hold chunk.stream).rows.last in
@@ -296,7 +296,7 @@ module _ (gapless : ℕ → Bool) (queued : List Message) (history : History) (q
       out_of_order tsn_number chunk bears is_new aloud (λ id. stream_on id old.streams) old.unordered old.ready o (fragment_place (number_near last mid) fsn) (number_near last mid) (λ id. stream_on id new.streams) new.unordered new.ready takes.taken
       (apart_placed history base tsn_number (number_near last mid) fsn chunk bears numbered.0 numbered.3) (sym bears.stream, named.0) numbered.1 named.1 takes.unordered takes.others does
 
-pub ready_in_order : (gapless : ℕ → Bool) (queued : List Message) (history : History) (quiet : ℕ → Bool) → Cut queued history.log → IsUnambiguous history
+pub ready_in_order : (gapless : ℕ → Bool) (queued : List Message) (history : History) (quiet : ℕ → Bool) → IsLogOfPieces queued history.log → IsUnambiguous history
     → (got : List ℕ) (base tsn : ℕ) (read : List ℕ) (chunk : ChunkModel) (old new : IncomingModel)
     → (bears : BearsPiece history base (number_near old.last_tsn_number tsn) chunk) → (HasEntry bears.offset got → ⊥) → quiet chunk.stream ≡ false
     → IncomingOrdered gapless queued history quiet got base read old → TakesIncomingChunk tsn chunk old new

@@ -9,17 +9,17 @@ use Rattle.dcsctp_spec_lemmas.specs.spec.queues.Numbers.{number_near}
 use Rattle.dcsctp_spec_lemmas.specs.spec.queues.Ranges.{IsBeyond, is_received}
 use Rattle.dcsctp_spec_lemmas.specs.spec.queues.IncomingStreams.{ChunkModel, skipped_stream}
 use Rattle.dcsctp_spec_lemmas.specs.spec.queues.Incoming.{IncomingModel, TakesIncomingChunk, MovesOn}
-use Rattle.dcsctp_spec_lemmas.specs.spec.queues.Reassembly.{ReassemblyState, can_count, entries_beside, is_data_deferred, is_forward_deferred, names_stream, AddsData, SkipsData, DeferralModel, waiting_of, entered, deferring}
-use Rattle.dcsctp_spec_lemmas.specs.spec.queues.Tracker.{TrackerState, has_received, is_new_tsn, observed, is_forward, is_valid_tsn, after_forward, delay_over, moved_forward}
+use Rattle.dcsctp_spec_lemmas.specs.spec.queues.Reassembly.{ReassemblyState, can_count, entries_beside, is_data_deferred, is_forward_deferred, names_stream, AddsData, SkipsData, DeferralModel, waiting_of, begun_deferral, deferring}
+use Rattle.dcsctp_spec_lemmas.specs.spec.queues.Tracker.{TrackerState, has_received, is_new_tsn, tracker_after_data, is_forward, is_valid_tsn, after_forward, delay_over, moved_forward}
 use Rattle.dcsctp_spec_lemmas.specs.spec.queues.Transfer.{Transfer}
-use Rattle.dcsctp_spec_lemmas.specs.spec.endpoint.TransferMoves.{AddsWhere, has_room, dropping, ReceivesWhere, SkipsWhere, GoesForward, MovesWhere, ReceivesData, MovesForward, TakesData as TakesArrival}
+use Rattle.dcsctp_spec_lemmas.specs.spec.endpoint.TransferMoves.{AddsIfNew, has_room, dropping, ReceivesIfRoom, SkipsIfMoved, GoesForward, MovesIfForward, ReceivesData, MovesForward, TakesData as TakesArrival}
 use Rattle.dcsctp_delivery_sending.specs.Places.{HasEntry}
-use Rattle.dcsctp_delivery_sending.specs.Log.{Message, History, Cut}
+use Rattle.dcsctp_delivery_sending.specs.Log.{Message, History, IsLogOfPieces}
 use Rattle.dcsctp_delivery_sending.specs.Numbers.{AreOfKind, IsUnambiguous}
 use Rattle.dcsctp_delivery_sending.proofs.Places.{at_below}
 use Rattle.dcsctp_delivery_receiving.specs.Ready.{AreDistinct, AreNamed, IsNamedEntry, SkipAll}
 use Rattle.dcsctp_delivery_receiving.specs.Received.{Carries, CarriesCurrent, IsTsn, SkipsTo, DefersData, Few}
-use Rattle.dcsctp_delivery_receiving.specs.Tracked.{tracked, Tracks}
+use Rattle.dcsctp_delivery_receiving.specs.Tracked.{tracked_number, Tracks}
 use Rattle.dcsctp_delivery_receiving.specs.Clear.{NoneSkips, IsOver}
 use Rattle.dcsctp_delivery_receiving.proofs.Clear.{old_tsn, forward_behind, all_skip_others}
 use Rattle.dcsctp_delivery_receiving.proofs.Current.{OthersArePast, carries_current, skips_to}
@@ -49,7 +49,7 @@ loud_entries quiet (entry ∷ entries) none = (loud_by quiet (skipped_stream ent
 
 -- ---- the reassembly queue
 
-module _ (queued : List Message) (history : History) (first : ℕ) (cut : Cut queued history.log) (told : IsUnambiguous history) (f : Few history first) (quiet : ℕ → Bool) (read : List ℕ) where
+module _ (queued : List Message) (history : History) (first : ℕ) (cut : IsLogOfPieces queued history.log) (told : IsUnambiguous history) (f : Few history first) (quiet : ℕ → Bool) (read : List ℕ) where
   pub data_in_order : (gapless : ℕ → Bool) (got : List ℕ) (offset tsn : ℕ) (chunk : ChunkModel) (old new : IncomingModel) → CarriesCurrent history first offset tsn chunk → (HasEntry offset got → ⊥) → quiet chunk.stream ≡ false
       → ReassemblesInOrder gapless queued history quiet first got read old → TakesIncomingChunk tsn chunk old new → ReassemblesInOrder gapless queued history quiet first (offset ∷ got) read new
   unfolding bears_of
@@ -95,7 +95,7 @@ tracks_alike first count taken tracker now same same' t =
       reached = (let reached = t.reached in omega (arith, same, reached));
       started = (let started = t.started in omega (arith, same, started));
       sent = λ number is. t.sent number (sym (alike number) ∙ is);
-      received = λ offset h. alike (tracked first offset) ∙ t.received offset h;
+      received = λ offset h. alike (tracked_number first offset) ∙ t.received offset h;
     }
   where
     alike : (number : ℕ) → has_received now number ≡ has_received tracker number
@@ -140,7 +140,7 @@ module _ (gapless : ℕ → Bool) (queued : List Message) (history : History) (q
         defers = go reassembly.deferral r.defers;
       }
     where
-      go : (d : Option DeferralModel) → DefersData history first r.later (waiting_of d) → DefersData history first r.later (waiting_of (entered last_tsn streams d))
+      go : (d : Option DeferralModel) → DefersData history first r.later (waiting_of d) → DefersData history first r.later (waiting_of (begun_deferral last_tsn streams d))
       go None defers = defers
       go (Some d) defers = defers
 
@@ -150,7 +150,7 @@ module _ (gapless : ℕ → Bool) (queued : List Message) (history : History) (q
 abbrev pub QuietAreOver : History → (ℕ → Bool) → ℕ → ℕ → Type 0
 QuietAreOver history quiet first cumulative = (id : ℕ) → quiet id ≡ true → IsOver history first cumulative id
 
-module _ (gapless : ℕ → Bool) (queued : List Message) (history : History) (first : ℕ) (cut : Cut queued history.log) (told : IsUnambiguous history) (f : Few history first) (free : NoneLimitedOn gapless history.log) (quiet : ℕ → Bool) (read : List ℕ) where
+module _ (gapless : ℕ → Bool) (queued : List Message) (history : History) (first : ℕ) (cut : IsLogOfPieces queued history.log) (told : IsUnambiguous history) (f : Few history first) (free : NoneLimitedOn gapless history.log) (quiet : ℕ → Bool) (read : List ℕ) where
   -- a chunk whose TSN is new
   added : (offset tsn : ℕ) (chunk : ChunkModel) (tracker now : TrackerState) (old new : ReassemblyState) → CarriesCurrent history first offset tsn chunk → (r : HasReceivedInOrder gapless queued history quiet first read tracker old)
       → Tracks first (length history.log) (offset ∷ r.taken) now → (HasEntry offset r.taken → ⊥) → quiet chunk.stream ≡ false → AddsData tsn chunk old new → HasReceivedInOrder gapless queued history quiet first read now new
@@ -202,14 +202,14 @@ module _ (gapless : ℕ → Bool) (queued : List Message) (history : History) (f
       subst (λ (t : TrackerState). HasReceivedInOrder gapless queued history quiet first read t new.reassembly) (sym (ap (λ (t : Transfer). t.tracker) takes.rest)) (go (is_new_tsn arrival.tsn old.tracker) refl takes.reassembly)
     where
       now : TrackerState
-      now = observed arrival.tsn arrival.immediate_ack old.tracker
+      now = tracker_after_data arrival.tsn arrival.immediate_ack old.tracker
 
       below : offset < length history.log
       below = at_below offset (Some c.piece) history.log c.at
 
       tracks : Tracks first (length history.log) (offset ∷ r.taken) now
       tracks =
-          subst (λ (t : ℕ). Tracks first (length history.log) (offset ∷ r.taken) (observed t arrival.immediate_ack old.tracker)) (sym c.is)
+          subst (λ (t : ℕ). Tracks first (length history.log) (offset ∷ r.taken) (tracker_after_data t arrival.immediate_ack old.tracker)) (sym c.is)
           (new_is_new first (length history.log) offset arrival.immediate_ack r.taken old.tracker f.small f.few below r.tracks).0
 
       by_offset : is_new_tsn arrival.tsn old.tracker ≡ true → is_new_tsn ((first + offset) % 2 ^ 32) old.tracker ≡ true
@@ -220,8 +220,8 @@ module _ (gapless : ℕ → Bool) (queued : List Message) (history : History) (f
       loud is = loud_by quiet arrival.chunk.stream (λ silent. (let o = over arrival.chunk.stream silent in
           old_tsn first (length history.log) offset o.mark.bound r.taken old.tracker f.small f.few below r.tracks (o.below offset c.piece c.at (sym c.stream)) o.passed (by_offset is)))
 
-      go : (b : Bool) → is_new_tsn arrival.tsn old.tracker ≡ b → AddsWhere b arrival.tsn arrival.chunk old.reassembly new.reassembly
-          → HasReceivedInOrder gapless queued history quiet first read (observed arrival.tsn arrival.immediate_ack old.tracker) new.reassembly
+      go : (b : Bool) → is_new_tsn arrival.tsn old.tracker ≡ b → AddsIfNew b arrival.tsn arrival.chunk old.reassembly new.reassembly
+          → HasReceivedInOrder gapless queued history quiet first read (tracker_after_data arrival.tsn arrival.immediate_ack old.tracker) new.reassembly
       go true is adds =
           added offset arrival.tsn arrival.chunk old.tracker now old.reassembly new.reassembly
           (carries_current history first old.tracker.cumulative past offset arrival.tsn arrival.chunk (new_beyond first (length history.log) offset r.taken old.tracker f.small f.few below r.tracks (by_offset is)) c) r tracks
@@ -242,7 +242,7 @@ module _ (gapless : ℕ → Bool) (queued : List Message) (history : History) (f
       → QuietAreOver history quiet first old.tracker.cumulative → HasReceivedInOrder gapless queued history quiet first read old.tracker old.reassembly → ReceivesData arrival old new → HasReceivedInOrder gapless queued history quiet first read new.tracker new.reassembly
   received_in_order offset arrival old new c past over r receives = go (has_room arrival.tsn old && is_valid_tsn old.tracker.cumulative arrival.tsn) receives
     where
-      go : (b : Bool) → ReceivesWhere b arrival old new → HasReceivedInOrder gapless queued history quiet first read new.tracker new.reassembly
+      go : (b : Bool) → ReceivesIfRoom b arrival old new → HasReceivedInOrder gapless queued history quiet first read new.tracker new.reassembly
       go true takes = taken_in_order offset arrival old new c past over r takes
       go false same = dropped_in_order (old.tracker.follows_rfc && is_valid_tsn old.tracker.cumulative arrival.tsn) old new same r
 
@@ -314,7 +314,7 @@ module _ (gapless : ℕ → Bool) (queued : List Message) (history : History) (f
           (λ id silent. (let o = over id silent in
           all_skip_others history (t.offset + 1) id o.mark kinds o.has o.names o.below (forward_behind first (length history.log) t.offset o.mark.bound r.taken old.tracker f.small f.few t.below r.tracks o.passed (by_offset is)) entries skip))
 
-      go : (b : Bool) → is_forward old.tracker.cumulative tsn ≡ b → SkipsWhere b tsn entries old.reassembly new.reassembly → HasReceivedInOrder gapless queued history quiet first read (after_forward tsn old.tracker) new.reassembly
+      go : (b : Bool) → is_forward old.tracker.cumulative tsn ≡ b → SkipsIfMoved b tsn entries old.reassembly new.reassembly → HasReceivedInOrder gapless queued history quiet first read (after_forward tsn old.tracker) new.reassembly
       go true is skips =
           let to : SkipsTo history first tsn entries =
           skips_to history first old.tracker.cumulative past tsn entries t (forward_beyond first (length history.log) t.offset r.taken old.tracker f.small f.few t.below r.tracks (by_offset is)) skip in
@@ -325,7 +325,7 @@ module _ (gapless : ℕ → Bool) (queued : List Message) (history : History) (f
       → QuietAreOver history quiet first old.tracker.cumulative → HasReceivedInOrder gapless queued history quiet first read old.tracker old.reassembly → MovesForward tsn entries old new → HasReceivedInOrder gapless queued history quiet first read new.tracker new.reassembly
   forwarded_in_order tsn entries old new t skip kinds past over r moves = go (is_valid_tsn old.tracker.cumulative tsn) moves
     where
-      go : (b : Bool) → MovesWhere b tsn entries old new → HasReceivedInOrder gapless queued history quiet first read new.tracker new.reassembly
+      go : (b : Bool) → MovesIfForward b tsn entries old new → HasReceivedInOrder gapless queued history quiet first read new.tracker new.reassembly
       go true goes = gone_in_order tsn entries old new t skip kinds past over r goes
       go false same = same_transfer old new same r
 
@@ -337,8 +337,8 @@ module _ (gapless : ℕ → Bool) (queued : List Message) (history : History) (f
       none : is_forward old.tracker.cumulative tsn ≡ false
       none = nothing_passed first (length history.log) old.tracker.cumulative tsn f.small f.few r.tracks.reached r.tracks.started is
 
-      go : (b : Bool) → MovesWhere b tsn entries old new → HasReceivedInOrder gapless queued history quiet first read new.tracker new.reassembly
+      go : (b : Bool) → MovesIfForward b tsn entries old new → HasReceivedInOrder gapless queued history quiet first read new.tracker new.reassembly
       go false same = same_transfer old new same r
       go true goes =
           subst (λ (k : TrackerState). HasReceivedInOrder gapless queued history quiet first read k new.reassembly) (sym (ap (λ (k : Transfer). k.tracker) goes.rest))
-          (delayed tsn old.tracker old.reassembly new.reassembly none (subst (λ (c : Bool). SkipsWhere c tsn entries old.reassembly new.reassembly) none goes.reassembly) r)
+          (delayed tsn old.tracker old.reassembly new.reassembly none (subst (λ (c : Bool). SkipsIfMoved c tsn entries old.reassembly new.reassembly) none goes.reassembly) r)

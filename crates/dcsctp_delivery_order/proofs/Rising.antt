@@ -8,10 +8,10 @@ use Rattle.dcsctp_spec_lemmas.specs.types.declared.arrivals.SkippedTo.{SkippedTo
 use Rattle.dcsctp_spec_lemmas.specs.types.declared.arrivals.SkippedTo.TheVariants.{Ssn, Mid}
 use Rattle.dcsctp_spec_lemmas.specs.types.declared.arrivals.Taken.{Taken}
 use Rattle.dcsctp_spec_lemmas.specs.spec.queues.Numbers.{number_near, short_number_near}
-use Rattle.dcsctp_spec_lemmas.specs.spec.queues.Runs.{PartModel, WholeModel, Assembled, part_dropped, part_kept, message_whole}
-use Rattle.dcsctp_spec_lemmas.specs.spec.queues.IncomingStreams.{StreamModel, delivered_as, next_after, due, not_due, next_due, next_past, ready_with, is_number_waiting, IsNumberPlace, NumberedBelow, WaitsAmong, TakesWhole, OrderedOutcome, TakesOrdered, skipped, skip_deliveries}
+use Rattle.dcsctp_spec_lemmas.specs.spec.queues.Runs.{PartModel, WholeModel, Assembly, part_dropped, part_kept, message_whole}
+use Rattle.dcsctp_spec_lemmas.specs.spec.queues.IncomingStreams.{StreamModel, delivered_as, next_after, due, not_due, next_due, next_past, ready_with, is_number_waiting, IsNumberPlace, IsNumberedBelow, WaitsAmong, TakesWhole, OrderedOutcome, TakesOrdered, stream_after_skip, skip_deliveries}
 use Rattle.dcsctp_delivery_receiving.proofs.SpentRows.{of_message, IsOfMessage}
-use Rattle.dcsctp_delivery_order.specs.Rising.{Rise, FillRow, AscendFrom, WaitsForNext, DeliversRising, DeliversRow, ready_by, IsAhead, ready_past, StreamRun, begins, takes, passes, stays}
+use Rattle.dcsctp_delivery_order.specs.Rising.{Rise, FillRow, AscendFrom, WaitsForNext, DeliversRising, DeliversRow, ready_with_part, IsAhead, ready_past, StreamRun, begins, takes, passes, stays}
 
 -- ---- lists of messages
 
@@ -68,7 +68,7 @@ neither : (a b : Bool) → (a || b) ≡ false → (a ≡ false) × (b ≡ false)
 neither true b e = absurd (cc)
 neither false b e = (refl, e)
 
-first_below : (from number k : ℕ) (waiting : List WholeModel) → k < length waiting → AscendFrom from waiting → NumberedBelow number (slice_get waiting k) → from < number
+first_below : (from number k : ℕ) (waiting : List WholeModel) → k < length waiting → AscendFrom from waiting → IsNumberedBelow number (slice_get waiting k) → from < number
 first_below from number k [] within up below = absurd (omega (arith, within))
 first_below from number zero (w ∷ waiting) within up below = (let low = up.0 in omega (arith, low, below))
 first_below from number (suc k) (w ∷ waiting) within up below = (let low = up.0 in let more = first_below (w.number + 1) number k waiting (omega (arith, within)) up.2 below in omega (arith, low, more))
@@ -92,7 +92,7 @@ ascend_with from zero whole (w ∷ waiting) up low small fresh place =
 ascend_with from (suc k) whole [] up low small fresh place = absurd (let within = place.within in omega (arith, within))
 ascend_with from (suc k) whole (w ∷ waiting) up low small fresh place =
     let here : suc k - 1 ≡ k = omega arith in
-    let before : NumberedBelow whole.number (slice_get (w ∷ waiting) k) = subst (λ (n : ℕ). NumberedBelow whole.number (slice_get (w ∷ waiting) n)) here (place.before (omega arith)) in
+    let before : IsNumberedBelow whole.number (slice_get (w ∷ waiting) k) = subst (λ (n : ℕ). IsNumberedBelow whole.number (slice_get (w ∷ waiting) n)) here (place.before (omega arith)) in
     let within : k ≤ length waiting = (let inside = place.within in omega (arith, inside)) in (
       up.0,
       up.1,
@@ -100,13 +100,13 @@ ascend_with from (suc k) whole (w ∷ waiting) up low small fresh place =
           (record { within = within; before = later k before; behind = place.behind }),
     )
   where
-    above : (k : ℕ) → k ≤ length waiting → NumberedBelow whole.number (slice_get (w ∷ waiting) k) → w.number + 1 ≤ whole.number
+    above : (k : ℕ) → k ≤ length waiting → IsNumberedBelow whole.number (slice_get (w ∷ waiting) k) → w.number + 1 ≤ whole.number
     above zero within before = omega (arith, before)
     above (suc j) within before = (let more = first_below (w.number + 1) whole.number j waiting (omega (arith, within)) up.2 before in omega (arith, more))
 
-    later : (k : ℕ) → NumberedBelow whole.number (slice_get (w ∷ waiting) k) → 0 < k → NumberedBelow whole.number (slice_get waiting (k - 1))
+    later : (k : ℕ) → IsNumberedBelow whole.number (slice_get (w ∷ waiting) k) → 0 < k → IsNumberedBelow whole.number (slice_get waiting (k - 1))
     later zero before some = absurd (omega (arith, some))
-    later (suc j) before some = (let here : suc j - 1 ≡ j = omega arith in subst (λ (n : ℕ). NumberedBelow whole.number (slice_get waiting n)) (sym here) before)
+    later (suc j) before some = (let here : suc j - 1 ≡ j = omega arith in subst (λ (n : ℕ). IsNumberedBelow whole.number (slice_get waiting n)) (sym here) before)
 
 -- ---- a part of an ordered message
 
@@ -124,7 +124,7 @@ module _ (old : StreamModel) (before : List MessageContent) (waits : WaitsForNex
       }
 
   whole_ready : (whole : WholeModel) (size : ℕ) (taken : Taken) (new : StreamModel) (after : List MessageContent) → new.id ≡ old.id → old.next ≤ whole.number → whole.number + 1 < 2 ^ 64 → is_number_waiting whole.number old.waiting ≡ false
-      → TakesWhole whole old before size taken new after → DeliversRow old before new after (ready_by old (message_whole whole))
+      → TakesWhole whole old before size taken new after → DeliversRow old before new after (ready_with_part old (message_whole whole))
   whole_ready whole size taken new after id low small fresh t =
       elim (eqb_tells whole.number old.next) [
         | inl e ↦ go (whole.number == old.next) (λ is. e.1) (λ is. absurd (let clash : true ≡ false = sym e.0 ∙ is in cc)) t.ready t.next t.waiting
@@ -165,8 +165,8 @@ module _ (old : StreamModel) (before : List MessageContent) (waits : WaitsForNex
             row = sym next;
           }
 
-  by_outcome : (part : PartModel) (taken : Taken) (new : StreamModel) (after : List MessageContent) (outcome : Assembled) → IsAhead part old → new.id ≡ old.id → IsOfMessage part.number outcome → OrderedOutcome part old before outcome taken new after
-      → DeliversRow old before new after (ready_by old outcome)
+  by_outcome : (part : PartModel) (taken : Taken) (new : StreamModel) (after : List MessageContent) (outcome : Assembly) → IsAhead part old → new.id ≡ old.id → IsOfMessage part.number outcome → OrderedOutcome part old before outcome taken new after
+      → DeliversRow old before new after (ready_with_part old outcome)
   by_outcome part taken new after part_dropped ahead id of does = nothing_ready new after id (ap (λ (s : StreamModel). s.next) does.0) (ap (λ (s : StreamModel). s.waiting) does.0) does.1
   by_outcome part taken new after part_kept ahead id of does = nothing_ready new after id does.0 does.1 does.2
   by_outcome part taken new after (message_whole whole) ahead id of does =
@@ -175,7 +175,7 @@ module _ (old : StreamModel) (before : List MessageContent) (waits : WaitsForNex
       whole_ready whole (length part.payload) taken new after id (omega (arith, of, from)) (omega (arith, of, counted)) (ap (λ (k : ℕ). is_number_waiting k old.waiting) of ∙ ahead.fresh) does
 
 pub parts_deliver_rows : (part : PartModel) (old : StreamModel) (before : List MessageContent) (taken : Taken) (new : StreamModel) (after : List MessageContent) → WaitsForNext old → IsAhead part old
-    → (does : TakesOrdered part old before taken new after) → DeliversRow old before new after (ready_by old does.outcome)
+    → (does : TakesOrdered part old before taken new after) → DeliversRow old before new after (ready_with_part old does.outcome)
 parts_deliver_rows part old before taken new after waits ahead does =
     by_outcome old before waits part taken new after does.outcome ahead does.id (of_message part old.ordered new.ordered does.outcome does.parts) does.does
 
@@ -195,9 +195,9 @@ passed next old later before waits up id next_is waiting_is =
       id = id;
     }
 
-pub skips_deliver_rising : (entry : SkippedTo) (old : StreamModel) (before : List MessageContent) → WaitsForNext old → DeliversRising old before (skipped entry old) (before ++ skip_deliveries entry old) (ready_past entry old)
-skips_deliver_rising (Ssn id ssn) old before waits = passed (next_past (short_number_near old.next ssn) old.next) old (skipped (Ssn id ssn) old) before waits (forward (short_number_near old.next ssn) old.next) refl refl refl
-skips_deliver_rising (Mid id false mid) old before waits = passed (next_past (number_near old.next mid) old.next) old (skipped (Mid id false mid) old) before waits (forward (number_near old.next mid) old.next) refl refl refl
+pub skips_deliver_rising : (entry : SkippedTo) (old : StreamModel) (before : List MessageContent) → WaitsForNext old → DeliversRising old before (stream_after_skip entry old) (before ++ skip_deliveries entry old) (ready_past entry old)
+skips_deliver_rising (Ssn id ssn) old before waits = passed (next_past (short_number_near old.next ssn) old.next) old (stream_after_skip (Ssn id ssn) old) before waits (forward (short_number_near old.next ssn) old.next) refl refl refl
+skips_deliver_rising (Mid id false mid) old before waits = passed (next_past (number_near old.next mid) old.next) old (stream_after_skip (Mid id false mid) old) before waits (forward (number_near old.next mid) old.next) refl refl refl
 skips_deliver_rising (Mid id true mid) old before waits = record { is = refl; rise = omega arith; waits = waits; id = refl }
 
 -- ---- a stream since its last reset
@@ -207,11 +207,11 @@ streams_deliver_rising id _ _ _ begins = (omega arith, tt)
 streams_deliver_rising id skips _ _ (takes part _ old before taken new after delivered run ahead does) =
     let earlier = streams_deliver_rising id skips old delivered run in
     let now = parts_deliver_rows part old before taken new after earlier.1 ahead does in
-    (rise_joined (2 ^ 32) old.next new.next delivered (ready_by old does.outcome) earlier.0 now.rising.rise, now.rising.waits)
+    (rise_joined (2 ^ 32) old.next new.next delivered (ready_with_part old does.outcome) earlier.0 now.rising.rise, now.rising.waits)
 streams_deliver_rising id _ _ _ (passes entry skips old delivered run) =
     let earlier = streams_deliver_rising id skips old delivered run in
     let now = skips_deliver_rising entry old [] earlier.1 in
-    (rise_joined (2 ^ 32) old.next (skipped entry old).next delivered (ready_past entry old) earlier.0 now.rise, now.waits)
+    (rise_joined (2 ^ 32) old.next (stream_after_skip entry old).next delivered (ready_past entry old) earlier.0 now.rise, now.waits)
 streams_deliver_rising id skips _ _ (stays _ old new delivered run same next waiting) =
     let earlier = streams_deliver_rising id skips old delivered run in (
       subst (λ (k : ℕ). Rise (2 ^ 32) k delivered) (sym next) earlier.0,
@@ -223,5 +223,5 @@ streams_deliver_rows id _ _ begins = refl
 streams_deliver_rows id _ _ (takes part _ old before taken new after delivered run ahead does) =
     let earlier = streams_deliver_rising id false old delivered run in
     let now = parts_deliver_rows part old before taken new after earlier.1 ahead does in
-    row_joined (2 ^ 32) old.next new.next delivered (ready_by old does.outcome) (streams_deliver_rows id old delivered run) now.row
+    row_joined (2 ^ 32) old.next new.next delivered (ready_with_part old does.outcome) (streams_deliver_rows id old delivered run) now.row
 streams_deliver_rows id _ _ (stays _ old new delivered run same next waiting) = subst (λ (k : ℕ). FillRow (2 ^ 32) k delivered) (sym next) (streams_deliver_rows id old delivered run)

@@ -4,14 +4,14 @@ use Rattle.std.specs.Prelude.{◌&&◌, not, nat_le, nat_lt, None, Some, slice_g
 use Rattle.std.proofs.lemmas.Bool.{eqb-true}
 use Rattle.std.proofs.lemmas.Bool.Decides.{nat_tests, eqb_tells, leb_tells}
 use Rattle.std.proofs.lemmas.List.{length-append}
-use Rattle.dcsctp_spec_lemmas.specs.spec.queues.Runs.{RunModel, PartModel, Assembled, part_dropped, part_kept, message_whole, entry_before, holds, is_held_before, IsRunPlace, StartsBehind, follows, precedes, single_run, chained, merged, is_whole, following, run_before, run_behind, merged_at, chosen, back_start, with_part, without_runs, whole_run, AddsPart}
+use Rattle.dcsctp_spec_lemmas.specs.spec.queues.Runs.{RunModel, PartModel, Assembly, part_dropped, part_kept, message_whole, entry_before, holds, is_held_before, IsRunPlace, StartsBehind, follows, precedes, single_run, chained_run, run_with_part, is_whole, following, run_before, run_behind, merged_run, chosen, back_start, with_part, without_runs, whole_run, AddsPart}
 use Rattle.dcsctp_delivery_receiving.proofs.Joining.{both}
-use Rattle.dcsctp_delivery_order.specs.Runs.{place_after, is_continued_by, NoneContinues, LieApart}
+use Rattle.dcsctp_delivery_order.specs.Runs.{place_after, is_continued, NoneContinues, LieApart}
 
 -- ---- one run
 
 -- what follows on a run goes by where that ends, and its message
-continued_so : (a b next : RunModel) → place_after a ≡ place_after b → a.number ≡ b.number → a.has_end ≡ b.has_end → is_continued_by b next ≡ false → is_continued_by a next ≡ false
+continued_so : (a b next : RunModel) → place_after a ≡ place_after b → a.number ≡ b.number → a.has_end ≡ b.has_end → is_continued b next ≡ false → is_continued a next ≡ false
 continued_so a b next place number end is =
     ap (λ (k : ℕ). (next.first == k) && (a.number == next.number) && not a.has_end && not next.has_beginning) place
     ∙ ap (λ (k : ℕ). (next.first == place_after b) && (k == next.number) && not a.has_end && not next.has_beginning) number
@@ -22,14 +22,14 @@ none_so a b [] place number end none = tt
 none_so a b (next ∷ runs) place number end none = continued_so a b next place number end none
 
 -- a run that begins alike continues the same
-begun_so : (run a b : RunModel) → a.first ≡ b.first → a.number ≡ b.number → a.has_beginning ≡ b.has_beginning → is_continued_by run b ≡ false → is_continued_by run a ≡ false
+begun_so : (run a b : RunModel) → a.first ≡ b.first → a.number ≡ b.number → a.has_beginning ≡ b.has_beginning → is_continued run b ≡ false → is_continued run a ≡ false
 begun_so run a b first number beginning is =
     ap (λ (k : ℕ). (k == place_after run) && (run.number == a.number) && not run.has_end && not a.has_beginning) first
     ∙ ap (λ (k : ℕ). (b.first == place_after run) && (run.number == k) && not run.has_end && not a.has_beginning) number
     ∙ ap (λ (e : Bool). (b.first == place_after run) && (run.number == b.number) && not run.has_end && not e) beginning ∙ is
 
 -- one that lies further on doesn't
-far_on : (run next : RunModel) → place_after run < next.first → is_continued_by run next ≡ false
+far_on : (run next : RunModel) → place_after run < next.first → is_continued run next ≡ false
 far_on run next less = elim (eqb_tells next.first (place_after run)) [
   | inl e ↦ absurd (let same : next.first ≡ place_after run = e.1 in omega (arith, same, less))
   | inr e ↦ rw e.0 refl
@@ -60,7 +60,7 @@ precedes_so part run e =
     }
 
 -- one that doesn't isn't continued by the run
-not_precedes : (part : PartModel) (run : RunModel) → part.place < run.first → precedes part run ≡ false → is_continued_by (single_run part) run ≡ false
+not_precedes : (part : PartModel) (run : RunModel) → part.place < run.first → precedes part run ≡ false → is_continued (single_run part) run ≡ false
 not_precedes part run less e = go (run.first == part.place + 1) refl
   where
     swapped : (a b : Bool) → a ≡ b → (b && not part.is_end && not run.has_beginning) ≡ false → (a && not part.is_end && not run.has_beginning) ≡ false
@@ -111,7 +111,7 @@ follows_so run part low e =
       beginning = not_true part.is_beginning beginning;
     }
 
-not_follows : (run : RunModel) (part : PartModel) (next : RunModel) → run.first ≤ part.place → next.first ≡ part.place → next.number ≡ part.number → next.has_beginning ≡ part.is_beginning → follows run part ≡ false → is_continued_by run next ≡ false
+not_follows : (run : RunModel) (part : PartModel) (next : RunModel) → run.first ≤ part.place → next.first ≡ part.place → next.number ≡ part.number → next.has_beginning ≡ part.is_beginning → follows run part ≡ false → is_continued run next ≡ false
 not_follows run part next low first number beginning e =
     ap (λ (x : Bool). x && (run.number == next.number) && not run.has_end && not next.has_beginning) tests
     ∙ ap (λ (k : ℕ). ((part.place - run.first) == length run.payloads) && (run.number == k) && not run.has_end && not next.has_beginning) number
@@ -129,24 +129,24 @@ lie_from from low (r ∷ runs) less lie = ((let first = lie.0 in omega (arith, f
 
 -- ---- a part before the first run
 
-pub joined_after : (a b : RunModel) → place_after (chained a b) ≡ a.first + length a.payloads + length b.payloads
+pub joined_after : (a b : RunModel) → place_after (chained_run a b) ≡ a.first + length a.payloads + length b.payloads
 joined_after a b = (let sizes = length-append a.payloads b.payloads in omega (arith, sizes))
 
-part_first : (from : ℕ) (part : PartModel) (runs : List RunModel) (low : ℕ) → from ≤ part.place → StartsBehind part.place (slice_get runs 0) → LieApart low runs → is_whole (merged None part (run_behind part 0 runs)) ≡ false
+part_first : (from : ℕ) (part : PartModel) (runs : List RunModel) (low : ℕ) → from ≤ part.place → StartsBehind part.place (slice_get runs 0) → LieApart low runs → is_whole (run_with_part None part (run_behind part 0 runs)) ≡ false
     → LieApart from (with_part false (is_some (run_behind part 0 runs)) 0 part runs)
 part_first from part [] low up behind lie whole = (up, omega arith, whole, tt, tt)
 part_first from part (c ∷ cs) low up behind lie whole = go (precedes part c) refl whole
   where
-    go : (b : Bool) → precedes part c ≡ b → is_whole (merged None part (if b then Some c else None)) ≡ false → LieApart from (with_part false (is_some (if b then Some c else None)) 0 part (c ∷ cs))
+    go : (b : Bool) → precedes part c ≡ b → is_whole (run_with_part None part (if b then Some c else None)) ≡ false → LieApart from (with_part false (is_some (if b then Some c else None)) 0 part (c ∷ cs))
     go true e w =
         let is = precedes_so part c e in
         let next = is.place in
-        let after : place_after (chained (single_run part) c) ≡ place_after c = joined_after (single_run part) c ∙ omega (arith, next) in
+        let after : place_after (chained_run (single_run part) c) ≡ place_after c = joined_after (single_run part) c ∙ omega (arith, next) in
         let some = lie.1 in (
           up,
           (let sizes = length-append (single_run part).payloads c.payloads in omega (arith, sizes, some)),
           w,
-          none_so (chained (single_run part) c) c cs after (sym is.number) refl lie.3,
+          none_so (chained_run (single_run part) c) c cs after (sym is.number) refl lie.3,
           subst (λ (k : ℕ). LieApart k cs) (sym after) lie.4,
         )
     go false e w = (up, omega arith, w, not_precedes part c behind e, (omega (arith, behind), lie.1, lie.2, lie.3, lie.4))
@@ -161,7 +161,7 @@ on_true : (c : Bool) (k : ℕ) (part : PartModel) (r : RunModel) (runs : List Ru
 on_true c k part r runs back =
     let here : suc (suc k) - 1 ≡ suc k = omega arith in
     let there : suc k - 1 ≡ k = omega arith in
-    let run : RunModel = merged (chosen true (entry_before (suc k) runs)) part (chosen c (slice_get runs (suc k))) in
+    let run : RunModel = run_with_part (chosen true (entry_before (suc k) runs)) part (chosen c (slice_get runs (suc k))) in
     ap (λ (l : List RunModel). take (suc (suc k) - 1) (r ∷ runs) ++ run ∷ l) back
     ∙ ap (λ (n : ℕ). take n (r ∷ runs) ++ run ∷ drop (back_start c (suc k)) runs) here ∙ ap (λ (n : ℕ). r ∷ (take n runs ++ run ∷ drop (back_start c (suc k)) runs)) (sym there)
 
@@ -177,54 +177,54 @@ with_part_one true part r runs = refl
 
 -- a part after the first run
 part_second : (from : ℕ) (part : PartModel) (b : RunModel) (rest : List RunModel) → b.first ≤ part.place → holds b part.place ≡ false → StartsBehind part.place (slice_get rest 0) → LieApart from (b ∷ rest)
-    → is_whole (merged (following (Some b) part) part (run_behind part 0 rest)) ≡ false
+    → is_whole (run_with_part (following (Some b) part) part (run_behind part 0 rest)) ≡ false
     → LieApart from (with_part (is_some (following (Some b) part)) (is_some (run_behind part 0 rest)) 1 part (b ∷ rest)) × BeginsAlike (b ∷ rest) (with_part (is_some (following (Some b) part)) (is_some (run_behind part 0 rest)) 1 part (b ∷ rest))
 part_second from part b rest low clear behind lie whole = go (follows b part) refl whole
   where
     up : place_after b ≤ part.place
     up = clear_of b part.place low clear
 
-    with_next : (rest : List RunModel) → NoneContinues b rest → LieApart (place_after b) rest → StartsBehind part.place (slice_get rest 0) → Follows b part → is_whole (merged (Some b) part (run_behind part 0 rest)) ≡ false
+    with_next : (rest : List RunModel) → NoneContinues b rest → LieApart (place_after b) rest → StartsBehind part.place (slice_get rest 0) → Follows b part → is_whole (run_with_part (Some b) part (run_behind part 0 rest)) ≡ false
         → LieApart from (with_part true (is_some (run_behind part 0 rest)) 1 part (b ∷ rest)) × ((run : RunModel) → NoneContinues run (b ∷ rest) → NoneContinues run (with_part true (is_some (run_behind part 0 rest)) 1 part (b ∷ rest)))
     with_next [] none lie' behind' is w = (
       (lie.0, (let sizes = length-append b.payloads (single_run part).payloads in let some = lie.1 in omega (arith, sizes, some)), w, tt, tt),
-      λ run n. begun_so run (chained b (single_run part)) b refl refl refl n,
+      λ run n. begun_so run (chained_run b (single_run part)) b refl refl refl n,
     )
     with_next (c ∷ cs) none lie' behind' is w = inner (precedes part c) refl w
       where
         at : part.place ≡ place_after b
         at = is.place
 
-        inner : (t : Bool) → precedes part c ≡ t → is_whole (merged (Some b) part (if t then Some c else None)) ≡ false
+        inner : (t : Bool) → precedes part c ≡ t → is_whole (run_with_part (Some b) part (if t then Some c else None)) ≡ false
             → LieApart from (with_part true (is_some (if t then Some c else None)) 1 part (b ∷ c ∷ cs)) × ((run : RunModel) → NoneContinues run (b ∷ c ∷ cs) → NoneContinues run (with_part true (is_some (if t then Some c else None)) 1 part (b ∷ c ∷ cs)))
         inner true e w' =
             let has = precedes_so part c e in
             let next = has.place in
             let sizes = length-append (single_run part).payloads c.payloads in
-            let after : place_after (chained b (chained (single_run part) c)) ≡ place_after c = joined_after b (chained (single_run part) c) ∙ omega (arith, sizes, next, at) in (
+            let after : place_after (chained_run b (chained_run (single_run part) c)) ≡ place_after c = joined_after b (chained_run (single_run part) c) ∙ omega (arith, sizes, next, at) in (
               (
                 lie.0,
-                (let more = length-append b.payloads (chained (single_run part) c).payloads in let some = lie.1 in omega (arith, more, some)),
+                (let more = length-append b.payloads (chained_run (single_run part) c).payloads in let some = lie.1 in omega (arith, more, some)),
                 w',
-                none_so (chained b (chained (single_run part) c)) c cs after (is.number ∙ sym has.number) refl lie'.3,
+                none_so (chained_run b (chained_run (single_run part) c)) c cs after (is.number ∙ sym has.number) refl lie'.3,
                 subst (λ (k : ℕ). LieApart k cs) (sym after) lie'.4,
               ),
-              λ run n. begun_so run (chained b (chained (single_run part) c)) b refl refl refl n,
+              λ run n. begun_so run (chained_run b (chained_run (single_run part) c)) b refl refl refl n,
             )
         inner false e w' =
-            let after : place_after (chained b (single_run part)) ≡ place_after (single_run part) = joined_after b (single_run part) ∙ omega (arith, at) in
+            let after : place_after (chained_run b (single_run part)) ≡ place_after (single_run part) = joined_after b (single_run part) ∙ omega (arith, at) in
             let first = lie'.0 in (
               (
                 lie.0,
                 (let sizes = length-append b.payloads (single_run part).payloads in let some = lie.1 in omega (arith, sizes, some)),
                 w',
-                continued_so (chained b (single_run part)) (single_run part) c after is.number refl (not_precedes part c behind' e),
+                continued_so (chained_run b (single_run part)) (single_run part) c after is.number refl (not_precedes part c behind' e),
                 ((omega (arith, after, behind')), lie'.1, lie'.2, lie'.3, lie'.4),
               ),
-              λ run n. begun_so run (chained b (single_run part)) b refl refl refl n,
+              λ run n. begun_so run (chained_run b (single_run part)) b refl refl refl n,
             )
 
-    apart : follows b part ≡ false → (rest : List RunModel) → LieApart (place_after b) rest → StartsBehind part.place (slice_get rest 0) → is_whole (merged None part (run_behind part 0 rest)) ≡ false
+    apart : follows b part ≡ false → (rest : List RunModel) → LieApart (place_after b) rest → StartsBehind part.place (slice_get rest 0) → is_whole (run_with_part None part (run_behind part 0 rest)) ≡ false
         → LieApart from (with_part false (is_some (run_behind part 0 rest)) 1 part (b ∷ rest)) × ((run : RunModel) → NoneContinues run (b ∷ rest) → NoneContinues run (with_part false (is_some (run_behind part 0 rest)) 1 part (b ∷ rest)))
     apart e rest lie' behind' w =
         subst (λ (l : List RunModel). LieApart from l × ((run : RunModel) → NoneContinues run (b ∷ rest) → NoneContinues run l)) (sym (with_part_one (is_some (run_behind part 0 rest)) part b rest))
@@ -235,16 +235,16 @@ part_second from part b rest low clear behind lie whole = go (follows b part) re
         ends (c ∷ cs) = by_next (precedes part c)
           where
             by_next : (t : Bool) → NoneContinues b (with_part false (is_some (if t then Some c else None)) 0 part (c ∷ cs))
-            by_next true = not_follows b part (chained (single_run part) c) low refl refl refl e
+            by_next true = not_follows b part (chained_run (single_run part) c) low refl refl refl e
             by_next false = not_follows b part (single_run part) low refl refl refl e
 
-    go : (t : Bool) → follows b part ≡ t → is_whole (merged (if t then Some b else None) part (run_behind part 0 rest)) ≡ false
+    go : (t : Bool) → follows b part ≡ t → is_whole (run_with_part (if t then Some b else None) part (run_behind part 0 rest)) ≡ false
         → LieApart from (with_part (is_some (if t then Some b else None)) (is_some (run_behind part 0 rest)) 1 part (b ∷ rest))
         × ((run : RunModel) → NoneContinues run (b ∷ rest) → NoneContinues run (with_part (is_some (if t then Some b else None)) (is_some (run_behind part 0 rest)) 1 part (b ∷ rest)))
     go true e w = with_next rest lie.3 lie.4 behind (follows_so b part low e) w
     go false e w = apart e rest lie.4 behind w
 
-part_kept_apart : (k from : ℕ) (part : PartModel) (runs : List RunModel) → LieApart from runs → IsRunPlace (suc k) part.place runs → is_held_before (suc k) runs part.place ≡ false → is_whole (merged_at (suc k) runs part) ≡ false
+part_kept_apart : (k from : ℕ) (part : PartModel) (runs : List RunModel) → LieApart from runs → IsRunPlace (suc k) part.place runs → is_held_before (suc k) runs part.place ≡ false → is_whole (merged_run (suc k) runs part) ≡ false
     → LieApart from (with_part (is_some (run_before (suc k) runs part)) (is_some (run_behind part (suc k) runs)) (suc k) part runs)
     × BeginsAlike runs (with_part (is_some (run_before (suc k) runs part)) (is_some (run_behind part (suc k) runs)) (suc k) part runs)
 part_kept_apart k from part [] lie place clear whole = absurd (let within = place.within in omega (arith, within))
@@ -320,11 +320,11 @@ part_whole_apart b c (suc k) from place (r ∷ rest) lie at clear =
 
 -- ---- a part
 
-pub parts_lie_apart : (part : PartModel) (old new : List RunModel) (outcome : Assembled) → AddsPart part old outcome new → LieApart 0 old → LieApart 0 new
+pub parts_lie_apart : (part : PartModel) (old new : List RunModel) (outcome : Assembly) → AddsPart part old outcome new → LieApart 0 old → LieApart 0 new
 parts_lie_apart part old new part_dropped adds lie = subst (λ (l : List RunModel). LieApart 0 l) (sym adds.adds.1) lie
 parts_lie_apart part old new part_kept adds lie = go adds.at adds.place adds.adds
   where
-    go : (at : ℕ) → IsRunPlace at part.place old → (is_held_before at old part.place ≡ false) × (is_whole (merged_at at old part) ≡ false) × (new ≡ with_part (is_some (run_before at old part)) (is_some (run_behind part at old)) at part old) → LieApart 0 new
+    go : (at : ℕ) → IsRunPlace at part.place old → (is_held_before at old part.place ≡ false) × (is_whole (merged_run at old part) ≡ false) × (new ≡ with_part (is_some (run_before at old part)) (is_some (run_behind part at old)) at part old) → LieApart 0 new
     go zero place does = subst (λ (l : List RunModel). LieApart 0 l) (sym does.2) (part_first 0 part old 0 (omega arith) place.behind lie does.1)
     go (suc k) place does = subst (λ (l : List RunModel). LieApart 0 l) (sym does.2) (part_kept_apart k 0 part old lie place does.0 does.1).0
 parts_lie_apart part old new (message_whole message) adds lie = go adds.at adds.place adds.adds
@@ -333,7 +333,7 @@ parts_lie_apart part old new (message_whole message) adds lie = go adds.at adds.
     left c behind = lie_from (part.place + 1) 0 (drop (back_start c 0) old) (omega arith) (without_first c part.place 0 old behind lie)
 
     go : (at : ℕ) → IsRunPlace at part.place old
-        → (is_held_before at old part.place ≡ false) × (is_whole (merged_at at old part) ≡ true) × (message ≡ whole_run (merged_at at old part)) × (new ≡ without_runs (is_some (run_before at old part)) (is_some (run_behind part at old)) at old) → LieApart 0 new
+        → (is_held_before at old part.place ≡ false) × (is_whole (merged_run at old part) ≡ true) × (message ≡ whole_run (merged_run at old part)) × (new ≡ without_runs (is_some (run_before at old part)) (is_some (run_behind part at old)) at old) → LieApart 0 new
     go zero place does = subst (λ (l : List RunModel). LieApart 0 l) (sym does.3) (left (is_some (run_behind part 0 old)) place.behind)
     go (suc k) place does =
         subst (λ (l : List RunModel). LieApart 0 l) (sym does.3) (part_whole_apart (is_some (run_before (suc k) old part)) (is_some (run_behind part (suc k) old)) k 0 part.place old lie place does.0).0

@@ -8,7 +8,7 @@ use Rattle.dcsctp_spec_lemmas.specs.types.queues.SendStreams.{Waiting, front_of,
 use Rattle.dcsctp_spec_lemmas.specs.spec.queues.SendQueue.{SendQueueState}
 use Rattle.dcsctp_spec_lemmas.specs.spec.queues.Sending.{Fragment, after_part, after_last, is_last, TakesFragment}
 use Rattle.dcsctp_delivery_sending.specs.Places.{HasEntry, at_place}
-use Rattle.dcsctp_delivery_sending.specs.Log.{Message, Piece, Slot, History, Cut}
+use Rattle.dcsctp_delivery_sending.specs.Log.{Message, Piece, Slot, History, IsLogOfPieces}
 use Rattle.dcsctp_delivery_sending.specs.Numbers.{AreCurrent}
 use Rattle.dcsctp_delivery_sending.specs.Pieces.{AllBeyond, unbegun, Going, HoldsQueued, HandsOutPiece}
 use Rattle.dcsctp_delivery_sending.proofs.Places.{at_new, at_stays}
@@ -76,7 +76,7 @@ pub record IsSentOn (log : List Slot) (id place : ℕ) : Type 0 where
   pub ordered : piece.message.is_unordered ≡ false
 
 -- A message of the stream that was queued before one that was sent was sent as well, since the queue hands them out in turn.
-module _ (queued : List Message) (log : List Slot) (queue : SendQueueState) (cut : Cut queued log)
+module _ (queued : List Message) (log : List Slot) (queue : SendQueueState) (cut : IsLogOfPieces queued log)
     (holds : HoldsQueued queued log queue.streams queue.under_way)
     (id earlier number : ℕ) (lost : NoneLostOn id queued log queue.streams) (piece : Piece) (on : IsOrderedOn queued id earlier) (at : at_place number log ≡ Some (Some piece)) (stream : piece.message.stream ≡ id) (less : earlier < piece.place) where
   its_stream : (waits : StillWaits queue.streams earlier) → (stream_at queue.streams waits.q).id ≡ id
@@ -135,7 +135,7 @@ module _ (queued : List Message) (log : List Slot) (queue : SendQueueState) (cut
       ]
 
 -- It suffices that this holds of the stream.
-pub sends_in_turn_on : (queued : List Message) (history : History) (id : ℕ) (queue : SendQueueState) → CountsFromZero history id → CurrentOn id history → Cut queued history.log
+pub sends_in_turn_on : (queued : List Message) (history : History) (id : ℕ) (queue : SendQueueState) → CountsFromZero history id → CurrentOn id history → IsLogOfPieces queued history.log
     → HoldsQueued queued history.log queue.streams queue.under_way → NoneLostOn id queued history.log queue.streams → SendsInTurn queued history id
 sends_in_turn_on queued history id queue counts current cut holds lost earlier later mid on sent less =
     let before : earlier < sent.piece.place = (let is = sent.is in omega (arith, is, less)) in
@@ -146,7 +146,7 @@ sends_in_turn_on queued history id queue counts current cut holds lost earlier l
       subst (λ (k : ℕ). history.floors k false ≤ was.piece.mid) was.stream (subst (λ (b : Bool). history.floors was.piece.message.stream b ≤ was.piece.mid) was.ordered low),
     )
 
-pub sends_in_turn : (queued : List Message) (history : History) (id : ℕ) (queue : SendQueueState) → CountsFromZero history id → AreCurrent history history.log → Cut queued history.log
+pub sends_in_turn : (queued : List Message) (history : History) (id : ℕ) (queue : SendQueueState) → CountsFromZero history id → AreCurrent history history.log → IsLogOfPieces queued history.log
     → HoldsQueued queued history.log queue.streams queue.under_way → NoneLost queued history.log queue.streams → SendsInTurn queued history id
 sends_in_turn queued history id queue counts current cut holds lost =
     sends_in_turn_on queued history id queue counts (λ n f at on. current n f at) cut holds (λ place message at on. lost place message at)

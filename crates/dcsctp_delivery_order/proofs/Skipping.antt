@@ -9,9 +9,9 @@ use Rattle.dcsctp_spec_lemmas.specs.types.declared.arrivals.SkippedTo.{SkippedTo
 use Rattle.dcsctp_spec_lemmas.specs.types.declared.arrivals.SkippedTo.TheVariants.{Ssn, Mid}
 use Rattle.dcsctp_spec_lemmas.specs.spec.queues.Numbers.{number_near, short_number_near}
 use Rattle.dcsctp_spec_lemmas.specs.spec.queues.Runs.{RunModel, WholeModel, behind_place}
-use Rattle.dcsctp_spec_lemmas.specs.spec.queues.IncomingStreams.{StreamModel, delivered_as, due, not_due, next_past, skipped_stream, skipped, skip_deliveries}
-use Rattle.dcsctp_spec_lemmas.specs.spec.queues.Incoming.{IncomingModel, stream_on, skipped_on, skipped_by, deliveries_by, MovesOn}
-use Rattle.dcsctp_delivery_sending.specs.Places.{HasEntry, set_at}
+use Rattle.dcsctp_spec_lemmas.specs.spec.queues.IncomingStreams.{StreamModel, delivered_as, due, not_due, next_past, skipped_stream, stream_after_skip, skip_deliveries}
+use Rattle.dcsctp_spec_lemmas.specs.spec.queues.Incoming.{IncomingModel, stream_on, skipped_on, stream_skipping, deliveries_of_skips, MovesOn}
+use Rattle.dcsctp_delivery_sending.specs.Places.{HasEntry, table_with}
 use Rattle.dcsctp_delivery_sending.specs.Log.{Message, Piece, History}
 use Rattle.dcsctp_delivery_receiving.specs.Rows.{AreRows}
 use Rattle.dcsctp_delivery_receiving.specs.Ready.{IsOn, IsApart, IsOfStream, ReadsMids, ordered_base, unordered_base, NamesCurrent, AreNamed, StreamRows, AreDistinct, WereQueued, WaitQueued, StreamHolds}
@@ -22,7 +22,7 @@ use Rattle.dcsctp_delivery_receiving.proofs.Waiting.{both_queued, wait_spent, sp
 use Rattle.dcsctp_delivery_order.specs.Rising.{DeliversRising}
 use Rattle.dcsctp_delivery_order.specs.Order.{IsReadAs, AreReadAs}
 use Rattle.dcsctp_delivery_order.specs.Reading.{CountsFromZero, IsInReach, OrderedStream}
-use Rattle.dcsctp_delivery_order.specs.Incoming.{OrderWhere, NoneIsQuiet, HoldsOrdered, IncomingOrdered, NoneLimitedOn}
+use Rattle.dcsctp_delivery_order.specs.Incoming.{IsOrderedOrReset, NoneIsQuiet, HoldsOrdered, IncomingOrdered, NoneLimitedOn}
 use Rattle.dcsctp_delivery_order.proofs.Rising.{skips_deliver_rising}
 use Rattle.dcsctp_delivery_order.proofs.Order.{order_then}
 use Rattle.dcsctp_delivery_order.proofs.Reading.{mids_are_read, skips_in_reach}
@@ -59,7 +59,7 @@ module _ (gapless : ℕ → Bool) (queued : List Message) (history : History) (f
           spent = o.holds.spent;
           once = o.holds.once;
         };
-        order = λ id counts. subst (λ (s : StreamModel). OrderWhere (gapless id) (quiet id) queued history id (read ++ o.holds.places) (o.holds.waits id) s) (sym (same id)) (o.order id counts);
+        order = λ id counts. subst (λ (s : StreamModel). IsOrderedOrReset (gapless id) (quiet id) queued history id (read ++ o.holds.places) (o.holds.waits id) s) (sym (same id)) (o.order id counts);
       }
 
   -- one stream is left so
@@ -69,10 +69,10 @@ module _ (gapless : ℕ → Bool) (queued : List Message) (history : History) (f
   holds_left id loud streams later unordered ready after o rows others leaves =
       record {
         holds = record {
-          waits = set_at id leaves.waits o.holds.waits;
+          waits = table_with id leaves.waits o.holds.waits;
           streams_hold = λ other. elim (decide other id) [
             | inl e ↦
-                subst (λ (k : ℕ). StreamHolds queued history got base k (set_at id leaves.waits o.holds.waits k) (later k)) (sym e)
+                subst (λ (k : ℕ). StreamHolds queued history got base k (table_with id leaves.waits o.holds.waits k) (later k)) (sym e)
                 (subst (λ (l : List ℕ). StreamHolds queued history got base id l (later id)) (sym (set_same id leaves.waits o.holds.waits)) (record { rows = rows; wait = leaves.wait }))
             | inr ne ↦
                 subst (λ (l : List ℕ). StreamHolds queued history got base other l (later other)) (sym (set_other id other leaves.waits o.holds.waits ne))
@@ -85,10 +85,10 @@ module _ (gapless : ℕ → Bool) (queued : List Message) (history : History) (f
             | inl l ↦ o.holds.spent q l
             | inr r ↦ leaves.spent q r
           ];
-          once = λ other. subst (λ (l : List ℕ). AreDistinct (l ++ set_at id leaves.waits o.holds.waits other)) (appended read o.holds.places leaves.more)
+          once = λ other. subst (λ (l : List ℕ). AreDistinct (l ++ table_with id leaves.waits o.holds.waits other)) (appended read o.holds.places leaves.more)
               (elim (decide other id) [
                 | inl e ↦
-                    subst (λ (l : List ℕ). AreDistinct (((read ++ o.holds.places) ++ leaves.more) ++ l)) (sym (ap (set_at id leaves.waits o.holds.waits) e ∙ set_same id leaves.waits o.holds.waits)) leaves.once
+                    subst (λ (l : List ℕ). AreDistinct (((read ++ o.holds.places) ++ leaves.more) ++ l)) (sym (ap (table_with id leaves.waits o.holds.waits) e ∙ set_same id leaves.waits o.holds.waits)) leaves.once
                 | inr ne ↦
                     subst (λ (l : List ℕ). AreDistinct (((read ++ o.holds.places) ++ leaves.more) ++ l)) (sym (set_other id other leaves.waits o.holds.waits ne))
                     (distinct_apart (read ++ o.holds.places) leaves.more (o.holds.waits other) (distinct_left ((read ++ o.holds.places) ++ leaves.more) leaves.waits leaves.once) (o.holds.once other)
@@ -97,14 +97,14 @@ module _ (gapless : ℕ → Bool) (queued : List Message) (history : History) (f
         };
         order = λ other counts. elim (decide other id) [
           | inl e ↦
-              subst (λ (k : ℕ). OrderWhere (gapless k) (quiet k) queued history k (read ++ (o.holds.places ++ leaves.more)) (set_at id leaves.waits o.holds.waits k) (later k)) (sym e)
-              (subst (λ (l : List ℕ). OrderWhere (gapless id) (quiet id) queued history id (read ++ (o.holds.places ++ leaves.more)) l (later id)) (sym (set_same id leaves.waits o.holds.waits))
-              (subst (λ (b : Bool). OrderWhere (gapless id) b queued history id (read ++ (o.holds.places ++ leaves.more)) leaves.waits (later id)) (sym loud)
+              subst (λ (k : ℕ). IsOrderedOrReset (gapless k) (quiet k) queued history k (read ++ (o.holds.places ++ leaves.more)) (table_with id leaves.waits o.holds.waits k) (later k)) (sym e)
+              (subst (λ (l : List ℕ). IsOrderedOrReset (gapless id) (quiet id) queued history id (read ++ (o.holds.places ++ leaves.more)) l (later id)) (sym (set_same id leaves.waits o.holds.waits))
+              (subst (λ (b : Bool). IsOrderedOrReset (gapless id) b queued history id (read ++ (o.holds.places ++ leaves.more)) leaves.waits (later id)) (sym loud)
               (subst (λ (l : List ℕ). OrderedStream (gapless id) queued history id l leaves.waits (later id)) (appended read o.holds.places leaves.more) (leaves.order (subst (λ (k : ℕ). CountsFromZero history k) e counts)))))
           | inr ne ↦
-              subst (λ (l : List ℕ). OrderWhere (gapless other) (quiet other) queued history other (read ++ (o.holds.places ++ leaves.more)) l (later other)) (sym (set_other id other leaves.waits o.holds.waits ne))
-              (subst (λ (s : StreamModel). OrderWhere (gapless other) (quiet other) queued history other (read ++ (o.holds.places ++ leaves.more)) (o.holds.waits other) s) (sym (others other ne))
-              (subst (λ (l : List ℕ). OrderWhere (gapless other) (quiet other) queued history other l (o.holds.waits other) (streams other)) (appended read o.holds.places leaves.more)
+              subst (λ (l : List ℕ). IsOrderedOrReset (gapless other) (quiet other) queued history other (read ++ (o.holds.places ++ leaves.more)) l (later other)) (sym (set_other id other leaves.waits o.holds.waits ne))
+              (subst (λ (s : StreamModel). IsOrderedOrReset (gapless other) (quiet other) queued history other (read ++ (o.holds.places ++ leaves.more)) (o.holds.waits other) s) (sym (others other ne))
+              (subst (λ (l : List ℕ). IsOrderedOrReset (gapless other) (quiet other) queued history other l (o.holds.waits other) (streams other)) (appended read o.holds.places leaves.more)
               (others_where (gapless other) queued history (quiet other) other (read ++ o.holds.places) (o.holds.waits other) leaves.more (streams other)
               (λ place h is. ne (sym (one_stream queued id other place (leaves.on place h) (is.message, is.at, is.stream)))) (o.order other counts))))
         ];
@@ -147,14 +147,14 @@ module _ (gapless : ℕ → Bool) (queued : List Message) (history : History) (f
 
   skipped_leaves : (passed : ℕ) (all places waits : List ℕ) (entry : SkippedTo) (stream : StreamModel) (before : List MessageContent) → NamesCurrent history passed entry → StreamHolds queued history got base (skipped_stream entry) waits stream
       → WereQueued queued places before → AreDistinct (all ++ waits) → (CountsFromZero history (skipped_stream entry) → OrderedStream (gapless (skipped_stream entry)) queued history (skipped_stream entry) all waits stream)
-      → LeavesOrder (gapless (skipped_stream entry)) queued history got all places (skipped_stream entry) (skipped entry stream) (before ++ skip_deliveries entry stream)
+      → LeavesOrder (gapless (skipped_stream entry)) queued history got all places (skipped_stream entry) (stream_after_skip entry stream) (before ++ skip_deliveries entry stream)
   skipped_leaves passed all places waits (Ssn on ssn) stream before (skips, current) holds were once ordered =
-      leaves_due all places waits on.0 (next_past (short_number_near stream.next ssn) stream.next) stream (skipped (Ssn on ssn) stream) before
+      leaves_due all places waits on.0 (next_past (short_number_near stream.next ssn) stream.next) stream (stream_after_skip (Ssn on ssn) stream) before
       (λ counts. absurd (let clash : true ≡ false = sym (counts.kinds skips.number skips.piece skips.at) ∙ skips.kind in cc)) holds were once refl ordered
       (λ counts. skips_deliver_rising (Ssn on ssn) stream before (ordered counts).order.ahead)
       (λ counts. absurd (let clash : true ≡ false = sym (counts.kinds skips.number skips.piece skips.at) ∙ skips.kind in cc))
   skipped_leaves passed all places waits (Mid on false mid) stream before (skips, current) holds were once ordered =
-      leaves_due all places waits on.0 (next_past (number_near stream.next mid) stream.next) stream (skipped (Mid on false mid) stream) before
+      leaves_due all places waits on.0 (next_past (number_near stream.next mid) stream.next) stream (stream_after_skip (Mid on false mid) stream) before
       (λ counts. with_gaps on.0 (λ is. (let no : false ≡ true = sym (free skips.number skips.piece skips.at (ap gapless (sym skips.stream) ∙ is)) ∙ skips.limited in cc))) holds were once refl ordered
       (λ counts. skips_deliver_rising (Mid on false mid) stream before (ordered counts).order.ahead)
       (λ counts. skips_in_reach queued history on.0 skips.piece.place mid all waits on stream counts (ordered counts).order
@@ -162,11 +162,11 @@ module _ (gapless : ℕ → Bool) (queued : List Message) (history : History) (f
       (mids_are_read history on.0 skips.number skips.piece stream counts (ordered counts).reach (record { at = skips.at; stream = sym skips.stream; ordered = sym skips.unordered; current = current })))
       (ordered counts).reach)
   skipped_leaves passed all places waits (Mid on true mid) stream before (skips, current) holds were once ordered =
-      none_left (gapless on.0) queued history got all places waits on.0 (skipped (Mid on true mid) stream) before (before ++ []) were holds.wait once (append-nil before)
-      (λ counts. subst (λ (l : List ℕ). OrderedStream (gapless on.0) queued history on.0 l waits (skipped (Mid on true mid) stream)) (sym (append-nil all))
-      (alike_ordered (gapless on.0) queued history on.0 all waits stream (skipped (Mid on true mid) stream) refl refl (ordered counts)))
+      none_left (gapless on.0) queued history got all places waits on.0 (stream_after_skip (Mid on true mid) stream) before (before ++ []) were holds.wait once (append-nil before)
+      (λ counts. subst (λ (l : List ℕ). OrderedStream (gapless on.0) queued history on.0 l waits (stream_after_skip (Mid on true mid) stream)) (sym (append-nil all))
+      (alike_ordered (gapless on.0) queued history on.0 all waits stream (stream_after_skip (Mid on true mid) stream) refl refl (ordered counts)))
 
-  skipped_rows : (passed : ℕ) (entry : SkippedTo) (waits : List ℕ) (stream : StreamModel) → NamesCurrent history passed entry → StreamHolds queued history got base (skipped_stream entry) waits stream → StreamRows history got base (skipped_stream entry) (skipped entry stream)
+  skipped_rows : (passed : ℕ) (entry : SkippedTo) (waits : List ℕ) (stream : StreamModel) → NamesCurrent history passed entry → StreamHolds queued history got base (skipped_stream entry) waits stream → StreamRows history got base (skipped_stream entry) (stream_after_skip entry stream)
   skipped_rows passed (Ssn id ssn) waits stream (skips, current) holds =
       record {
         is = holds.rows.is;
@@ -193,17 +193,17 @@ module _ (gapless : ℕ → Bool) (queued : List Message) (history : History) (f
         last = subst (λ (k : ℕ). ReadsMids history id.0 true (number_near stream.last_unordered k)) (sym skips.is) (reads_moved history id.0 true skips.number skips.piece skips.at (sym skips.stream) (sym skips.unordered) current stream.last_unordered holds.rows.last);
       }
 
-  on_itself : (entry : SkippedTo) (stream : StreamModel) → skipped_on entry (skipped_stream entry) stream ≡ skipped entry stream
+  on_itself : (entry : SkippedTo) (stream : StreamModel) → skipped_on entry (skipped_stream entry) stream ≡ stream_after_skip entry stream
   on_itself entry stream = go (skipped_stream entry == skipped_stream entry) (elim (eqb_tells (skipped_stream entry) (skipped_stream entry)) [ inl e ↦ e.0 | inr e ↦ absurd (e.1 refl) ])
     where
-      go : (b : Bool) → b ≡ true → (if b then skipped entry stream else stream) ≡ skipped entry stream
+      go : (b : Bool) → b ≡ true → (if b then stream_after_skip entry stream else stream) ≡ stream_after_skip entry stream
       go true e = refl
       go false e = absurd (cc)
 
   on_others : (entry : SkippedTo) (other : ℕ) (stream : StreamModel) → other ≢ skipped_stream entry → skipped_on entry other stream ≡ stream
   on_others entry other stream ne = go (skipped_stream entry == other) (elim (eqb_tells (skipped_stream entry) other) [ inl e ↦ absurd (ne (sym e.1)) | inr e ↦ e.0 ])
     where
-      go : (b : Bool) → b ≡ false → (if b then skipped entry stream else stream) ≡ stream
+      go : (b : Bool) → b ≡ false → (if b then stream_after_skip entry stream else stream) ≡ stream
       go true e = absurd (cc)
       go false e = refl
 
@@ -218,14 +218,14 @@ module _ (gapless : ℕ → Bool) (queued : List Message) (history : History) (f
       (λ other ne. on_others entry other (streams other) ne)
       (subst (λ (s : StreamModel). LeavesOrder (gapless id) queued history got (read ++ o.holds.places) o.holds.places id s (ready ++ skip_deliveries entry (streams id))) (sym is)
       (skipped_leaves passed (read ++ o.holds.places) o.holds.places (o.holds.waits id) entry (streams id) ready names here o.holds.were_queued (o.holds.once id)
-      (λ counts. subst (λ (b : Bool). OrderWhere (gapless id) b queued history id (read ++ o.holds.places) (o.holds.waits id) (streams id)) loud (o.order id counts))))
+      (λ counts. subst (λ (b : Bool). IsOrderedOrReset (gapless id) b queued history id (read ++ o.holds.places) (o.holds.waits id) (streams id)) loud (o.order id counts))))
 
   all_skipped : (entries : List SkippedTo) (streams : ℕ → StreamModel) (unordered : List RunModel) (ready : List MessageContent) → HoldsOrdered gapless queued history quiet got base read streams unordered ready
-      → AreNamed history entries → NoneIsQuiet quiet entries → HoldsOrdered gapless queued history quiet got base read (λ id. skipped_by entries id (streams id)) unordered (ready ++ deliveries_by entries streams)
+      → AreNamed history entries → NoneIsQuiet quiet entries → HoldsOrdered gapless queued history quiet got base read (λ id. stream_skipping entries id (streams id)) unordered (ready ++ deliveries_of_skips entries streams)
   all_skipped [] streams unordered ready holds names loud = subst (λ (l : List MessageContent). HoldsOrdered gapless queued history quiet got base read streams unordered l) (sym (append-nil ready)) holds
   all_skipped (entry ∷ entries) streams unordered ready holds names loud =
-      subst (λ (l : List MessageContent). HoldsOrdered gapless queued history quiet got base read (λ id. skipped_by (entry ∷ entries) id (streams id)) unordered l)
-      (messages_appended ready (skip_deliveries entry (streams (skipped_stream entry))) (deliveries_by entries (λ id. skipped_on entry id (streams id))))
+      subst (λ (l : List MessageContent). HoldsOrdered gapless queued history quiet got base read (λ id. stream_skipping (entry ∷ entries) id (streams id)) unordered l)
+      (messages_appended ready (skip_deliveries entry (streams (skipped_stream entry))) (deliveries_of_skips entries (λ id. skipped_on entry id (streams id))))
       (all_skipped entries (λ id. skipped_on entry id (streams id)) unordered (ready ++ skip_deliveries entry (streams (skipped_stream entry))) (one_skipped names.0.0 entry streams unordered ready holds loud.0 names.0.1) names.1 loud.1)
     where
       messages_appended : (xs ys zs : List MessageContent) → (xs ++ ys) ++ zs ≡ xs ++ (ys ++ zs)
@@ -246,5 +246,5 @@ module _ (gapless : ℕ → Bool) (queued : List Message) (history : History) (f
       let skipped_all = all_skipped entries (λ id. stream_on id old.streams) old.unordered old.ready holds names loud in
       let rows : AreRows history.log got (unordered_base base) IsOfStream new.unordered = subst (λ (l : List RunModel). AreRows history.log got (unordered_base base) IsOfStream l) (sym moves.unordered) (rows_behind (unordered_base base) IsOfStream (number_near old.last_tsn_number tsn) old.unordered holds.holds.rows) in
       subst (λ (l : List MessageContent). HoldsOrdered gapless queued history quiet got base read (λ id. stream_on id new.streams) new.unordered l) (sym moves.ready)
-      (apart_rows (λ id. stream_on id new.streams) old.unordered new.unordered (old.ready ++ deliveries_by entries (λ id. stream_on id old.streams))
-      (holds_same (λ id. skipped_by entries id (stream_on id old.streams)) (λ id. stream_on id new.streams) old.unordered (old.ready ++ deliveries_by entries (λ id. stream_on id old.streams)) moves.streams skipped_all) rows)
+      (apart_rows (λ id. stream_on id new.streams) old.unordered new.unordered (old.ready ++ deliveries_of_skips entries (λ id. stream_on id old.streams))
+      (holds_same (λ id. stream_skipping entries id (stream_on id old.streams)) (λ id. stream_on id new.streams) old.unordered (old.ready ++ deliveries_of_skips entries (λ id. stream_on id old.streams)) moves.streams skipped_all) rows)

@@ -6,7 +6,7 @@ use Rattle.std.proofs.lemmas.List.{append-nil}
 use Rattle.dcsctp_spec_lemmas.specs.types.declared.arrivals.SkippedTo.{SkippedTo}
 use Rattle.dcsctp_spec_lemmas.specs.wire.Content.{data_chunk, i_data_chunk, forward_tsn_chunk, i_forward_tsn_chunk}
 use Rattle.dcsctp_spec_lemmas.specs.spec.Packet.{unworked, plain}
-use Rattle.dcsctp_spec_lemmas.specs.spec.queues.Arrivals.{Arrival, data_arrival, i_data_arrival, skipped_in, messages_skipped_in}
+use Rattle.dcsctp_spec_lemmas.specs.spec.queues.Arrivals.{Arrival, data_arrival, i_data_arrival, named_skips, skipped_messages}
 use Rattle.dcsctp_spec_lemmas.specs.spec.queues.OwnResets.{queue_committed}
 use Rattle.dcsctp_spec_lemmas.specs.spec.queues.Reassembly.{ReassemblyState}
 use Rattle.dcsctp_spec_lemmas.specs.spec.queues.Tracker.{TrackerState}
@@ -126,14 +126,14 @@ module _ (gapless : ℕ → Bool) (first : ℕ) (old : Direction) (small : first
   arrives_on _ (forwards emission tsn streams theirs new was holds same same' does) ends named unended a =
       let is : IsForward false s.history first old.acknowledged tsn streams =
       content_said s.history first old.acknowledged (plain (unworked (forward_tsn_chunk tsn streams))) emission.packet.contents (packet_said s.history first old.acknowledged emission old.sent s.packets was) holds in
-      skips_arrive a theirs new same same' tsn (skipped_in streams) is.passed (forward_skips s.history first old.acknowledged tsn streams is) does
+      skips_arrive a theirs new same same' tsn (named_skips streams) is.passed (forward_skips s.history first old.acknowledged tsn streams is) does
   arrives_on _ (receives_interleaved emission chunk theirs new was holds some same same' does) ends named unended a =
       let is : IsInterleaved s.history.log first chunk = content_said s.history first old.acknowledged (plain (unworked (i_data_chunk chunk))) emission.packet.contents (packet_said s.history first old.acknowledged emission old.sent s.packets was) holds in
       data_arrives a theirs new same same' is.number (i_data_arrival chunk) (carries_interleaved old.queued s.history.log first chunk s.queues.cut s.fit is some) does
   arrives_on _ (forwards_interleaved emission tsn streams theirs new was holds same same' does) ends named unended a =
       let is : IsForward true s.history first old.acknowledged tsn streams =
       content_said s.history first old.acknowledged (plain (unworked (i_forward_tsn_chunk tsn streams))) emission.packet.contents (packet_said s.history first old.acknowledged emission old.sent s.packets was) holds in
-      skips_arrive a theirs new same same' tsn (messages_skipped_in streams) is.passed (messages_skipped old.queued s.history first old.acknowledged tsn streams s.queues.cut s.fit is) does
+      skips_arrive a theirs new same same' tsn (skipped_messages streams) is.passed (messages_skipped old.queued s.history first old.acknowledged tsn streams s.queues.cut s.fit is) does
   arrives_on _ (tracks new cumulative ranges) ends named unended a =
       record {
         places = a.places;

@@ -14,7 +14,7 @@ use Rattle.dcsctp_spec_lemmas.specs.spec.endpoint.FlushOutcomes.{first_ask, pack
 use Rattle.dcsctp_spec_lemmas.specs.spec.endpoint.MessageOutcomes.{sending_queued}
 use Rattle.dcsctp_spec_lemmas.specs.spec.endpoint.SettingOutcomes.{set_in_queue}
 use Rattle.dcsctp_delivery_sending.specs.Places.{at_place}
-use Rattle.dcsctp_delivery_sending.specs.Log.{Fits, Message, Slot, History, Cut, new_history}
+use Rattle.dcsctp_delivery_sending.specs.Log.{Fits, Message, Slot, History, IsLogOfPieces, new_history}
 use Rattle.dcsctp_delivery_sending.specs.Flushes.{InFlight}
 use Rattle.dcsctp_delivery_sending.specs.Losing.{IsOpenOn, AllWaitOn, AreUnlimited, AreUnlimitedOn, StillWaits, IsKept}
 use Rattle.dcsctp_delivery_sending.specs.Numbers.{is_handed_out, stream_named}
@@ -27,18 +27,18 @@ use Rattle.dcsctp_delivery_sending.proofs.Losing.{kept_more, queued_of}
 use Rattle.dcsctp_delivery_sending.proofs.StillWaiting.{queueing_waits, setting_waits, committing_waits, rolling_back_waits}
 use Rattle.dcsctp_delivery_receiving.specs.Ready.{AreDistinct, WereQueued}
 use Rattle.dcsctp_delivery_receiving.proofs.Joining.{both}
-use Rattle.dcsctp_delivery_directions.specs.Directions.{Direction, Beginning, KeepsAll, Asking, BeginsAs, BeginsDirection, IsAwaited, NoneInFlight, assigned, DirectionRun, begins, goes_on, starts, DirectionStep, queues, sets, prepares, commits, rolls_back, flushes, resends, resends_nothing, speaks, asks_again, renews, turns_aside, acknowledges, loses, receives, forwards, receives_interleaved, forwards_interleaved, tracks, defers, performs, performs_earlier, resets, takes}
+use Rattle.dcsctp_delivery_directions.specs.Directions.{Direction, Beginning, KeepsAll, Asking, BeginsAs, BeginsDirection, IsAwaited, NoneInFlight, assigned_count, DirectionRun, begins, goes_on, starts, DirectionStep, queues, sets, prepares, commits, rolls_back, flushes, resends, resends_nothing, speaks, asks_again, renews, turns_aside, acknowledges, loses, receives, forwards, receives_interleaved, forwards_interleaved, tracks, defers, performs, performs_earlier, resets, takes}
 use Rattle.dcsctp_delivery_directions.proofs.Continuing.{Continues, NamedAreOut, EndsNone, step_continues, ended_raises, begun_history, started_history}
 use Rattle.dcsctp_delivery_directions.proofs.Directions.{begun_stands, started_stands, run_stands}
 use Rattle.dcsctp_delivery_directions.proofs.Losing.{was_before, same_beginning}
 use Rattle.dcsctp_delivery_directions.proofs.Standing.{Stands}
 use Rattle.dcsctp_delivery_directions.proofs.Steps.{stepped, more_queued}
-use Rattle.dcsctp_delivery_order.specs.Delivered.{DeliveredWithoutGaps}
+use Rattle.dcsctp_delivery_order.specs.Delivered.{AreDeliveredWithoutGaps}
 use Rattle.dcsctp_delivery_order.specs.Gaps.{SendsInTurn}
-use Rattle.dcsctp_delivery_order.specs.Incoming.{IncomingOrdered, OrderWhere, NoneLimitedOn}
+use Rattle.dcsctp_delivery_order.specs.Incoming.{IncomingOrdered, IsOrderedOrReset, NoneLimitedOn}
 use Rattle.dcsctp_delivery_order.specs.Reading.{CountsFromZero, OrderedStream}
 use Rattle.dcsctp_delivery_order.specs.Received.{none_quiet, ReassemblesInOrder, none_handled, some_handled}
-use Rattle.dcsctp_delivery_order.specs.Streams.{NoneLostOn, CurrentOn, DeliveredByStream}
+use Rattle.dcsctp_delivery_order.specs.Streams.{NoneLostOn, CurrentOn, AreDeliveredByStream}
 use Rattle.dcsctp_delivery_order.proofs.Beginning.{waits_from}
 use Rattle.dcsctp_delivery_order.proofs.Delivered.{no_gap_front}
 use Rattle.dcsctp_delivery_order.proofs.Directions.{Unended, step_keeps, raised_zero}
@@ -61,7 +61,7 @@ abbrev AreKept : (ℕ → Bool) → Beginning → Type 0
 AreKept gapless beginning = (id : ℕ) → gapless id ≡ true → beginning.keeps id ≡ true
 
 -- So none that was sent on them may be.
-free_on : (gapless : ℕ → Bool) (queued : List Message) (log : List Slot) → Cut queued log → AreFree gapless queued → NoneLimitedOn gapless log
+free_on : (gapless : ℕ → Bool) (queued : List Message) (log : List Slot) → IsLogOfPieces queued log → AreFree gapless queued → NoneLimitedOn gapless log
 free_on gapless queued log cut are n f at on = unlimited_on_at f.message.stream queued f.place f.message (are f.message.stream on) (cut.pieces n f at).at refl
 
 -- A stream that is kept isn't among those that are prepared to be reset.
@@ -418,7 +418,7 @@ gapless_of direction id = direction.beginning.keeps id && are_unlimited_on id di
 module _ (direction : Direction) (history : History) (counts : (id : ℕ) → CountsFromZero history id)
     (turns : (id : ℕ) → gapless_of direction id ≡ true → SendsInTurn direction.queued history id) where
   read_gapless : (quiet : ℕ → Bool) → ((id : ℕ) → gapless_of direction id ≡ true → quiet id ≡ false) → (got : List ℕ) (base : ℕ) (places : List ℕ) → WereQueued direction.queued places direction.read → AreDistinct places
-      → IncomingOrdered (gapless_of direction) direction.queued history quiet got base places direction.reassembly.incoming → DeliveredByStream direction.beginning.keeps direction.queued direction.read
+      → IncomingOrdered (gapless_of direction) direction.queued history quiet got base places direction.reassembly.incoming → AreDeliveredByStream direction.beginning.keeps direction.queued direction.read
   read_gapless quiet loud got base places were once o =
       record {
         ordered = record {
@@ -428,20 +428,20 @@ module _ (direction : Direction) (history : History) (counts : (id : ℕ) → Co
         no_gap = λ id kept are. (
             let is : gapless_of direction id ≡ true = rw kept (so_unlimited id direction.queued are) in
             let here : OrderedStream (gapless_of direction id) direction.queued history id (places ++ o.holds.places) (o.holds.waits id) (stream_on id direction.reassembly.incoming.streams) =
-            subst (λ (b : Bool). OrderWhere (gapless_of direction id) b direction.queued history id (places ++ o.holds.places) (o.holds.waits id) (stream_on id direction.reassembly.incoming.streams)) (loud id is) (o.order id (counts id)) in
+            subst (λ (b : Bool). IsOrderedOrReset (gapless_of direction id) b direction.queued history id (places ++ o.holds.places) (o.holds.waits id) (stream_on id direction.reassembly.incoming.streams)) (loud id is) (o.order id (counts id)) in
             no_gap_front direction.queued id places o.holds.places here.order.in_order
             (filled_no_gap direction.queued history id (places ++ o.holds.places) (o.holds.waits id) (stream_on id direction.reassembly.incoming.streams) (counts id) (turns id is) here.order (here.filled is))
             );
       }
 
   read_so : (quiet : ℕ → Bool) → ((id : ℕ) → gapless_of direction id ≡ true → quiet id ≡ false) → (first : ℕ) (got places : List ℕ) → WereQueued direction.queued places direction.read → AreDistinct places
-      → ReassemblesInOrder (gapless_of direction) direction.queued history quiet first got places direction.reassembly.incoming → DeliveredByStream direction.beginning.keeps direction.queued direction.read
+      → ReassemblesInOrder (gapless_of direction) direction.queued history quiet first got places direction.reassembly.incoming → AreDeliveredByStream direction.beginning.keeps direction.queued direction.read
   read_so quiet loud first got places were once (none_handled none last empty) = read_gapless quiet loud [] 0 places were once (empty 0)
   read_so quiet loud first got places were once (some_handled base at holds) = read_gapless quiet loud got base places were once holds
 
 pub streams_deliver_without_gaps : (options : Options) (first size : ℕ) (direction : Direction) → DirectionRun options first size direction
-    → first < 2 ^ 32 → assigned direction < 2 ^ 31 → length direction.queued < 2 ^ 64 → direction.queues.queue.is_interleaved ≡ true
-    → direction.beginning.from_zero ≡ true → DeliveredByStream direction.beginning.keeps direction.queued direction.read
+    → first < 2 ^ 32 → assigned_count direction < 2 ^ 31 → length direction.queued < 2 ^ 64 → direction.queues.queue.is_interleaved ≡ true
+    → direction.beginning.from_zero ≡ true → AreDeliveredByStream direction.beginning.keeps direction.queued direction.read
 streams_deliver_without_gaps options first size direction run small little few interleaved from =
     let which : ((id : ℕ) → gapless_of direction id ≡ true → (direction.beginning.keeps id ≡ true) × (are_unlimited_on id direction.queued ≡ true)) =
     λ id is. both (direction.beginning.keeps id) (are_unlimited_on id direction.queued) is in
@@ -466,8 +466,8 @@ all_unlimited id [] are = tt
 all_unlimited id (message ∷ queued) are = (λ on. are.0, all_unlimited id queued are.1)
 
 pub directions_deliver_without_gaps : (options : Options) (first size : ℕ) (direction : Direction) → DirectionRun options first size direction
-    → first < 2 ^ 32 → assigned direction < 2 ^ 31 → length direction.queued < 2 ^ 64 → direction.queues.queue.is_interleaved ≡ true
-    → direction.beginning.from_zero ≡ true → KeepsAll direction.beginning → AreUnlimited direction.queued → DeliveredWithoutGaps direction.queued direction.read
+    → first < 2 ^ 32 → assigned_count direction < 2 ^ 31 → length direction.queued < 2 ^ 64 → direction.queues.queue.is_interleaved ≡ true
+    → direction.beginning.from_zero ≡ true → KeepsAll direction.beginning → AreUnlimited direction.queued → AreDeliveredWithoutGaps direction.queued direction.read
 directions_deliver_without_gaps options first size direction run small little few interleaved from keeps are =
     let d = streams_deliver_without_gaps options first size direction run small little few interleaved from in
     record { ordered = d.ordered; no_gap = λ id. d.no_gap id (keeps id) (all_unlimited id direction.queued are) }

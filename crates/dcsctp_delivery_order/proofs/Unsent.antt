@@ -7,7 +7,7 @@ use Rattle.dcsctp_spec_lemmas.specs.spec.queues.Incoming.{IncomingModel, stream_
 use Rattle.dcsctp_spec_lemmas.specs.spec.queues.Reassembly.{ReassemblyState}
 use Rattle.dcsctp_spec_lemmas.specs.spec.queues.Tracker.{TrackerState}
 use Rattle.dcsctp_delivery_sending.specs.Places.{HasEntry, at_place}
-use Rattle.dcsctp_delivery_sending.specs.Log.{Message, Slot, History, Cut}
+use Rattle.dcsctp_delivery_sending.specs.Log.{Message, Slot, History, IsLogOfPieces}
 use Rattle.dcsctp_delivery_sending.specs.Numbers.{AreOfKind}
 use Rattle.dcsctp_delivery_receiving.specs.Clear.{Unsent}
 use Rattle.dcsctp_delivery_receiving.specs.Ready.{WaitQueued, IsNear, fresh, near, HoldsIncoming}
@@ -24,7 +24,7 @@ is_first : (next : ℕ) → IsNear (next + 1) next → next ≡ 2 ^ 32
 is_first next (fresh e) = e
 is_first next (near base same small low high) = absurd (omega (arith, same, low, high))
 
-module _ (queued : List Message) (history : History) (id : ℕ) (cut : Cut queued history.log) (kinds : AreOfKind true history.log) (none : Unsent history.log id) where
+module _ (queued : List Message) (history : History) (id : ℕ) (cut : IsLogOfPieces queued history.log) (kinds : AreOfKind true history.log) (none : Unsent history.log id) where
   none_wait : (got : List ℕ) (waits : List ℕ) (waiting : List WholeModel) → WaitQueued queued history got id waits waiting → (next : ℕ) → AreReadAs history id waits waiting × AscendFrom next waiting
   none_wait got [] [] wait next = (tt, tt)
   none_wait got [] (w ∷ waiting) wait next = absurd wait
@@ -58,7 +58,7 @@ module _ (queued : List Message) (history : History) (empty : history.log ≡ []
   nowhere : (n : ℕ) (slot : Slot) → at_place n history.log ≡ Some slot → ⊥
   nowhere n slot at = (let none : at_place n [] ≡ Some slot = subst (λ (l : List Slot). at_place n l ≡ Some slot) empty at in absurd (cc))
 
-  no_cut : Cut queued history.log
+  no_cut : IsLogOfPieces queued history.log
   no_cut =
       record {
         pieces = λ n f at. absurd (nowhere n (Some f) at);

@@ -7,9 +7,9 @@ use Rattle.dcsctp_spec_lemmas.specs.types.queues.SendStreams.{stream_at}
 use Rattle.dcsctp_spec_lemmas.specs.spec.queues.Transfer.{EndpointQueues}
 use Rattle.dcsctp_delivery_sending.specs.Log.{Message}
 use Rattle.dcsctp_delivery_sending.specs.Places.{HasEntry}
-use Rattle.dcsctp_delivery_directions.specs.Directions.{Direction, DirectionRun, assigned, tsns_in_flight}
+use Rattle.dcsctp_delivery_directions.specs.Directions.{Direction, DirectionRun, assigned_count, tsns_in_flight}
 use Rattle.dcsctp_delivery_order.specs.Queue.{IsOrderedOn}
-use Rattle.dcsctp_delivery_order.specs.Streams.{DeliveredOn, IsKeptReliable}
+use Rattle.dcsctp_delivery_order.specs.Streams.{AreDeliveredOnStreams, IsKeptReliable}
 
 -- No message waits, and no TSN waits to be acknowledged.
 pub record HasNothingLeft (queues : EndpointQueues) : Type 0 where
@@ -17,8 +17,8 @@ pub record HasNothingLeft (queues : EndpointQueues) : Type 0 where
   pub flight : tsns_in_flight queues.transfer ≡ 0
 
 -- Each ordered message that was queued on one of these streams was read.
-pub record DeliveredAllOn (these : ℕ → Bool) (queued : List Message) (read : List MessageContent) : Type 0 where
-  pub on : DeliveredOn these queued read
+pub record AreAllDelivered (these : ℕ → Bool) (queued : List Message) (read : List MessageContent) : Type 0 where
+  pub on : AreDeliveredOnStreams these queued read
   pub all : (id : ℕ) → these id ≡ true → (place : ℕ) → IsOrderedOn queued id place → HasEntry place on.delivered.places
 
 -- Without interleaving it is so of each stream that the sender keeps, and on which no message may be abandoned, whatever happens
@@ -26,5 +26,5 @@ pub record DeliveredAllOn (these : ℕ → Bool) (queued : List Message) (read :
 abbrev pub PlainStreamsArrive : Type 0
 PlainStreamsArrive =
     (these : ℕ → Bool) (options : Options) (first size : ℕ) (direction : Direction) → DirectionRun options first size direction
-    → first < 2 ^ 32 → assigned direction < 2 ^ 31 → length direction.queued < 2 ^ 64 → size ≤ 2 ^ 63 → direction.queues.queue.is_interleaved ≡ false → direction.beginning.from_zero ≡ true
-    → ((id : ℕ) → these id ≡ true → IsKeptReliable direction id) → HasNothingLeft direction.queues → direction.reassembly.incoming.ready ≡ [] → DeliveredAllOn these direction.queued direction.read
+    → first < 2 ^ 32 → assigned_count direction < 2 ^ 31 → length direction.queued < 2 ^ 64 → size ≤ 2 ^ 63 → direction.queues.queue.is_interleaved ≡ false → direction.beginning.from_zero ≡ true
+    → ((id : ℕ) → these id ≡ true → IsKeptReliable direction id) → HasNothingLeft direction.queues → direction.reassembly.incoming.ready ≡ [] → AreAllDelivered these direction.queued direction.read

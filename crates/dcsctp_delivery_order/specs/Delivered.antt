@@ -6,20 +6,20 @@ use Rattle.dcsctp_spec_lemmas.specs.types.queues.Messages.{MessageContent}
 use Rattle.dcsctp_spec_lemmas.specs.spec.queues.Incoming.{IncomingModel}
 use Rattle.dcsctp_delivery_sending.specs.Log.{Message, History}
 use Rattle.dcsctp_delivery_receiving.specs.Ready.{AreDistinct, WereQueued}
-use Rattle.dcsctp_delivery_directions.specs.Directions.{Delivered}
+use Rattle.dcsctp_delivery_directions.specs.Directions.{AreDelivered}
 use Rattle.dcsctp_delivery_order.specs.Queue.{ComeInOrder, LeaveNoGap}
 use Rattle.dcsctp_delivery_order.specs.Reading.{CountsFromZero}
 use Rattle.dcsctp_delivery_order.specs.Gaps.{SendsInTurn}
 use Rattle.dcsctp_delivery_order.specs.Incoming.{IncomingOrdered}
 
 -- Each message that was read was queued, none twice, and the ordered ones of each stream in the order of reading.
-pub record DeliveredInOrder (queued : List Message) (read : List MessageContent) : Type 0 where
-  pub delivered : Delivered queued read
+pub record AreDeliveredInOrder (queued : List Message) (read : List MessageContent) : Type 0 where
+  pub delivered : AreDelivered queued read
   pub in_order : (id : ℕ) → ComeInOrder queued id delivered.places
 
 -- And none of them is left out before another: what was read of a stream's ordered messages is a prefix of what was queued.
-pub record DeliveredWithoutGaps (queued : List Message) (read : List MessageContent) : Type 0 where
-  pub ordered : DeliveredInOrder queued read
+pub record AreDeliveredWithoutGaps (queued : List Message) (read : List MessageContent) : Type 0 where
+  pub ordered : AreDeliveredInOrder queued read
   pub no_gap : (id : ℕ) → LeaveNoGap queued id ordered.delivered.places
 
 -- Messages are read in order where the numbers of each stream begin at 0.
@@ -27,11 +27,11 @@ abbrev pub ReadIsInOrder : Type 0
 ReadIsInOrder =
     (gapless : ℕ → Bool) (queued : List Message) (history : History) (quiet : ℕ → Bool) (got : List ℕ) (base : ℕ) (places : List ℕ) (incoming : IncomingModel) (read : List MessageContent)
     → WereQueued queued places read → AreDistinct places → ((id : ℕ) → CountsFromZero history id) → IncomingOrdered gapless queued history quiet got base places incoming
-    → DeliveredInOrder queued read
+    → AreDeliveredInOrder queued read
 
 -- They are read without gaps where besides nothing is skipped or reset, and messages are sent in turn.
 abbrev pub ReadIsWithoutGaps : Type 0
 ReadIsWithoutGaps =
     (queued : List Message) (history : History) (got : List ℕ) (base : ℕ) (places : List ℕ) (incoming : IncomingModel) (read : List MessageContent)
     → WereQueued queued places read → AreDistinct places → ((id : ℕ) → CountsFromZero history id) → ((id : ℕ) → SendsInTurn queued history id)
-    → IncomingOrdered (λ id. true) queued history (λ id. false) got base places incoming → DeliveredWithoutGaps queued read
+    → IncomingOrdered (λ id. true) queued history (λ id. false) got base places incoming → AreDeliveredWithoutGaps queued read

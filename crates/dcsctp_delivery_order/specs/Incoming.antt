@@ -10,7 +10,7 @@ use Rattle.dcsctp_spec_lemmas.specs.spec.queues.IncomingStreams.{StreamModel, Ch
 use Rattle.dcsctp_spec_lemmas.specs.spec.queues.Incoming.{IncomingModel, nothing, stream_on, TakesIncomingChunk, MovesOn, ResetsStreams}
 use Rattle.dcsctp_spec_lemmas.specs.spec.queues.Reassembly.{names_stream}
 use Rattle.dcsctp_delivery_sending.specs.Places.{HasEntry, at_place}
-use Rattle.dcsctp_delivery_sending.specs.Log.{Message, Piece, Slot, History, Cut}
+use Rattle.dcsctp_delivery_sending.specs.Log.{Message, Piece, Slot, History, IsLogOfPieces}
 use Rattle.dcsctp_delivery_sending.specs.Numbers.{IsUnambiguous}
 use Rattle.dcsctp_delivery_receiving.specs.Ready.{HoldsAll, WasQueued, WereQueued, BearsPiece, AreNamed}
 use Rattle.dcsctp_delivery_order.specs.Queue.{ComeInOrder}
@@ -18,16 +18,16 @@ use Rattle.dcsctp_delivery_order.specs.Order.{IsBetweenResets}
 use Rattle.dcsctp_delivery_order.specs.Reading.{CountsFromZero, OrderedStream}
 
 -- The stream is in order; or it was reset, and its messages aren't numbered from 0 yet.
-abbrev pub OrderWhere : Bool → Bool → List Message → History → ℕ → List ℕ → List ℕ → StreamModel → Type 0
-OrderWhere gapless false queued history id all waits stream = OrderedStream gapless queued history id all waits stream
-OrderWhere gapless true queued history id all waits stream = IsBetweenResets queued history id all
+abbrev pub IsOrderedOrReset : Bool → Bool → List Message → History → ℕ → List ℕ → List ℕ → StreamModel → Type 0
+IsOrderedOrReset gapless false queued history id all waits stream = OrderedStream gapless queued history id all waits stream
+IsOrderedOrReset gapless true queued history id all waits stream = IsBetweenResets queued history id all
 
 -- All that is held was queued, and the streams whose numbers begin at 0 are in order. `gapless` are the
 -- streams of which nothing was skipped.
 -- `quiet` are the streams that were reset, and on which nothing comes before their messages are numbered from 0 again.
 pub record HoldsOrdered (gapless : ℕ → Bool) (queued : List Message) (history : History) (quiet : ℕ → Bool) (got : List ℕ) (base : ℕ) (read : List ℕ) (streams : ℕ → StreamModel) (unordered : List RunModel) (ready : List MessageContent) : Type 0 where
   pub holds : HoldsAll queued history got base read streams unordered ready
-  pub order : (id : ℕ) → CountsFromZero history id → OrderWhere (gapless id) (quiet id) queued history id (read ++ holds.places) (holds.waits id) (streams id)
+  pub order : (id : ℕ) → CountsFromZero history id → IsOrderedOrReset (gapless id) (quiet id) queued history id (read ++ holds.places) (holds.waits id) (streams id)
 
 -- This holds for the received messages of an association.
 abbrev pub IncomingOrdered : (ℕ → Bool) → List Message → History → (ℕ → Bool) → List ℕ → ℕ → List ℕ → IncomingModel → Type 0
@@ -41,7 +41,7 @@ BeginningInOrder = (gapless : ℕ → Bool) (queued : List Message) (history : H
 -- A chunk whose TSN is new, and that carries the piece of its TSN, leaves it so.
 abbrev pub ReadyInOrder : Type 0
 ReadyInOrder =
-    (gapless : ℕ → Bool) (queued : List Message) (history : History) (quiet : ℕ → Bool) → Cut queued history.log → IsUnambiguous history
+    (gapless : ℕ → Bool) (queued : List Message) (history : History) (quiet : ℕ → Bool) → IsLogOfPieces queued history.log → IsUnambiguous history
     → (got : List ℕ) (base tsn : ℕ) (read : List ℕ) (chunk : ChunkModel) (old new : IncomingModel)
     → (bears : BearsPiece history base (number_near old.last_tsn_number tsn) chunk) → (HasEntry bears.offset got → ⊥) → quiet chunk.stream ≡ false
     → IncomingOrdered gapless queued history quiet got base read old → TakesIncomingChunk tsn chunk old new
@@ -95,5 +95,5 @@ pub record IsWithin (history later : History) : Type 0 where
 abbrev pub GrowingInOrder : Type 0
 GrowingInOrder =
     (gapless : Bool) (queued more : List Message) (history later : History) (quiet : Bool) (id : ℕ) (all waits : List ℕ) (contents : List MessageContent) (stream : StreamModel)
-    → IsWithin history later → WereQueued queued all contents → CountsFromZero later id → (CountsFromZero history id → OrderWhere gapless quiet queued history id all waits stream)
-    → OrderWhere gapless quiet (more ++ queued) later id all waits stream
+    → IsWithin history later → WereQueued queued all contents → CountsFromZero later id → (CountsFromZero history id → IsOrderedOrReset gapless quiet queued history id all waits stream)
+    → IsOrderedOrReset gapless quiet (more ++ queued) later id all waits stream

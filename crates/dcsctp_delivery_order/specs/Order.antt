@@ -5,11 +5,11 @@ use Rattle.dcsctp_spec_lemmas.specs.types.queues.Messages.{MessageContent}
 use Rattle.dcsctp_spec_lemmas.specs.types.declared.arrivals.SkippedTo.{SkippedTo}
 use Rattle.dcsctp_spec_lemmas.specs.types.declared.arrivals.Taken.{Taken}
 use Rattle.dcsctp_spec_lemmas.specs.spec.queues.Runs.{PartModel, WholeModel}
-use Rattle.dcsctp_spec_lemmas.specs.spec.queues.IncomingStreams.{StreamModel, new_stream, TakesOrdered, skipped}
+use Rattle.dcsctp_spec_lemmas.specs.spec.queues.IncomingStreams.{StreamModel, new_stream, TakesOrdered, stream_after_skip}
 use Rattle.dcsctp_delivery_sending.specs.Places.{HasEntry, at_place}
 use Rattle.dcsctp_delivery_sending.specs.Log.{Message, Piece, History}
 use Rattle.dcsctp_delivery_order.specs.Queue.{IsOrderedOn, ComeInOrder, FollowsOn}
-use Rattle.dcsctp_delivery_order.specs.Rising.{WaitsForNext, IsAhead, ready_by, ready_past}
+use Rattle.dcsctp_delivery_order.specs.Rising.{WaitsForNext, IsAhead, ready_with_part, ready_past}
 
 -- The message of this place is an ordered one of the stream, and a piece of it was sent under this number of the sender's.
 pub record IsSentAs (history : History) (id place mid : ℕ) : Type 0 where
@@ -74,13 +74,13 @@ abbrev pub PartsStayInOrder : Type 0
 PartsStayInOrder =
     (queued : List Message) (history : History) (id place : ℕ) (all waits : List ℕ) (part : PartModel) (old : StreamModel) (before : List MessageContent) (taken : Taken) (new : StreamModel) (after : List MessageContent)
     → FollowsOn id history.log → StreamInOrder queued history id all waits old → IsReadAs history id place part.number → IsAhead part old → (does : TakesOrdered part old before taken new after)
-    → StaysInOrder queued history id all (ready_by old does.outcome) new
+    → StaysInOrder queued history id all (ready_with_part old does.outcome) new
 
 -- when messages are skipped, whichever,
 abbrev pub SkipsStayInOrder : Type 0
 SkipsStayInOrder =
     (queued : List Message) (history : History) (id : ℕ) (all waits : List ℕ) (entry : SkippedTo) (old : StreamModel)
-    → FollowsOn id history.log → StreamInOrder queued history id all waits old → StaysInOrder queued history id all (ready_past entry old) (skipped entry old)
+    → FollowsOn id history.log → StreamInOrder queued history id all waits old → StaysInOrder queued history id all (ready_past entry old) (stream_after_skip entry old)
 
 -- when messages of other streams become ready, or unordered ones,
 abbrev pub OthersStayInOrder : Type 0

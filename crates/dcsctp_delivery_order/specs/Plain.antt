@@ -9,9 +9,9 @@ use Rattle.dcsctp_spec_lemmas.specs.spec.queues.Incoming.{IncomingModel, stream_
 use Rattle.dcsctp_delivery_sending.specs.Places.{HasEntry, at_place}
 use Rattle.dcsctp_delivery_sending.specs.Log.{Message, Piece, Slot, History, is_end}
 use Rattle.dcsctp_delivery_sending.specs.Numbers.{AreOfKind}
-use Rattle.dcsctp_delivery_sending.specs.Turns.{begun_on, turn_at, IsSsnOfTurn}
+use Rattle.dcsctp_delivery_sending.specs.Turns.{begun_on, turn_of_tsn, IsSsnOfTurn}
 use Rattle.dcsctp_delivery_receiving.specs.Ready.{HoldsAll}
-use Rattle.dcsctp_delivery_order.specs.Runs.{LieApart, HeldAs}
+use Rattle.dcsctp_delivery_order.specs.Runs.{LieApart, IsHeldForMessage}
 use Rattle.dcsctp_delivery_order.specs.Order.{StreamInOrder, AreFilled}
 
 -- ---- numbers without wrap
@@ -24,17 +24,17 @@ abbrev pub turned_slot : Slot → List Slot → Slot
 turned_slot None earlier = None
 turned_slot (Some piece) earlier = Some (turned_piece piece (begun_on piece.message.stream (Some piece ∷ earlier)))
 
-abbrev pub turned : List Slot → List Slot
-turned [] = []
-turned (slot ∷ earlier) = turned_slot slot earlier ∷ turned earlier
+abbrev pub turned_log : List Slot → List Slot
+turned_log [] = []
+turned_log (slot ∷ earlier) = turned_slot slot earlier ∷ turned_log earlier
 
 -- the history with such numbers, from 0 on
 abbrev pub with_turns : History → History
-with_turns history = record { log = turned history.log; marks = []; floors = λ id is_unordered. 0 }
+with_turns history = record { log = turned_log history.log; marks = []; floors = λ id is_unordered. 0 }
 
 -- the receiver's number of the message of a TSN: it counts from 2^32 on
-abbrev pub number_at : ℕ → ℕ → List Slot → ℕ
-number_at id n log = 2 ^ 32 + turn_at id n log - 1
+abbrev pub number_of_tsn : ℕ → ℕ → List Slot → ℕ
+number_of_tsn id n log = 2 ^ 32 + turn_of_tsn id n log - 1
 
 -- The TSN carries a piece of an ordered message of the stream.
 pub record CarriesOrdered (log : List Slot) (id n : ℕ) (piece : Piece) : Type 0 where
@@ -46,7 +46,7 @@ pub record CarriesOrdered (log : List Slot) (id n : ℕ) (piece : Piece) : Type 
 -- the one before has ended, or is abandoned. Fewer than 2^31 TSNs were assigned.
 pub record CountsPlain (id : ℕ) (history : History) : Type 0 where
   pub kinds : AreOfKind false history.log
-  pub sent : (n : ℕ) (f : Piece) → CarriesOrdered history.log id n f → IsSsnOfTurn f.ssn (turn_at id n history.log)
+  pub sent : (n : ℕ) (f : Piece) → CarriesOrdered history.log id n f → IsSsnOfTurn f.ssn (turn_of_tsn id n history.log)
   pub closes : (n : ℕ) (f g : Piece) → at_place n history.log ≡ Some (Some f) → at_place (n + 1) history.log ≡ Some (Some g) → g.start ≡ 0 → is_end f ≡ true
   pub few : length history.log < 2 ^ 31
 
@@ -64,13 +64,13 @@ pub record IsNumberedRun (log : List Slot) (base id : ℕ) (run : RunModel) : Ty
   pub offset : ℕ
   pub piece : Piece
   pub is : CarriesOrdered log id offset piece
-  pub number : run.number ≡ number_at id offset log
+  pub number : run.number ≡ number_of_tsn id offset log
   pub first : run.first ≡ fragment_place run.number base + offset
 
 -- The part of a TSN is held, or its whole message waits.
 abbrev pub IsHeldOrWaits : List Slot → ℕ → ℕ → StreamModel → ℕ → Type 0
 IsHeldOrWaits log base id stream n =
-    HeldAs stream.ordered (fragment_place (number_at id n log) base + n) (number_at id n log) ⊎ (is_number_waiting (number_at id n log) stream.waiting ≡ true)
+    IsHeldForMessage stream.ordered (fragment_place (number_of_tsn id n log) base + n) (number_of_tsn id n log) ⊎ (is_number_waiting (number_of_tsn id n log) stream.waiting ≡ true)
 
 -- The stream is in order, without a gap. Its runs lie apart, and each part that was handled is held, or its message is whole. `base`
 -- is the number that the reassembly queue has for the first TSN.
@@ -80,7 +80,7 @@ pub record PlainStream (queued : List Message) (history : History) (got : List �
   pub from : 2 ^ 32 ≤ stream.next
   pub apart : LieApart 0 stream.ordered
   pub runs : (run : RunModel) → HasEntry run stream.ordered → IsNumberedRun history.log base id run
-  pub held : (n : ℕ) (f : Piece) → CarriesOrdered history.log id n f → HasEntry n got → stream.next ≤ number_at id n history.log → IsHeldOrWaits history.log base id stream n
+  pub held : (n : ℕ) (f : Piece) → CarriesOrdered history.log id n f → HasEntry n got → stream.next ≤ number_of_tsn id n history.log → IsHeldOrWaits history.log base id stream n
 
 -- ---- what a receiver has of all streams
 

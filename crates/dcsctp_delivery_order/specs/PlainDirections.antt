@@ -5,8 +5,8 @@ use Rattle.dcsctp_spec_lemmas.specs.types.declared.options.Options.{Options}
 use Rattle.dcsctp_delivery_sending.specs.Log.{Message}
 use Rattle.dcsctp_delivery_sending.specs.Losing.{AreUnlimited}
 use Rattle.dcsctp_delivery_directions.specs.Forwards.{NoneForwards}
-use Rattle.dcsctp_delivery_directions.specs.Directions.{Direction, KeepsAll, DirectionRun, assigned}
-use Rattle.dcsctp_delivery_order.specs.Delivered.{DeliveredInOrder, DeliveredWithoutGaps}
+use Rattle.dcsctp_delivery_directions.specs.Directions.{Direction, KeepsAll, DirectionRun, assigned_count}
+use Rattle.dcsctp_delivery_order.specs.Delivered.{AreDeliveredInOrder, AreDeliveredWithoutGaps}
 
 -- Without interleaving each message that was read was queued, none twice, and the ordered ones of each stream in the order of
 -- reading. This holds where the sender began with number 0 on each stream, has begun no request to reset streams, and skips
@@ -15,8 +15,8 @@ use Rattle.dcsctp_delivery_order.specs.Delivered.{DeliveredInOrder, DeliveredWit
 abbrev pub PlainDirectionsDeliverInOrder : Type 0
 PlainDirectionsDeliverInOrder =
     (options : Options) (first size : ℕ) (direction : Direction) → DirectionRun options first size direction
-    → first < 2 ^ 32 → assigned direction < 2 ^ 31 → length direction.queued < 2 ^ 64 → size ≤ 2 ^ 63 → direction.queues.queue.is_interleaved ≡ false
-    → direction.beginning.from_zero ≡ true → direction.asking.requests ≡ [] → NoneForwards direction.sent → DeliveredInOrder direction.queued direction.read
+    → first < 2 ^ 32 → assigned_count direction < 2 ^ 31 → length direction.queued < 2 ^ 64 → size ≤ 2 ^ 63 → direction.queues.queue.is_interleaved ≡ false
+    → direction.beginning.from_zero ≡ true → direction.asking.requests ≡ [] → NoneForwards direction.sent → AreDeliveredInOrder direction.queued direction.read
 
 -- What was read of each stream's ordered messages is a prefix of what was queued, if besides no message may be abandoned (it
 -- has no lifetime, and no limit on retransmissions), and the sender began with all that was queued before and drops nothing for a
@@ -24,8 +24,8 @@ PlainDirectionsDeliverInOrder =
 abbrev pub PlainDirectionsDeliverWithoutGaps : Type 0
 PlainDirectionsDeliverWithoutGaps =
     (options : Options) (first size : ℕ) (direction : Direction) → DirectionRun options first size direction
-    → first < 2 ^ 32 → assigned direction < 2 ^ 31 → length direction.queued < 2 ^ 64 → size ≤ 2 ^ 63 → direction.queues.queue.is_interleaved ≡ false
-    → direction.beginning.from_zero ≡ true → KeepsAll direction.beginning → AreUnlimited direction.queued → DeliveredWithoutGaps direction.queued direction.read
+    → first < 2 ^ 32 → assigned_count direction < 2 ^ 31 → length direction.queued < 2 ^ 64 → size ≤ 2 ^ 63 → direction.queues.queue.is_interleaved ≡ false
+    → direction.beginning.from_zero ≡ true → KeepsAll direction.beginning → AreUnlimited direction.queued → AreDeliveredWithoutGaps direction.queued direction.read
 
 -- ---- few messages on each stream
 
@@ -44,5 +44,5 @@ FewOnEachStream queued = (id : ℕ) → ordered_on id queued < 2 ^ 15
 abbrev pub PlainFewDeliverInOrder : Type 0
 PlainFewDeliverInOrder =
     (options : Options) (first size : ℕ) (direction : Direction) → DirectionRun options first size direction
-    → first < 2 ^ 32 → assigned direction < 2 ^ 31 → length direction.queued < 2 ^ 64 → direction.queues.queue.is_interleaved ≡ false
-    → direction.beginning.from_zero ≡ true → direction.asking.requests ≡ [] → FewOnEachStream direction.queued → DeliveredInOrder direction.queued direction.read
+    → first < 2 ^ 32 → assigned_count direction < 2 ^ 31 → length direction.queued < 2 ^ 64 → direction.queues.queue.is_interleaved ≡ false
+    → direction.beginning.from_zero ≡ true → direction.asking.requests ≡ [] → FewOnEachStream direction.queued → AreDeliveredInOrder direction.queued direction.read

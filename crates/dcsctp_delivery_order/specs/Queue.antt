@@ -6,7 +6,7 @@ use Rattle.dcsctp_spec_lemmas.specs.spec.queues.SendQueue.{SendQueueState}
 use Rattle.dcsctp_spec_lemmas.specs.spec.queues.Sending.{Fragment, TakesFragment}
 use Rattle.dcsctp_delivery_sending.specs.Places.{HasEntry, at_place}
 use Rattle.dcsctp_delivery_sending.specs.Log.{Message, Piece, Slot, History, with_slot}
-use Rattle.dcsctp_delivery_sending.specs.Numbers.{Numbered}
+use Rattle.dcsctp_delivery_sending.specs.Numbers.{NumbersMessages}
 use Rattle.dcsctp_delivery_sending.specs.Pieces.{HoldsQueued, HandsOutPiece}
 
 -- ---- what is promised of the places of messages that were read, in the order of reading
@@ -48,6 +48,6 @@ FollowsOn id log =
 abbrev pub HandingFollows : Type 0
 HandingFollows =
     (queued : List Message) (history : History) (now max : ℕ) (old new : SendQueueState) (told_before told_after : List (Event (List ℕ))) (part : Fragment)
-    → HoldsQueued queued history.log old.streams old.under_way → Numbered history old → old.is_interleaved ≡ true → length history.log + 2 < 2 ^ 32
+    → HoldsQueued queued history.log old.streams old.under_way → NumbersMessages history old → old.is_interleaved ≡ true → length history.log + 2 < 2 ^ 32
     → TakesFragment now max old told_before part new told_after → (hands : HandsOutPiece queued history part new)
     → FollowsQueue history.log → FollowsQueue (with_slot (Some hands.piece) history).log

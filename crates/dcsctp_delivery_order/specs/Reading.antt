@@ -7,7 +7,7 @@ use Rattle.dcsctp_spec_lemmas.specs.types.declared.ids.StreamId.{StreamId}
 use Rattle.dcsctp_spec_lemmas.specs.types.declared.arrivals.SkippedTo.TheVariants.{Mid}
 use Rattle.dcsctp_spec_lemmas.specs.spec.queues.Numbers.{number_near}
 use Rattle.dcsctp_spec_lemmas.specs.spec.queues.Runs.{PartModel}
-use Rattle.dcsctp_spec_lemmas.specs.spec.queues.IncomingStreams.{StreamModel, TakesOrdered, skipped}
+use Rattle.dcsctp_spec_lemmas.specs.spec.queues.IncomingStreams.{StreamModel, TakesOrdered, stream_after_skip}
 use Rattle.dcsctp_delivery_sending.specs.Places.{HasEntry, at_place}
 use Rattle.dcsctp_delivery_sending.specs.Log.{Message, Piece, History}
 use Rattle.dcsctp_delivery_sending.specs.Numbers.{AreOfKind, IsCurrent}
@@ -66,4 +66,4 @@ PartsStayInReach =
 abbrev pub SkipsStayInReach : Type 0
 SkipsStayInReach =
     (queued : List Message) (history : History) (id place mid : ℕ) (all waits : List ℕ) (on : StreamId) (old : StreamModel)
-    → CountsFromZero history id → StreamInOrder queued history id all waits old → IsReadAs history id place (number_near old.next mid) → IsInReach old → IsInReach (skipped (Mid on false mid) old)
+    → CountsFromZero history id → StreamInOrder queued history id all waits old → IsReadAs history id place (number_near old.next mid) → IsInReach old → IsInReach (stream_after_skip (Mid on false mid) old)

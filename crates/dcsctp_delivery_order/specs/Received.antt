@@ -7,7 +7,7 @@ use Rattle.dcsctp_spec_lemmas.specs.spec.queues.Tracker.{TrackerState}
 use Rattle.dcsctp_delivery_sending.specs.Places.{HasEntry}
 use Rattle.dcsctp_delivery_sending.specs.Log.{Message, History}
 use Rattle.dcsctp_delivery_receiving.specs.Ready.{AreDistinct}
-use Rattle.dcsctp_delivery_receiving.specs.Received.{Placed, DefersData}
+use Rattle.dcsctp_delivery_receiving.specs.Received.{CountsFromBase, DefersData}
 use Rattle.dcsctp_delivery_receiving.specs.Tracked.{Tracks}
 use Rattle.dcsctp_delivery_order.specs.Incoming.{IncomingOrdered}
 
@@ -29,7 +29,7 @@ pub data ReassemblesInOrder
     (gapless : ℕ → Bool) (queued : List Message) (history : History) (quiet : ℕ → Bool) (first : ℕ) (got read : List ℕ) (incoming : IncomingModel) : Type 0 where
   none_handled : got ≡ [] → incoming.last_tsn_number ≡ 2 ^ 32
       → ((base : ℕ) → IncomingOrdered gapless queued history quiet [] base read incoming) → ReassemblesInOrder gapless queued history quiet first got read incoming
-  some_handled : (base : ℕ) → Placed first base incoming.last_tsn_number
+  some_handled : (base : ℕ) → CountsFromBase first base incoming.last_tsn_number
       → IncomingOrdered gapless queued history quiet got base read incoming → ReassemblesInOrder gapless queued history quiet first got read incoming
 
 -- All that an association has received in order whose peer has this log. Messages of other streams may have been skipped. `taken` has the offsets

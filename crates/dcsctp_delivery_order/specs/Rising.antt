@@ -6,8 +6,8 @@ use Rattle.dcsctp_spec_lemmas.specs.types.declared.arrivals.SkippedTo.{SkippedTo
 use Rattle.dcsctp_spec_lemmas.specs.types.declared.arrivals.SkippedTo.TheVariants.{Ssn, Mid}
 use Rattle.dcsctp_spec_lemmas.specs.types.declared.arrivals.Taken.{Taken}
 use Rattle.dcsctp_spec_lemmas.specs.spec.queues.Numbers.{number_near, short_number_near}
-use Rattle.dcsctp_spec_lemmas.specs.spec.queues.Runs.{PartModel, WholeModel, Assembled, part_dropped, part_kept, message_whole}
-use Rattle.dcsctp_spec_lemmas.specs.spec.queues.IncomingStreams.{StreamModel, new_stream, delivered_as, next_after, due, next_past, is_number_waiting, TakesOrdered, skipped, skip_deliveries}
+use Rattle.dcsctp_spec_lemmas.specs.spec.queues.Runs.{PartModel, WholeModel, Assembly, part_dropped, part_kept, message_whole}
+use Rattle.dcsctp_spec_lemmas.specs.spec.queues.IncomingStreams.{StreamModel, new_stream, delivered_as, next_after, due, next_past, is_number_waiting, TakesOrdered, stream_after_skip, skip_deliveries}
 
 -- Each is numbered above the one before, the first from the one number on, and all below the other number.
 abbrev pub Rise : ℕ → ℕ → List WholeModel → Type 0
@@ -43,10 +43,10 @@ pub record DeliversRow (old : StreamModel) (before : List MessageContent) (new :
 -- ---- a part of an ordered message
 
 -- what becomes ready with a part, by what became of it
-abbrev pub ready_by : StreamModel → Assembled → List WholeModel
-ready_by stream part_dropped = []
-ready_by stream part_kept = []
-ready_by stream (message_whole whole) = if whole.number == stream.next then whole ∷ due (next_after stream.next whole) stream.waiting else []
+abbrev pub ready_with_part : StreamModel → Assembly → List WholeModel
+ready_with_part stream part_dropped = []
+ready_with_part stream part_kept = []
+ready_with_part stream (message_whole whole) = if whole.number == stream.next then whole ∷ due (next_after stream.next whole) stream.waiting else []
 
 -- The part isn't of a message before the next, and no message that waits has its number.
 pub record IsAhead (part : PartModel) (stream : StreamModel) : Type 0 where
@@ -58,7 +58,7 @@ pub record IsAhead (part : PartModel) (stream : StreamModel) : Type 0 where
 abbrev pub PartsDeliverRows : Type 0
 PartsDeliverRows =
     (part : PartModel) (old : StreamModel) (before : List MessageContent) (taken : Taken) (new : StreamModel) (after : List MessageContent) → WaitsForNext old → IsAhead part old
-    → (does : TakesOrdered part old before taken new after) → DeliversRow old before new after (ready_by old does.outcome)
+    → (does : TakesOrdered part old before taken new after) → DeliversRow old before new after (ready_with_part old does.outcome)
 
 -- ---- messages that are skipped
 
@@ -72,7 +72,7 @@ ready_past (Mid id true mid) stream = []
 abbrev pub SkipsDeliverRising : Type 0
 SkipsDeliverRising =
     (entry : SkippedTo) (old : StreamModel) (before : List MessageContent) → WaitsForNext old
-    → DeliversRising old before (skipped entry old) (before ++ skip_deliveries entry old) (ready_past entry old)
+    → DeliversRising old before (stream_after_skip entry old) (before ++ skip_deliveries entry old) (ready_past entry old)
 
 -- ---- a stream since its last reset
 
@@ -80,9 +80,9 @@ SkipsDeliverRising =
 pub data StreamRun (id : ℕ) : Bool → StreamModel → List WholeModel → Type 0 where
   begins : StreamRun id false (new_stream id) []
   takes : (part : PartModel) (skips : Bool) (old : StreamModel) (before : List MessageContent) (taken : Taken) (new : StreamModel) (after : List MessageContent) (delivered : List WholeModel)
-      → StreamRun id skips old delivered → IsAhead part old → (does : TakesOrdered part old before taken new after) → StreamRun id skips new (delivered ++ ready_by old does.outcome)
+      → StreamRun id skips old delivered → IsAhead part old → (does : TakesOrdered part old before taken new after) → StreamRun id skips new (delivered ++ ready_with_part old does.outcome)
   passes : (entry : SkippedTo) (skips : Bool) (old : StreamModel) (delivered : List WholeModel)
-      → StreamRun id skips old delivered → StreamRun id true (skipped entry old) (delivered ++ ready_past entry old)
+      → StreamRun id skips old delivered → StreamRun id true (stream_after_skip entry old) (delivered ++ ready_past entry old)
   -- Unordered messages come.
   stays : (skips : Bool) (old new : StreamModel) (delivered : List WholeModel)
       → StreamRun id skips old delivered → new.id ≡ old.id → new.next ≡ old.next → new.waiting ≡ old.waiting → StreamRun id skips new delivered

@@ -4,7 +4,7 @@ use Rattle.std.specs.Prelude.{ℕ, Some, List, ◌∷◌}
 use Rattle.dcsctp_spec_lemmas.specs.spec.endpoint.Event.{Event}
 use Rattle.dcsctp_spec_lemmas.specs.spec.queues.SendQueue.{SendQueueState}
 use Rattle.dcsctp_spec_lemmas.specs.spec.queues.Sending.{Fragment, TakesFragment}
-use Rattle.dcsctp_delivery_sending.specs.Log.{Message, History, Cut}
+use Rattle.dcsctp_delivery_sending.specs.Log.{Message, History, IsLogOfPieces}
 pub use Rattle.dcsctp_delivery_sending.specs.Losing.{WasSentOf, StillWaits, NoneLost, NoneExpires}
 use Rattle.dcsctp_delivery_sending.specs.Numbers.{AreCurrent}
 use Rattle.dcsctp_delivery_sending.specs.Pieces.{HoldsQueued, HandsOutPiece}
@@ -21,5 +21,5 @@ HandingLosesNone =
 -- Then messages of a stream are sent in turn, where it wasn't reset.
 abbrev pub LosingNoneSendsInTurn : Type 0
 LosingNoneSendsInTurn =
-    (queued : List Message) (history : History) (id : ℕ) (queue : SendQueueState) → CountsFromZero history id → AreCurrent history history.log → Cut queued history.log
+    (queued : List Message) (history : History) (id : ℕ) (queue : SendQueueState) → CountsFromZero history id → AreCurrent history history.log → IsLogOfPieces queued history.log
     → HoldsQueued queued history.log queue.streams queue.under_way → NoneLost queued history.log queue.streams → SendsInTurn queued history id

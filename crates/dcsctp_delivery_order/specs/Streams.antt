@@ -9,8 +9,8 @@ use Rattle.dcsctp_delivery_sending.specs.Places.{at_place}
 use Rattle.dcsctp_delivery_sending.specs.Log.{Message, Piece, Slot, History}
 use Rattle.dcsctp_delivery_sending.specs.Losing.{AreUnlimitedOn, IsKept}
 use Rattle.dcsctp_delivery_sending.specs.Numbers.{IsCurrent}
-use Rattle.dcsctp_delivery_directions.specs.Directions.{Direction, DirectionRun, Delivered, assigned}
-use Rattle.dcsctp_delivery_order.specs.Delivered.{DeliveredInOrder}
+use Rattle.dcsctp_delivery_directions.specs.Directions.{Direction, DirectionRun, AreDelivered, assigned_count}
+use Rattle.dcsctp_delivery_order.specs.Delivered.{AreDeliveredInOrder}
 use Rattle.dcsctp_delivery_order.specs.Queue.{ComeInOrder, LeaveNoGap}
 
 -- Each message that was queued on it was sent, or waits.
@@ -22,8 +22,8 @@ abbrev pub CurrentOn : ℕ → History → Type 0
 CurrentOn id history = (n : ℕ) (f : Piece) → at_place n history.log ≡ Some (Some f) → f.message.stream ≡ id → f.is_interleaved ≡ true → IsCurrent history f
 
 -- What was read is in order. And of each of these streams on which no message may be abandoned, none is left out before another.
-pub record DeliveredByStream (keeps : ℕ → Bool) (queued : List Message) (read : List MessageContent) : Type 0 where
-  pub ordered : DeliveredInOrder queued read
+pub record AreDeliveredByStream (keeps : ℕ → Bool) (queued : List Message) (read : List MessageContent) : Type 0 where
+  pub ordered : AreDeliveredInOrder queued read
   pub no_gap : (id : ℕ) → keeps id ≡ true → AreUnlimitedOn id queued → LeaveNoGap queued id ordered.delivered.places
 
 -- With interleaving it is so of the streams that the sender keeps: it began with all that was queued on them, and never resets
@@ -31,12 +31,12 @@ pub record DeliveredByStream (keeps : ℕ → Bool) (queued : List Message) (rea
 abbrev pub StreamsDeliverWithoutGaps : Type 0
 StreamsDeliverWithoutGaps =
     (options : Options) (first size : ℕ) (direction : Direction) → DirectionRun options first size direction
-    → first < 2 ^ 32 → assigned direction < 2 ^ 31 → length direction.queued < 2 ^ 64 → direction.queues.queue.is_interleaved ≡ true
-    → direction.beginning.from_zero ≡ true → DeliveredByStream direction.beginning.keeps direction.queued direction.read
+    → first < 2 ^ 32 → assigned_count direction < 2 ^ 31 → length direction.queued < 2 ^ 64 → direction.queues.queue.is_interleaved ≡ true
+    → direction.beginning.from_zero ≡ true → AreDeliveredByStream direction.beginning.keeps direction.queued direction.read
 
 -- What was read was queued, none twice. Of each of these streams it comes in order, and none is left out before another.
-pub record DeliveredOn (these : ℕ → Bool) (queued : List Message) (read : List MessageContent) : Type 0 where
-  pub delivered : Delivered queued read
+pub record AreDeliveredOnStreams (these : ℕ → Bool) (queued : List Message) (read : List MessageContent) : Type 0 where
+  pub delivered : AreDelivered queued read
   pub in_order : (id : ℕ) → these id ≡ true → ComeInOrder queued id delivered.places
   pub no_gap : (id : ℕ) → these id ≡ true → LeaveNoGap queued id delivered.places
 
@@ -50,5 +50,5 @@ pub record IsKeptReliable (direction : Direction) (id : ℕ) : Type 0 where
 abbrev pub PlainStreamsDeliverWithoutGaps : Type 0
 PlainStreamsDeliverWithoutGaps =
     (these : ℕ → Bool) (options : Options) (first size : ℕ) (direction : Direction) → DirectionRun options first size direction
-    → first < 2 ^ 32 → assigned direction < 2 ^ 31 → length direction.queued < 2 ^ 64 → size ≤ 2 ^ 63 → direction.queues.queue.is_interleaved ≡ false → direction.beginning.from_zero ≡ true
-    → ((id : ℕ) → these id ≡ true → IsKeptReliable direction id) → DeliveredOn these direction.queued direction.read
+    → first < 2 ^ 32 → assigned_count direction < 2 ^ 31 → length direction.queued < 2 ^ 64 → size ≤ 2 ^ 63 → direction.queues.queue.is_interleaved ≡ false → direction.beginning.from_zero ≡ true
+    → ((id : ℕ) → these id ≡ true → IsKeptReliable direction id) → AreDeliveredOnStreams these direction.queued direction.read

@@ -7,7 +7,7 @@ use Rattle.dcsctp_spec_lemmas.specs.wire.Content.{DataContent, IDataContent}
 use Rattle.dcsctp_spec_lemmas.specs.spec.queues.Arrivals.{numbering_of, data_arrival, interleaved_numbering, fsn_of, ppid_of, i_data_arrival}
 use Rattle.dcsctp_spec_lemmas.specs.spec.queues.Chunks.{byte_field, data_said, ppid_or_fsn, i_data_said}
 use Rattle.dcsctp_delivery_sending.specs.Places.{at_place}
-use Rattle.dcsctp_delivery_sending.specs.Log.{Message, Piece, Slot, is_beginning, piece_bytes, Cut, Fits}
+use Rattle.dcsctp_delivery_sending.specs.Log.{Message, Piece, Slot, is_beginning, piece_bytes, IsLogOfPieces, Fits}
 use Rattle.dcsctp_delivery_sending.specs.Stages.{SaysSlot}
 use Rattle.dcsctp_delivery_sending.specs.Flushes.{IsData, IsInterleaved}
 use Rattle.dcsctp_delivery_receiving.specs.Ready.{IsNumbered}
@@ -62,7 +62,7 @@ ppid_read : (b : Bool) (ppid fsn : ℕ) (other : ℕ) → b ≡ true → ppid �
 ppid_read true ppid fsn other e is small = omega (arith, is, small)
 ppid_read false ppid fsn other e is small = absurd (cc)
 
-pub carries_piece : (queued : List Message) (log : List Slot) (first : ℕ) (chunk : DataContent) → Cut queued log → AllByRecursion Fits queued → (is : IsData log first chunk) → chunk.payload ≢ []
+pub carries_piece : (queued : List Message) (log : List Slot) (first : ℕ) (chunk : DataContent) → IsLogOfPieces queued log → AllByRecursion Fits queued → (is : IsData log first chunk) → chunk.payload ≢ []
     → Carries log first is.number (data_arrival chunk).tsn (data_arrival chunk).chunk
 unfolding Bytes
 carries_piece queued log first chunk cut fit is some =
@@ -90,7 +90,7 @@ carries_piece queued log first chunk cut fit is some =
           end = says.end;
         }
 
-pub carries_interleaved : (queued : List Message) (log : List Slot) (first : ℕ) (chunk : IDataContent) → Cut queued log → AllByRecursion Fits queued → (is : IsInterleaved log first chunk) → chunk.payload ≢ []
+pub carries_interleaved : (queued : List Message) (log : List Slot) (first : ℕ) (chunk : IDataContent) → IsLogOfPieces queued log → AllByRecursion Fits queued → (is : IsInterleaved log first chunk) → chunk.payload ≢ []
     → Carries log first is.number (i_data_arrival chunk).tsn (i_data_arrival chunk).chunk
 unfolding Bytes
 carries_interleaved queued log first chunk cut fit is some =

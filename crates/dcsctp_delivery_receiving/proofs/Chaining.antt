@@ -5,9 +5,9 @@ use Rattle.std.proofs.lemmas.Bool.Decides.{eqb_tells, leb_tells}
 use Rattle.dcsctp_spec_lemmas.specs.spec.queues.Numbers.{fragment_place}
 use Rattle.dcsctp_spec_lemmas.specs.spec.queues.Runs.{RunModel}
 use Rattle.dcsctp_delivery_sending.specs.Places.{at_place}
-use Rattle.dcsctp_delivery_sending.specs.Log.{Message, Piece, Slot, History, Cut}
+use Rattle.dcsctp_delivery_sending.specs.Log.{Message, Piece, Slot, History, IsLogOfPieces}
 use Rattle.dcsctp_delivery_sending.specs.Numbers.{AreOfKind, IsUnambiguous, plain, interleaved}
-use Rattle.dcsctp_delivery_receiving.specs.Rows.{IsPiecePlaced, PlacedBy, IsPieceRow}
+use Rattle.dcsctp_delivery_receiving.specs.Rows.{IsPiecePlaced, IsPlaceOfPart, IsPieceRow}
 use Rattle.dcsctp_delivery_sending.proofs.Places.{at_below}
 
 -- All is DATA; or all is I-DATA, and fewer than 2^31 TSNs were assigned.
@@ -21,12 +21,12 @@ one_kind history (interleaved kinds few below apart) = interleaved_alone kinds f
 
 -- where a part lies, by whether it is of I-DATA
 pub placed_plain : (base : ℕ → ℕ) (offset : ℕ) (piece : Piece) (number place : ℕ) → piece.is_interleaved ≡ false → IsPiecePlaced base offset piece number place → place ≡ base number + offset
-placed_plain base offset piece number place kind placed = subst (λ (b : Bool). PlacedBy b base offset piece.fsn number place) kind placed
+placed_plain base offset piece number place kind placed = subst (λ (b : Bool). IsPlaceOfPart b base offset piece.fsn number place) kind placed
 
 pub placed_interleaved : (base : ℕ → ℕ) (offset : ℕ) (piece : Piece) (number place : ℕ) → piece.is_interleaved ≡ true → IsPiecePlaced base offset piece number place → place ≡ fragment_place number (piece.fsn % 2 ^ 32)
-placed_interleaved base offset piece number place kind placed = subst (λ (b : Bool). PlacedBy b base offset piece.fsn number place) kind placed
+placed_interleaved base offset piece number place kind placed = subst (λ (b : Bool). IsPlaceOfPart b base offset piece.fsn number place) kind placed
 
-module _ (queued : List Message) (log : List Slot) (cut : Cut queued log) where
+module _ (queued : List Message) (log : List Slot) (cut : IsLogOfPieces queued log) where
   -- pieces of one message are of one stream
   one_stream : (m n : ℕ) (f g : Piece) → at_place m log ≡ Some (Some f) → at_place n log ≡ Some (Some g) → g.place ≡ f.place → f.message.stream ≡ g.message.stream
   one_stream m n f g at at' same =
@@ -54,7 +54,7 @@ module _ (queued : List Message) (log : List Slot) (cut : Cut queued log) where
             omega (arith, earlier, fsn))
       ]
 
-module _ (queued : List Message) (log : List Slot) (cut : Cut queued log) (told : OneKind log) (got : List ℕ) (base : ℕ → ℕ) (Named : Piece → ℕ → Type 0)
+module _ (queued : List Message) (log : List Slot) (cut : IsLogOfPieces queued log) (told : OneKind log) (got : List ℕ) (base : ℕ → ℕ) (Named : Piece → ℕ → Type 0)
     (tells : (m n : ℕ) (f g : Piece) (number : ℕ) → at_place m log ≡ Some (Some f) → at_place n log ≡ Some (Some g) → f.is_interleaved ≡ true → g.is_interleaved ≡ true → Named f number → Named g number → f.place ≡ g.place) where
   numbers_follow : (fsn other length' front back number : ℕ) → front ≡ fragment_place number (fsn % 2 ^ 32) → back ≡ fragment_place number (other % 2 ^ 32) → back ≡ front + length' → other % 2 ^ 32 ≡ fsn % 2 ^ 32 + length'
   numbers_follow fsn other length' front back number is is' follows = omega (arith, is, is', follows)

@@ -8,13 +8,13 @@ use Rattle.dcsctp_spec_lemmas.specs.types.declared.arrivals.Numbering.TheVariant
 use Rattle.dcsctp_spec_lemmas.specs.types.declared.arrivals.SkippedTo.{SkippedTo}
 use Rattle.dcsctp_spec_lemmas.specs.types.declared.arrivals.SkippedTo.TheVariants.{Ssn, Mid}
 use Rattle.dcsctp_spec_lemmas.specs.spec.queues.Arrivals.{Arrival}
-use Rattle.dcsctp_spec_lemmas.specs.spec.queues.Incoming.{IncomingModel, stream_on, TakesChunk, TakesIncomingChunk, skipped_on, skipped_by, MovesOn, is_named, ResetsStreams}
-use Rattle.dcsctp_spec_lemmas.specs.spec.queues.IncomingStreams.{ChunkModel, StreamModel, new_stream, skipped_stream, skipped}
+use Rattle.dcsctp_spec_lemmas.specs.spec.queues.Incoming.{IncomingModel, stream_on, TakesChunk, TakesIncomingChunk, skipped_on, stream_skipping, MovesOn, is_named, ResetsStreams}
+use Rattle.dcsctp_spec_lemmas.specs.spec.queues.IncomingStreams.{ChunkModel, StreamModel, new_stream, skipped_stream, stream_after_skip}
 use Rattle.dcsctp_spec_lemmas.specs.types.queues.Messages.{MessageContent}
-use Rattle.dcsctp_spec_lemmas.specs.spec.queues.Reassembly.{WaitingModel, WaitingSkips, DeferralModel, ReassemblyState, can_count, entries_within, entries_beside, names_stream, is_data_deferred, is_forward_deferred, with_waiting, entered, deferring, with_ready, AddsData, SkipsData, SkipsThen, HandlesAll, waiting_of, skips_of, EndsDeferral}
+use Rattle.dcsctp_spec_lemmas.specs.spec.queues.Reassembly.{WaitingModel, WaitingSkips, DeferralModel, ReassemblyState, can_count, entries_within, entries_beside, names_stream, is_data_deferred, is_forward_deferred, with_waiting, begun_deferral, deferring, with_ready, AddsData, SkipsData, SkipsThen, HandlesAll, waiting_of, skips_of, EndsDeferral}
 use Rattle.dcsctp_spec_lemmas.specs.spec.queues.Tracker.{TrackerState, has_received, nearest_number, is_new_tsn, is_forward, is_valid_tsn}
 use Rattle.dcsctp_spec_lemmas.specs.spec.queues.Transfer.{Transfer}
-use Rattle.dcsctp_spec_lemmas.specs.spec.endpoint.TransferMoves.{AddsWhere, has_room, dropping, ReceivesWhere, SkipsWhere, MovesWhere, ReceivesData, MovesForward}
+use Rattle.dcsctp_spec_lemmas.specs.spec.endpoint.TransferMoves.{AddsIfNew, has_room, dropping, ReceivesIfRoom, SkipsIfMoved, MovesIfForward, ReceivesData, MovesForward}
 use Rattle.dcsctp_delivery_sending.specs.Places.{HasEntry, at_place}
 use Rattle.dcsctp_delivery_sending.specs.Log.{Message, Piece, Mark, History, Resets}
 use Rattle.dcsctp_delivery_sending.specs.Numbers.{AreOfKind}
@@ -22,7 +22,7 @@ use Rattle.dcsctp_delivery_sending.proofs.Places.{at_below}
 use Rattle.dcsctp_delivery_receiving.specs.Clear.{NoneSkips, NoneWaits, IsClear, IsOver}
 use Rattle.dcsctp_delivery_receiving.specs.Ready.{SkipsEntry, SkipAll}
 use Rattle.dcsctp_delivery_receiving.specs.Received.{Carries, IsTsn, kept_entries, Few, HasReceived}
-use Rattle.dcsctp_delivery_receiving.specs.Tracked.{tracked, Tracks}
+use Rattle.dcsctp_delivery_receiving.specs.Tracked.{tracked_number, Tracks}
 use Rattle.dcsctp_delivery_receiving.proofs.Kept.{all_left, all_kept, deferred_by}
 use Rattle.dcsctp_delivery_receiving.proofs.Tracked.{number_is, up_to}
 
@@ -30,21 +30,21 @@ use Rattle.dcsctp_delivery_receiving.proofs.Tracked.{number_is, up_to}
 
 -- A TSN before the mark isn't new.
 pub old_tsn : (first count offset bound : ℕ) (taken : List ℕ) (tracker : TrackerState) → first < 2 ^ 32 → count < 2 ^ 31 → offset < count → Tracks first count taken tracker → offset < bound
-    → tracked first bound ≤ tracker.cumulative + 1 → is_new_tsn ((first + offset) % 2 ^ 32) tracker ≡ true → ⊥
+    → tracked_number first bound ≤ tracker.cumulative + 1 → is_new_tsn ((first + offset) % 2 ^ 32) tracker ≡ true → ⊥
 old_tsn first count offset bound taken tracker small few below tracks before passed new =
     let here = number_is first count offset tracker.cumulative small few below tracks.reached tracks.started in
-    let up : tracked first offset ≤ tracker.cumulative = omega (arith, before, passed) in
-    let known : has_received tracker (nearest_number tracker.cumulative ((first + offset) % 2 ^ 32)) ≡ true = ap (has_received tracker) here ∙ up_to tracker.cumulative (tracked first offset) tracker.ranges up in
+    let up : tracked_number first offset ≤ tracker.cumulative = omega (arith, before, passed) in
+    let known : has_received tracker (nearest_number tracker.cumulative ((first + offset) % 2 ^ 32)) ≡ true = ap (has_received tracker) here ∙ up_to tracker.cumulative (tracked_number first offset) tracker.ranges up in
     let clash : false ≡ true = sym (ap not known) ∙ new in
     absurd (cc)
 
 -- A TSN that is forward lies beyond the mark.
 pub forward_behind : (first count offset bound : ℕ) (taken : List ℕ) (tracker : TrackerState) → first < 2 ^ 32 → count < 2 ^ 31 → offset < count → Tracks first count taken tracker
-    → tracked first bound ≤ tracker.cumulative + 1 → is_forward tracker.cumulative ((first + offset) % 2 ^ 32) ≡ true → bound < offset + 1
+    → tracked_number first bound ≤ tracker.cumulative + 1 → is_forward tracker.cumulative ((first + offset) % 2 ^ 32) ≡ true → bound < offset + 1
 forward_behind first count offset bound taken tracker small few below tracks passed forward =
     let here = number_is first count offset tracker.cumulative small few below tracks.reached tracks.started in
     let ahead : tracker.cumulative < nearest_number tracker.cumulative ((first + offset) % 2 ^ 32) = grind (arith, nat_tests, forward) in
-    let ahead' : tracker.cumulative < tracked first offset = subst (λ (n : ℕ). tracker.cumulative < n) here ahead in
+    let ahead' : tracker.cumulative < tracked_number first offset = subst (λ (n : ℕ). tracker.cumulative < n) here ahead in
     omega (arith, ahead', passed)
 
 -- ---- entries of other streams
@@ -73,13 +73,13 @@ all_skip_others history passed id mark kinds has names below beyond (entry ∷ e
 on_others : (entry : SkippedTo) (id : ℕ) (stream : StreamModel) → skipped_stream entry ≢ id → skipped_on entry id stream ≡ stream
 on_others entry id stream ne = go (skipped_stream entry == id) (elim (eqb_tells (skipped_stream entry) id) [ inl e ↦ absurd (ne e.1) | inr e ↦ e.0 ])
   where
-    go : (b : Bool) → b ≡ false → (if b then skipped entry stream else stream) ≡ stream
+    go : (b : Bool) → b ≡ false → (if b then stream_after_skip entry stream else stream) ≡ stream
     go true e = absurd (cc)
     go false e = refl
 
-all_on_others : (entries : List SkippedTo) (id : ℕ) (stream : StreamModel) → NoneSkips id entries → skipped_by entries id stream ≡ stream
+all_on_others : (entries : List SkippedTo) (id : ℕ) (stream : StreamModel) → NoneSkips id entries → stream_skipping entries id stream ≡ stream
 all_on_others [] id stream none = refl
-all_on_others (entry ∷ entries) id stream none = ap (skipped_by entries id) (on_others entry id stream none.0) ∙ all_on_others entries id stream none.1
+all_on_others (entry ∷ entries) id stream none = ap (stream_skipping entries id) (on_others entry id stream none.0) ∙ all_on_others entries id stream none.1
 
 -- ---- the reassembly queue
 
@@ -147,7 +147,7 @@ clear_through_data queued history first id read offset arrival old new few r ove
         old_tsn first (length history.log) offset over.mark.bound r.taken old.tracker few.small few.few (at_below offset (Some c.piece) history.log c.at) r.tracks
         (over.below offset c.piece c.at (sym c.stream ∙ e)) over.passed (subst (λ (t : ℕ). is_new_tsn t old.tracker ≡ true) c.is new_tsn)
 
-    added : (b : Bool) → is_new_tsn arrival.tsn old.tracker ≡ b → AddsWhere b arrival.tsn arrival.chunk old.reassembly new.reassembly → IsClear id new.reassembly
+    added : (b : Bool) → is_new_tsn arrival.tsn old.tracker ≡ b → AddsIfNew b arrival.tsn arrival.chunk old.reassembly new.reassembly → IsClear id new.reassembly
     added true is adds = added_elsewhere id arrival.tsn arrival.chunk old.reassembly new.reassembly (elsewhere is) clear adds
     added false is same = subst (λ (s : ReassemblyState). IsClear id s) (sym same) clear
 
@@ -155,7 +155,7 @@ clear_through_data queued history first id read offset arrival old new few r ove
     dropped true = clear
     dropped false = clear
 
-    go : (b : Bool) → ReceivesWhere b arrival old new → IsClear id new.reassembly
+    go : (b : Bool) → ReceivesIfRoom b arrival old new → IsClear id new.reassembly
     go true takes = added (is_new_tsn arrival.tsn old.tracker) refl takes.reassembly
     go false same = subst (λ (t : Transfer). IsClear id t.reassembly) (sym same) (dropped (old.tracker.follows_rfc && is_valid_tsn old.tracker.cumulative arrival.tsn))
 
@@ -197,11 +197,11 @@ clear_through_forward queued history first id read tsn entries old new kinds few
         (subst (λ (t : ℕ). is_forward old.tracker.cumulative t ≡ true) is.is forward))
         entries skips
 
-    gone : (b : Bool) → is_forward old.tracker.cumulative tsn ≡ b → SkipsWhere b tsn entries old.reassembly new.reassembly → IsClear id new.reassembly
-    gone true forward skipped = skipped_elsewhere id tsn entries old.reassembly new.reassembly (none forward) clear skipped
+    gone : (b : Bool) → is_forward old.tracker.cumulative tsn ≡ b → SkipsIfMoved b tsn entries old.reassembly new.reassembly → IsClear id new.reassembly
+    gone true forward stream_after_skip = skipped_elsewhere id tsn entries old.reassembly new.reassembly (none forward) clear stream_after_skip
     gone false forward same = subst (λ (s : ReassemblyState). IsClear id s) (sym same) clear
 
-    go : (b : Bool) → MovesWhere b tsn entries old new → IsClear id new.reassembly
+    go : (b : Bool) → MovesIfForward b tsn entries old new → IsClear id new.reassembly
     go true goes = gone (is_forward old.tracker.cumulative tsn) refl goes.reassembly
     go false same = subst (λ (t : Transfer). IsClear id t.reassembly) (sym same) clear
 
@@ -237,10 +237,10 @@ clear_through_rest id reassembly clear = (
   λ messages. record { stream = clear.stream; none = clear.none; kept = clear.kept },
 )
   where
-    begun : (last_tsn : ℕ) (streams : List ℕ) (deferral : Option DeferralModel) → NoneWaits id (waiting_of deferral) → NoneWaits id (waiting_of (entered last_tsn streams deferral))
+    begun : (last_tsn : ℕ) (streams : List ℕ) (deferral : Option DeferralModel) → NoneWaits id (waiting_of deferral) → NoneWaits id (waiting_of (begun_deferral last_tsn streams deferral))
     begun last_tsn streams None none = tt
     begun last_tsn streams (Some d) none = none
 
-    still_kept : (last_tsn : ℕ) (streams : List ℕ) (deferral : Option DeferralModel) → NoneSkips id (kept_entries (skips_of deferral)) → NoneSkips id (kept_entries (skips_of (entered last_tsn streams deferral)))
+    still_kept : (last_tsn : ℕ) (streams : List ℕ) (deferral : Option DeferralModel) → NoneSkips id (kept_entries (skips_of deferral)) → NoneSkips id (kept_entries (skips_of (begun_deferral last_tsn streams deferral)))
     still_kept last_tsn streams None kept = tt
     still_kept last_tsn streams (Some d) kept = kept

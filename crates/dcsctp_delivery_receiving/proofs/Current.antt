@@ -10,7 +10,7 @@ use Rattle.dcsctp_delivery_sending.specs.Log.{Piece, History}
 use Rattle.dcsctp_delivery_sending.specs.Numbers.{IsCurrent}
 use Rattle.dcsctp_delivery_receiving.specs.Ready.{SkipsEntry, SkipAll, NamesCurrent, NameAll}
 use Rattle.dcsctp_delivery_receiving.specs.Received.{Carries, CarriesCurrent, IsTsn, SkipsTo, IsPast}
-use Rattle.dcsctp_delivery_receiving.specs.Tracked.{tracked}
+use Rattle.dcsctp_delivery_receiving.specs.Tracked.{tracked_number}
 
 -- Each piece that isn't current came before a reset of its stream, up to which all was received.
 abbrev pub OthersArePast : History → ℕ → ℕ → Type 0
@@ -25,7 +25,7 @@ past_kept history first cumulative now up old n f at kind aged =
 
 module _ (history : History) (first cumulative : ℕ) (old : OthersArePast history first cumulative) where
   -- So a piece that wasn't received yet is current,
-  is_current : (n : ℕ) (f : Piece) → at_place n history.log ≡ Some (Some f) → f.is_interleaved ≡ true → cumulative < tracked first n → IsCurrent history f
+  is_current : (n : ℕ) (f : Piece) → at_place n history.log ≡ Some (Some f) → f.is_interleaved ≡ true → cumulative < tracked_number first n → IsCurrent history f
   is_current n f at kind beyond =
       elim (leb_tells (history.floors f.message.stream f.message.is_unordered) f.mid) [
         | inl e ↦ e.1
@@ -35,11 +35,11 @@ module _ (history : History) (first cumulative : ℕ) (old : OthersArePast histo
             absurd (omega (arith, past.below, past.passed, beyond)))
       ]
 
-  pub carries_current : (offset tsn : ℕ) (chunk : ChunkModel) → cumulative < tracked first offset → Carries history.log first offset tsn chunk → CarriesCurrent history first offset tsn chunk
+  pub carries_current : (offset tsn : ℕ) (chunk : ChunkModel) → cumulative < tracked_number first offset → Carries history.log first offset tsn chunk → CarriesCurrent history first offset tsn chunk
   carries_current offset tsn chunk beyond c = record { carries = c; current = λ kind. is_current offset c.piece c.at kind beyond }
 
   -- and so is one of a message that may be skipped together with a TSN that wasn't received yet.
-  named_current : (offset : ℕ) → cumulative < tracked first offset → (entry : SkippedTo) → SkipsEntry history (offset + 1) entry → NamesCurrent history (offset + 1) entry
+  named_current : (offset : ℕ) → cumulative < tracked_number first offset → (entry : SkippedTo) → SkipsEntry history (offset + 1) entry → NamesCurrent history (offset + 1) entry
   named_current offset beyond (Ssn id ssn) skips = (skips, tt)
   named_current offset beyond (Mid id is_unordered mid) skips = (
     skips,
@@ -53,9 +53,9 @@ module _ (history : History) (first cumulative : ℕ) (old : OthersArePast histo
     ],
   )
 
-  all_named : (offset : ℕ) → cumulative < tracked first offset → (entries : List SkippedTo) → SkipAll history (offset + 1) entries → NameAll history (offset + 1) entries
+  all_named : (offset : ℕ) → cumulative < tracked_number first offset → (entries : List SkippedTo) → SkipAll history (offset + 1) entries → NameAll history (offset + 1) entries
   all_named offset beyond [] skips = tt
   all_named offset beyond (entry ∷ entries) skips = (named_current offset beyond entry skips.0, all_named offset beyond entries skips.1)
 
-  pub skips_to : (tsn : ℕ) (entries : List SkippedTo) (t : IsTsn history.log first tsn) → cumulative < tracked first t.offset → SkipAll history (t.offset + 1) entries → SkipsTo history first tsn entries
+  pub skips_to : (tsn : ℕ) (entries : List SkippedTo) (t : IsTsn history.log first tsn) → cumulative < tracked_number first t.offset → SkipAll history (t.offset + 1) entries → SkipsTo history first tsn entries
   skips_to tsn entries t beyond skips = record { tsn_is = t; names = all_named t.offset beyond entries skips }

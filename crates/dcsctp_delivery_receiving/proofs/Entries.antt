@@ -5,13 +5,13 @@ use Rattle.std.specs.Int.{w16, w32, to_be_bytes, from_be_bytes}
 use Rattle.std.specs.List.{AllByRecursion, flat_map}
 use Rattle.std.proofs.lemmas.List.{length-append}
 use Rattle.std.proofs.lemmas.Nat.{from_be_bytes-to_be_bytes_2}
-use Rattle.dcsctp_spec_lemmas.specs.wire.Fields.{skipped_stream_at, skipped_messages_at, lowest_bit, u16_at, u32_at}
+use Rattle.dcsctp_spec_lemmas.specs.wire.Fields.{numbered_skipped_stream, numbered_skipped_messages, lowest_bit, u16_at, u32_at}
 use Rattle.dcsctp_spec_lemmas.specs.wire.Spelling.{t_bit}
 use Rattle.dcsctp_spec_lemmas.specs.types.declared.arrivals.SkippedTo.{SkippedTo}
-use Rattle.dcsctp_spec_lemmas.specs.spec.queues.Arrivals.{skipped_to, messages_skipped_to, first_skipped, first_messages_skipped, skipped_in, messages_skipped_in}
+use Rattle.dcsctp_spec_lemmas.specs.spec.queues.Arrivals.{skipped_to, messages_skipped_to, first_skipped, first_messages_skipped, named_skips, skipped_messages}
 use Rattle.dcsctp_spec_lemmas.specs.spec.queues.Skipping.{entry_bytes}
 use Rattle.dcsctp_delivery_sending.specs.Places.{at_place}
-use Rattle.dcsctp_delivery_sending.specs.Log.{Message, Piece, History, Cut, Fits}
+use Rattle.dcsctp_delivery_sending.specs.Log.{Message, Piece, History, IsLogOfPieces, Fits}
 use Rattle.dcsctp_delivery_sending.specs.Flushes.{IsEntry, AreForwardEntries, IsForward}
 use Rattle.dcsctp_delivery_receiving.specs.Ready.{SkipsEntry, SkipAll}
 use Rattle.dcsctp_delivery_receiving.proofs.Arriving.{fits_at}
@@ -25,13 +25,13 @@ skips_append history passed (entry ∷ entries) others skips skips' = (skips.0, 
 plain_skipped : (history : History) (passed number : ℕ) (piece : Piece) → at_place number history.log ≡ Some (Some piece) → piece.is_interleaved ≡ false → (count : ℕ) (streams : List ℕ) → SkipAll history passed (first_skipped count streams)
 plain_skipped history passed number piece at kind zero streams = tt
 plain_skipped history passed number piece at kind (suc count) streams =
-    skips_append history passed (first_skipped count streams) (skipped_to (skipped_stream_at count streams) ∷ []) (plain_skipped history passed number piece at kind count streams) (record { number = number; piece = piece; at = at; kind = kind }, tt)
+    skips_append history passed (first_skipped count streams) (skipped_to (numbered_skipped_stream count streams) ∷ []) (plain_skipped history passed number piece at kind count streams) (record { number = number; piece = piece; at = at; kind = kind }, tt)
 
-pub forward_skips : (history : History) (first acknowledged tsn : ℕ) (streams : List ℕ) → (is : IsForward false history first acknowledged tsn streams) → SkipAll history is.passed.passed (skipped_in streams)
+pub forward_skips : (history : History) (first acknowledged tsn : ℕ) (streams : List ℕ) → (is : IsForward false history first acknowledged tsn streams) → SkipAll history is.passed.passed (named_skips streams)
 forward_skips history first acknowledged tsn streams f = go f.entries f.is f.names
   where
-    go : (entries : List ((ℕ × Bool) × ℕ)) → streams ≡ flat_map (entry_bytes false) entries → AreForwardEntries false history f.passed.passed entries → SkipAll history f.passed.passed (skipped_in streams)
-    go [] is names = subst (λ (l : List ℕ). SkipAll history f.passed.passed (skipped_in l)) (sym is) tt
+    go : (entries : List ((ℕ × Bool) × ℕ)) → streams ≡ flat_map (entry_bytes false) entries → AreForwardEntries false history f.passed.passed entries → SkipAll history f.passed.passed (named_skips streams)
+    go [] is names = subst (λ (l : List ℕ). SkipAll history f.passed.passed (named_skips l)) (sym is) tt
     go (entry ∷ entries) is names = plain_skipped history f.passed.passed names.0.number names.0.piece names.0.at names.0.kind (length streams / 4) streams
 
 -- ---- I-FORWARD-TSN
@@ -49,8 +49,8 @@ eight_on n k j entry rest is =
     ap (λ (m : ℕ). drop m (entry_bytes true entry ++ rest)) same
 
 -- an entry is read at its place
-entry_read : (history : History) (passed : ℕ) (queued : List Message) → Cut queued history.log → AllByRecursion Fits queued → (entries : List ((ℕ × Bool) × ℕ)) → AreForwardEntries true history passed entries → (k : ℕ) → k < length entries
-    → SkipsEntry history passed (messages_skipped_to (skipped_messages_at k (flat_map (entry_bytes true) entries)))
+entry_read : (history : History) (passed : ℕ) (queued : List Message) → IsLogOfPieces queued history.log → AllByRecursion Fits queued → (entries : List ((ℕ × Bool) × ℕ)) → AreForwardEntries true history passed entries → (k : ℕ) → k < length entries
+    → SkipsEntry history passed (messages_skipped_to (numbered_skipped_messages k (flat_map (entry_bytes true) entries)))
 entry_read history passed queued cut fit [] names k below = absurd (omega arith)
 entry_read history passed queued cut fit (entry ∷ entries) names zero below =
     let e : IsEntry true history passed entry = names.0 in
@@ -78,15 +78,15 @@ entries_long : (entries : List ((ℕ × Bool) × ℕ)) → length (flat_map (ent
 entries_long [] = refl
 entries_long (entry ∷ entries) = omega (arith, length-append (entry_bytes true entry) (flat_map (entry_bytes true) entries), entries_long entries)
 
-firsts_read : (history : History) (passed : ℕ) (queued : List Message) → Cut queued history.log → AllByRecursion Fits queued → (entries : List ((ℕ × Bool) × ℕ)) → AreForwardEntries true history passed entries → (count : ℕ) → count ≤ length entries
+firsts_read : (history : History) (passed : ℕ) (queued : List Message) → IsLogOfPieces queued history.log → AllByRecursion Fits queued → (entries : List ((ℕ × Bool) × ℕ)) → AreForwardEntries true history passed entries → (count : ℕ) → count ≤ length entries
     → SkipAll history passed (first_messages_skipped count (flat_map (entry_bytes true) entries))
 firsts_read history passed queued cut fit entries names zero within = tt
 firsts_read history passed queued cut fit entries names (suc count) within =
-    skips_append history passed (first_messages_skipped count (flat_map (entry_bytes true) entries)) (messages_skipped_to (skipped_messages_at count (flat_map (entry_bytes true) entries)) ∷ [])
+    skips_append history passed (first_messages_skipped count (flat_map (entry_bytes true) entries)) (messages_skipped_to (numbered_skipped_messages count (flat_map (entry_bytes true) entries)) ∷ [])
     (firsts_read history passed queued cut fit entries names count (omega arith)) (entry_read history passed queued cut fit entries names count (omega arith), tt)
 
-pub messages_skipped : (queued : List Message) (history : History) (first acknowledged tsn : ℕ) (streams : List ℕ) → Cut queued history.log → AllByRecursion Fits queued → (is : IsForward true history first acknowledged tsn streams)
-    → SkipAll history is.passed.passed (messages_skipped_in streams)
+pub messages_skipped : (queued : List Message) (history : History) (first acknowledged tsn : ℕ) (streams : List ℕ) → IsLogOfPieces queued history.log → AllByRecursion Fits queued → (is : IsForward true history first acknowledged tsn streams)
+    → SkipAll history is.passed.passed (skipped_messages streams)
 messages_skipped queued history first acknowledged tsn streams cut fit f =
-    subst (λ (l : List ℕ). SkipAll history f.passed.passed (messages_skipped_in l)) (sym f.is)
+    subst (λ (l : List ℕ). SkipAll history f.passed.passed (skipped_messages l)) (sym f.is)
     (firsts_read history f.passed.passed queued cut fit f.entries f.names (length (flat_map (entry_bytes true) f.entries) / 8) (let long = entries_long f.entries in omega (arith, long)))

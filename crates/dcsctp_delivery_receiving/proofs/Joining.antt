@@ -5,7 +5,7 @@ use Rattle.std.proofs.lemmas.Bool.Decides.{eqb_tells}
 use Rattle.std.proofs.lemmas.List.{drop-drop}
 use Rattle.std.proofs.Math.Seq.{take-add}
 use Rattle.std.proofs.lemmas.Grind.{flat_map-append}
-use Rattle.dcsctp_spec_lemmas.specs.spec.queues.Runs.{RunModel, PartModel, joined_bytes, entry_before, follows, precedes, following, preceding, run_before, run_behind, merged, merged_at, chosen}
+use Rattle.dcsctp_spec_lemmas.specs.spec.queues.Runs.{RunModel, PartModel, joined_bytes, entry_before, follows, precedes, following, preceding, run_before, run_behind, run_with_part, merged_run, chosen}
 use Rattle.dcsctp_delivery_sending.specs.Log.{Piece, is_beginning}
 
 pub both : (x y : Bool) → (x && y) ≡ true → (x ≡ true) × (y ≡ true)
@@ -51,7 +51,7 @@ chosen_preceding part (Some run) = go (precedes part run)
     go false = refl
 
 pub same_merged : (at : ℕ) (runs : List RunModel) (part : PartModel)
-    → merged (chosen (is_some (run_before at runs part)) (entry_before at runs)) part (chosen (is_some (run_behind part at runs)) (slice_get runs at)) ≡ merged_at at runs part
+    → run_with_part (chosen (is_some (run_before at runs part)) (entry_before at runs)) part (chosen (is_some (run_behind part at runs)) (slice_get runs at)) ≡ merged_run at runs part
 same_merged at runs part =
-    ap (λ (o : Option RunModel). merged o part (chosen (is_some (run_behind part at runs)) (slice_get runs at))) (chosen_following (entry_before at runs) part)
-    ∙ ap (λ (o : Option RunModel). merged (run_before at runs part) part o) (chosen_preceding part (slice_get runs at))
+    ap (λ (o : Option RunModel). run_with_part o part (chosen (is_some (run_behind part at runs)) (slice_get runs at))) (chosen_following (entry_before at runs) part)
+    ∙ ap (λ (o : Option RunModel). run_with_part (run_before at runs part) part o) (chosen_preceding part (slice_get runs at))

@@ -3,7 +3,7 @@ use Rattle.std.proofs.Common.{◌≡◌, ℕ, ◌%◌, ◌^◌, Bool, true, fals
 use Rattle.dcsctp_spec_lemmas.specs.spec.queues.Numbers.{number_near, fragment_place}
 use Rattle.dcsctp_spec_lemmas.specs.spec.queues.IncomingStreams.{ChunkModel, data_part}
 use Rattle.dcsctp_delivery_sending.specs.Log.{Piece, History}
-use Rattle.dcsctp_delivery_receiving.specs.Rows.{PlacedBy, IsPiecePlaced, IsPart}
+use Rattle.dcsctp_delivery_receiving.specs.Rows.{IsPlaceOfPart, IsPiecePlaced, IsPart}
 use Rattle.dcsctp_delivery_receiving.specs.Ready.{IsNumberedAs, ReadsMids, ordered_base, unordered_base, BearsPiece}
 use Rattle.dcsctp_delivery_receiving.proofs.Reading.{reads_moved, reads_agree}
 use Rattle.dcsctp_delivery_sending.specs.Numbers.{IsUnambiguous}
@@ -30,17 +30,17 @@ module _ (history : History) (base : ℕ) where
       → IsPiecePlaced (ordered_base base) bears.offset bears.piece number (fragment_place number tsn_number)
   ordered_placed tsn_number number chunk bears kind =
       let is : fragment_place number tsn_number ≡ ordered_base base number + bears.offset = (let of = bears.number in omega (arith, of)) in
-      subst (λ (b : Bool). PlacedBy b (ordered_base base) bears.offset bears.piece.fsn number (fragment_place number tsn_number)) (sym kind) is
+      subst (λ (b : Bool). IsPlaceOfPart b (ordered_base base) bears.offset bears.piece.fsn number (fragment_place number tsn_number)) (sym kind) is
 
   -- one of an unordered message of DATA
   pub unordered_placed : (tsn_number number : ℕ) (chunk : ChunkModel) (bears : BearsPiece history base tsn_number chunk) → bears.piece.is_interleaved ≡ false → IsPiecePlaced (unordered_base base) bears.offset bears.piece number tsn_number
-  unordered_placed tsn_number number chunk bears kind = subst (λ (b : Bool). PlacedBy b (unordered_base base) bears.offset bears.piece.fsn number tsn_number) (sym kind) bears.number
+  unordered_placed tsn_number number chunk bears kind = subst (λ (b : Bool). IsPlaceOfPart b (unordered_base base) bears.offset bears.piece.fsn number tsn_number) (sym kind) bears.number
 
   -- one of I-DATA
   pub apart_placed : (tsn_number number fsn : ℕ) (chunk : ChunkModel) (bears : BearsPiece history base tsn_number chunk) → bears.piece.is_interleaved ≡ true → fsn ≡ bears.piece.fsn % 2 ^ 32
       → IsPiecePlaced (ordered_base base) bears.offset bears.piece number (fragment_place number fsn)
   apart_placed tsn_number number fsn chunk bears kind is =
-      subst (λ (b : Bool). PlacedBy b (ordered_base base) bears.offset bears.piece.fsn number (fragment_place number fsn)) (sym kind) (ap (fragment_place number) is)
+      subst (λ (b : Bool). IsPlaceOfPart b (ordered_base base) bears.offset bears.piece.fsn number (fragment_place number fsn)) (sym kind) (ap (fragment_place number) is)
 
 module _ (history : History) (base : ℕ) (told : IsUnambiguous history) where
   -- the number of a piece of I-DATA is read right

@@ -5,7 +5,7 @@ use Rattle.std.proofs.lemmas.Bool.{eqb-true}
 use Rattle.dcsctp_spec_lemmas.specs.types.queues.Messages.{MessageContent}
 use Rattle.dcsctp_spec_lemmas.specs.types.declared.arrivals.Taken.{Taken}
 use Rattle.dcsctp_spec_lemmas.specs.spec.queues.Numbers.{number_near}
-use Rattle.dcsctp_spec_lemmas.specs.spec.queues.Runs.{PartModel, WholeModel, Assembled, part_dropped, part_kept, message_whole}
+use Rattle.dcsctp_spec_lemmas.specs.spec.queues.Runs.{PartModel, WholeModel, Assembly, part_dropped, part_kept, message_whole}
 use Rattle.dcsctp_spec_lemmas.specs.spec.queues.IncomingStreams.{StreamModel, next_after, next_due, next_past, OrderedOutcome}
 use Rattle.dcsctp_delivery_sending.specs.Places.{at_place}
 use Rattle.dcsctp_delivery_sending.specs.Log.{Message, Piece, Slot, History}
@@ -95,7 +95,7 @@ module _ (queued : List Message) (history : History) (got : List ℕ) (id : ℕ)
       go false rest = reads
 
   -- an ordered part
-  pub ordered_reads : (place : ℕ) (waits : List ℕ) (part : PartModel) (old new : StreamModel) (before after : List MessageContent) (outcome : Assembled) (taken : Taken) → WaitQueued queued history got id waits old.waiting
+  pub ordered_reads : (place : ℕ) (waits : List ℕ) (part : PartModel) (old new : StreamModel) (before after : List MessageContent) (outcome : Assembly) (taken : Taken) → WaitQueued queued history got id waits old.waiting
       → MakesQueued queued history.log got (IsOn history id) place outcome → OrderedOutcome part old before outcome taken new after → ReadsMids history id false old.next → ReadsMids history id false new.next
   ordered_reads place waits part old new before after part_dropped taken wait makes does reads = subst (λ (s : StreamModel). ReadsMids history id false s.next) (sym does.0) reads
   ordered_reads place waits part old new before after part_kept taken wait makes does reads = subst (λ (k : ℕ). ReadsMids history id false k) (sym does.0) reads

@@ -5,12 +5,12 @@ use Rattle.dcsctp_spec_lemmas.specs.types.declared.arrivals.Numbering.{Numbering
 use Rattle.dcsctp_spec_lemmas.specs.types.declared.arrivals.Numbering.TheVariants.{Ordered, Unordered, InterleavedOrdered, InterleavedUnordered}
 use Rattle.dcsctp_spec_lemmas.specs.types.declared.arrivals.Taken.{Taken}
 use Rattle.dcsctp_spec_lemmas.specs.spec.queues.Numbers.{number_near, short_number_from, fragment_place}
-use Rattle.dcsctp_spec_lemmas.specs.spec.queues.Runs.{RunModel, WholeModel, Assembled, part_dropped, part_kept, message_whole}
+use Rattle.dcsctp_spec_lemmas.specs.spec.queues.Runs.{RunModel, WholeModel, Assembly, part_dropped, part_kept, message_whole}
 use Rattle.dcsctp_spec_lemmas.specs.spec.queues.IncomingStreams.{StreamModel, ChunkModel, data_part, delivered_as, UnorderedOutcome, TakesAhead, TakesInOrder, TakesOutOfOrder, is_number_waiting, TakesNumbered}
 use Rattle.dcsctp_spec_lemmas.specs.spec.queues.Incoming.{IncomingModel, stream_on, TakesChunk, TakesIncomingChunk}
 use Rattle.std.specs.Prelude.{Some}
-use Rattle.dcsctp_delivery_sending.specs.Places.{HasEntry, at_place, set_at}
-use Rattle.dcsctp_delivery_sending.specs.Log.{Message, History, Cut}
+use Rattle.dcsctp_delivery_sending.specs.Places.{HasEntry, at_place, table_with}
+use Rattle.dcsctp_delivery_sending.specs.Log.{Message, History, IsLogOfPieces}
 use Rattle.dcsctp_delivery_receiving.specs.Rows.{IsPiecePlaced, IsPart, AreRows, Spent, MakesQueued}
 use Rattle.dcsctp_delivery_receiving.specs.Ready.{IsOn, IsApart, IsOfStream, ReadsMids, ordered_base, unordered_base, StreamRows, AreDistinct, WaitQueued, StreamHolds, HoldsAll, HoldsIncoming, IsNumbered, BearsPiece}
 use Rattle.dcsctp_delivery_sending.proofs.Places.{decide, set_same, set_other}
@@ -29,7 +29,7 @@ abbrev pub LeavesBeside : List Message → History → List ℕ → ℕ → List
 LeavesBeside queued history got base read id waits places incoming =
     HoldsBeside queued history got base read (λ other. other ≡ id) waits places (λ stream. stream_on stream incoming.streams) incoming.unordered incoming.ready
 
-module _ (queued : List Message) (history : History) (cut : Cut queued history.log) (told : IsUnambiguous history) (got : List ℕ) (base : ℕ) (read : List ℕ) where
+module _ (queued : List Message) (history : History) (cut : IsLogOfPieces queued history.log) (told : IsUnambiguous history) (got : List ℕ) (base : ℕ) (read : List ℕ) where
   module _ (tsn_number : ℕ) (chunk : ChunkModel) (bears : BearsPiece history base tsn_number chunk) (is_new : HasEntry bears.offset got → ⊥) (streams : ℕ → StreamModel) (unordered : List RunModel) (ready : List MessageContent)
       (holds : HoldsAll queued history got base read streams unordered ready) where
     all : List ℕ
@@ -56,10 +56,10 @@ module _ (queued : List Message) (history : History) (cut : Cut queued history.l
     holds_then id later runs after rows apart others leaves =
         record {
           holds = record {
-            waits = set_at id leaves.waits holds.waits;
+            waits = table_with id leaves.waits holds.waits;
             streams_hold = λ other. elim (decide other id) [
               | inl e ↦
-                  subst (λ (k : ℕ). StreamHolds queued history now base k (set_at id leaves.waits holds.waits k) (later k)) (sym e)
+                  subst (λ (k : ℕ). StreamHolds queued history now base k (table_with id leaves.waits holds.waits k) (later k)) (sym e)
                   (subst (λ (l : List ℕ). StreamHolds queued history now base id l (later id)) (sym (set_same id leaves.waits holds.waits)) (record { rows = rows; wait = leaves.wait }))
               | inr ne ↦
                   subst (λ (l : List ℕ). StreamHolds queued history now base other l (later other)) (sym (set_other id other leaves.waits holds.waits ne))
@@ -73,10 +73,10 @@ module _ (queued : List Message) (history : History) (cut : Cut queued history.l
               | inl l ↦ spent_got history.log got bears.offset q (holds.spent q l)
               | inr r ↦ leaves.spent q r
             ];
-            once = λ other. subst (λ (l : List ℕ). AreDistinct (l ++ set_at id leaves.waits holds.waits other)) (appended read holds.places leaves.more)
+            once = λ other. subst (λ (l : List ℕ). AreDistinct (l ++ table_with id leaves.waits holds.waits other)) (appended read holds.places leaves.more)
                 (elim (decide other id) [
                   | inl e ↦
-                      subst (λ (l : List ℕ). AreDistinct (((read ++ holds.places) ++ leaves.more) ++ l)) (sym (ap (set_at id leaves.waits holds.waits) e ∙ set_same id leaves.waits holds.waits)) leaves.once
+                      subst (λ (l : List ℕ). AreDistinct (((read ++ holds.places) ++ leaves.more) ++ l)) (sym (ap (table_with id leaves.waits holds.waits) e ∙ set_same id leaves.waits holds.waits)) leaves.once
                   | inr ne ↦
                       subst (λ (l : List ℕ). AreDistinct (((read ++ holds.places) ++ leaves.more) ++ l)) (sym (set_other id other leaves.waits holds.waits ne))
                       (distinct_apart (read ++ holds.places) leaves.more (holds.waits other) (distinct_left ((read ++ holds.places) ++ leaves.more) leaves.waits leaves.once) (holds.once other)
@@ -186,13 +186,13 @@ module _ (queued : List Message) (history : History) (cut : Cut queued history.l
         (renamed queued history now (IsApart history chunk.stream) (OfStream chunk.stream) (λ f k named'. named'.0) bears.piece.place takes.unordered.outcome rows.1) (holds.once chunk.stream) (fresh chunk.stream) takes.unordered.does)
 
     -- an unordered message of DATA that is whole, or a part of one
-    makes_on : (place number : ℕ) (outcome : Assembled) → number ≡ chunk.stream → MakesQueued queued history.log now IsOfStream place outcome → IsOfMessage number outcome → MakesQueued queued history.log now (OfStream chunk.stream) place outcome
+    makes_on : (place number : ℕ) (outcome : Assembly) → number ≡ chunk.stream → MakesQueued queued history.log now IsOfStream place outcome → IsOfMessage number outcome → MakesQueued queued history.log now (OfStream chunk.stream) place outcome
     makes_on place number part_dropped same makes of = tt
     makes_on place number part_kept same makes of = tt
     makes_on place number (message_whole whole) same makes of =
         record { offset = makes.offset; head = makes.head; at = makes.at; is = makes.is; queued_at = makes.queued_at; number = makes.number.0 ∙ of ∙ same; ppid = makes.ppid; payload = makes.payload; spent = makes.spent }
 
-    unordered_chunk : (later : ℕ → StreamModel) (runs : List RunModel) (after : List MessageContent) (outcome : Assembled) (taken : Taken) → later ≡ streams → AreRows history.log now (unordered_base base) IsOfStream runs
+    unordered_chunk : (later : ℕ → StreamModel) (runs : List RunModel) (after : List MessageContent) (outcome : Assembly) (taken : Taken) → later ≡ streams → AreRows history.log now (unordered_base base) IsOfStream runs
         → MakesQueued queued history.log now (OfStream chunk.stream) bears.piece.place outcome → UnorderedOutcome (data_part chunk tsn_number chunk.stream) (delivered_as chunk.stream) ready outcome taken after → HoldsBeside queued history now base read (λ other. other ≡ chunk.stream) holds.waits holds.places later runs after
     unfolding all
     unordered_chunk later runs after outcome taken same rows makes does =
@@ -233,7 +233,7 @@ module _ (queued : List Message) (history : History) (cut : Cut queued history.l
       (apart_placed history base tsn_number (number_near last mid) fsn chunk bears numbered.0 numbered.3) (sym bears.stream, named.0) named.1 takes.unordered takes.others does
 
 -- It holds of these as well, and beside its stream the same.
-pub holds_beside : (queued : List Message) (history : History) → Cut queued history.log → IsUnambiguous history
+pub holds_beside : (queued : List Message) (history : History) → IsLogOfPieces queued history.log → IsUnambiguous history
     → (got : List ℕ) (base tsn : ℕ) (read : List ℕ) (chunk : ChunkModel) (old new : IncomingModel)
     → (bears : BearsPiece history base (number_near old.last_tsn_number tsn) chunk) → (HasEntry bears.offset got → ⊥)
     → (holds : HoldsIncoming queued history got base read old) → TakesIncomingChunk tsn chunk old new
@@ -241,7 +241,7 @@ pub holds_beside : (queued : List Message) (history : History) → Cut queued hi
 holds_beside queued history cut told got base tsn read chunk old new bears is_new holds takes =
     by_numbering queued history cut told got base read (number_near old.last_tsn_number tsn) chunk.numbering chunk old new refl bears bears.numbered is_new holds takes.takes
 
-pub holds_on : (queued : List Message) (history : History) → Cut queued history.log → IsUnambiguous history
+pub holds_on : (queued : List Message) (history : History) → IsLogOfPieces queued history.log → IsUnambiguous history
     → (got : List ℕ) (base tsn : ℕ) (read : List ℕ) (chunk : ChunkModel) (old new : IncomingModel)
     → (bears : BearsPiece history base (number_near old.last_tsn_number tsn) chunk) → (HasEntry bears.offset got → ⊥)
     → HoldsIncoming queued history got base read old → TakesIncomingChunk tsn chunk old new

@@ -9,10 +9,10 @@ use Rattle.dcsctp_spec_lemmas.specs.spec.queues.Incoming.{IncomingModel, TakesIn
 use Rattle.dcsctp_spec_lemmas.specs.spec.queues.Reassembly.{WaitingModel, WaitingSkips, DeferralModel, ReassemblyState, names_stream, is_data_deferred, with_waiting, HandlesAll, SkipsThen, waiting_of, skips_of, EndsDeferral}
 use Rattle.dcsctp_spec_lemmas.specs.spec.queues.Tracker.{TrackerState}
 use Rattle.dcsctp_delivery_sending.specs.Places.{HasEntry}
-use Rattle.dcsctp_delivery_sending.specs.Log.{Message, History, Cut}
+use Rattle.dcsctp_delivery_sending.specs.Log.{Message, History, IsLogOfPieces}
 use Rattle.dcsctp_delivery_receiving.specs.Ready.{AreDistinct, AreNamed, BearsPiece, HoldsIncoming}
 use Rattle.dcsctp_delivery_sending.specs.Numbers.{IsUnambiguous}
-use Rattle.dcsctp_delivery_receiving.specs.Received.{CarriesCurrent, IsTsn, AreBeyond, WaitBeyond, kept_entries, SkipsWait, ForwardsWait, Placed, Reassembles, untouched, placed, DefersData, HasReceived, Few}
+use Rattle.dcsctp_delivery_receiving.specs.Received.{CarriesCurrent, IsTsn, AreBeyond, WaitBeyond, kept_entries, SkipsWait, ForwardsWait, CountsFromBase, Reassembles, untouched, placed, DefersData, HasReceived, Few}
 use Rattle.dcsctp_delivery_sending.proofs.Places.{at_below}
 use Rattle.dcsctp_delivery_receiving.proofs.Joining.{both}
 use Rattle.dcsctp_delivery_receiving.proofs.Ready.{holds_on}
@@ -34,7 +34,7 @@ first_near first offset small few = grind (arith, nat_tests)
 same_tsn : (first base offset : ℕ) → base % 2 ^ 32 ≡ first → (first + offset) % 2 ^ 32 ≡ (base + offset) % 2 ^ 32
 same_tsn first base offset same = omega (arith, same)
 
-pub number_read : (first base last offset tsn : ℕ) → Placed first base last → offset < 2 ^ 31 → tsn ≡ (first + offset) % 2 ^ 32 → number_near last tsn ≡ base + offset
+pub number_read : (first base last offset tsn : ℕ) → CountsFromBase first base last → offset < 2 ^ 31 → tsn ≡ (first + offset) % 2 ^ 32 → number_near last tsn ≡ base + offset
 number_read first base last offset tsn is few of =
     ap (λ (l : ℕ). number_near l tsn) is.is ∙ ap (number_near (base + is.worked)) (of ∙ same_tsn first base offset is.same) ∙ tsns_read base is.worked offset is.few few is.near
 
@@ -59,7 +59,7 @@ bears_of history first base offset tsn number chunk c is =
 pub few_behind : (history : History) (first offset tsn : ℕ) (chunk : ChunkModel) → Few history first → CarriesCurrent history first offset tsn chunk → offset < 2 ^ 31
 few_behind history first offset tsn chunk f c = omega (arith, f.few, at_below offset (Some c.carries.piece) history.log c.carries.at)
 
-module _ (queued : List Message) (history : History) (first : ℕ) (cut : Cut queued history.log) (told : IsUnambiguous history) (f : Few history first) (read : List ℕ) where
+module _ (queued : List Message) (history : History) (first : ℕ) (cut : IsLogOfPieces queued history.log) (told : IsUnambiguous history) (f : Few history first) (read : List ℕ) where
   pub data_handled : (got : List ℕ) (offset tsn : ℕ) (chunk : ChunkModel) (old new : IncomingModel) → CarriesCurrent history first offset tsn chunk → (HasEntry offset got → ⊥) → Reassembles queued history first got read old → TakesIncomingChunk tsn chunk old new
       → Reassembles queued history first (offset ∷ got) read new
   unfolding bears_of
@@ -97,7 +97,7 @@ module _ (queued : List Message) (history : History) (first : ℕ) (cut : Cut qu
 
   reset_handled : (got streams : List ℕ) (old new : IncomingModel) → Reassembles queued history first got read old → ResetsStreams streams old new → Reassembles queued history first got read new
   reset_handled got streams old new (placed base is holds) resets =
-      placed base (subst (λ (l : ℕ). Placed first base l) (sym (kept_last streams old new resets)) is) (resets_on queued history got base read streams old new holds resets)
+      placed base (subst (λ (l : ℕ). CountsFromBase first base l) (sym (kept_last streams old new resets)) is) (resets_on queued history got base read streams old new holds resets)
   reset_handled got streams old new (untouched none last empty) resets =
       untouched none (kept_last streams old new resets ∙ last) (λ base. resets_on queued history [] base read streams old new (empty base) resets)
 

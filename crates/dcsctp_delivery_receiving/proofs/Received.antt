@@ -6,11 +6,11 @@ use Rattle.dcsctp_spec_lemmas.specs.types.declared.arrivals.SkippedTo.{SkippedTo
 use Rattle.dcsctp_spec_lemmas.specs.spec.queues.Arrivals.{Arrival}
 use Rattle.dcsctp_spec_lemmas.specs.spec.queues.IncomingStreams.{ChunkModel, skipped_stream}
 use Rattle.dcsctp_spec_lemmas.specs.spec.queues.Reassembly.{DeferralModel, ReassemblyState, can_count, entries_beside, is_data_deferred, is_forward_deferred, names_stream, AddsData, SkipsData, waiting_of}
-use Rattle.dcsctp_spec_lemmas.specs.spec.queues.Tracker.{TrackerState, is_new_tsn, observed, is_forward, is_valid_tsn, after_forward, delay_over, moved_forward}
+use Rattle.dcsctp_spec_lemmas.specs.spec.queues.Tracker.{TrackerState, is_new_tsn, tracker_after_data, is_forward, is_valid_tsn, after_forward, delay_over, moved_forward}
 use Rattle.dcsctp_spec_lemmas.specs.spec.queues.Transfer.{Transfer}
-use Rattle.dcsctp_spec_lemmas.specs.spec.endpoint.TransferMoves.{AddsWhere, has_room, dropping, ReceivesWhere, SkipsWhere, GoesForward, MovesWhere, ReceivesData, MovesForward, TakesData as TakesArrival}
+use Rattle.dcsctp_spec_lemmas.specs.spec.endpoint.TransferMoves.{AddsIfNew, has_room, dropping, ReceivesIfRoom, SkipsIfMoved, GoesForward, MovesIfForward, ReceivesData, MovesForward, TakesData as TakesArrival}
 use Rattle.dcsctp_delivery_sending.specs.Places.{HasEntry}
-use Rattle.dcsctp_delivery_sending.specs.Log.{Message, History, Cut}
+use Rattle.dcsctp_delivery_sending.specs.Log.{Message, History, IsLogOfPieces}
 use Rattle.dcsctp_delivery_receiving.specs.Ready.{AreDistinct, AreNamed, IsNamedEntry, SkipAll}
 use Rattle.dcsctp_delivery_sending.specs.Numbers.{IsUnambiguous}
 use Rattle.dcsctp_delivery_receiving.specs.Tracked.{Tracks}
@@ -22,7 +22,7 @@ use Rattle.dcsctp_delivery_receiving.proofs.Current.{past_kept, carries_current,
 use Rattle.dcsctp_delivery_receiving.proofs.Kept.{all_left, deferred_by, each_named, forward_waits}
 use Rattle.dcsctp_delivery_receiving.proofs.Reassembled.{forward_handled, waiting_data, data_handled, waiting_beyond, data_forwards}
 
-module _ (queued : List Message) (history : History) (first : ℕ) (cut : Cut queued history.log) (told : IsUnambiguous history) (f : Few history first) (read : List ℕ) where
+module _ (queued : List Message) (history : History) (first : ℕ) (cut : IsLogOfPieces queued history.log) (told : IsUnambiguous history) (f : Few history first) (read : List ℕ) where
   -- a chunk whose TSN is new
   added : (offset tsn : ℕ) (chunk : ChunkModel) (tracker now : TrackerState) (old new : ReassemblyState) → CarriesCurrent history first offset tsn chunk → (r : HasReceived queued history first read tracker old)
       → tracker.cumulative ≤ now.cumulative → Tracks first (length history.log) (offset ∷ r.taken) now → (HasEntry offset r.taken → ⊥) → AddsData tsn chunk old new → HasReceived queued history first read now new
@@ -117,7 +117,7 @@ module _ (queued : List Message) (history : History) (first : ℕ) (cut : Cut qu
       subst (λ (t : TrackerState). HasReceived queued history first read t new.reassembly) (sym (ap (λ (t : Transfer). t.tracker) takes.rest)) (go (is_new_tsn arrival.tsn old.tracker) refl takes.reassembly)
     where
       now : TrackerState
-      now = observed arrival.tsn arrival.immediate_ack old.tracker
+      now = tracker_after_data arrival.tsn arrival.immediate_ack old.tracker
 
       below : offset < length history.log
       below = at_below offset (Some c.piece) history.log c.at
@@ -127,7 +127,7 @@ module _ (queued : List Message) (history : History) (first : ℕ) (cut : Cut qu
 
       tracks : Tracks first (length history.log) (offset ∷ r.taken) now
       tracks =
-          subst (λ (t : ℕ). Tracks first (length history.log) (offset ∷ r.taken) (observed t arrival.immediate_ack old.tracker)) (sym c.is)
+          subst (λ (t : ℕ). Tracks first (length history.log) (offset ∷ r.taken) (tracker_after_data t arrival.immediate_ack old.tracker)) (sym c.is)
           (new_is_new first (length history.log) offset arrival.immediate_ack r.taken old.tracker f.small f.few below r.tracks).0
 
       by_offset : is_new_tsn arrival.tsn old.tracker ≡ true → is_new_tsn ((first + offset) % 2 ^ 32) old.tracker ≡ true
@@ -142,8 +142,8 @@ module _ (queued : List Message) (history : History) (first : ℕ) (cut : Cut qu
           carries_current history first old.tracker.cumulative r.old offset arrival.tsn arrival.chunk
           (new_beyond first (length history.log) offset r.taken old.tracker f.small f.few below r.tracks (by_offset is)) c
 
-      go : (b : Bool) → is_new_tsn arrival.tsn old.tracker ≡ b → AddsWhere b arrival.tsn arrival.chunk old.reassembly new.reassembly
-          → HasReceived queued history first read (observed arrival.tsn arrival.immediate_ack old.tracker) new.reassembly
+      go : (b : Bool) → is_new_tsn arrival.tsn old.tracker ≡ b → AddsIfNew b arrival.tsn arrival.chunk old.reassembly new.reassembly
+          → HasReceived queued history first read (tracker_after_data arrival.tsn arrival.immediate_ack old.tracker) new.reassembly
       go true is adds = added offset arrival.tsn arrival.chunk old.tracker now old.reassembly new.reassembly (current is) r up tracks (fresh is) adds
       go false is adds = subst (λ (s : ReassemblyState). HasReceived queued history first read now s) (sym adds) (tracked_on old.tracker now old.reassembly r (offset ∷ r.taken) (λ k h. inr h) up tracks)
 
@@ -161,7 +161,7 @@ module _ (queued : List Message) (history : History) (first : ℕ) (cut : Cut qu
       → HasReceived queued history first read new.tracker new.reassembly
   receiving_keeps offset arrival old new c r receives = go (has_room arrival.tsn old && is_valid_tsn old.tracker.cumulative arrival.tsn) receives
     where
-      go : (b : Bool) → ReceivesWhere b arrival old new → HasReceived queued history first read new.tracker new.reassembly
+      go : (b : Bool) → ReceivesIfRoom b arrival old new → HasReceived queued history first read new.tracker new.reassembly
       go true takes = taken_keeps offset arrival old new c r takes
       go false same = dropped_keeps (old.tracker.follows_rfc && is_valid_tsn old.tracker.cumulative arrival.tsn) old new same r
 
@@ -240,7 +240,7 @@ module _ (queued : List Message) (history : History) (first : ℕ) (cut : Cut qu
       not_passed : (b : Bool) → is_forward old.tracker.cumulative tsn ≡ b → b ≡ false → after_forward tsn old.tracker ≡ delay_over old.tracker
       not_passed b is clear = subst (λ (c : Bool). (if c then moved_forward tsn old.tracker else delay_over old.tracker) ≡ delay_over old.tracker) (sym (is ∙ clear)) refl
 
-      go : (b : Bool) → is_forward old.tracker.cumulative tsn ≡ b → SkipsWhere b tsn entries old.reassembly new.reassembly → HasReceived queued history first read (after_forward tsn old.tracker) new.reassembly
+      go : (b : Bool) → is_forward old.tracker.cumulative tsn ≡ b → SkipsIfMoved b tsn entries old.reassembly new.reassembly → HasReceived queued history first read (after_forward tsn old.tracker) new.reassembly
       go true is skips = skipped_keeps tsn entries old.tracker (after_forward tsn old.tracker) old.reassembly new.reassembly (current is) r up (passed is) skips
       go false is same =
           subst (λ (s : ReassemblyState). HasReceived queued history first read (after_forward tsn old.tracker) s) (sym same)
@@ -251,6 +251,6 @@ module _ (queued : List Message) (history : History) (first : ℕ) (cut : Cut qu
       → MovesForward tsn entries old new → HasReceived queued history first read new.tracker new.reassembly
   forwarding_keeps tsn entries old new t skip r moves = go (is_valid_tsn old.tracker.cumulative tsn) moves
     where
-      go : (b : Bool) → MovesWhere b tsn entries old new → HasReceived queued history first read new.tracker new.reassembly
+      go : (b : Bool) → MovesIfForward b tsn entries old new → HasReceived queued history first read new.tracker new.reassembly
       go true goes = gone_forward tsn entries old new t skip r goes
       go false same = same_transfer old new same r

@@ -4,14 +4,14 @@ use Rattle.std.specs.Prelude.{◌&&◌, not, Option, None, Some, is_some, slice_
 use Rattle.std.proofs.lemmas.Bool.{eqb-true}
 use Rattle.std.proofs.lemmas.Bool.Decides.{leb_tells}
 use Rattle.std.proofs.lemmas.List.{take_all, length-append, append-nil}
-use Rattle.dcsctp_spec_lemmas.specs.spec.queues.Runs.{RunModel, PartModel, WholeModel, Assembled, part_dropped, part_kept, message_whole, joined_bytes, whole_run, AddsAt, IsRunPlace, entry_before, StartsUpTo, StartsBehind, follows, precedes, following, preceding, run_before, run_behind, single_run, chained, merged, merged_at, front_end, back_start, is_whole}
+use Rattle.dcsctp_spec_lemmas.specs.spec.queues.Runs.{RunModel, PartModel, WholeModel, Assembly, part_dropped, part_kept, message_whole, joined_bytes, whole_run, AssemblesPart, IsRunPlace, entry_before, StartsUpTo, StartsBehind, follows, precedes, following, preceding, run_before, run_behind, single_run, chained_run, run_with_part, merged_run, front_end, back_start, is_whole}
 use Rattle.dcsctp_delivery_sending.specs.Places.{HasEntry, at_place}
-use Rattle.dcsctp_delivery_sending.specs.Log.{Message, Piece, Slot, Cut}
+use Rattle.dcsctp_delivery_sending.specs.Log.{Message, Piece, Slot, IsLogOfPieces}
 use Rattle.dcsctp_delivery_receiving.specs.Rows.{IsPart, IsPieceRow, AreRows, IsQueued, MakesQueued}
 use Rattle.dcsctp_delivery_receiving.proofs.Chaining.{OneKind, offsets_follow}
 use Rattle.dcsctp_delivery_receiving.proofs.Joining.{same_merged, stretched, started, both, joined_two, denied}
 
-module _ (queued : List Message) (log : List Slot) (cut : Cut queued log) (told : OneKind log) (got : List ℕ) (base : ℕ → ℕ) (Named : Piece → ℕ → Type 0)
+module _ (queued : List Message) (log : List Slot) (cut : IsLogOfPieces queued log) (told : OneKind log) (got : List ℕ) (base : ℕ → ℕ) (Named : Piece → ℕ → Type 0)
     (tells : (m n : ℕ) (f g : Piece) (number : ℕ) → at_place m log ≡ Some (Some f) → at_place n log ≡ Some (Some g) → f.is_interleaved ≡ true → g.is_interleaved ≡ true → Named f number → Named g number → f.place ≡ g.place) where
   -- a part alone
   single_row : (part : PartModel) (is : IsPart log base Named part) → HasEntry is.offset got → IsPieceRow log got base Named (single_run part)
@@ -39,7 +39,7 @@ module _ (queued : List Message) (log : List Slot) (cut : Cut queued log) (told 
 
   -- two runs in one
   chained_row : (front back : RunModel) → IsPieceRow log got base Named front → IsPieceRow log got base Named back → back.first ≡ front.first + length front.payloads → front.number ≡ back.number → back.has_beginning ≡ false
-      → IsPieceRow log got base Named (chained front back)
+      → IsPieceRow log got base Named (chained_run front back)
   chained_row front back f b follows same_number goes_on =
       let next = offsets_follow queued log cut told got base Named tells front back f b follows same_number in
       let before = cut.rows b.offset b.head (omega (arith, next, f.ends, f.some)) b.at_head (started b.head (sym b.beginning ∙ goes_on)) in
@@ -159,7 +159,7 @@ module _ (queued : List Message) (log : List Slot) (cut : Cut queued log) (told 
   MergedRow place run = (row : IsPieceRow log got base Named run) × (row.head.place ≡ place)
 
   merged_row : (front : Option RunModel) (part : PartModel) (back : Option RunModel) (is : IsPart log base Named part) → HasEntry is.offset got → Joins part front → IsJoined part back
-      → MergedRow is.piece.place (merged front part back)
+      → MergedRow is.piece.place (run_with_part front part back)
   unfolding Joins IsJoined MergedRow single_row chained_row
   merged_row None part None is has f b = (single_row part is has, refl)
   merged_row (Some front) part None is has f b =
@@ -170,7 +170,7 @@ module _ (queued : List Message) (log : List Slot) (cut : Cut queued log) (told 
   merged_row None part (Some back) is has f b = (chained_row (single_run part) back (single_row part is has) b.0 b.1 (sym b.3) b.2, refl)
   merged_row (Some front) part (Some back) is has f b =
       let single = single_row part is has in (
-        chained_row front (chained (single_run part) back) f.0 (chained_row (single_run part) back single b.0 b.1 (sym b.3) b.2) (sym f.1) f.3 f.2,
+        chained_row front (chained_run (single_run part) back) f.0 (chained_row (single_run part) back single b.0 b.1 (sym b.3) b.2) (sym f.1) f.3 f.2,
         sym (follows_on front f.0 is.offset is.piece is.at (let next = offsets_follow queued log cut told got base Named tells front (single_run part) f.0 single (sym f.1) f.3 in omega (arith, next, f.0.ends)) (started is.piece (sym is.beginning ∙ f.2))),
       )
 
@@ -209,7 +209,7 @@ module _ (queued : List Message) (log : List Slot) (cut : Cut queued log) (told 
         };
       }
 
-  pub outcome_rows : (part : PartModel) (old new : List RunModel) (outcome : Assembled) (at : ℕ) (is : IsPart log base Named part) → HasEntry is.offset got → AreRows log got base Named old → IsRunPlace at part.place old → AddsAt at part old outcome new
+  pub outcome_rows : (part : PartModel) (old new : List RunModel) (outcome : Assembly) (at : ℕ) (is : IsPart log base Named part) → HasEntry is.offset got → AreRows log got base Named old → IsRunPlace at part.place old → AssemblesPart at part old outcome new
       → AreRows log got base Named new × MakesQueued queued log got Named is.piece.place outcome
   unfolding MergedRow
   outcome_rows part old new part_dropped at is has are place adds = (subst (λ (l : List RunModel). AreRows log got base Named l) (sym adds.1) are, tt)
@@ -226,5 +226,5 @@ module _ (queued : List Message) (log : List Slot) (cut : Cut queued log) (told 
         subst (λ (l : List RunModel). AreRows log got base Named l) (sym adds.3)
             (rows_both (take (front_end (is_some (run_before at old part)) at) old) (drop (back_start (is_some (run_behind part at old)) at) old) (rows_take (front_end (is_some (run_before at old part)) at) old are)
             (rows_drop (back_start (is_some (run_behind part at old)) at) old are)),
-        whole_row (merged_at at old part) whole is.piece.place row adds.1 adds.2,
+        whole_row (merged_run at old part) whole is.piece.place row adds.1 adds.2,
       )

@@ -9,9 +9,9 @@ use Rattle.dcsctp_spec_lemmas.specs.types.declared.arrivals.SkippedTo.{SkippedTo
 use Rattle.dcsctp_spec_lemmas.specs.types.declared.arrivals.SkippedTo.TheVariants.{Ssn, Mid}
 use Rattle.dcsctp_spec_lemmas.specs.spec.queues.Numbers.{number_near, short_number_near}
 use Rattle.dcsctp_spec_lemmas.specs.spec.queues.Runs.{RunModel, WholeModel, behind_place}
-use Rattle.dcsctp_spec_lemmas.specs.spec.queues.IncomingStreams.{StreamModel, new_stream, delivered_as, due, next_past, skipped_stream, skipped, skip_deliveries}
-use Rattle.dcsctp_spec_lemmas.specs.spec.queues.Incoming.{IncomingModel, stream_on, skipped_on, skipped_by, deliveries_by, MovesOn, is_named, ResetsStreams}
-use Rattle.dcsctp_delivery_sending.specs.Places.{HasEntry, set_at}
+use Rattle.dcsctp_spec_lemmas.specs.spec.queues.IncomingStreams.{StreamModel, new_stream, delivered_as, due, next_past, skipped_stream, stream_after_skip, skip_deliveries}
+use Rattle.dcsctp_spec_lemmas.specs.spec.queues.Incoming.{IncomingModel, stream_on, skipped_on, stream_skipping, deliveries_of_skips, MovesOn, is_named, ResetsStreams}
+use Rattle.dcsctp_delivery_sending.specs.Places.{HasEntry, table_with}
 use Rattle.dcsctp_delivery_sending.specs.Log.{Message, Piece, History}
 use Rattle.dcsctp_delivery_receiving.specs.Rows.{AreRows}
 use Rattle.dcsctp_delivery_receiving.specs.Ready.{IsOn, IsApart, IsOfStream, fresh, ReadsMids, ordered_base, unordered_base, NamesCurrent, AreNamed, StreamRows, AreDistinct, WereQueued, StreamHolds, HoldsAll, HoldsIncoming}
@@ -53,10 +53,10 @@ module _ (queued : List Message) (history : History) (got : List ℕ) (base : �
   holds_left id streams later unordered ready after holds rows others leaves =
       record {
         holds = record {
-          waits = set_at id leaves.waits holds.waits;
+          waits = table_with id leaves.waits holds.waits;
           streams_hold = λ other. elim (decide other id) [
             | inl e ↦
-                subst (λ (k : ℕ). StreamHolds queued history got base k (set_at id leaves.waits holds.waits k) (later k)) (sym e)
+                subst (λ (k : ℕ). StreamHolds queued history got base k (table_with id leaves.waits holds.waits k) (later k)) (sym e)
                 (subst (λ (l : List ℕ). StreamHolds queued history got base id l (later id)) (sym (set_same id leaves.waits holds.waits)) (record { rows = rows; wait = leaves.wait }))
             | inr ne ↦
                 subst (λ (l : List ℕ). StreamHolds queued history got base other l (later other)) (sym (set_other id other leaves.waits holds.waits ne))
@@ -69,10 +69,10 @@ module _ (queued : List Message) (history : History) (got : List ℕ) (base : �
             | inl l ↦ holds.spent q l
             | inr r ↦ leaves.spent q r
           ];
-          once = λ other. subst (λ (l : List ℕ). AreDistinct (l ++ set_at id leaves.waits holds.waits other)) (appended read holds.places leaves.more)
+          once = λ other. subst (λ (l : List ℕ). AreDistinct (l ++ table_with id leaves.waits holds.waits other)) (appended read holds.places leaves.more)
               (elim (decide other id) [
                 | inl e ↦
-                    subst (λ (l : List ℕ). AreDistinct (((read ++ holds.places) ++ leaves.more) ++ l)) (sym (ap (set_at id leaves.waits holds.waits) e ∙ set_same id leaves.waits holds.waits)) leaves.once
+                    subst (λ (l : List ℕ). AreDistinct (((read ++ holds.places) ++ leaves.more) ++ l)) (sym (ap (table_with id leaves.waits holds.waits) e ∙ set_same id leaves.waits holds.waits)) leaves.once
                 | inr ne ↦
                     subst (λ (l : List ℕ). AreDistinct (((read ++ holds.places) ++ leaves.more) ++ l)) (sym (set_other id other leaves.waits holds.waits ne))
                     (distinct_apart (read ++ holds.places) leaves.more (holds.waits other) (distinct_left ((read ++ holds.places) ++ leaves.more) leaves.waits leaves.once) (holds.once other)
@@ -101,7 +101,7 @@ module _ (queued : List Message) (history : History) (got : List ℕ) (base : �
       }
 
   skipped_leaves : (all places waits : List ℕ) (id : ℕ) (entry : SkippedTo) (stream : StreamModel) (before : List MessageContent) → StreamHolds queued history got base id waits stream → WereQueued queued places before → AreDistinct (all ++ waits)
-      → Leaves queued history got all places id (skipped entry stream).waiting (before ++ skip_deliveries entry stream)
+      → Leaves queued history got all places id (stream_after_skip entry stream).waiting (before ++ skip_deliveries entry stream)
   skipped_leaves all places waits id (Ssn on ssn) stream before holds were once =
       leaves_due all places waits id (next_past (short_number_near stream.next ssn) stream.next) stream before holds were once _
       (split_due queued history got id (next_past (short_number_near stream.next ssn) stream.next) waits stream.waiting holds.wait)
@@ -111,7 +111,7 @@ module _ (queued : List Message) (history : History) (got : List ℕ) (base : �
   skipped_leaves all places waits id (Mid on true mid) stream before holds were once =
       leaves_none queued history got all places waits id stream.waiting before (before ++ []) were holds.wait once (append-nil before)
 
-  skipped_rows : (passed : ℕ) (entry : SkippedTo) (waits : List ℕ) (stream : StreamModel) → NamesCurrent history passed entry → StreamHolds queued history got base (skipped_stream entry) waits stream → StreamRows history got base (skipped_stream entry) (skipped entry stream)
+  skipped_rows : (passed : ℕ) (entry : SkippedTo) (waits : List ℕ) (stream : StreamModel) → NamesCurrent history passed entry → StreamHolds queued history got base (skipped_stream entry) waits stream → StreamRows history got base (skipped_stream entry) (stream_after_skip entry stream)
   skipped_rows passed (Ssn id ssn) waits stream (skips, current) holds =
       record {
         is = holds.rows.is;
@@ -138,17 +138,17 @@ module _ (queued : List Message) (history : History) (got : List ℕ) (base : �
         last = subst (λ (k : ℕ). ReadsMids history id.0 true (number_near stream.last_unordered k)) (sym skips.is) (reads_moved history id.0 true skips.number skips.piece skips.at (sym skips.stream) (sym skips.unordered) current stream.last_unordered holds.rows.last);
       }
 
-  on_itself : (entry : SkippedTo) (stream : StreamModel) → skipped_on entry (skipped_stream entry) stream ≡ skipped entry stream
+  on_itself : (entry : SkippedTo) (stream : StreamModel) → skipped_on entry (skipped_stream entry) stream ≡ stream_after_skip entry stream
   on_itself entry stream = go (skipped_stream entry == skipped_stream entry) (elim (eqb_tells (skipped_stream entry) (skipped_stream entry)) [ inl e ↦ e.0 | inr e ↦ absurd (e.1 refl) ])
     where
-      go : (b : Bool) → b ≡ true → (if b then skipped entry stream else stream) ≡ skipped entry stream
+      go : (b : Bool) → b ≡ true → (if b then stream_after_skip entry stream else stream) ≡ stream_after_skip entry stream
       go true e = refl
       go false e = absurd (cc)
 
   on_others : (entry : SkippedTo) (other : ℕ) (stream : StreamModel) → other ≢ skipped_stream entry → skipped_on entry other stream ≡ stream
   on_others entry other stream ne = go (skipped_stream entry == other) (elim (eqb_tells (skipped_stream entry) other) [ inl e ↦ absurd (ne (sym e.1)) | inr e ↦ e.0 ])
     where
-      go : (b : Bool) → b ≡ false → (if b then skipped entry stream else stream) ≡ stream
+      go : (b : Bool) → b ≡ false → (if b then stream_after_skip entry stream else stream) ≡ stream
       go true e = absurd (cc)
       go false e = refl
 
@@ -170,22 +170,22 @@ module _ (queued : List Message) (history : History) (got : List ℕ) (base : �
       record { holds = holds; more = []; places_are = sym (append-nil holds.places); on = λ q h. absurd h; others = λ other ne. refl }
 
   all_skipped : (entries : List SkippedTo) (streams : ℕ → StreamModel) (unordered : List RunModel) (ready : List MessageContent) (holds : HoldsAll queued history got base read streams unordered ready)
-      → AreNamed history entries → HoldsBeside queued history got base read (IsSkipped entries) holds.waits holds.places (λ id. skipped_by entries id (streams id)) unordered (ready ++ deliveries_by entries streams)
+      → AreNamed history entries → HoldsBeside queued history got base read (IsSkipped entries) holds.waits holds.places (λ id. stream_skipping entries id (streams id)) unordered (ready ++ deliveries_of_skips entries streams)
   all_skipped [] streams unordered ready holds names =
       subst (λ (l : List MessageContent). HoldsBeside queued history got base read (IsSkipped []) holds.waits holds.places streams unordered l) (sym (append-nil ready)) (nothing_beside (IsSkipped []) streams unordered ready holds)
   all_skipped (entry ∷ entries) streams unordered ready holds names =
-      subst (λ (l : List MessageContent). HoldsBeside queued history got base read (IsSkipped (entry ∷ entries)) holds.waits holds.places (λ id. skipped_by (entry ∷ entries) id (streams id)) unordered l)
-      (messages_appended ready (skip_deliveries entry (streams (skipped_stream entry))) (deliveries_by entries (λ id. skipped_on entry id (streams id))))
+      subst (λ (l : List MessageContent). HoldsBeside queued history got base read (IsSkipped (entry ∷ entries)) holds.waits holds.places (λ id. stream_skipping (entry ∷ entries) id (streams id)) unordered l)
+      (messages_appended ready (skip_deliveries entry (streams (skipped_stream entry))) (deliveries_of_skips entries (λ id. skipped_on entry id (streams id))))
       (joined one (all_skipped entries (λ id. skipped_on entry id (streams id)) unordered (ready ++ skip_deliveries entry (streams (skipped_stream entry))) one.holds names.1))
     where
       one : HoldsBeside queued history got base read (λ other. other ≡ skipped_stream entry) holds.waits holds.places (λ id. skipped_on entry id (streams id)) unordered (ready ++ skip_deliveries entry (streams (skipped_stream entry)))
       one = one_skipped names.0.0 entry streams unordered ready holds names.0.1
 
       joined : (first : HoldsBeside queued history got base read (λ other. other ≡ skipped_stream entry) holds.waits holds.places (λ id. skipped_on entry id (streams id)) unordered (ready ++ skip_deliveries entry (streams (skipped_stream entry))))
-          → HoldsBeside queued history got base read (IsSkipped entries) first.holds.waits first.holds.places (λ id. skipped_by entries id (skipped_on entry id (streams id))) unordered
-          ((ready ++ skip_deliveries entry (streams (skipped_stream entry))) ++ deliveries_by entries (λ id. skipped_on entry id (streams id)))
-          → HoldsBeside queued history got base read (IsSkipped (entry ∷ entries)) holds.waits holds.places (λ id. skipped_by entries id (skipped_on entry id (streams id))) unordered
-          ((ready ++ skip_deliveries entry (streams (skipped_stream entry))) ++ deliveries_by entries (λ id. skipped_on entry id (streams id)))
+          → HoldsBeside queued history got base read (IsSkipped entries) first.holds.waits first.holds.places (λ id. stream_skipping entries id (skipped_on entry id (streams id))) unordered
+          ((ready ++ skip_deliveries entry (streams (skipped_stream entry))) ++ deliveries_of_skips entries (λ id. skipped_on entry id (streams id)))
+          → HoldsBeside queued history got base read (IsSkipped (entry ∷ entries)) holds.waits holds.places (λ id. stream_skipping entries id (skipped_on entry id (streams id))) unordered
+          ((ready ++ skip_deliveries entry (streams (skipped_stream entry))) ++ deliveries_of_skips entries (λ id. skipped_on entry id (streams id)))
       joined first second =
           record {
             holds = second.holds;
@@ -228,7 +228,7 @@ module _ (queued : List Message) (history : History) (got : List ℕ) (base : �
       let skipped_all = all_skipped entries (λ id. stream_on id old.streams) old.unordered old.ready holds names in
       let rows : AreRows history.log got (unordered_base base) IsOfStream new.unordered = subst (λ (l : List RunModel). AreRows history.log got (unordered_base base) IsOfStream l) (sym moves.unordered) (rows_behind (unordered_base base) IsOfStream (number_near old.last_tsn_number tsn) old.unordered holds.rows) in
       subst (λ (l : List MessageContent). HoldsBeside queued history got base read (IsSkipped entries) holds.waits holds.places (λ id. stream_on id new.streams) new.unordered l) (sym moves.ready)
-      (alike_beside (IsSkipped entries) holds.waits holds.places (λ id. skipped_by entries id (stream_on id old.streams)) (λ id. stream_on id new.streams) old.unordered new.unordered (old.ready ++ deliveries_by entries (λ id. stream_on id old.streams))
+      (alike_beside (IsSkipped entries) holds.waits holds.places (λ id. stream_skipping entries id (stream_on id old.streams)) (λ id. stream_on id new.streams) old.unordered new.unordered (old.ready ++ deliveries_of_skips entries (λ id. stream_on id old.streams))
       moves.streams rows skipped_all)
 
   pub skips_on : (tsn : ℕ) (entries : List SkippedTo) (old new : IncomingModel) → AreNamed history entries → HoldsIncoming queued history got base read old → MovesOn tsn entries old new → HoldsIncoming queued history got base read new

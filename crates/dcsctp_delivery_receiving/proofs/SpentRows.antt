@@ -3,9 +3,9 @@ use Rattle.std.proofs.Common.{◌≡◌, ◌≢◌, ◌==◌, ℕ, zero, suc, Bo
 use Rattle.std.specs.Prelude.{◌&&◌, not, Option, None, Some, if◌then◌else◌}
 use Rattle.std.proofs.lemmas.Bool.{eqb-true}
 use Rattle.std.proofs.lemmas.Bool.Decides.{eqb_tells, leb_tells}
-use Rattle.dcsctp_spec_lemmas.specs.spec.queues.Runs.{RunModel, PartModel, WholeModel, Assembled, part_dropped, part_kept, message_whole, AddsPart, AddsAt, entry_before, follows, following, run_before, run_behind, merged}
+use Rattle.dcsctp_spec_lemmas.specs.spec.queues.Runs.{RunModel, PartModel, WholeModel, Assembly, part_dropped, part_kept, message_whole, AddsPart, AssemblesPart, entry_before, follows, following, run_before, run_behind, run_with_part}
 use Rattle.dcsctp_delivery_sending.specs.Places.{HasEntry, at_place}
-use Rattle.dcsctp_delivery_sending.specs.Log.{Message, Piece, Slot, Cut}
+use Rattle.dcsctp_delivery_sending.specs.Log.{Message, Piece, Slot, IsLogOfPieces}
 use Rattle.dcsctp_delivery_receiving.specs.Rows.{IsPart, IsPieceRow, AreRows, Spent, MakesQueued}
 use Rattle.dcsctp_delivery_receiving.proofs.Chaining.{OneKind}
 use Rattle.dcsctp_delivery_receiving.proofs.Joining.{both}
@@ -58,7 +58,7 @@ spent_got log got n place s =
     }
 
 -- each piece of a message lies between its first and its last
-module _ (queued : List Message) (log : List Slot) (cut : Cut queued log) (got : List ℕ) (place : ℕ) (spent : Spent log got place) where
+module _ (queued : List Message) (log : List Slot) (cut : IsLogOfPieces queued log) (got : List ℕ) (place : ℕ) (spent : Spent log got place) where
   same_stream : (n : ℕ) (f : Piece) → at_place n log ≡ Some (Some f) → f.place ≡ place → f.message.stream ≡ spent.head.message.stream
   same_stream n f at is =
       let one = (cut.pieces n f at).at in
@@ -129,10 +129,10 @@ module _ (queued : List Message) (log : List Slot) (cut : Cut queued log) (got :
   pub was_handled : (n : ℕ) (f : Piece) → at_place n log ≡ Some (Some f) → f.place ≡ place → HasEntry n got
   was_handled n f at is = spent.covered n (not_before n f at is) (between n f at is)
 
-pub stay_rows : (queued : List Message) (log : List Slot) → Cut queued log → OneKind log
+pub stay_rows : (queued : List Message) (log : List Slot) → IsLogOfPieces queued log → OneKind log
     → (got : List ℕ) (base : ℕ → ℕ) (Named : Piece → ℕ → Type 0)
     → ((m n : ℕ) (f g : Piece) (number : ℕ) → at_place m log ≡ Some (Some f) → at_place n log ≡ Some (Some g) → f.is_interleaved ≡ true → g.is_interleaved ≡ true → Named f number → Named g number → f.place ≡ g.place)
-    → (part : PartModel) (old new : List RunModel) (outcome : Assembled)
+    → (part : PartModel) (old new : List RunModel) (outcome : Assembly)
     → (is : IsPart log base Named part) → AreRows log got base Named old → AddsPart part old outcome new
     → AreRows log (is.offset ∷ got) base Named new × MakesQueued queued log (is.offset ∷ got) Named is.piece.place outcome
 stay_rows queued log cut told got base Named tells part old new outcome is rows adds =
@@ -140,7 +140,7 @@ stay_rows queued log cut told got base Named tells part old new outcome is rows 
 
 -- ---- the number of a message that is whole
 
-abbrev pub IsOfMessage : ℕ → Assembled → Type 0
+abbrev pub IsOfMessage : ℕ → Assembly → Type 0
 IsOfMessage number part_dropped = Unit {0}
 IsOfMessage number part_kept = Unit {0}
 IsOfMessage number (message_whole whole) = whole.number ≡ number
@@ -166,18 +166,18 @@ before_number : (at : ℕ) (runs : List RunModel) (part : PartModel) → HasNumb
 unfolding HasNumber
 before_number at runs part = following_number (entry_before at runs) part
 
-merged_number : (front : Option RunModel) (part : PartModel) (back : Option RunModel) → HasNumber part.number front → (merged front part back).number ≡ part.number
+merged_number : (front : Option RunModel) (part : PartModel) (back : Option RunModel) → HasNumber part.number front → (run_with_part front part back).number ≡ part.number
 unfolding HasNumber
 merged_number None part None has = refl
 merged_number (Some front) part None has = has
 merged_number None part (Some back) has = refl
 merged_number (Some front) part (Some back) has = has
 
-whole_number : (part : PartModel) (old new : List RunModel) (outcome : Assembled) (at : ℕ) → AddsAt at part old outcome new → IsOfMessage part.number outcome
+whole_number : (part : PartModel) (old new : List RunModel) (outcome : Assembly) (at : ℕ) → AssemblesPart at part old outcome new → IsOfMessage part.number outcome
 whole_number part old new part_dropped at adds = tt
 whole_number part old new part_kept at adds = tt
 whole_number part old new (message_whole whole) at adds =
     ap (λ (w : WholeModel). w.number) adds.2 ∙ merged_number (run_before at old part) part (run_behind part at old) (before_number at old part)
 
-pub of_message : (part : PartModel) (old new : List RunModel) (outcome : Assembled) → AddsPart part old outcome new → IsOfMessage part.number outcome
+pub of_message : (part : PartModel) (old new : List RunModel) (outcome : Assembly) → AddsPart part old outcome new → IsOfMessage part.number outcome
 of_message part old new outcome adds = whole_number part old new outcome adds.at adds.adds

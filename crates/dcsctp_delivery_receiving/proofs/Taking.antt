@@ -6,24 +6,24 @@ use Rattle.dcsctp_spec_lemmas.specs.types.declared.arrivals.SkippedTo.{SkippedTo
 use Rattle.dcsctp_spec_lemmas.specs.types.declared.options.Options.{Options}
 use Rattle.dcsctp_spec_lemmas.specs.types.queues.Messages.{MessageContent}
 use Rattle.dcsctp_spec_lemmas.specs.spec.queues.Incoming.{IncomingModel}
-use Rattle.dcsctp_spec_lemmas.specs.spec.queues.Reassembly.{entered, deferring, DeferralModel, ReassemblyState, waiting_of, new_reassembly}
+use Rattle.dcsctp_spec_lemmas.specs.spec.queues.Reassembly.{begun_deferral, deferring, DeferralModel, ReassemblyState, waiting_of, new_reassembly}
 use Rattle.dcsctp_spec_lemmas.specs.types.declared.tracking.TsnRange.{TsnRange}
 use Rattle.dcsctp_spec_lemmas.specs.spec.queues.Ranges.{IsBeyond, is_received}
 use Rattle.dcsctp_spec_lemmas.specs.spec.queues.Tracker.{has_received, TrackerState, new_tracker, is_forward, is_valid_tsn, after_forward, delay_over, moved_forward}
 use Rattle.dcsctp_spec_lemmas.specs.spec.queues.Transfer.{Transfer, part_overhead}
-use Rattle.dcsctp_spec_lemmas.specs.spec.endpoint.TransferMoves.{SkipsWhere, MovesWhere, MovesForward}
+use Rattle.dcsctp_spec_lemmas.specs.spec.endpoint.TransferMoves.{SkipsIfMoved, MovesIfForward, MovesForward}
 use Rattle.dcsctp_delivery_sending.specs.Places.{HasEntry}
 use Rattle.dcsctp_delivery_sending.specs.Log.{Message, History}
 use Rattle.dcsctp_delivery_sending.specs.Numbers.{AreCurrent}
 use Rattle.dcsctp_delivery_receiving.specs.Ready.{AreDistinct, WereQueued, WasQueued, HoldsIncoming}
-use Rattle.dcsctp_delivery_receiving.specs.Tracked.{tracked, Tracks}
+use Rattle.dcsctp_delivery_receiving.specs.Tracked.{tracked_number, Tracks}
 use Rattle.dcsctp_delivery_receiving.specs.Received.{Reassembles, untouched, placed, DefersData, WaitBeyond, ForwardsWait, HasReceived, Few, ReadsQueued}
 use Rattle.dcsctp_delivery_receiving.proofs.Tracked.{delayed_tracks}
 use Rattle.dcsctp_delivery_receiving.proofs.Current.{past_kept}
 use Rattle.dcsctp_delivery_receiving.proofs.Skipping.{new_rows}
 use Rattle.dcsctp_delivery_receiving.proofs.Distinct.{has_left, has_right, appended, distinct_left}
 
-pub nothing_passed : (first count cumulative tsn : ℕ) → first < 2 ^ 32 → count < 2 ^ 31 → cumulative + 1 ≤ tracked first count → tracked first 0 ≤ cumulative + 1 → tsn ≡ (first + 0 + (2 ^ 32 - 1)) % 2 ^ 32 → is_forward cumulative tsn ≡ false
+pub nothing_passed : (first count cumulative tsn : ℕ) → first < 2 ^ 32 → count < 2 ^ 31 → cumulative + 1 ≤ tracked_number first count → tracked_number first 0 ≤ cumulative + 1 → tsn ≡ (first + 0 + (2 ^ 32 - 1)) % 2 ^ 32 → is_forward cumulative tsn ≡ false
 nothing_passed first count cumulative tsn small few reached started is = grind (arith, nat_tests, is)
 
 pub passing_nothing : (queued : List Message) (history : History) (first : ℕ) (f : Few history first) (read : List ℕ) (tsn : ℕ) (entries : List SkippedTo) (old new : Transfer) → tsn ≡ (first + 0 + (2 ^ 32 - 1)) % 2 ^ 32
@@ -57,10 +57,10 @@ passing_nothing queued history first f read tsn entries old new is r moves = go 
           old = r.old;
         }
 
-    go : (b : Bool) → MovesWhere b tsn entries old new → HasReceived queued history first read new.tracker new.reassembly
+    go : (b : Bool) → MovesIfForward b tsn entries old new → HasReceived queued history first read new.tracker new.reassembly
     go false same = subst (λ (t : Transfer). HasReceived queued history first read t.tracker t.reassembly) (sym same) r
     go true goes =
-        let same : new.reassembly ≡ old.reassembly = subst (λ (c : Bool). SkipsWhere c tsn entries old.reassembly new.reassembly) none goes.reassembly in
+        let same : new.reassembly ≡ old.reassembly = subst (λ (c : Bool). SkipsIfMoved c tsn entries old.reassembly new.reassembly) none goes.reassembly in
         subst (λ (k : TrackerState). HasReceived queued history first read k new.reassembly) (sym (ap (λ (k : Transfer). k.tracker) goes.rest ∙ now))
         (subst (λ (s : ReassemblyState). HasReceived queued history first read (delay_over old.tracker) s) (sym same) kept)
 
@@ -192,7 +192,7 @@ tracked_so queued history first read tracker now reassembly same same' r =
         reached = omega (arith, same, r.tracks.reached);
         started = omega (arith, same, r.tracks.started);
         sent = λ number is. r.tracks.sent number (sym (alike number) ∙ is);
-        received = λ offset h. alike (tracked first offset) ∙ r.tracks.received offset h;
+        received = λ offset h. alike (tracked_number first offset) ∙ r.tracks.received offset h;
       };
       got_taken = r.got_taken;
       later_taken = r.later_taken;
@@ -227,14 +227,14 @@ deferring_keeps queued history first read last_tsn streams tracker reassembly r 
       old = r.old;
     }
   where
-    still_beyond : (d : Option DeferralModel) → WaitBeyond d → WaitBeyond (entered last_tsn streams d)
+    still_beyond : (d : Option DeferralModel) → WaitBeyond d → WaitBeyond (begun_deferral last_tsn streams d)
     still_beyond None beyond = tt
     still_beyond (Some d) beyond = beyond
 
-    still_kept : (d : Option DeferralModel) → ForwardsWait history first d → ForwardsWait history first (entered last_tsn streams d)
+    still_kept : (d : Option DeferralModel) → ForwardsWait history first d → ForwardsWait history first (begun_deferral last_tsn streams d)
     still_kept None wait = tt
     still_kept (Some d) wait = wait
 
-    go : (d : Option DeferralModel) (later : List ℕ) → DefersData history first later (waiting_of d) → DefersData history first later (waiting_of (entered last_tsn streams d))
+    go : (d : Option DeferralModel) (later : List ℕ) → DefersData history first later (waiting_of d) → DefersData history first later (waiting_of (begun_deferral last_tsn streams d))
     go None later defers = defers
     go (Some d) later defers = defers

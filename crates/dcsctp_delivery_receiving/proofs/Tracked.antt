@@ -4,18 +4,18 @@ use Rattle.std.specs.Prelude.{◌⊎◌, ◌||◌, not, nat_le, if◌then◌else
 use Rattle.std.proofs.lemmas.Bool.Decides.{nat_tests, leb_tells}
 use Rattle.dcsctp_spec_lemmas.specs.types.declared.tracking.TsnRange.{TsnRange}
 use Rattle.dcsctp_spec_lemmas.specs.spec.queues.Numbers.{number_near}
-use Rattle.dcsctp_spec_lemmas.specs.spec.queues.Ranges.{IsBeyond, is_in, is_received, received}
-use Rattle.dcsctp_spec_lemmas.specs.spec.queues.Tracker.{TrackerState, has_received, nearest_number, is_new_tsn, observed, is_forward, moved_forward, delay_over, after_forward}
+use Rattle.dcsctp_spec_lemmas.specs.spec.queues.Ranges.{IsBeyond, is_number_covered, is_received}
+use Rattle.dcsctp_spec_lemmas.specs.spec.queues.Tracker.{TrackerState, has_received, nearest_number, is_new_tsn, tracker_after_data, is_forward, moved_forward, delay_over, after_forward}
 use Rattle.dcsctp_spec_lemmas.proofs.RangesLemmas.{received_beyond, received_members, forwarded_beyond, forwarded_members}
 use Rattle.dcsctp_delivery_sending.specs.Places.{HasEntry}
-use Rattle.dcsctp_delivery_receiving.specs.Tracked.{tracked, Tracks}
+use Rattle.dcsctp_delivery_receiving.specs.Tracked.{tracked_number, Tracks}
 
-pub number_is : (first count offset cumulative : ℕ) → first < 2 ^ 32 → count < 2 ^ 31 → offset < count → cumulative + 1 ≤ tracked first count → tracked first 0 ≤ cumulative + 1
-    → nearest_number cumulative ((first + offset) % 2 ^ 32) ≡ tracked first offset
+pub number_is : (first count offset cumulative : ℕ) → first < 2 ^ 32 → count < 2 ^ 31 → offset < count → cumulative + 1 ≤ tracked_number first count → tracked_number first 0 ≤ cumulative + 1
+    → nearest_number cumulative ((first + offset) % 2 ^ 32) ≡ tracked_number first offset
 number_is first count offset cumulative small few below reached started = grind (arith, nat_tests)
 
 -- the number after those before the ranges is missing
-is_missing : (from number : ℕ) (ranges : List TsnRange) → IsBeyond from ranges → number ≤ from + 1 → is_in number ranges ≡ false
+is_missing : (from number : ℕ) (ranges : List TsnRange) → IsBeyond from ranges → number ≤ from + 1 → is_number_covered number ranges ≡ false
 is_missing from number [] beyond up = refl
 is_missing from number (range ∷ ranges) beyond up =
     let rest = is_missing range.last number ranges beyond.2 (omega (arith, beyond.0, beyond.1)) in
@@ -54,10 +54,10 @@ not_lower old new Fresh beyond members =
 
 -- a set of received numbers that grew by such as were sent
 grown : (first count : ℕ) (taken now : List ℕ) (old new : TrackerState) (Fresh : ℕ → Bool) → Tracks first count taken old → IsBeyond new.cumulative new.ranges
-    → ((other : ℕ) → has_received new other ≡ (has_received old other || Fresh other)) → ((other : ℕ) → Fresh other ≡ true → other + 1 ≤ tracked first count)
-    → ((offset : ℕ) → HasEntry offset now → has_received new (tracked first offset) ≡ true) → Tracks first count now new
+    → ((other : ℕ) → has_received new other ≡ (has_received old other || Fresh other)) → ((other : ℕ) → Fresh other ≡ true → other + 1 ≤ tracked_number first count)
+    → ((offset : ℕ) → HasEntry offset now → has_received new (tracked_number first offset) ≡ true) → Tracks first count now new
 grown first count taken now old new Fresh tracks beyond members fresh received =
-    let sent : (number : ℕ) → has_received new number ≡ true → number + 1 ≤ tracked first count = λ number is. go number (has_received old number) refl (sym (members number) ∙ is) in
+    let sent : (number : ℕ) → has_received new number ≡ true → number + 1 ≤ tracked_number first count = λ number is. go number (has_received old number) refl (sym (members number) ∙ is) in
     record {
       beyond = beyond;
       reached = sent new.cumulative (is_itself new.cumulative new.ranges);
@@ -66,7 +66,7 @@ grown first count taken now old new Fresh tracks beyond members fresh received =
       received = received;
     }
   where
-    go : (number : ℕ) (b : Bool) → has_received old number ≡ b → (has_received old number || Fresh number) ≡ true → number + 1 ≤ tracked first count
+    go : (number : ℕ) (b : Bool) → has_received old number ≡ b → (has_received old number || Fresh number) ≡ true → number + 1 ≤ tracked_number first count
     go number true is either = tracks.sent number is
     go number false is either = fresh number (sym (ap (λ (c : Bool). c || Fresh number) is) ∙ either)
 
@@ -88,14 +88,14 @@ is_ahead : (cumulative tsn : ℕ) → is_forward cumulative tsn ≡ true → cum
 is_ahead cumulative tsn forward = grind (arith, nat_tests, forward)
 
 pub new_is_new : (first count offset : ℕ) (immediate : Bool) (taken : List ℕ) (tracker : TrackerState) → first < 2 ^ 32 → count < 2 ^ 31 → offset < count → Tracks first count taken tracker
-    → Tracks first count (offset ∷ taken) (observed ((first + offset) % 2 ^ 32) immediate tracker)
+    → Tracks first count (offset ∷ taken) (tracker_after_data ((first + offset) % 2 ^ 32) immediate tracker)
     × (is_new_tsn ((first + offset) % 2 ^ 32) tracker ≡ true → HasEntry offset taken → ⊥)
 new_is_new first count offset immediate taken tracker small few below tracks = (
-  grown first count taken (offset ∷ taken) tracker (observed tsn immediate tracker) (λ other. other == number) tracks (received_beyond number tracker.cumulative tracker.ranges tracks.beyond) members
+  grown first count taken (offset ∷ taken) tracker (tracker_after_data tsn immediate tracker) (λ other. other == number) tracks (received_beyond number tracker.cumulative tracker.ranges tracks.beyond) members
       (λ other e. (let same : other ≡ number = is_equal other number e in omega (arith, here)))
       (λ k h. elim h [
-        | inl e ↦ members (tracked first k) ∙ or_fresh (has_received tracker (tracked first k)) (tracked first k == number) (ap (λ (n : ℕ). tracked first n == number) e ∙ ap (λ (n : ℕ). n == number) (sym here) ∙ equals number)
-        | inr t ↦ members (tracked first k) ∙ still_received (has_received tracker (tracked first k)) (tracked first k == number) (tracks.received k t)
+        | inl e ↦ members (tracked_number first k) ∙ or_fresh (has_received tracker (tracked_number first k)) (tracked_number first k == number) (ap (λ (n : ℕ). tracked_number first n == number) e ∙ ap (λ (n : ℕ). n == number) (sym here) ∙ equals number)
+        | inr t ↦ members (tracked_number first k) ∙ still_received (has_received tracker (tracked_number first k)) (tracked_number first k == number) (tracks.received k t)
       ]),
   λ new h. (
       let known : has_received tracker number ≡ true = ap (has_received tracker) here ∙ tracks.received offset h in
@@ -110,10 +110,10 @@ new_is_new first count offset immediate taken tracker small few below tracks = (
     number : ℕ
     number = nearest_number tracker.cumulative ((first + offset) % 2 ^ 32)
 
-    here : number ≡ tracked first offset
+    here : number ≡ tracked_number first offset
     here = number_is first count offset tracker.cumulative small few below tracks.reached tracks.started
 
-    members : (other : ℕ) → has_received (observed tsn immediate tracker) other ≡ (has_received tracker other || (other == number))
+    members : (other : ℕ) → has_received (tracker_after_data tsn immediate tracker) other ≡ (has_received tracker other || (other == number))
     members other = received_members number tracker.cumulative tracker.ranges tracks.beyond other
 
 pub passing_keeps : (first count offset : ℕ) (taken : List ℕ) (tracker : TrackerState) → first < 2 ^ 32 → count < 2 ^ 31 → offset < count → Tracks first count taken tracker
@@ -123,12 +123,12 @@ passing_keeps first count offset taken tracker small few below tracks forward =
     (grown first count taken taken tracker (moved_forward ((first + offset) % 2 ^ 32) tracker) (λ other. nat_le other number) tracks (forwarded_beyond number tracker.cumulative tracker.ranges tracks.beyond)
     (λ other. forwarded_members number tracker.cumulative tracker.ranges ahead tracks.beyond other)
     (λ other e. (let up : other ≤ number = grind (arith, nat_tests, e) in omega (arith, here)))
-    (λ k h. forwarded_members number tracker.cumulative tracker.ranges ahead tracks.beyond (tracked first k) ∙ still_received (has_received tracker (tracked first k)) (nat_le (tracked first k) number) (tracks.received k h)))
+    (λ k h. forwarded_members number tracker.cumulative tracker.ranges ahead tracks.beyond (tracked_number first k) ∙ still_received (has_received tracker (tracked_number first k)) (nat_le (tracked_number first k) number) (tracks.received k h)))
   where
     number : ℕ
     number = nearest_number tracker.cumulative ((first + offset) % 2 ^ 32)
 
-    here : number ≡ tracked first offset
+    here : number ≡ tracked_number first offset
     here = number_is first count offset tracker.cumulative small few below tracks.reached tracks.started
 
     ahead : tracker.cumulative < number
@@ -143,34 +143,34 @@ passing_keeps first count offset taken tracker small few below tracks forward =
 
 -- What counts as received after a FORWARD-TSN did before, or was passed by it.
 pub passed_either : (first count offset : ℕ) (taken : List ℕ) (tracker : TrackerState) → first < 2 ^ 32 → count < 2 ^ 31 → offset < count → Tracks first count taken tracker
-    → is_forward tracker.cumulative ((first + offset) % 2 ^ 32) ≡ true → (k : ℕ) → has_received (after_forward ((first + offset) % 2 ^ 32) tracker) (tracked first k) ≡ true
-    → (has_received tracker (tracked first k) ≡ true) ⊎ (k < offset + 1)
+    → is_forward tracker.cumulative ((first + offset) % 2 ^ 32) ≡ true → (k : ℕ) → has_received (after_forward ((first + offset) % 2 ^ 32) tracker) (tracked_number first k) ≡ true
+    → (has_received tracker (tracked_number first k) ≡ true) ⊎ (k < offset + 1)
 passed_either first count offset taken tracker small few below tracks forward k is =
-    go (has_received tracker (tracked first k)) refl
-    (sym (forwarded_members number tracker.cumulative tracker.ranges ahead tracks.beyond (tracked first k)) ∙ moved (is_forward tracker.cumulative ((first + offset) % 2 ^ 32)) forward is)
+    go (has_received tracker (tracked_number first k)) refl
+    (sym (forwarded_members number tracker.cumulative tracker.ranges ahead tracks.beyond (tracked_number first k)) ∙ moved (is_forward tracker.cumulative ((first + offset) % 2 ^ 32)) forward is)
   where
     number : ℕ
     number = nearest_number tracker.cumulative ((first + offset) % 2 ^ 32)
 
-    here : number ≡ tracked first offset
+    here : number ≡ tracked_number first offset
     here = number_is first count offset tracker.cumulative small few below tracks.reached tracks.started
 
     ahead : tracker.cumulative < number
     ahead = is_ahead tracker.cumulative ((first + offset) % 2 ^ 32) forward
 
-    moved : (b : Bool) → b ≡ true → has_received (if b then moved_forward ((first + offset) % 2 ^ 32) tracker else delay_over tracker) (tracked first k) ≡ true → has_received (moved_forward ((first + offset) % 2 ^ 32) tracker) (tracked first k) ≡ true
+    moved : (b : Bool) → b ≡ true → has_received (if b then moved_forward ((first + offset) % 2 ^ 32) tracker else delay_over tracker) (tracked_number first k) ≡ true → has_received (moved_forward ((first + offset) % 2 ^ 32) tracker) (tracked_number first k) ≡ true
     moved true e received_is = received_is
     moved false e received_is = absurd (cc)
 
-    go : (b : Bool) → has_received tracker (tracked first k) ≡ b → (b || nat_le (tracked first k) number) ≡ true → (has_received tracker (tracked first k) ≡ true) ⊎ (k < offset + 1)
+    go : (b : Bool) → has_received tracker (tracked_number first k) ≡ b → (b || nat_le (tracked_number first k) number) ≡ true → (has_received tracker (tracked_number first k) ≡ true) ⊎ (k < offset + 1)
     go true known either = inl known
-    go false known either = inr (let up : tracked first k ≤ number = grind (arith, nat_tests, either) in omega (arith, up, here))
+    go false known either = inr (let up : tracked_number first k ≤ number = grind (arith, nat_tests, either) in omega (arith, up, here))
 
 -- ---- the cumulative number
 
-pub observed_up : (tsn : ℕ) (immediate : Bool) (tracker : TrackerState) → IsBeyond tracker.cumulative tracker.ranges → tracker.cumulative ≤ (observed tsn immediate tracker).cumulative
+pub observed_up : (tsn : ℕ) (immediate : Bool) (tracker : TrackerState) → IsBeyond tracker.cumulative tracker.ranges → tracker.cumulative ≤ (tracker_after_data tsn immediate tracker).cumulative
 observed_up tsn immediate tracker beyond =
-    not_lower tracker (observed tsn immediate tracker) (λ other. other == nearest_number tracker.cumulative tsn) (received_beyond (nearest_number tracker.cumulative tsn) tracker.cumulative tracker.ranges beyond)
+    not_lower tracker (tracker_after_data tsn immediate tracker) (λ other. other == nearest_number tracker.cumulative tsn) (received_beyond (nearest_number tracker.cumulative tsn) tracker.cumulative tracker.ranges beyond)
     (received_members (nearest_number tracker.cumulative tsn) tracker.cumulative tracker.ranges beyond)
 
 pub forward_up : (tsn : ℕ) (tracker : TrackerState) → IsBeyond tracker.cumulative tracker.ranges → tracker.cumulative ≤ (after_forward tsn tracker).cumulative
@@ -188,10 +188,10 @@ forward_up tsn tracker beyond = go (is_forward tracker.cumulative tsn) refl
 
 -- a TSN that is new lies beyond it
 pub new_beyond : (first count offset : ℕ) (taken : List ℕ) (tracker : TrackerState) → first < 2 ^ 32 → count < 2 ^ 31 → offset < count → Tracks first count taken tracker
-    → is_new_tsn ((first + offset) % 2 ^ 32) tracker ≡ true → tracker.cumulative < tracked first offset
+    → is_new_tsn ((first + offset) % 2 ^ 32) tracker ≡ true → tracker.cumulative < tracked_number first offset
 new_beyond first count offset taken tracker small few below tracks new =
     let number : ℕ = nearest_number tracker.cumulative ((first + offset) % 2 ^ 32) in
-    let here : number ≡ tracked first offset = number_is first count offset tracker.cumulative small few below tracks.reached tracks.started in
+    let here : number ≡ tracked_number first offset = number_is first count offset tracker.cumulative small few below tracks.reached tracks.started in
     elim (leb_tells number tracker.cumulative) [
       | inl e ↦
           (let known : has_received tracker number ≡ true = up_to tracker.cumulative number tracker.ranges e.1 in
@@ -202,9 +202,9 @@ new_beyond first count offset taken tracker small few below tracks new =
 
 -- so does one to which a FORWARD-TSN moves it
 pub forward_beyond : (first count offset : ℕ) (taken : List ℕ) (tracker : TrackerState) → first < 2 ^ 32 → count < 2 ^ 31 → offset < count → Tracks first count taken tracker
-    → is_forward tracker.cumulative ((first + offset) % 2 ^ 32) ≡ true → tracker.cumulative < tracked first offset
+    → is_forward tracker.cumulative ((first + offset) % 2 ^ 32) ≡ true → tracker.cumulative < tracked_number first offset
 forward_beyond first count offset taken tracker small few below tracks forward =
-    let here : nearest_number tracker.cumulative ((first + offset) % 2 ^ 32) ≡ tracked first offset = number_is first count offset tracker.cumulative small few below tracks.reached tracks.started in
+    let here : nearest_number tracker.cumulative ((first + offset) % 2 ^ 32) ≡ tracked_number first offset = number_is first count offset tracker.cumulative small few below tracks.reached tracks.started in
     let ahead = is_ahead tracker.cumulative ((first + offset) % 2 ^ 32) forward in
     omega (arith, here, ahead)
 

@@ -4,7 +4,7 @@ use Rattle.std.specs.Prelude.{Some, nat_le, MatchBool, if◌then◌else◌}
 use Rattle.std.proofs.lemmas.List.{append-nil}
 use Rattle.dcsctp_spec_lemmas.specs.types.queues.Messages.{MessageContent}
 use Rattle.dcsctp_spec_lemmas.specs.types.declared.arrivals.Taken.{Taken}
-use Rattle.dcsctp_spec_lemmas.specs.spec.queues.Runs.{RunModel, PartModel, WholeModel, Assembled, part_dropped, part_kept, message_whole}
+use Rattle.dcsctp_spec_lemmas.specs.spec.queues.Runs.{RunModel, PartModel, WholeModel, Assembly, part_dropped, part_kept, message_whole}
 use Rattle.dcsctp_spec_lemmas.specs.spec.queues.IncomingStreams.{StreamModel, delivered_as, next_after, due, not_due, ready_with, WaitsAmong, TakesWhole, OrderedOutcome, UnorderedOutcome}
 use Rattle.dcsctp_delivery_sending.specs.Places.{HasEntry, at_place}
 use Rattle.dcsctp_delivery_sending.specs.Log.{Message, Piece, Slot, History}
@@ -52,7 +52,7 @@ OfStream id piece number = piece.message.stream ≡ id
 
 module _ (queued : List Message) (history : History) (got : List ℕ) where
   -- the same under less of a name
-  pub renamed : (Named Other : Piece → ℕ → Type 0) → ((f : Piece) (number : ℕ) → Named f number → Other f number) → (place : ℕ) (outcome : Assembled) → MakesQueued queued history.log got Named place outcome → MakesQueued queued history.log got Other place outcome
+  pub renamed : (Named Other : Piece → ℕ → Type 0) → ((f : Piece) (number : ℕ) → Named f number → Other f number) → (place : ℕ) (outcome : Assembly) → MakesQueued queued history.log got Named place outcome → MakesQueued queued history.log got Other place outcome
   renamed Named Other less place part_dropped makes = tt
   renamed Named Other less place part_kept makes = tt
   renamed Named Other less place (message_whole whole) makes =
@@ -216,7 +216,7 @@ module _ (queued : List Message) (history : History) (got : List ℕ) where
           e
 
   -- an ordered part
-  pub leaves_ordered : (all places waits : List ℕ) (id p : ℕ) (part : PartModel) (old new : StreamModel) (before after : List MessageContent) (outcome : Assembled) (taken : Taken) → id ≡ old.id
+  pub leaves_ordered : (all places waits : List ℕ) (id p : ℕ) (part : PartModel) (old new : StreamModel) (before after : List MessageContent) (outcome : Assembly) (taken : Taken) → id ≡ old.id
       → WereQueued queued places before → WaitQueued queued history got id waits old.waiting → MakesQueued queued history.log got (IsOn history id) p outcome → AreDistinct (all ++ waits) → (HasEntry p (all ++ waits) → ⊥)
       → OrderedOutcome part old before outcome taken new after → Leaves all places id new.waiting after
   leaves_ordered all places waits id p part old new before after part_dropped taken same were wait makes once fresh does =
@@ -227,7 +227,7 @@ module _ (queued : List Message) (history : History) (got : List ℕ) where
       leaves_whole all places waits id p (length part.payload) whole old new before after taken same were wait makes once fresh does
 
   -- one under a number that another has
-  pub leaves_repeated : (all places waits : List ℕ) (on id p : ℕ) (part : PartModel) (waiting : List WholeModel) (before after : List MessageContent) (outcome : Assembled) (taken : Taken) → id ≡ on
+  pub leaves_repeated : (all places waits : List ℕ) (on id p : ℕ) (part : PartModel) (waiting : List WholeModel) (before after : List MessageContent) (outcome : Assembly) (taken : Taken) → id ≡ on
       → WereQueued queued places before → WaitQueued queued history got id waits waiting → MakesQueued queued history.log got (OfStream id) p outcome → AreDistinct (all ++ waits) → (HasEntry p (all ++ waits) → ⊥)
       → UnorderedOutcome part (delivered_as on) before outcome taken after → Leaves all places id waiting after
   leaves_repeated all places waits on id p part waiting before after part_dropped taken same were wait makes once fresh does = leaves_none all places waits id waiting before after were wait once does.0

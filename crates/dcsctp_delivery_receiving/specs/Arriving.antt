@@ -3,8 +3,8 @@
 use Rattle.std.specs.Prelude.{◌≢◌, ℕ, List, [], true, false}
 use Rattle.std.specs.List.{AllByRecursion}
 use Rattle.dcsctp_spec_lemmas.specs.wire.Content.{DataContent, IDataContent}
-use Rattle.dcsctp_spec_lemmas.specs.spec.queues.Arrivals.{data_arrival, i_data_arrival, skipped_in, messages_skipped_in}
-use Rattle.dcsctp_delivery_sending.specs.Log.{Message, Slot, History, Cut, Fits}
+use Rattle.dcsctp_spec_lemmas.specs.spec.queues.Arrivals.{data_arrival, i_data_arrival, named_skips, skipped_messages}
+use Rattle.dcsctp_delivery_sending.specs.Log.{Message, Slot, History, IsLogOfPieces, Fits}
 use Rattle.dcsctp_delivery_sending.specs.Flushes.{IsData, IsInterleaved, IsForward}
 use Rattle.dcsctp_delivery_receiving.specs.Ready.{SkipAll}
 use Rattle.dcsctp_delivery_receiving.specs.Received.{Carries}
@@ -12,21 +12,21 @@ use Rattle.dcsctp_delivery_receiving.specs.Received.{Carries}
 -- A DATA chunk of the log with a payload carries its piece.
 abbrev pub ChunksCarryPieces : Type 0
 ChunksCarryPieces =
-    (queued : List Message) (log : List Slot) (first : ℕ) (chunk : DataContent) → Cut queued log → AllByRecursion Fits queued → (is : IsData log first chunk) → chunk.payload ≢ []
+    (queued : List Message) (log : List Slot) (first : ℕ) (chunk : DataContent) → IsLogOfPieces queued log → AllByRecursion Fits queued → (is : IsData log first chunk) → chunk.payload ≢ []
     → Carries log first is.number (data_arrival chunk).tsn (data_arrival chunk).chunk
 
 -- So does an I-DATA chunk.
 abbrev pub InterleavedCarryPieces : Type 0
 InterleavedCarryPieces =
-    (queued : List Message) (log : List Slot) (first : ℕ) (chunk : IDataContent) → Cut queued log → AllByRecursion Fits queued → (is : IsInterleaved log first chunk) → chunk.payload ≢ []
+    (queued : List Message) (log : List Slot) (first : ℕ) (chunk : IDataContent) → IsLogOfPieces queued log → AllByRecursion Fits queued → (is : IsInterleaved log first chunk) → chunk.payload ≢ []
     → Carries log first is.number (i_data_arrival chunk).tsn (i_data_arrival chunk).chunk
 
 -- A FORWARD-TSN skips what its log has,
 abbrev pub ForwardsSkip : Type 0
-ForwardsSkip = (history : History) (first acknowledged tsn : ℕ) (streams : List ℕ) → (is : IsForward false history first acknowledged tsn streams) → SkipAll history is.passed.passed (skipped_in streams)
+ForwardsSkip = (history : History) (first acknowledged tsn : ℕ) (streams : List ℕ) → (is : IsForward false history first acknowledged tsn streams) → SkipAll history is.passed.passed (named_skips streams)
 
 -- and so does an I-FORWARD-TSN.
 abbrev pub InterleavedForwardsSkip : Type 0
 InterleavedForwardsSkip =
-    (queued : List Message) (history : History) (first acknowledged tsn : ℕ) (streams : List ℕ) → Cut queued history.log → AllByRecursion Fits queued → (is : IsForward true history first acknowledged tsn streams)
-    → SkipAll history is.passed.passed (messages_skipped_in streams)
+    (queued : List Message) (history : History) (first acknowledged tsn : ℕ) (streams : List ℕ) → IsLogOfPieces queued history.log → AllByRecursion Fits queued → (is : IsForward true history first acknowledged tsn streams)
+    → SkipAll history is.passed.passed (skipped_messages streams)

@@ -19,7 +19,7 @@ use Rattle.dcsctp_delivery_sending.specs.Numbers.{AreOfKind, is_handed_out, stre
 use Rattle.dcsctp_delivery_sending.specs.Queueing.{floors_raised}
 use Rattle.dcsctp_delivery_receiving.specs.Ready.{SkipAll}
 use Rattle.dcsctp_delivery_receiving.specs.Received.{Carries, IsTsn, kept_entries, Few, HasReceived}
-use Rattle.dcsctp_delivery_receiving.specs.Tracked.{tracked}
+use Rattle.dcsctp_delivery_receiving.specs.Tracked.{tracked_number}
 
 -- None of these entries skips a message of the stream.
 abbrev pub NoneSkips : ℕ → List SkippedTo → Type 0
@@ -46,7 +46,7 @@ pub record IsOver (history : History) (first cumulative id : ℕ) : Type 0 where
   pub has : HasEntry mark history.marks
   pub names : Resets mark id
   pub below : (n : ℕ) (f : Piece) → at_place n history.log ≡ Some (Some f) → f.message.stream ≡ id → n < mark.bound
-  pub passed : tracked first mark.bound ≤ cumulative + 1
+  pub passed : tracked_number first mark.bound ≤ cumulative + 1
 
 -- ---- it stays clear
 

@@ -14,7 +14,7 @@ use Rattle.dcsctp_spec_lemmas.specs.types.declared.arrivals.SkippedTo.TheVariant
 use Rattle.dcsctp_delivery_sending.specs.Numbers.{AreOfKind, IsUnambiguous, IsCurrent}
 use Rattle.dcsctp_spec_lemmas.specs.spec.queues.Incoming.{IncomingModel, stream_on, TakesIncomingChunk, MovesOn, ResetsStreams}
 use Rattle.dcsctp_delivery_sending.specs.Places.{HasEntry, at_place}
-use Rattle.dcsctp_delivery_sending.specs.Log.{Message, Piece, Mark, History, Resets, is_beginning, is_end, piece_bytes, Cut}
+use Rattle.dcsctp_delivery_sending.specs.Log.{Message, Piece, Mark, History, Resets, is_beginning, is_end, piece_bytes, IsLogOfPieces}
 use Rattle.dcsctp_delivery_receiving.specs.Rows.{AreRows, Spent, IsQueued}
 
 -- With interleaving the piece is of an ordered or of an unordered message, sent since the last reset of its stream, and its
@@ -195,7 +195,7 @@ pub record BearsPiece (history : History) (base tsn_number : ℕ) (chunk : Chunk
 -- A chunk whose TSN is new, and that carries the piece of its TSN, leaves only what was queued, each message once.
 abbrev pub ReadyWasQueued : Type 0
 ReadyWasQueued =
-    (queued : List Message) (history : History) → Cut queued history.log → IsUnambiguous history
+    (queued : List Message) (history : History) → IsLogOfPieces queued history.log → IsUnambiguous history
     → (got : List ℕ) (base tsn : ℕ) (read : List ℕ) (chunk : ChunkModel) (old new : IncomingModel)
     → (bears : BearsPiece history base (number_near old.last_tsn_number tsn) chunk) → (HasEntry bears.offset got → ⊥)
     → HoldsIncoming queued history got base read old → TakesIncomingChunk tsn chunk old new

@@ -15,10 +15,10 @@ use Rattle.dcsctp_spec_lemmas.specs.spec.endpoint.TransferMoves.{ReceivesData, M
 use Rattle.dcsctp_delivery_sending.specs.Places.{HasEntry, at_place}
 use Rattle.dcsctp_spec_lemmas.specs.spec.queues.Numbers.{is_tsn_beyond}
 use Rattle.dcsctp_spec_lemmas.specs.spec.endpoint.BegunResets.{BegunReset}
-use Rattle.dcsctp_delivery_sending.specs.Log.{Message, Piece, Slot, Mark, History, Resets, log_extended, with_mark, new_history, is_beginning, is_end, piece_bytes, Cut}
+use Rattle.dcsctp_delivery_sending.specs.Log.{Message, Piece, Slot, Mark, History, Resets, log_extended, with_mark, new_history, is_beginning, is_end, piece_bytes, IsLogOfPieces}
 use Rattle.dcsctp_delivery_receiving.specs.Ready.{AreDistinct, IsNumbered, SkipAll, NamesCurrent, NameAll, HoldsIncoming}
 use Rattle.dcsctp_delivery_sending.specs.Numbers.{IsUnambiguous, IsCurrent, AreCurrent}
-use Rattle.dcsctp_delivery_receiving.specs.Tracked.{tracked, Tracks}
+use Rattle.dcsctp_delivery_receiving.specs.Tracked.{tracked_number, Tracks}
 
 -- The chunk carries the piece of the TSN of this offset from the first.
 pub record Carries (log : List Slot) (first offset tsn : ℕ) (chunk : ChunkModel) : Type 0 where
@@ -39,7 +39,7 @@ pub record IsTsn (log : List Slot) (first tsn : ℕ) : Type 0 where
   pub is : tsn ≡ (first + offset) % 2 ^ 32
 
 -- The reassembly queue counts TSNs from `base`, its number for the first, and has come to `last`.
-pub record Placed (first base last : ℕ) : Type 0 where
+pub record CountsFromBase (first base last : ℕ) : Type 0 where
   pub same : base % 2 ^ 32 ≡ first
   pub near : base + 2 ^ 32 < 2 ^ 64
   pub worked : ℕ
@@ -49,7 +49,7 @@ pub record Placed (first base last : ℕ) : Type 0 where
 -- No TSN was handled yet; or the number of the first is known, and all that is held was queued.
 pub data Reassembles (queued : List Message) (history : History) (first : ℕ) (got read : List ℕ) (incoming : IncomingModel) : Type 0 where
   untouched : got ≡ [] → incoming.last_tsn_number ≡ 2 ^ 32 → ((base : ℕ) → HoldsIncoming queued history [] base read incoming) → Reassembles queued history first got read incoming
-  placed : (base : ℕ) → Placed first base incoming.last_tsn_number → HoldsIncoming queued history got base read incoming → Reassembles queued history first got read incoming
+  placed : (base : ℕ) → CountsFromBase first base incoming.last_tsn_number → HoldsIncoming queued history got base read incoming → Reassembles queued history first got read incoming
 
 -- So does one that was sent since the last reset of its stream.
 pub record CarriesCurrent (history : History) (first offset tsn : ℕ) (chunk : ChunkModel) : Type 0 where
@@ -103,7 +103,7 @@ pub record IsPast (history : History) (first cumulative id number : ℕ) : Type 
   pub has : HasEntry mark history.marks
   pub names : Resets mark id
   pub below : number < mark.bound
-  pub passed : tracked first mark.bound ≤ cumulative + 1
+  pub passed : tracked_number first mark.bound ≤ cumulative + 1
 
 -- All that an association has received whose peer has this log. `taken` has the offsets that the tracker knows, `got` those
 -- that the reassembly queue has handled, and `later` those that wait for the end of a deferred reset.
@@ -130,21 +130,21 @@ pub record Few (history : History) (first : ℕ) : Type 0 where
 -- A chunk that carries the piece of its TSN leaves only what was queued, each message once, whether its TSN is new or not.
 abbrev pub ReceivingKeeps : Type 0
 ReceivingKeeps =
-    (queued : List Message) (history : History) (first : ℕ) (read : List ℕ) (offset : ℕ) (arrival : Arrival) (old new : Transfer) → Cut queued history.log → IsUnambiguous history → Few history first
+    (queued : List Message) (history : History) (first : ℕ) (read : List ℕ) (offset : ℕ) (arrival : Arrival) (old new : Transfer) → IsLogOfPieces queued history.log → IsUnambiguous history → Few history first
     → Carries history.log first offset arrival.tsn arrival.chunk → HasReceived queued history first read old.tracker old.reassembly → ReceivesData arrival old new
     → HasReceived queued history first read new.tracker new.reassembly
 
 -- So does a FORWARD-TSN.
 abbrev pub ForwardingKeeps : Type 0
 ForwardingKeeps =
-    (queued : List Message) (history : History) (first : ℕ) (read : List ℕ) (tsn : ℕ) (entries : List SkippedTo) (old new : Transfer) → Cut queued history.log → IsUnambiguous history → Few history first
+    (queued : List Message) (history : History) (first : ℕ) (read : List ℕ) (tsn : ℕ) (entries : List SkippedTo) (old new : Transfer) → IsLogOfPieces queued history.log → IsUnambiguous history → Few history first
     → (is : IsTsn history.log first tsn) → SkipAll history (is.offset + 1) entries → HasReceived queued history first read old.tracker old.reassembly → MovesForward tsn entries old new
     → HasReceived queued history first read new.tracker new.reassembly
 
 -- So does a reset of streams, with all that waited for it, or some.
 abbrev pub LeavingKeeps : Type 0
 LeavingKeeps =
-    (queued : List Message) (history : History) (first : ℕ) (read : List ℕ) (streams : List ℕ) (tracker : TrackerState) (old new : ReassemblyState) → Cut queued history.log → IsUnambiguous history → Few history first
+    (queued : List Message) (history : History) (first : ℕ) (read : List ℕ) (streams : List ℕ) (tracker : TrackerState) (old new : ReassemblyState) → IsLogOfPieces queued history.log → IsUnambiguous history → Few history first
     → HasReceived queued history first read tracker old → EndsDeferral streams old new → HasReceived queued history first read tracker new
 
 -- The peer may queue more and assign more TSNs,

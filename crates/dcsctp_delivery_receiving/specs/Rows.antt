@@ -1,18 +1,18 @@
 -- The runs that a reassembly queue holds are rows of pieces of the peer's log (RFC 9260, section 6.9).
 use Rattle.std.specs.Prelude.{◌≡◌, ◌<◌, ◌≤◌, ◌+◌, ◌-◌, ◌%◌, ◌^◌, ℕ, Bool, true, false, Some, List, [], ◌∷◌, length, take, drop}
-use Rattle.dcsctp_spec_lemmas.specs.spec.queues.Runs.{RunModel, PartModel, WholeModel, Assembled, part_dropped, part_kept, message_whole, joined_bytes}
+use Rattle.dcsctp_spec_lemmas.specs.spec.queues.Runs.{RunModel, PartModel, WholeModel, Assembly, part_dropped, part_kept, message_whole, joined_bytes}
 use Rattle.dcsctp_spec_lemmas.specs.spec.queues.Numbers.{fragment_place}
 use Rattle.dcsctp_delivery_sending.specs.Places.{HasEntry, at_place}
 use Rattle.dcsctp_delivery_sending.specs.Log.{Message, Piece, Slot, is_beginning, is_end, piece_bytes}
 
 -- Where the part of a piece lies: by its TSN, or with interleaving by the number of its message and by how many parts come
 -- before it (RFC 8260, section 2.1). `base` gives the place of the first TSN for each number of a message.
-abbrev pub PlacedBy : Bool → (ℕ → ℕ) → ℕ → ℕ → ℕ → ℕ → Type 0
-PlacedBy false base offset fsn number place = place ≡ base number + offset
-PlacedBy true base offset fsn number place = place ≡ fragment_place number (fsn % 2 ^ 32)
+abbrev pub IsPlaceOfPart : Bool → (ℕ → ℕ) → ℕ → ℕ → ℕ → ℕ → Type 0
+IsPlaceOfPart false base offset fsn number place = place ≡ base number + offset
+IsPlaceOfPart true base offset fsn number place = place ≡ fragment_place number (fsn % 2 ^ 32)
 
 abbrev pub IsPiecePlaced : (ℕ → ℕ) → ℕ → Piece → ℕ → ℕ → Type 0
-IsPiecePlaced base offset piece number place = PlacedBy piece.is_interleaved base offset piece.fsn number place
+IsPiecePlaced base offset piece number place = IsPlaceOfPart piece.is_interleaved base offset piece.fsn number place
 
 -- The part that is held is the piece of its TSN. `Named` is what the reassembly queue knows of a piece by the number of its part.
 pub record IsPart (log : List Slot) (base : ℕ → ℕ) (Named : Piece → ℕ → Type 0) (part : PartModel) : Type 0 where
@@ -80,7 +80,7 @@ pub record IsQueued (queued : List Message) (log : List Slot) (got : List ℕ) (
   pub spent : Spent log got place
 
 -- What a part makes, if it makes a message whole, was queued at this place.
-abbrev pub MakesQueued : List Message → List Slot → List ℕ → (Piece → ℕ → Type 0) → ℕ → Assembled → Type 0
+abbrev pub MakesQueued : List Message → List Slot → List ℕ → (Piece → ℕ → Type 0) → ℕ → Assembly → Type 0
 MakesQueued queued log got Named place part_dropped = Unit {0}
 MakesQueued queued log got Named place part_kept = Unit {0}
 MakesQueued queued log got Named place (message_whole whole) = IsQueued queued log got Named place whole

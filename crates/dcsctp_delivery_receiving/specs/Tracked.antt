@@ -3,26 +3,26 @@
 use Rattle.std.specs.Prelude.{◌≡◌, ◌<◌, ◌≤◌, ◌+◌, ◌-◌, ◌%◌, ◌^◌, ℕ, Bool, true, List, ◌∷◌}
 use Rattle.dcsctp_spec_lemmas.specs.spec.queues.Numbers.{number_near}
 use Rattle.dcsctp_spec_lemmas.specs.spec.queues.Ranges.{IsBeyond}
-use Rattle.dcsctp_spec_lemmas.specs.spec.queues.Tracker.{TrackerState, has_received, is_new_tsn, observed, is_forward, after_forward}
+use Rattle.dcsctp_spec_lemmas.specs.spec.queues.Tracker.{TrackerState, has_received, is_new_tsn, tracker_after_data, is_forward, after_forward}
 use Rattle.dcsctp_delivery_sending.specs.Places.{HasEntry}
 
 -- the number that the tracker has for the TSN of this offset from the first
-abbrev pub tracked : ℕ → ℕ → ℕ
-tracked first offset = (first + (2 ^ 32 - 1)) % 2 ^ 32 + 1 + offset
+abbrev pub tracked_number : ℕ → ℕ → ℕ
+tracked_number first offset = (first + (2 ^ 32 - 1)) % 2 ^ 32 + 1 + offset
 
 -- So many TSNs were assigned. Each that was taken counts as received, and none does that wasn't assigned.
 pub record Tracks (first count : ℕ) (taken : List ℕ) (tracker : TrackerState) : Type 0 where
   pub beyond : IsBeyond tracker.cumulative tracker.ranges
-  pub reached : tracker.cumulative + 1 ≤ tracked first count
-  pub started : tracked first 0 ≤ tracker.cumulative + 1
-  pub sent : (number : ℕ) → has_received tracker number ≡ true → number + 1 ≤ tracked first count
-  pub received : (offset : ℕ) → HasEntry offset taken → has_received tracker (tracked first offset) ≡ true
+  pub reached : tracker.cumulative + 1 ≤ tracked_number first count
+  pub started : tracked_number first 0 ≤ tracker.cumulative + 1
+  pub sent : (number : ℕ) → has_received tracker number ≡ true → number + 1 ≤ tracked_number first count
+  pub received : (offset : ℕ) → HasEntry offset taken → has_received tracker (tracked_number first offset) ≡ true
 
 -- A TSN that is new wasn't taken before, and is taken from now on.
 abbrev pub NewTsnsAreNew : Type 0
 NewTsnsAreNew =
     (first count offset : ℕ) (immediate : Bool) (taken : List ℕ) (tracker : TrackerState) → first < 2 ^ 32 → count < 2 ^ 31 → offset < count → Tracks first count taken tracker
-    → Tracks first count (offset ∷ taken) (observed ((first + offset) % 2 ^ 32) immediate tracker)
+    → Tracks first count (offset ∷ taken) (tracker_after_data ((first + offset) % 2 ^ 32) immediate tracker)
     × (is_new_tsn ((first + offset) % 2 ^ 32) tracker ≡ true → HasEntry offset taken → ⊥)
 
 -- What a FORWARD-TSN passes counts as received.

@@ -6,13 +6,13 @@ use Rattle.std.proofs.lemmas.Bool.Decides.{nat_tests}
 use Rattle.std.proofs.lemmas.List.{length-drop}
 use Rattle.dcsctp_spec.specs.wire.declared.chunk.sack.GapAckBlock.{GapAckBlock}
 use Rattle.dcsctp_spec.specs.types.declared.progress.Change.TheVariants.{Miss, Mark, Acknowledge}
-use Rattle.dcsctp_spec.specs.queues.Acknowledging.{is_sack_valid, AcknowledgesItems, covered, lossy, missed_until, without_first_items, acknowledged_until, exiting, opens, probes_lost, window_settled_at}
+use Rattle.dcsctp_spec.specs.queues.Acknowledging.{is_sack_valid, AcknowledgesItems, covered_items, lossy, missed_until, without_first_items, acknowledged_until, exiting, opens, probes_lost, window_after_settling}
 use Rattle.dcsctp_spec.specs.queues.Items.{Item, marked_items, changed_between}
-use Rattle.dcsctp_spec.specs.queues.Outstanding.{OutstandingState, acknowledged_count, reported, tsn_at}
+use Rattle.dcsctp_spec.specs.queues.Outstanding.{OutstandingState, acknowledged_count, reported_items, tsn_at}
 use Rattle.dcsctp_spec.specs.queues.Retransmission.{RetransmissionState, with_items, outstanding_count, after_expiry}
 use Rattle.dcsctp_delivery_sending.specs.Log.{History}
 use Rattle.dcsctp_delivery_sending.specs.Places.{at_place}
-use Rattle.dcsctp_delivery_sending.specs.Stages.{SaysAt, IsNamedFragment, Bears}
+use Rattle.dcsctp_delivery_sending.specs.Stages.{SaysTsn, IsNamedFragment, Bears}
 use Rattle.dcsctp_delivery_sending.proofs.Limits.{losing_leaves, missing_leaves, acknowledging_leaves, acknowledging_keeps, missing_keeps, losing_keeps}
 use Rattle.dcsctp_delivery_sending.proofs.Stages.{changed_length, bears_changed}
 
@@ -20,13 +20,13 @@ use Rattle.dcsctp_delivery_sending.proofs.Stages.{changed_length, bears_changed}
 abbrev Having : History → ℕ → ℕ → OutstandingState → List Item → Type 0
 Having history first acknowledged outstanding items = Bears history first acknowledged (record outstanding { items = items })
 
-reported_bear : (history : History) (first acknowledged count : ℕ) (blocks : List GapAckBlock) (outstanding : OutstandingState) → Bears history first acknowledged outstanding → Having history first acknowledged outstanding (reported count blocks outstanding.items)
+reported_bear : (history : History) (first acknowledged count : ℕ) (blocks : List GapAckBlock) (outstanding : OutstandingState) → Bears history first acknowledged outstanding → Having history first acknowledged outstanding (reported_items count blocks outstanding.items)
 reported_bear history first acknowledged count [] outstanding b = b
 reported_bear history first acknowledged count (block ∷ blocks) outstanding b =
     reported_bear history first acknowledged count blocks (record outstanding { items = changed_between Acknowledge (count + block.start - 1) (count + block.end) outstanding.items })
     (bears_changed history first acknowledged Acknowledge (count + block.start - 1) (count + block.end) outstanding acknowledging_leaves (λ k item at from below. acknowledging_keeps item.progress) b)
 
-covered_bear : (history : History) (first acknowledged count : ℕ) (blocks : List GapAckBlock) (outstanding : OutstandingState) → Bears history first acknowledged outstanding → Having history first acknowledged outstanding (covered count blocks outstanding.items)
+covered_bear : (history : History) (first acknowledged count : ℕ) (blocks : List GapAckBlock) (outstanding : OutstandingState) → Bears history first acknowledged outstanding → Having history first acknowledged outstanding (covered_items count blocks outstanding.items)
 covered_bear history first acknowledged count blocks outstanding b =
     reported_bear history first acknowledged count blocks (record outstanding { items = changed_between Acknowledge 0 count outstanding.items }) (bears_changed history first acknowledged Acknowledge 0 count outstanding acknowledging_leaves (λ k item at from below. acknowledging_keeps item.progress) b)
 
@@ -61,7 +61,7 @@ first_bear history first acknowledged count state le b =
       items = λ k item at. (
           let there = b.items (count + k) item (sym (dropped_at count k (count + k) state.outstanding.items refl) ∙ at) in
           let same : acknowledged + (count + k) ≡ acknowledged + count + k = omega arith in
-          subst (λ (n : ℕ). SaysAt history.log n item.fragment) same there
+          subst (λ (n : ℕ). SaysTsn history.log n item.fragment) same there
           );
       named = λ k item at. (
           let there = b.named (count + k) item (sym (dropped_at count k (count + k) state.outstanding.items refl) ∙ at) in
@@ -89,13 +89,13 @@ first_bear history first acknowledged count state le b =
     }
 
 -- how many items are left in between
-reported_length : (count : ℕ) (blocks : List GapAckBlock) (items : List Item) → length (reported count blocks items) ≡ length items
+reported_length : (count : ℕ) (blocks : List GapAckBlock) (items : List Item) → length (reported_items count blocks items) ≡ length items
 reported_length count [] items = refl
 reported_length count (block ∷ blocks) items =
     reported_length count blocks (changed_between Acknowledge (count + block.start - 1) (count + block.end) items)
     ∙ changed_length Acknowledge (count + block.start - 1) (count + block.end) items
 
-covered_length : (count : ℕ) (blocks : List GapAckBlock) (items : List Item) → length (covered count blocks items) ≡ length items
+covered_length : (count : ℕ) (blocks : List GapAckBlock) (items : List Item) → length (covered_items count blocks items) ≡ length items
 covered_length count blocks items = reported_length count blocks (changed_between Acknowledge 0 count items) ∙ changed_length Acknowledge 0 count items
 
 missed_items : (count limit : ℕ) (newest : Option ℕ) (state : RetransmissionState) → length (missed_until count limit newest state).outstanding.items ≡ length state.outstanding.items
@@ -117,7 +117,7 @@ probes_bear history first acknowledged true state bear =
 probes_bear history first acknowledged false state bear = bear
 
 settled_bear : (history : History) (first acknowledged now window count : ℕ) (state : RetransmissionState) → Bears history first acknowledged state.outstanding
-    → Bears history first acknowledged (window_settled_at now window count state).outstanding
+    → Bears history first acknowledged (window_after_settling now window count state).outstanding
 settled_bear history first acknowledged now window count state bear =
     let told : RetransmissionState = record state { peer_window = window } in probes_bear history first acknowledged (opens state told) told bear
 
@@ -128,8 +128,8 @@ probes_stay true state = (refl, refl)
 probes_stay false state = (refl, refl)
 
 settled_stay : (now window count : ℕ) (state : RetransmissionState)
-    → ((window_settled_at now window count state).outstanding.is_interleaved ≡ state.outstanding.is_interleaved)
-    × ((window_settled_at now window count state).reset_begun ≡ state.reset_begun)
+    → ((window_after_settling now window count state).outstanding.is_interleaved ≡ state.outstanding.is_interleaved)
+    × ((window_after_settling now window count state).reset_begun ≡ state.reset_begun)
 settled_stay now window count state = let told : RetransmissionState = record state { peer_window = window } in probes_stay (opens state told) told
 
 pub acknowledged_bear : (history : History) (first acknowledged now cumulative window : ℕ) (blocks : List GapAckBlock) (old new : RetransmissionState) → is_sack_valid old cumulative ≡ true → Bears history first acknowledged old.outstanding
@@ -142,7 +142,7 @@ acknowledged_bear history first acknowledged now cumulative window blocks old ne
     count = acknowledged_count old.outstanding cumulative
 
     start : RetransmissionState
-    start = with_items (covered count blocks old.outstanding.items) (exiting cumulative old)
+    start = with_items (covered_items count blocks old.outstanding.items) (exiting cumulative old)
 
     missed : RetransmissionState
     missed = missed_until count acknowledges.limit (option_map (tsn_at old.outstanding) acknowledges.newest) start
@@ -170,7 +170,7 @@ acknowledged_kind now cumulative window blocks old new acknowledges =
     ∙ (settled_stay now window (acknowledged_count old.outstanding cumulative)
     (acknowledged_until (acknowledged_count old.outstanding cumulative) blocks acknowledges.limit (option_map (tsn_at old.outstanding) acknowledges.newest) (exiting cumulative old))).0
     ∙ missed (acknowledged_count old.outstanding cumulative) acknowledges.limit (option_map (tsn_at old.outstanding) acknowledges.newest)
-    (with_items (covered (acknowledged_count old.outstanding cumulative) blocks old.outstanding.items) (exiting cumulative old))
+    (with_items (covered_items (acknowledged_count old.outstanding cumulative) blocks old.outstanding.items) (exiting cumulative old))
   where
     missed : (count limit : ℕ) (newest : Option ℕ) (state : RetransmissionState) → (missed_until count limit newest state).outstanding.is_interleaved ≡ state.outstanding.is_interleaved
     missed count limit newest state = go (nat_lt (marked_items state.outstanding.items) (marked_items (changed_between (Miss newest) count limit state.outstanding.items)))
@@ -186,7 +186,7 @@ acknowledged_pends now cumulative window blocks old new acknowledges =
     ∙ (settled_stay now window (acknowledged_count old.outstanding cumulative)
     (acknowledged_until (acknowledged_count old.outstanding cumulative) blocks acknowledges.limit (option_map (tsn_at old.outstanding) acknowledges.newest) (exiting cumulative old))).1
     ∙ missed (acknowledged_count old.outstanding cumulative) acknowledges.limit (option_map (tsn_at old.outstanding) acknowledges.newest)
-    (with_items (covered (acknowledged_count old.outstanding cumulative) blocks old.outstanding.items) (exiting cumulative old))
+    (with_items (covered_items (acknowledged_count old.outstanding cumulative) blocks old.outstanding.items) (exiting cumulative old))
   where
     missed : (count limit : ℕ) (newest : Option ℕ) (state : RetransmissionState) → (missed_until count limit newest state).reset_begun ≡ state.reset_begun
     missed count limit newest state = go (nat_lt (marked_items state.outstanding.items) (marked_items (changed_between (Miss newest) count limit state.outstanding.items)))

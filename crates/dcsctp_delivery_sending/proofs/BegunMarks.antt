@@ -9,8 +9,8 @@ use Rattle.dcsctp_spec.specs.queues.OwnResets.{ready_streams}
 use Rattle.dcsctp_spec.specs.queues.Retransmission.{RetransmissionState}
 use Rattle.dcsctp_spec.specs.queues.SendQueue.{SendQueueState}
 use Rattle.dcsctp_spec.specs.queues.Sending.{Fragment}
-use Rattle.dcsctp_spec.specs.endpoint.BegunResets.{BegunReset, streams_within, last_assigned_tsn, stream_field, begun_where, queue_requesting, retransmission_begun}
-use Rattle.dcsctp_spec.specs.endpoint.FlushOutcomes.{Ask, first_ask, later_ask, begun_at}
+use Rattle.dcsctp_spec.specs.endpoint.BegunResets.{BegunReset, streams_within, last_assigned_tsn, stream_field, begun_if_ready, queue_requesting, retransmission_begun}
+use Rattle.dcsctp_spec.specs.endpoint.FlushOutcomes.{Ask, first_ask, later_ask, begun_by_ask}
 use Rattle.dcsctp_delivery_sending.specs.Log.{Mark, History, with_mark}
 use Rattle.dcsctp_delivery_sending.specs.Stages.{IsNamedFragment, Bears, Pends, IsMark, AreMarks}
 use Rattle.dcsctp_delivery_sending.proofs.Places.{at_below}
@@ -76,7 +76,7 @@ pub record IsBegun (last_tsn : ℕ) (under_way : Option UnderWay) (begun : Begun
   pub fields : begun.reset.streams ≡ map stream_field ids
   pub other : (u : UnderWay) → under_way ≡ Some u → is_named ids u.stream_id.0 ≡ true → ⊥
 
-where_begun : (follows : Bool) (outstanding : Option ℕ) (number last_tsn : ℕ) (streams : List ℕ) (begun : BegunReset) → Some begun ≡ begun_where follows outstanding number last_tsn streams
+where_begun : (follows : Bool) (outstanding : Option ℕ) (number last_tsn : ℕ) (streams : List ℕ) (begun : BegunReset) → Some begun ≡ begun_if_ready follows outstanding number last_tsn streams
     → (begun.reset.last_tsn ≡ last_tsn) × (begun.reset.streams ≡ streams)
 where_begun follows (Some n) number last_tsn streams begun is = absurd (cc)
 where_begun follows None number last_tsn [] begun is = absurd (cc)
@@ -85,7 +85,7 @@ where_begun follows None number last_tsn (s ∷ streams) begun is =
     (ap (λ (b : BegunReset). b.reset.last_tsn) same, ap (λ (b : BegunReset). b.reset.streams) same)
 
 -- The stream of the message under way isn't ready.
-pub is_begun : (ask : Ask) (follows : Bool) (held : Option Held) (room last_tsn : ℕ) (queue : SendQueueState) (begun : BegunReset) → Some begun ≡ begun_at ask follows held room last_tsn queue
+pub is_begun : (ask : Ask) (follows : Bool) (held : Option Held) (room last_tsn : ℕ) (queue : SendQueueState) (begun : BegunReset) → Some begun ≡ begun_by_ask ask follows held room last_tsn queue
     → IsBegun last_tsn queue.under_way begun (take (streams_within room) (ready_streams queue))
 is_begun later_ask follows held room last_tsn queue begun is = absurd (cc)
 is_begun first_ask follows None room last_tsn queue begun is = absurd (cc)
@@ -117,7 +117,7 @@ mark_more history first under_way begun ids is marks mark (inr has) =
     record { within = old.within; last = old.last; fields = old.fields; sides = old.sides; going = old.going }
 
 pub marks_marked : (ask : Ask) (follows : Bool) (held : Option Held) (room : ℕ) (history : History) (first acknowledged : ℕ) (begun : Option BegunReset) (queue : SendQueueState) (state : RetransmissionState)
-    → Bears history first acknowledged state.outstanding → begun ≡ begun_at ask follows held room (last_assigned_tsn state) queue → AreMarks history first queue.under_way
+    → Bears history first acknowledged state.outstanding → begun ≡ begun_by_ask ask follows held room (last_assigned_tsn state) queue → AreMarks history first queue.under_way
     → AreMarks (with_mark begun (take (streams_within room) (ready_streams queue)) (length history.log) history) first (queue_requesting (streams_within room) begun queue).under_way
 marks_marked ask follows held room history first acknowledged None queue state b is marks = marks
 marks_marked ask follows held room history first acknowledged (Some begun) queue state b is marks =

@@ -5,14 +5,14 @@ use Rattle.std.proofs.lemmas.List.{append-nil, length-append}
 use Rattle.dcsctp_spec.specs.wire.Content.{ChunkContent, data_chunk, init_chunk, init_ack_chunk, sack_chunk, heartbeat_chunk, heartbeat_ack_chunk, abort_chunk, shutdown_chunk, shutdown_ack_chunk, error_chunk, cookie_echo_chunk, cookie_ack_chunk, shutdown_complete_chunk, i_data_chunk, re_config_chunk, forward_tsn_chunk, i_forward_tsn_chunk, unknown_chunk}
 use Rattle.dcsctp_spec.specs.types.declared.sending.UnderWay.{UnderWay}
 use Rattle.dcsctp_spec.specs.endpoint.Endpoint.{Endpoint}
-use Rattle.dcsctp_spec.specs.endpoint.Event.{Event, sent, packets_in}
+use Rattle.dcsctp_spec.specs.endpoint.Event.{Event, sent, packets_of_events}
 use Rattle.dcsctp_spec.specs.Packet.{Plain, unworked, unknown, heartbeat, heartbeat_ack, plain, Content, init, init_ack, cookie_echo, cookie_ack, re_config, abort, shutdown, shutdown_ack, shutdown_complete, Emission}
 use Rattle.dcsctp_spec.specs.association.Choices.{plain_contents}
 use Rattle.dcsctp_spec.specs.types.declared.progress.Change.TheVariants.{SendAgain, Abandon}
 use Rattle.dcsctp_spec.specs.queues.Abandoning.{GivesUpFirst}
 use Rattle.dcsctp_spec.specs.queues.AtOnce.{empty_stage, SendsAtOnce}
 use Rattle.dcsctp_spec.specs.queues.Chunks.{AreChunksOfTsns, chunk_said}
-use Rattle.dcsctp_spec.specs.queues.Filling.{Stage, ClosesMessage, GivesUpAt, SendsMarked, SendsNew, FindsNone, StepAgain, StepNew, StageSteps, none, more, resent_packet_counted, FillsPacket}
+use Rattle.dcsctp_spec.specs.queues.Filling.{Stage, ClosesMessage, GivesUpItem, SendsMarked, SendsNew, FindsNone, StepAgain, StepNew, StageSteps, none, more, resent_packet_counted, FillsPacket}
 use Rattle.dcsctp_spec.specs.queues.ItemMessages.{EndsDropped}
 use Rattle.dcsctp_spec.specs.queues.Items.{Item}
 use Rattle.dcsctp_spec.specs.queues.Outstanding.{OutstandingState, next_tsn, tsn_at}
@@ -21,8 +21,8 @@ use Rattle.dcsctp_spec.specs.queues.SendQueue.{SendQueueState}
 use Rattle.dcsctp_spec.specs.queues.Sending.{DiscardsNamed}
 use Rattle.dcsctp_spec.specs.queues.Transfer.{Transfer, EndpointQueues, may_give, is_idle}
 use Rattle.dcsctp_spec.specs.endpoint.BegunResets.{BegunReset, streams_within, request_contents, queue_requesting, retransmission_begun}
-use Rattle.dcsctp_spec.specs.endpoint.FlushOutcomes.{filling_event, Answer, answer_contents, filled, asked, next_draft, flush_of, Ask, first_ask, later_ask, room_in, GivesUpWhere, may_forward, FillsWhere, Gives, GivesWhere, IsAnswerOfQueues, IsFlushAnswer, stage_of, nothing_waits, AreFlushAnswers, at_limit, at_empty, after_packet, FlushAnswers, goes_out, FillingEvent, amount_is_low, total_amount_is_low, message_is_sent, message_may_have_expired, message_has_expired, message_ends}
-use Rattle.dcsctp_delivery_sending.specs.ChunkCounts.{counts, chunks_among, chunks_in, going, tsns_of, tsns_where, tsns_of_queues}
+use Rattle.dcsctp_spec.specs.endpoint.FlushOutcomes.{filling_event, Answer, answer_contents, filled_draft, asked_outcome, next_draft, flush_of, Ask, first_ask, later_ask, room_of_draft, GivesUpThenForwards, may_forward, FillsIfAllowed, Gives, GivesUnlessIdle, IsAnswerOfQueues, IsFlushAnswer, stage_of, nothing_waits, AreFlushAnswers, at_limit, at_empty, after_packet, FlushAnswers, goes_out, FillingEvent, amount_is_low, total_amount_is_low, message_is_sent, message_may_have_expired, message_has_expired, message_ends}
+use Rattle.dcsctp_delivery_sending.specs.ChunkCounts.{counts, chunks_among, chunks_among_packets, going, tsns_of, tsns_if_connected, tsns_of_queues}
 use Rattle.dcsctp_delivery_sending.specs.Flushes.{NoPlain, NoContent, NoData}
 use Rattle.dcsctp_delivery_sending.proofs.Filling.{counted_outstanding}
 use Rattle.dcsctp_delivery_sending.proofs.Packets.{out_below}
@@ -79,7 +79,7 @@ closes_few now last old new false (inl (few, drops)) =
     (record { less = dropped_few now _ last old.queue.outstanding drops.outstanding old.waiting new.waiting _ _ old.told new.told drops.drops.is_dropped drops.drops.drops drops.drops.ends; tsns = refl })
 closes_few now last old new false (inr (many, is)) = subst (λ (s : Stage). Fewer old s) (sym is) (fewer_same old)
 
-gives_up_few : (now place : ℕ) (old new : Stage) → GivesUpAt now place old new → Fewer old new
+gives_up_few : (now place : ℕ) (old new : Stage) → GivesUpItem now place old new → Fewer old new
 gives_up_few now place old new gives =
     let first = closes_few now gives.last old gives.closed gives.last.fragment.is_end gives.closes in
     let less = first.less in
@@ -152,11 +152,11 @@ chunks_counted outstanding (t ∷ tsns) (c ∷ chunks) are =
 
 -- ---- an answer
 
-given_up_few : (now room : ℕ) (b : Bool) (transfer : Transfer) (old new : Stage) (next : Option ℕ) (chunks : List Plain) → GivesUpWhere b now transfer room old new next chunks → Fewer old new
+given_up_few : (now room : ℕ) (b : Bool) (transfer : Transfer) (old new : Stage) (next : Option ℕ) (chunks : List Plain) → GivesUpThenForwards b now transfer room old new next chunks → Fewer old new
 given_up_few now room false transfer old new next chunks gives = subst (λ (s : Stage). Fewer old s) (sym gives.0) (fewer_same old)
 given_up_few now room true transfer old new next chunks gives = fewer_steps now old new gives.0.steps
 
-filled_few : (now : ℕ) (b : Bool) (old new : Stage) → FillsWhere b now old new → Few old new
+filled_few : (now : ℕ) (b : Bool) (old new : Stage) → FillsIfAllowed b now old new → Few old new
 filled_few now true old new fills = fills_few now old new fills
 filled_few now false old new (inl is) = subst (λ (s : Stage). Few old s) (sym is) (omega arith)
 filled_few now false old new (inr fills) = fills_few now old new fills
@@ -175,7 +175,7 @@ AnswerIsFew e answer = tsns_of_queues answer.after.queues ≤ tsns_of_queues e.q
 gives_few : (ask : Ask) (e : Endpoint) (draft : Emission) (transfer : Transfer) (answer : Answer) → e.queues.transfer ≡ Some transfer → Gives ask e draft transfer answer → AnswerIsFew e answer
 gives_few ask e draft transfer answer known gives =
     let gave = (given_up_few e.moment _ (may_forward ask e transfer.retransmission) transfer (stage_of e.queues.queue transfer.retransmission [] 0) gives.gave_up gives.next gives.forwards gives.gives_up).less in
-    let room : ℕ = streams_within (room_in e (filled draft (plain_contents answer.acknowledgements))) in
+    let room : ℕ = streams_within (room_of_draft e (filled_draft draft (plain_contents answer.acknowledgements))) in
     let way : going (queue_requesting room answer.begun gives.gave_up.waiting).under_way ≡ going gives.gave_up.waiting.under_way = ap going (requesting_way room answer.begun gives.gave_up.waiting) in
     let size : length (retransmission_begun answer.begun gives.gave_up.queue).outstanding.items ≡ length gives.gave_up.queue.outstanding.items =
     ap (λ (l : List Item). length l) (begun_items answer.begun gives.gave_up.queue) in
@@ -183,14 +183,14 @@ gives_few ask e draft transfer answer known gives =
     let sent_chunks = chunks_counted gives.sent.queue.outstanding gives.sent.tsns answer.data_chunks gives.chunks in
     let parts = among_both (plain_contents answer.acknowledgements) (request_contents answer.begun ++ plain_contents answer.data_chunks) in
     let parts' = among_both (request_contents answer.begun) (plain_contents answer.data_chunks) in
-    let before : tsns_of_queues e.queues ≡ tsns_of e.queues.queue transfer.retransmission.outstanding.items = ap (λ (t : Option Transfer). tsns_where e.queues.queue t) known in
+    let before : tsns_of_queues e.queues ≡ tsns_of e.queues.queue transfer.retransmission.outstanding.items = ap (λ (t : Option Transfer). tsns_if_connected e.queues.queue t) known in
     subst (λ (b : EndpointQueues). tsns_of_queues b ≤ tsns_of_queues e.queues + 2 * chunks_among (answer_contents answer)) (sym gives.below)
     (omega (arith, gave, way, size, full, sent_chunks, parts, parts', before))
 
 nothing_few : (e : Endpoint) (answer : Answer) → answer ≡ nothing_waits e → AnswerIsFew e answer
 nothing_few e answer is = subst (AnswerIsFew e) (sym is) (omega arith)
 
-where_few : (ask : Ask) (b : Bool) (e : Endpoint) (draft : Emission) (transfer : Transfer) (answer : Answer) → e.queues.transfer ≡ Some transfer → GivesWhere b ask e draft transfer answer → AnswerIsFew e answer
+where_few : (ask : Ask) (b : Bool) (e : Endpoint) (draft : Emission) (transfer : Transfer) (answer : Answer) → e.queues.transfer ≡ Some transfer → GivesUnlessIdle b ask e draft transfer answer → AnswerIsFew e answer
 where_few ask true e draft transfer answer known is = nothing_few e answer is
 where_few ask false e draft transfer answer known gives = gives_few ask e draft transfer answer known gives
 
@@ -200,7 +200,7 @@ answered_few ask e draft (Some transfer) answer known gives = where_few ask (is_
 
 -- ---- a flush
 
-told_packets : (told : List FillingEvent) (others : List (Event Emission)) → packets_in (map filling_event told ++ others) ≡ packets_in others
+told_packets : (told : List FillingEvent) (others : List (Event Emission)) → packets_of_events (map filling_event told ++ others) ≡ packets_of_events others
 told_packets [] others = refl
 told_packets (amount_is_low stream ∷ told) others = told_packets told others
 told_packets (total_amount_is_low ∷ told) others = told_packets told others
@@ -209,42 +209,42 @@ told_packets (message_may_have_expired id ∷ told) others = told_packets told o
 told_packets (message_has_expired id ∷ told) others = told_packets told others
 told_packets (message_ends id ∷ told) others = told_packets told others
 
-out_counts : (e : Endpoint) (told : List FillingEvent) (with_checksum : Bool) (tag : ℕ) (contents : List Content) → chunks_in (packets_in (goes_out e (map filling_event told) with_checksum tag contents).events) ≡ chunks_among contents
-out_counts e told with_checksum tag [] = ap chunks_in (ap packets_in (sym (append-nil (map filling_event told))) ∙ told_packets told [])
+out_counts : (e : Endpoint) (told : List FillingEvent) (with_checksum : Bool) (tag : ℕ) (contents : List Content) → chunks_among_packets (packets_of_events (goes_out e (map filling_event told) with_checksum tag contents).events) ≡ chunks_among contents
+out_counts e told with_checksum tag [] = ap chunks_among_packets (ap packets_of_events (sym (append-nil (map filling_event told))) ∙ told_packets told [])
 out_counts e told with_checksum tag (c ∷ contents) =
     let emission : Emission = record { with_checksum = with_checksum; packet = record { tag = tag; contents = c ∷ contents } } in
-    ap chunks_in (told_packets told (sent emission ∷ [])) ∙ omega arith
+    ap chunks_among_packets (told_packets told (sent emission ∷ [])) ∙ omega arith
 
-chunks_both : (events others : List (Event Emission)) → chunks_in (packets_in (events ++ others)) ≡ chunks_in (packets_in events) + chunks_in (packets_in others)
+chunks_both : (events others : List (Event Emission)) → chunks_among_packets (packets_of_events (events ++ others)) ≡ chunks_among_packets (packets_of_events events) + chunks_among_packets (packets_of_events others)
 chunks_both [] others = omega arith
 chunks_both (sent emission ∷ events) others = (let rest = chunks_both events others in omega (arith, rest))
 chunks_both (event ∷ events) others = chunks_both events others
 
 asked_few : (ask : Ask) (e : Endpoint) (draft : Emission) (answer : Answer) → IsFlushAnswer ask e draft answer
-    → tsns_of_queues (asked e draft answer).after.queues ≤ tsns_of_queues e.queues + 2 * chunks_in (packets_in (asked e draft answer).events)
+    → tsns_of_queues (asked_outcome e draft answer).after.queues ≤ tsns_of_queues e.queues + 2 * chunks_among_packets (packets_of_events (asked_outcome e draft answer).events)
 asked_few ask e draft answer answered =
-    let contents : List Content = (filled draft (answer_contents answer)).packet.contents in
+    let contents : List Content = (filled_draft draft (answer_contents answer)).packet.contents in
     let few = answered_few ask e draft e.queues.transfer answer refl answered.by_transfer in
-    let left : tsns_of_queues (asked e draft answer).after.queues ≡ tsns_of_queues answer.after.queues = ap tsns_of_queues (out_below answer.after (map filling_event answer.told) draft.with_checksum draft.packet.tag contents) in
-    let counted : chunks_in (packets_in (asked e draft answer).events) ≡ chunks_among contents = out_counts answer.after answer.told draft.with_checksum draft.packet.tag contents in
+    let left : tsns_of_queues (asked_outcome e draft answer).after.queues ≡ tsns_of_queues answer.after.queues = ap tsns_of_queues (out_below answer.after (map filling_event answer.told) draft.with_checksum draft.packet.tag contents) in
+    let counted : chunks_among_packets (packets_of_events (asked_outcome e draft answer).events) ≡ chunks_among contents = out_counts answer.after answer.told draft.with_checksum draft.packet.tag contents in
     let parts = among_both draft.packet.contents (answer_contents answer) in
     omega (arith, few, left, counted, parts)
 
 answers_few : (ask : Ask) (n : ℕ) (e : Endpoint) (draft : Emission) (answers : List Answer) → AreFlushAnswers ask n e draft answers
-    → tsns_of_queues (flush_of e draft answers).after.queues ≤ tsns_of_queues e.queues + 2 * chunks_in (packets_in (flush_of e draft answers).events)
+    → tsns_of_queues (flush_of e draft answers).after.queues ≤ tsns_of_queues e.queues + 2 * chunks_among_packets (packets_of_events (flush_of e draft answers).events)
 answers_few _ _ _ _ _ (at_limit ask e draft) = omega arith
 answers_few _ _ _ _ _ (at_empty ask others e draft answer is empty) =
     let one = asked_few ask e draft answer is in
-    let both = chunks_both (asked e draft answer).events [] in
+    let both = chunks_both (asked_outcome e draft answer).events [] in
     omega (arith, one, both)
 answers_few _ _ _ _ _ (after_packet ask others e draft answer answers is some rest) =
     let one = asked_few ask e draft answer is in
-    let later = answers_few later_ask others (asked e draft answer).after (next_draft e.core draft) answers rest in
-    let both = chunks_both (asked e draft answer).events (flush_of (asked e draft answer).after (next_draft e.core draft) answers).events in
+    let later = answers_few later_ask others (asked_outcome e draft answer).after (next_draft e.core draft) answers rest in
+    let both = chunks_both (asked_outcome e draft answer).events (flush_of (asked_outcome e draft answer).after (next_draft e.core draft) answers).events in
     omega (arith, one, later, both)
 
 pub flushes_assign_few : (e : Endpoint) (draft : Emission) (answers : List Answer) → FlushAnswers e draft answers
-    → tsns_of_queues (flush_of e draft answers).after.queues ≤ tsns_of_queues e.queues + 2 * chunks_in (packets_in (flush_of e draft answers).events)
+    → tsns_of_queues (flush_of e draft answers).after.queues ≤ tsns_of_queues e.queues + 2 * chunks_among_packets (packets_of_events (flush_of e draft answers).events)
 flushes_assign_few e draft answers allowed = answers_few first_ask _ e draft answers allowed
 
 -- ---- a fast retransmission

@@ -6,12 +6,12 @@ use Rattle.dcsctp_spec.specs.queues.Filling.{Stage, FillsPacket}
 use Rattle.dcsctp_spec.specs.queues.Outstanding.{OutstandingState}
 use Rattle.dcsctp_spec.specs.queues.SendQueue.{SendQueueState}
 use Rattle.dcsctp_delivery_sending.specs.Log.{Message, History, log_extended}
-use Rattle.dcsctp_delivery_sending.specs.Numbers.{Numbered, AreOfKind}
+use Rattle.dcsctp_delivery_sending.specs.Numbers.{NumbersMessages, AreOfKind}
 use Rattle.dcsctp_delivery_sending.specs.Stages.{Bears, Stands, Stays, IsOfLog, AreOfLog}
 use Rattle.dcsctp_delivery_sending.proofs.Filling.{fills_stay}
 
 -- the pieces are sent as what is in flight is
-pub kinds_of : {history : History} {queue : SendQueueState} {is_interleaved : Bool} → Numbered history queue → is_interleaved ≡ queue.is_interleaved → AreOfKind is_interleaved history.log
+pub kinds_of : {history : History} {queue : SendQueueState} {is_interleaved : Bool} → NumbersMessages history queue → is_interleaved ≡ queue.is_interleaved → AreOfKind is_interleaved history.log
 kinds_of numbers same n f at = numbers.kinds n f at ∙ sym same
 
 chunk_of_log : (history : History) (first acknowledged : ℕ) (outstanding : OutstandingState) (tsn : ℕ) (chunk : Plain) → AreOfKind outstanding.is_interleaved history.log → Bears history first acknowledged outstanding → IsChunkOfItem outstanding tsn chunk → IsOfLog history.log first outstanding.is_interleaved chunk

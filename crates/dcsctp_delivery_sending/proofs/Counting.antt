@@ -6,7 +6,7 @@ use Rattle.dcsctp_spec.specs.types.declared.sending.UnderWay.{UnderWay}
 use Rattle.dcsctp_spec.specs.types.queues.SendStreams.{Waiting, Stream, front_of}
 use Rattle.dcsctp_spec.specs.queues.SendQueue.{SendQueueState}
 use Rattle.dcsctp_delivery_sending.specs.Log.{History, new_history}
-use Rattle.dcsctp_delivery_sending.specs.Numbers.{stream_named, next_mid, LastIs, CountsMessages, CountsWhere, AreOfKind, Numbered, IsUnambiguous, plain, interleaved}
+use Rattle.dcsctp_delivery_sending.specs.Numbers.{stream_named, next_mid, LastIs, CountsMessages, CountsByKind, AreOfKind, NumbersMessages, IsUnambiguous, plain, interleaved}
 
 -- ---- tables
 
@@ -55,7 +55,7 @@ is_or_other id kind other b = elim (eqb_tells other id) [ inl e ↦ go kind b e.
 -- The messages of these streams are counted, from some floors.
 pub record Begins (is_interleaved : Bool) (streams : List Stream) (under_way : Option UnderWay) : Type 0 where
   pub floors : ℕ → Bool → ℕ
-  pub counts : CountsWhere is_interleaved (new_history floors) streams under_way
+  pub counts : CountsByKind is_interleaved (new_history floors) streams under_way
 
 first_floors : List Stream → ℕ → Bool → ℕ
 first_floors streams id b = next_mid b (stream_named id streams) % 2 ^ 32
@@ -157,10 +157,10 @@ ssns_anew streams (Some u) =
     }
 
 -- what a receiver knows of the log
-pub told : (history : History) (queue : SendQueueState) → Numbered history queue → length history.log < 2 ^ 31 → IsUnambiguous history
+pub told : (history : History) (queue : SendQueueState) → NumbersMessages history queue → length history.log < 2 ^ 31 → IsUnambiguous history
 told history queue numbers small = go queue.is_interleaved numbers.kinds numbers.counts
   where
-    go : (b : Bool) → AreOfKind b history.log → CountsWhere b history queue.streams queue.under_way → IsUnambiguous history
+    go : (b : Bool) → AreOfKind b history.log → CountsByKind b history queue.streams queue.under_way → IsUnambiguous history
     go false kinds counts = plain kinds
     go true kinds c =
         interleaved kinds small

@@ -4,13 +4,13 @@ use Rattle.std.specs.Prelude.{Option, None, Some}
 use Rattle.std.proofs.lemmas.List.{get_or-set_same}
 use Rattle.dcsctp_spec.specs.endpoint.Event.{Event}
 use Rattle.dcsctp_spec.specs.types.declared.sending.UnderWay.{UnderWay}
-use Rattle.dcsctp_spec.specs.types.queues.SendStreams.{Waiting, Stream, front_of, without_front, unused, stream_at}
+use Rattle.dcsctp_spec.specs.types.queues.SendStreams.{Waiting, Stream, front_of, without_front, unused_stream, stream_at}
 use Rattle.dcsctp_spec.specs.queues.SendQueue.{SendQueueState}
-use Rattle.dcsctp_spec.specs.queues.Sending.{Fragment, Drops, none, more, reduced, without_rest, TakesFragment, Discards, IsMessageUnderWay}
+use Rattle.dcsctp_spec.specs.queues.Sending.{Fragment, Drops, none, more, reduced_queue, without_rest, TakesFragment, Discards, IsMessageUnderWay}
 use Rattle.dcsctp_delivery_sending.specs.Places.{at_place}
 use Rattle.dcsctp_delivery_sending.specs.Log.{Message, Piece, Slot, History, with_slot}
 use Rattle.dcsctp_delivery_sending.specs.Pieces.{AllBeyond, IsGoing, HoldsQueued}
-use Rattle.dcsctp_delivery_sending.specs.Numbers.{Numbered}
+use Rattle.dcsctp_delivery_sending.specs.Numbers.{NumbersMessages}
 use Rattle.dcsctp_delivery_sending.specs.Weights.{HasRoomForLog}
 use Rattle.dcsctp_delivery_sending.proofs.Places.{decide, at_cases}
 use Rattle.dcsctp_delivery_sending.proofs.Weights.{weight_same, weight_front}
@@ -55,10 +55,10 @@ module _ (queued : List Message) (log : List Slot) (old : SendQueueState) (strea
   left_here : (stream_at left named.place).messages ≡ drop 1 (stream_at old.streams named.place).messages
   unfolding left
   left_here =
-      let between = reduced named.place (length named.message.payload - named.under_way.sent) old in
+      let between = reduced_queue named.place (length named.message.payload - named.under_way.sent) old in
       let same = reduced_alike named.place (length named.message.payload - named.under_way.sent) old in
       let size : length between.streams ≡ length old.streams = same.sizes in
-      ap (λ (s : Stream). s.messages) (get_or-set_same between.streams named.place (without_front (stream_at between.streams named.place)) (unused 0 0 0) (omega (arith, named.within)))
+      ap (λ (s : Stream). s.messages) (get_or-set_same between.streams named.place (without_front (stream_at between.streams named.place)) (unused_stream 0 0 0) (omega (arith, named.within)))
       ∙ ap (λ (l : List Waiting). drop 1 l) (same.messages named.place)
 
   beyond_left : (q n : ℕ) (f : Piece) → at_place n (None ∷ log) ≡ Some (Some f) → f.message.stream ≡ (stream_at left q).id → AllBeyond f.place (stream_at left q).messages
@@ -89,7 +89,7 @@ module _ (queued : List Message) (log : List Slot) (old : SendQueueState) (strea
       let found : Some w.message ≡ Some g.message = sym w.at ∙ ap (λ (k : ℕ). at_place k queued) is_named ∙ g.at in
       let same_message : w.message ≡ g.message = cc in
       let sizes : length named.message.payload ≡ length g.message.payload = ap (λ (l : List ℕ). length l) w.is.payload ∙ ap (λ (m : Message). length m.payload) same_message in
-      let between = reduced named.place (length named.message.payload - named.under_way.sent) old in
+      let between = reduced_queue named.place (length named.message.payload - named.under_way.sent) old in
       let alike' = reduced_alike named.place (length named.message.payload - named.under_way.sent) old in
       let same = weight_same old.streams between.streams alike'.sizes alike'.messages in
       let acknowledged = weight_front between.streams named.place named.message (ap front_of (alike'.messages named.place) ∙ named.front) in
@@ -112,11 +112,11 @@ pub takes_kind : {P : Type 0} (now max : ℕ) (old new : SendQueueState) (before
 takes_kind now max old new before after part takes =
     ap (λ (q : SendQueueState). q.is_interleaved) takes.left ∙ produced_kind takes.place max takes.message takes.under_way takes.queue ∙ kind_dropped now old takes.drops.events takes.queue takes.drops.drops
 
-pub discards_numbered : {P : Type 0} (history : History) (old new : SendQueueState) (stream message_id : ℕ) (before after : List (Event P)) → Numbered history old → Discards old stream message_id before new after → Numbered (with_slot None history) new
+pub discards_numbered : {P : Type 0} (history : History) (old new : SendQueueState) (stream message_id : ℕ) (before after : List (Event P)) → NumbersMessages history old → Discards old stream message_id before new after → NumbersMessages (with_slot None history) new
 discards_numbered history old new stream message_id before after numbers discards =
     let rest : ℕ = length discards.named.message.payload - discards.named.under_way.sent in
-    let between : SendQueueState = reduced discards.named.place rest old in
-    subst (λ (b : SendQueueState). Numbered (with_slot None history) b) (sym discards.left)
+    let between : SendQueueState = reduced_queue discards.named.place rest old in
+    subst (λ (b : SendQueueState). NumbersMessages (with_slot None history) b) (sym discards.left)
     (numbered_ended history old (record (without_rest discards.named.place discards.named.under_way.sent discards.named.message old) { under_way = None }) refl refl
     (numbers_then None old.streams between.streams (without_rest discards.named.place discards.named.under_way.sent discards.named.message old).streams (numbers_reduced None discards.named.place rest old)
     (numbers_without discards.named.place between.streams)) numbers)

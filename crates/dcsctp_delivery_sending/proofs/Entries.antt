@@ -9,9 +9,9 @@ use Rattle.dcsctp_spec.specs.queues.Outstanding.{OutstandingState}
 use Rattle.dcsctp_spec.specs.queues.Items.{Item}
 use Rattle.dcsctp_spec.specs.queues.Skipping.{is_row_continued, is_same_stream, last_on, last_listed, entry_for, NoneTwice, skipped_number, IsSkippedRow}
 use Rattle.dcsctp_delivery_sending.specs.Places.{HasEntry, at_place}
-use Rattle.dcsctp_delivery_sending.specs.Log.{Message, Slot, Mark, History, Cut, IsEndSlot}
+use Rattle.dcsctp_delivery_sending.specs.Log.{Message, Slot, Mark, History, IsLogOfPieces, IsEndSlot}
 use Rattle.dcsctp_delivery_sending.specs.Numbers.{AreOfKind}
-use Rattle.dcsctp_delivery_sending.specs.Stages.{SaysSlot, SaysAt, IsNamedFragment, Bears}
+use Rattle.dcsctp_delivery_sending.specs.Stages.{SaysSlot, SaysTsn, IsNamedFragment, Bears}
 use Rattle.dcsctp_spec.specs.queues.Sending.{Fragment}
 use Rattle.dcsctp_delivery_sending.specs.Pieces.{CarriesPiece}
 use Rattle.dcsctp_delivery_sending.specs.Flushes.{IsEntry, AreForwardEntries, PassesAcknowledged}
@@ -104,7 +104,7 @@ module _ (history : History) (first : ℕ) where
   end_said part (Some piece) says is = sym says.end ∙ is
 
   -- fragments of one message are of one stream
-  one_of : (queued : List Message) → Cut queued history.log → (own other : ℕ) (part part' : Fragment) → IsNamedFragment history own part → IsNamedFragment history other part' → part.message_id ≡ part'.message_id
+  one_of : (queued : List Message) → IsLogOfPieces queued history.log → (own other : ℕ) (part part' : Fragment) → IsNamedFragment history own part → IsNamedFragment history other part' → part.message_id ≡ part'.message_id
       → (part.stream ≡ part'.stream) × (part.is_unordered ≡ part'.is_unordered)
   one_of queued cut own other part part' n n' same =
       let both_at : Some n.piece.message ≡ Some n'.piece.message = sym (cut.pieces n.number n.piece n.at).at ∙ ap (λ (k : ℕ). at_place k queued) (sym n.of ∙ same ∙ n'.of) ∙ (cut.pieces n'.number n'.piece n'.at).at in
@@ -112,7 +112,7 @@ module _ (history : History) (first : ℕ) where
       (n.stream ∙ ap (λ (m : Message). m.stream) one ∙ sym n'.stream, n.unordered ∙ ap (λ (m : Message). m.is_unordered) one ∙ sym n'.unordered)
 
   -- What the row passes is acknowledged, or of a message with limits.
-  pub row_passed : (queued : List Message) → Cut queued history.log → (acknowledged count : ℕ) (outstanding : OutstandingState) → Bears history first acknowledged outstanding → count ≤ length outstanding.items
+  pub row_passed : (queued : List Message) → IsLogOfPieces queued history.log → (acknowledged count : ℕ) (outstanding : OutstandingState) → Bears history first acknowledged outstanding → count ≤ length outstanding.items
       → ((place : ℕ) (item : Item) → place < count → slice_get outstanding.items place ≡ Some item → is_row_continued place item ≡ true) → PassesAcknowledged history.log acknowledged (acknowledged + count)
   row_passed queued cut acknowledged count outstanding b within each n f at low unlimited =
       elim (leb_tells (n + 1) acknowledged) [
@@ -134,7 +134,7 @@ module _ (history : History) (first : ℕ) where
           let clash : true ≡ false = sym of.limited ∙ ap (λ (m : Message). m.is_limited) one ∙ unlimited in
           cc
 
-  pub row_closes : (queued : List Message) → Cut queued history.log → (acknowledged limit entries count : ℕ) (outstanding : OutstandingState) → Bears history first acknowledged outstanding → IsSkippedRow outstanding.is_interleaved limit entries count outstanding.items
+  pub row_closes : (queued : List Message) → IsLogOfPieces queued history.log → (acknowledged limit entries count : ℕ) (outstanding : OutstandingState) → Bears history first acknowledged outstanding → IsSkippedRow outstanding.is_interleaved limit entries count outstanding.items
       → ClosesRow acknowledged count outstanding
   row_closes queued cut acknowledged limit entries count outstanding b row plain none some =
       let within = row.within in
@@ -175,7 +175,7 @@ module _ (history : History) (first : ℕ) where
                 ])
           ]
 
-      go : (item : Item) → slice_get outstanding.items (count - 1) ≡ Some item → (says : SaysAt history.log (acknowledged + (count - 1)) item.fragment) → (end : Bool) → item.fragment.is_end ≡ end
+      go : (item : Item) → slice_get outstanding.items (count - 1) ≡ Some item → (says : SaysTsn history.log (acknowledged + (count - 1)) item.fragment) → (end : Bool) → item.fragment.is_end ≡ end
           → IsEndSlot says.slot ⊎ (2 ^ 31 ≤ acknowledged + count + 1)
       go item at says true is = inl (end_said item.fragment says.slot says.says is)
       go item at says false is =
@@ -187,7 +187,7 @@ module _ (history : History) (first : ℕ) where
             | inr last ↦ inr (omega (arith, last, some))
           ]
 
-  of_item : (queued : List Message) → Cut queued history.log → (acknowledged count : ℕ) (outstanding : OutstandingState) (entry : (ℕ × Bool) × ℕ) → AreOfKind outstanding.is_interleaved history.log → Bears history first acknowledged outstanding → count ≤ length outstanding.items
+  of_item : (queued : List Message) → IsLogOfPieces queued history.log → (acknowledged count : ℕ) (outstanding : OutstandingState) (entry : (ℕ × Bool) × ℕ) → AreOfKind outstanding.is_interleaved history.log → Bears history first acknowledged outstanding → count ≤ length outstanding.items
       → ((place : ℕ) (item : Item) → place < count → slice_get outstanding.items place ≡ Some item → is_row_continued place item ≡ true) → ClosesRow acknowledged count outstanding → OfItem count outstanding entry → IsEntry outstanding.is_interleaved history (acknowledged + count) entry
   of_item queued cut acknowledged count outstanding entry kinds b within each closes of =
       let named : IsNamedFragment history (acknowledged + of.place) of.item.fragment = b.named of.place of.item of.at in
@@ -275,7 +275,7 @@ module _ (history : History) (first : ℕ) where
       go true is_listed same = found (ordered outstanding.is_interleaved entry.0.1 is_listed) (last_on entry.0.0 entry.0.1 (take count outstanding.items)) refl same
 
   -- so each entry does
-  pub listed_entries : (queued : List Message) → Cut queued history.log → (acknowledged count : ℕ) (outstanding : OutstandingState) → AreOfKind outstanding.is_interleaved history.log → Bears history first acknowledged outstanding → count ≤ length outstanding.items
+  pub listed_entries : (queued : List Message) → IsLogOfPieces queued history.log → (acknowledged count : ℕ) (outstanding : OutstandingState) → AreOfKind outstanding.is_interleaved history.log → Bears history first acknowledged outstanding → count ≤ length outstanding.items
       → ((place : ℕ) (item : Item) → place < count → slice_get outstanding.items place ≡ Some item → is_row_continued place item ≡ true) → ClosesRow acknowledged count outstanding → (all entries : List ((ℕ × Bool) × ℕ))
       → ((stream : ℕ) (unordered : Bool) → entry_for stream unordered all ≡ option_map (skipped_number outstanding.is_interleaved) (last_listed outstanding.is_interleaved stream unordered (take count outstanding.items)))
       → ((entry : (ℕ × Bool) × ℕ) → HasEntry entry entries → entry_for entry.0.0 entry.0.1 all ≡ Some entry.1) → AreForwardEntries outstanding.is_interleaved history (acknowledged + count) entries

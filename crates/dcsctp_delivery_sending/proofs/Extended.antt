@@ -10,8 +10,8 @@ use Rattle.dcsctp_spec.specs.queues.Sending.{Fragment}
 use Rattle.dcsctp_spec.specs.endpoint.BegunResets.{BegunReset}
 use Rattle.dcsctp_delivery_sending.specs.Places.{HasEntry, at_place}
 use Rattle.dcsctp_delivery_sending.specs.Log.{Slot, Mark, History, log_extended, with_mark, with_renewed}
-use Rattle.dcsctp_delivery_sending.specs.Numbers.{KindAt}
-use Rattle.dcsctp_delivery_sending.specs.Stages.{SaysAt}
+use Rattle.dcsctp_delivery_sending.specs.Numbers.{IsPieceOfKind}
+use Rattle.dcsctp_delivery_sending.specs.Stages.{SaysTsn}
 use Rattle.dcsctp_delivery_sending.specs.Flushes.{IsPassed, AreForwardEntries, HasLimited, PassesAcknowledged, IsForward, SaysPlain, AreBegun, SaysContent, SayAll, PacketsSay}
 use Rattle.dcsctp_delivery_sending.proofs.Places.{at_some, at_stays}
 
@@ -94,7 +94,7 @@ extends_then old between new one two =
     }
 
 module _ (old new : History) (extends : Extends old new) (first before after : ℕ) (less : before ≤ after) where
-  says_later : (n : ℕ) (part : Fragment) → SaysAt old.log n part → SaysAt new.log n part
+  says_later : (n : ℕ) (part : Fragment) → SaysTsn old.log n part → SaysTsn new.log n part
   says_later n part says =
       record {
         slot = says.slot;
@@ -102,7 +102,7 @@ module _ (old new : History) (extends : Extends old new) (first before after : �
         says = says.says;
       }
 
-  kind_later : (is_interleaved : Bool) (n : ℕ) (slot : Slot) → at_place n old.log ≡ Some slot → KindAt is_interleaved old.log n → KindAt is_interleaved new.log n
+  kind_later : (is_interleaved : Bool) (n : ℕ) (slot : Slot) → at_place n old.log ≡ Some slot → IsPieceOfKind is_interleaved old.log n → IsPieceOfKind is_interleaved new.log n
   kind_later is_interleaved n slot at kind f at' =
       let both : Some slot ≡ Some (Some f) = sym (extends.at n slot at) ∙ at' in
       kind f (at ∙ both)

@@ -11,10 +11,10 @@ use Rattle.dcsctp_spec.specs.queues.Items.{Item}
 use Rattle.dcsctp_spec.specs.queues.Outstanding.{OutstandingState, header, header_of, next_tsn}
 use Rattle.dcsctp_spec.specs.queues.Retransmission.{RetransmissionState, counted_again}
 use Rattle.dcsctp_spec.specs.queues.SendQueue.{SendQueueState}
-use Rattle.dcsctp_delivery_sending.specs.Log.{Message, Piece, Cut, History, log_extended, with_slot, Slot}
+use Rattle.dcsctp_delivery_sending.specs.Log.{Message, Piece, IsLogOfPieces, History, log_extended, with_slot, Slot}
 use Rattle.dcsctp_delivery_sending.specs.Places.{at_place}
 use Rattle.dcsctp_delivery_sending.specs.Pieces.{HoldsQueued}
-use Rattle.dcsctp_delivery_sending.specs.Numbers.{stream_named, is_handed_out, IsCurrent, AreKept, Numbered}
+use Rattle.dcsctp_delivery_sending.specs.Numbers.{stream_named, is_handed_out, IsCurrent, AreKept, NumbersMessages}
 use Rattle.dcsctp_delivery_sending.specs.Stages.{Bears, Pends, AreMarks, Stands, Stays}
 use Rattle.dcsctp_delivery_sending.proofs.Pieces.{hands_out}
 use Rattle.dcsctp_delivery_sending.proofs.Marks.{pends_later, takes_on, marks_more, counted_pends}
@@ -188,8 +188,8 @@ fills_stay queued history first acknowledged now old new stands fills =
 
 -- ---- a fast retransmission
 
-pub at_once_stays : (queued : List Message) (history : History) (first acknowledged now bytes : ℕ) (waiting : SendQueueState) (old new : RetransmissionState) (tsns : List ℕ) → HoldsQueued queued history.log waiting.streams waiting.under_way → Cut queued history.log
-    → Numbered history waiting → old.outstanding.is_interleaved ≡ waiting.is_interleaved
+pub at_once_stays : (queued : List Message) (history : History) (first acknowledged now bytes : ℕ) (waiting : SendQueueState) (old new : RetransmissionState) (tsns : List ℕ) → HoldsQueued queued history.log waiting.streams waiting.under_way → IsLogOfPieces queued history.log
+    → NumbersMessages history waiting → old.outstanding.is_interleaved ≡ waiting.is_interleaved
     → Bears history first acknowledged old.outstanding → Pends history old.reset_begun → AreMarks history first waiting.under_way → SendsAtOnce now bytes waiting old new tsns → Stays queued history first acknowledged (record (empty_stage new waiting bytes) { tsns = tsns })
 at_once_stays queued history first acknowledged now bytes waiting old new tsns queue_holds cut numbers kind bears pends marks sends =
     let start : Stands queued history first acknowledged (empty_stage (record old { fast_retransmit_due = false }) waiting bytes) = (record { queue_holds = queue_holds; cut = cut; bears = bears; pends = pends; marks = marks; numbers = numbers; kind = kind }) in

@@ -1,16 +1,16 @@
 -- A flush, packet by packet.
 use Rattle.std.proofs.Common.{ℕ, List, [], ◌++◌, length, arith, refl, sym, subst, inl, inr}
 use Rattle.std.specs.Prelude.{Option, None}
-use Rattle.dcsctp_spec.specs.endpoint.Event.{Event, packets_in}
+use Rattle.dcsctp_spec.specs.endpoint.Event.{Event, packets_of_events}
 use Rattle.dcsctp_spec.specs.Packet.{Emission}
 use Rattle.dcsctp_spec.specs.endpoint.Endpoint.{Endpoint, Core, closed as closed_core, cookie_wait, cookie_echoed, open_in}
 use Rattle.dcsctp_spec.specs.endpoint.Outcome.{still}
 use Rattle.dcsctp_spec.specs.queues.SendQueue.{SendQueueState}
 use Rattle.dcsctp_spec.specs.queues.Transfer.{EndpointQueues}
 use Rattle.dcsctp_spec.specs.endpoint.BegunResets.{BegunReset}
-use Rattle.dcsctp_spec.specs.endpoint.FlushOutcomes.{Answer, asked, next_draft, flush_of, Ask, first_ask, later_ask, AreFlushAnswers, at_limit, at_empty, after_packet, FlushAnswers, packets_allowed}
+use Rattle.dcsctp_spec.specs.endpoint.FlushOutcomes.{Answer, asked_outcome, next_draft, flush_of, Ask, first_ask, later_ask, AreFlushAnswers, at_limit, at_empty, after_packet, FlushAnswers, packets_allowed}
 use Rattle.dcsctp_delivery_sending.specs.Log.{Message, History, log_extended, with_mark}
-use Rattle.dcsctp_delivery_sending.specs.Flushes.{reset_begun_by, SayAll, PacketsSay, QueuesFollowLog, SendsLogged}
+use Rattle.dcsctp_delivery_sending.specs.Flushes.{begun_reset_of, SayAll, PacketsSay, QueuesFollowLog, SendsLogged}
 use Rattle.dcsctp_delivery_sending.proofs.Noted.{marked_twice, current_before}
 use Rattle.dcsctp_delivery_sending.proofs.Pauses.{PausesStay, kept_later, kept_both, current_both}
 use Rattle.dcsctp_delivery_sending.proofs.PausedFlushes.{later_begun, later_paused}
@@ -57,8 +57,8 @@ sends_then queued history first acknowledged old begun between after events othe
       low = one.low;
       high = omega (arith, one.high, length-append two.more one.more);
       stands = subst (λ (h : History). QueuesFollowLog queued h first acknowledged after) (sym same) two.stands;
-      packets = subst (λ (h : History). PacketsSay h first acknowledged (packets_in (events ++ others))) (sym same)
-          (packets_both (log_extended two.more noted) first acknowledged events others (packets_more two.more noted first acknowledged (packets_in events) one.packets) two.packets);
+      packets = subst (λ (h : History). PacketsSay h first acknowledged (packets_of_events (events ++ others))) (sym same)
+          (packets_both (log_extended two.more noted) first acknowledged events others (packets_more two.more noted first acknowledged (packets_of_events events) one.packets) two.packets);
       current = current_both history two.more one.more (current_before begun one.ids one.bound one.more history two.more two.current) one.current;
       kept = kept_both after.queue.streams two.more one.more two.kept (kept_later between.queue.streams after.queue.streams one.more paused one.kept);
       handed = λ id handed. elim (two.handed id handed) [ inl before ↦ one.handed id before | inr none ↦ absurd none ];
@@ -68,25 +68,25 @@ sends_then queued history first acknowledged old begun between after events othe
 
 answers_send : (queued : List Message) (history : History) (first acknowledged : ℕ) (ask : Ask) (n : ℕ) (e : Endpoint) (draft : Emission) (answers : List Answer) → QueuesFollowLog queued history first acknowledged e.queues
     → SayAll history first acknowledged draft.packet.contents → AreFlushAnswers ask n e draft answers
-    → SendsLogged queued history first acknowledged e.queues.queue (reset_begun_by answers) (flush_of e draft answers).after.queues (flush_of e draft answers).events
+    → SendsLogged queued history first acknowledged e.queues.queue (begun_reset_of answers) (flush_of e draft answers).after.queues (flush_of e draft answers).events
 answers_send queued history first acknowledged _ _ _ _ _ stands say (at_limit ask e draft) = still_sends queued history first acknowledged e stands
 answers_send queued history first acknowledged _ _ _ _ _ stands say (at_empty ask more e draft answer is empty) =
     let one = asked_sends queued history first acknowledged ask e draft answer stands say is in
-    let between : Endpoint = (asked e draft answer).after in
-    sends_then queued history first acknowledged e.queues.queue answer.begun between.queues between.queues (asked e draft answer).events [] one (λ id. refl)
+    let between : Endpoint = (asked_outcome e draft answer).after in
+    sends_then queued history first acknowledged e.queues.queue answer.begun between.queues between.queues (asked_outcome e draft answer).events [] one (λ id. refl)
     (still_sends queued (with_mark answer.begun one.ids one.bound (log_extended one.more history)) first acknowledged between one.stands)
 answers_send queued history first acknowledged _ _ _ _ _ stands say (after_packet ask more e draft answer answers is some rest) =
     let one = asked_sends queued history first acknowledged ask e draft answer stands say is in
-    let between : Endpoint = (asked e draft answer).after in
+    let between : Endpoint = (asked_outcome e draft answer).after in
     let noted : History = with_mark answer.begun one.ids one.bound (log_extended one.more history) in
     let after : EndpointQueues = (flush_of between (next_draft e.core draft) answers).after.queues in
     let events : List (Event Emission) = (flush_of between (next_draft e.core draft) answers).events in
     let two = answers_send queued noted first acknowledged later_ask more between (next_draft e.core draft) answers one.stands (next_empty noted first acknowledged e.core draft) rest in
-    sends_then queued history first acknowledged e.queues.queue answer.begun between.queues after (asked e draft answer).events events one (later_paused more between (next_draft e.core draft) answers rest)
+    sends_then queued history first acknowledged e.queues.queue answer.begun between.queues after (asked_outcome e draft answer).events events one (later_paused more between (next_draft e.core draft) answers rest)
     (subst (λ (begun : Option BegunReset). SendsLogged queued noted first acknowledged between.queues.queue begun after events) (later_begun more between (next_draft e.core draft) answers rest) two)
 
 pub flush_sends : (queued : List Message) (history : History) (first acknowledged : ℕ) (e : Endpoint) (draft : Emission) (answers : List Answer) → QueuesFollowLog queued history first acknowledged e.queues
     → SayAll history first acknowledged draft.packet.contents → FlushAnswers e draft answers
-    → SendsLogged queued history first acknowledged e.queues.queue (reset_begun_by answers) (flush_of e draft answers).after.queues (flush_of e draft answers).events
+    → SendsLogged queued history first acknowledged e.queues.queue (begun_reset_of answers) (flush_of e draft answers).after.queues (flush_of e draft answers).events
 flush_sends queued history first acknowledged e draft answers stands say allowed =
     answers_send queued history first acknowledged first_ask (packets_allowed e.options.max_burst e.core) e draft answers stands say allowed

@@ -5,7 +5,7 @@ use Rattle.std.proofs.lemmas.Bool.Decides.{leb_tells}
 use Rattle.dcsctp_spec.specs.types.declared.progress.Change.TheVariants.{Abandon}
 use Rattle.dcsctp_spec.specs.types.declared.sending.UnderWay.{UnderWay}
 use Rattle.dcsctp_spec.specs.queues.Abandoning.{GivesUpFirst, GivesUpAll}
-use Rattle.dcsctp_spec.specs.queues.Filling.{Stage, ClosesMessage, DropsRestAt, GivesUpAt, StageSteps, none, more}
+use Rattle.dcsctp_spec.specs.queues.Filling.{Stage, ClosesMessage, DropsRestOfMessage, GivesUpItem, StageSteps, none, more}
 use Rattle.dcsctp_spec.specs.queues.ItemMessages.{EndsDropped}
 use Rattle.dcsctp_spec.specs.queues.Items.{Item}
 use Rattle.dcsctp_spec.specs.queues.NextItem.{is_abandonment_due}
@@ -15,7 +15,7 @@ use Rattle.dcsctp_spec.specs.queues.Sending.{Fragment, Discards, DiscardsNamed}
 use Rattle.dcsctp_delivery_sending.specs.Log.{Message, Piece, Slot, History, log_extended, with_slot}
 use Rattle.dcsctp_delivery_sending.specs.Places.{at_place}
 use Rattle.dcsctp_delivery_sending.specs.Pieces.{HoldsQueued}
-use Rattle.dcsctp_delivery_sending.specs.Numbers.{Numbered}
+use Rattle.dcsctp_delivery_sending.specs.Numbers.{NumbersMessages}
 use Rattle.dcsctp_delivery_sending.specs.Stages.{IsNamedFragment, IsOfLimited, Bears, Pends, AreMarks, Stands, Stays}
 use Rattle.dcsctp_delivery_sending.proofs.Marks.{pends_later, marks_none, named_end, end_whole}
 use Rattle.dcsctp_delivery_sending.proofs.Discarding.{newest_named, discards_numbered, discards_hold}
@@ -44,7 +44,7 @@ pub grown_twice : (newest newer : List Slot) (history : History) → log_extende
 grown_twice newest newer history = ap (λ (l : List Slot). record history { log = l }) (append_twice newest newer history.log)
 
 -- what waits of a message is dropped
-drops_rest_ends : (queued : List Message) (history : History) (first acknowledged own now : ℕ) (last : Item) (old new : Stage) → Stands queued history first acknowledged old → IsNamedFragment history own last.fragment → IsOfLimited history.log last.fragment → IsTail history last old → DropsRestAt now last old new → Ends queued history first acknowledged new
+drops_rest_ends : (queued : List Message) (history : History) (first acknowledged own now : ℕ) (last : Item) (old new : Stage) → Stands queued history first acknowledged old → IsNamedFragment history own last.fragment → IsOfLimited history.log last.fragment → IsTail history last old → DropsRestOfMessage now last old new → Ends queued history first acknowledged new
 drops_rest_ends queued history first acknowledged own now last old new stands named limited tail drops =
     subst (λ (s : Stage). Ends queued history first acknowledged s) (sym drops.is) (go drops.drops.is_dropped drops.drops.drops drops.drops.ends)
   where
@@ -91,7 +91,7 @@ drops_rest_ends queued history first acknowledged own now last old new stands na
           bears = subst (λ (o : OutstandingState). Bears history first acknowledged o) (sym ends) stands.bears;
           pends = stands.pends;
           marks = subst (λ (w : SendQueueState). AreMarks history first w.under_way) (sym discards.1) stands.marks;
-          numbers = subst (λ (w : SendQueueState). Numbered history w) (sym discards.1) stands.numbers;
+          numbers = subst (λ (w : SendQueueState). NumbersMessages history w) (sym discards.1) stands.numbers;
           kind = ap (λ (o : OutstandingState). o.is_interleaved) ends ∙ stands.kind ∙ sym (ap (λ (w : SendQueueState). w.is_interleaved) discards.1);
         })
 
@@ -122,7 +122,7 @@ closes_items now k last item old new false below (inl closes) at =
 
 -- The message of an item that is due to be abandoned is.
 pub gives_up_ends : (queued : List Message) (history : History) (first acknowledged now place : ℕ) (old new : Stage) → Stands queued history first acknowledged old
-    → (item : Item) → slice_get old.queue.outstanding.items place ≡ Some item → is_abandonment_due now old.queue.partial_reliability item ≡ true → GivesUpAt now place old new → Ends queued history first acknowledged new
+    → (item : Item) → slice_get old.queue.outstanding.items place ≡ Some item → is_abandonment_due now old.queue.partial_reliability item ≡ true → GivesUpItem now place old new → Ends queued history first acknowledged new
 gives_up_ends queued history first acknowledged now place old new stands item at due gives =
     let limited = limited_due history (acknowledged + place) now old.queue.partial_reliability item (stands.bears.named place item at) due in
     let begins = gives.message.0 in

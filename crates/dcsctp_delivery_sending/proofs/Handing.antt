@@ -6,14 +6,14 @@ use Rattle.dcsctp_spec.specs.types.declared.sending.UnderWay.{UnderWay}
 use Rattle.dcsctp_spec.specs.queues.OwnResets.{handing_out, ready_streams, is_ready, is_under_way}
 use Rattle.dcsctp_spec.specs.queues.Retransmission.{RetransmissionState}
 use Rattle.dcsctp_spec.specs.queues.SendQueue.{SendQueueState, stream_changed}
-use Rattle.dcsctp_spec.specs.types.queues.SendStreams.{unused, Stream, stream_at, handed_out, is_pausing}
+use Rattle.dcsctp_spec.specs.types.queues.SendStreams.{unused_stream, Stream, stream_at, handed_out, is_pausing}
 use Rattle.dcsctp_spec.specs.endpoint.BegunResets.{BegunReset, queue_requesting, retransmission_begun}
 use Rattle.dcsctp_delivery_sending.specs.Log.{Message, Slot, History}
-use Rattle.dcsctp_delivery_sending.specs.Numbers.{stream_named, is_handed_out, Numbered}
+use Rattle.dcsctp_delivery_sending.specs.Numbers.{stream_named, is_handed_out, NumbersMessages}
 use Rattle.dcsctp_delivery_sending.specs.Pieces.{HoldsQueued}
 use Rattle.dcsctp_delivery_sending.specs.Stages.{Bears}
 use Rattle.dcsctp_spec.specs.queues.Incoming.{is_named}
-use Rattle.dcsctp_delivery_sending.specs.Flushes.{NamedBy}
+use Rattle.dcsctp_delivery_sending.specs.Flushes.{IsNamedByReset}
 use Rattle.dcsctp_delivery_sending.proofs.StreamsNamed.{found_mapped}
 use Rattle.dcsctp_delivery_sending.proofs.Pauses.{SamePause}
 use Rattle.dcsctp_delivery_sending.proofs.Streams.{Alike, alike_hold}
@@ -119,7 +119,7 @@ pub begun_kind : (begun : Option BegunReset) (state : RetransmissionState) → (
 begun_kind None state = refl
 begun_kind (Some begun) state = refl
 
-pub requesting_numbered : (history : History) (count : ℕ) (begun : Option BegunReset) (queue : SendQueueState) → Numbered history queue → Numbered history (queue_requesting count begun queue)
+pub requesting_numbered : (history : History) (count : ℕ) (begun : Option BegunReset) (queue : SendQueueState) → NumbersMessages history queue → NumbersMessages history (queue_requesting count begun queue)
 requesting_numbered history count None queue numbers = numbers
 requesting_numbered history count (Some begun) queue numbers =
     numbered_stay history queue (queue_requesting count (Some begun) queue) refl refl
@@ -144,7 +144,7 @@ handed_by (first ∷ ids) streams id handed =
     ]
   where
     other : (first : ℕ) (streams : List Stream) (id : ℕ) → (id ≡ first → ⊥) → is_handed_out (stream_named id (stream_changed first handed_out streams)).pause ≡ is_handed_out (stream_named id streams).pause
-    other first streams id ne = found_mapped SamePause id (unused 0 0 0) (λ s. if s.id == first then handed_out s else s) (λ s. one_id (s.id == first) s) refl (λ s here. one_pause s here) streams
+    other first streams id ne = found_mapped SamePause id (unused_stream 0 0 0) (λ s. if s.id == first then handed_out s else s) (λ s. one_id (s.id == first) s) refl (λ s here. one_pause s here) streams
       where
         one_id : (b : Bool) (s : Stream) → (if b then handed_out s else s).id ≡ s.id
         one_id true s = refl
@@ -154,6 +154,6 @@ handed_by (first ∷ ids) streams id handed =
         one_pause s here = elim (eqb_tells s.id first) [ inl e ↦ absurd (ne (sym here ∙ e.1)) | inr e ↦ rw e.0 refl ]
 
 pub requesting_handed : (count : ℕ) (begun : Option BegunReset) (queue : SendQueueState) (id : ℕ) → is_handed_out (stream_named id (queue_requesting count begun queue).streams).pause ≡ true
-    → (is_handed_out (stream_named id queue.streams).pause ≡ true) ⊎ NamedBy begun (take count (ready_streams queue)) id
+    → (is_handed_out (stream_named id queue.streams).pause ≡ true) ⊎ IsNamedByReset begun (take count (ready_streams queue)) id
 requesting_handed count None queue id handed = inl handed
 requesting_handed count (Some begun) queue id handed = handed_by (take count (ready_streams queue)) queue.streams id handed

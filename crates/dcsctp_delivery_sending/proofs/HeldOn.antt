@@ -8,22 +8,22 @@ use Rattle.dcsctp_spec.specs.association.Choices.{plain_contents}
 use Rattle.dcsctp_spec.specs.types.declared.progress.Change.{Change}
 use Rattle.dcsctp_spec.specs.types.declared.progress.Change.TheVariants.{SendAgain, Abandon}
 use Rattle.dcsctp_spec.specs.types.declared.sending.UnderWay.{UnderWay}
-use Rattle.dcsctp_spec.specs.types.queues.SendStreams.{Waiting, Stream, stream_at, front_of, unused, without_front}
+use Rattle.dcsctp_spec.specs.types.queues.SendStreams.{Waiting, Stream, stream_at, front_of, unused_stream, without_front}
 use Rattle.dcsctp_spec.specs.endpoint.Event.{Event}
 use Rattle.dcsctp_spec.specs.endpoint.Endpoint.{Endpoint}
 use Rattle.dcsctp_spec.specs.endpoint.BegunResets.{streams_within, request_contents, queue_requesting, retransmission_begun}
-use Rattle.dcsctp_spec.specs.endpoint.FlushOutcomes.{Ask, Gives, room_in, stage_of, may_forward, filling_event, Answer, answer_contents, filled, asked, next_draft, flush_of, GivesUpWhere, FillsWhere, GivesWhere, IsAnswerOfQueues, IsFlushAnswer, AreFlushAnswers, at_limit, at_empty, after_packet}
+use Rattle.dcsctp_spec.specs.endpoint.FlushOutcomes.{Ask, Gives, room_of_draft, stage_of, may_forward, filling_event, Answer, answer_contents, filled_draft, asked_outcome, next_draft, flush_of, GivesUpThenForwards, FillsIfAllowed, GivesUnlessIdle, IsAnswerOfQueues, IsFlushAnswer, AreFlushAnswers, at_limit, at_empty, after_packet}
 use Rattle.dcsctp_spec.specs.queues.Abandoning.{GivesUpFirst, GivesUpAll}
-use Rattle.dcsctp_spec.specs.queues.Filling.{Stage, ClosesMessage, DropsRestAt, GivesUpAt, SendsMarked, payload_room, SendsNew, FindsNone, StepAgain, StepNew, StageSteps, none as no_steps, more as more_steps, resent_packet_counted, FillsPacket}
+use Rattle.dcsctp_spec.specs.queues.Filling.{Stage, ClosesMessage, DropsRestOfMessage, GivesUpItem, SendsMarked, payload_room, SendsNew, FindsNone, StepAgain, StepNew, StageSteps, none as no_steps, more as more_steps, resent_packet_counted, FillsPacket}
 use Rattle.dcsctp_spec.specs.queues.ItemMessages.{EndsDropped}
 use Rattle.dcsctp_spec.specs.queues.Items.{Item, changed_between}
 use Rattle.dcsctp_spec.specs.queues.NextItem.{is_abandonment_due}
 use Rattle.dcsctp_spec.specs.queues.Outstanding.{OutstandingState, header, next_tsn}
 use Rattle.dcsctp_spec.specs.queues.SendQueue.{SendQueueState}
-use Rattle.dcsctp_spec.specs.queues.Sending.{Fragment, Drops, none as no_drops_yet, more as drops_one, reduced, without_rest, DiscardsNamed}
+use Rattle.dcsctp_spec.specs.queues.Sending.{Fragment, Drops, none as no_drops_yet, more as drops_one, reduced_queue, without_rest, DiscardsNamed}
 use Rattle.dcsctp_spec.specs.queues.Transfer.{Transfer, EndpointQueues, may_give, is_idle}
 use Rattle.dcsctp_delivery_sending.specs.Places.{HasEntry, at_place}
-use Rattle.dcsctp_delivery_sending.specs.Log.{Message, Slot, Cut, History}
+use Rattle.dcsctp_delivery_sending.specs.Log.{Message, Slot, IsLogOfPieces, History}
 use Rattle.dcsctp_delivery_sending.specs.Pieces.{HoldsQueued}
 use Rattle.dcsctp_delivery_sending.specs.Flushes.{InFlight, QueuesFollowLog}
 use Rattle.dcsctp_delivery_sending.specs.Losing.{AreUnlimitedOn, WasSentOf, IsKept}
@@ -44,19 +44,19 @@ rest_waits : (place sent : ℕ) (message : Waiting) (queue : SendQueueState) →
     → (w ≡ message) ⊎ HasEntry w (stream_at (without_rest place sent message queue).streams q).messages
 rest_waits place sent message queue front q w has =
     elim (eqb_tells q place) [
-      | inr e ↦ inr (subst (λ (s : Stream). HasEntry w s.messages) (sym (get_or-set_other between.streams place q (without_front (stream_at between.streams place)) (unused 0 0 0) e.1)) here)
+      | inr e ↦ inr (subst (λ (s : Stream). HasEntry w s.messages) (sym (get_or-set_other between.streams place q (without_front (stream_at between.streams place)) (unused_stream 0 0 0) e.1)) here)
       | inl e ↦
           (let there : HasEntry w (stream_at between.streams place).messages = subst (λ (k : ℕ). HasEntry w (stream_at between.streams k).messages) e.1 here in
           elim (first_or_rest (stream_at between.streams place).messages (ap front_of (alike.messages place) ∙ front) there) [
             | inl same ↦ inl same
             | inr rest ↦
                 inr (subst (λ (k : ℕ). HasEntry w (stream_at (slice_set between.streams place (without_front (stream_at between.streams place))) k).messages) (sym e.1)
-                (subst (λ (s : Stream). HasEntry w s.messages) (sym (get_or-set_same between.streams place (without_front (stream_at between.streams place)) (unused 0 0 0) within)) rest))
+                (subst (λ (s : Stream). HasEntry w s.messages) (sym (get_or-set_same between.streams place (without_front (stream_at between.streams place)) (unused_stream 0 0 0) within)) rest))
           ])
     ]
   where
     between : SendQueueState
-    between = reduced place (length message.payload - sent) queue
+    between = reduced_queue place (length message.payload - sent) queue
 
     alike : Alike queue.streams between.streams
     alike = reduced_alike place (length message.payload - sent) queue
@@ -163,7 +163,7 @@ module _ (P : ℕ → Type 0) where
       subst (λ (s : Stage). HoldsStage old s) (sym sends.is)
       (held_changed (SendAgain (next_tsn old.queue.outstanding)) sends.place (sends.place + 1) old.waiting.streams old.queue.outstanding.items free)
 
-  rest_held : (now : ℕ) (last : Item) (old new : Stage) → (P last.fragment.message_id → ⊥) → FreeStageOn old → DropsRestAt now last old new → HoldsStage old new
+  rest_held : (now : ℕ) (last : Item) (old new : Stage) → (P last.fragment.message_id → ⊥) → FreeStageOn old → DropsRestOfMessage now last old new → HoldsStage old new
   rest_held now last old new never free rest = subst (λ (s : Stage). HoldsStage old s) (sym rest.is) (go rest.drops.is_dropped rest.drops.drops rest.drops.ends)
     where
       go : (dropped : Bool) → DiscardsNamed old.waiting last.fragment.stream last.fragment.message_id old.told dropped new.waiting new.told → EndsDropped now old.queue.reset_begun last old.queue.outstanding rest.outstanding dropped
@@ -203,7 +203,7 @@ module _ (P : ℕ → Type 0) where
 
   -- A message that is given up has limits.
   given_up_held : (now place : ℕ) (old new : Stage) (item : Item) → slice_get old.queue.outstanding.items place ≡ Some item → is_abandonment_due now old.queue.partial_reliability item ≡ true → FreeStageOn old
-      → GivesUpAt now place old new → HoldsStage old new
+      → GivesUpItem now place old new → HoldsStage old new
   given_up_held now place old new item at due free gives =
       let ends = gives.message.1 in
       let to = ends.to in
@@ -304,11 +304,11 @@ module _ (P : ℕ → Type 0) where
   gives_up_held now old new free gives =
       steps_held (GivesUpFirst now) (λ o n f step. given_up_held now step.place o n step.is_due.item step.is_due.at step.is_due.due f step.gives_up) old new free gives.steps
 
-  gives_up_where_held : (b : Bool) (now room : ℕ) (transfer : Transfer) (old new : Stage) (next : Option ℕ) (chunks : List Plain) → FreeStageOn old → GivesUpWhere b now transfer room old new next chunks → HoldsStage old new
+  gives_up_where_held : (b : Bool) (now room : ℕ) (transfer : Transfer) (old new : Stage) (next : Option ℕ) (chunks : List Plain) → FreeStageOn old → GivesUpThenForwards b now transfer room old new next chunks → HoldsStage old new
   gives_up_where_held true now room transfer old new next chunks free gives = gives_up_held now old new free gives.0
   gives_up_where_held false now room transfer old new next chunks free gives = same_stage old new gives.0 free
 
-  fills_where_held : (now : ℕ) (b : Bool) (old new : Stage) → FreeStageOn old → FillsWhere b now old new → HoldsStage old new
+  fills_where_held : (now : ℕ) (b : Bool) (old new : Stage) → FreeStageOn old → FillsIfAllowed b now old new → HoldsStage old new
   fills_where_held now true old new free fills = fills_held now old new free fills
   fills_where_held now false old new free fills = elim fills [ inl e ↦ same_stage old new e free | inr e ↦ fills_held now old new free e ]
 
@@ -327,8 +327,8 @@ module _ (P : ℕ → Type 0) where
     -- once a request was begun, if one was
     abbrev between : Stage
     between =
-        stage_of (queue_requesting (streams_within (room_in e (filled draft (plain_contents answer.acknowledgements)))) answer.begun gives.gave_up.waiting) (retransmission_begun answer.begun gives.gave_up.queue) gives.gave_up.told
-        (room_in e (filled draft (plain_contents answer.acknowledgements ++ request_contents answer.begun)))
+        stage_of (queue_requesting (streams_within (room_of_draft e (filled_draft draft (plain_contents answer.acknowledgements)))) answer.begun gives.gave_up.waiting) (retransmission_begun answer.begun gives.gave_up.queue) gives.gave_up.told
+        (room_of_draft e (filled_draft draft (plain_contents answer.acknowledgements ++ request_contents answer.begun)))
 
     gave : HoldsStage (stage_of e.queues.queue transfer.retransmission [] 0) gives.gave_up
     gave = gives_up_where_held (may_forward ask e transfer.retransmission) e.moment _ transfer (stage_of e.queues.queue transfer.retransmission [] 0) gives.gave_up gives.next gives.forwards free gives.gives_up
@@ -338,7 +338,7 @@ module _ (P : ℕ → Type 0) where
         subst (λ (o : OutstandingState). KeepsHeld e.queues.queue.streams transfer.retransmission.outstanding.items between.waiting.streams o.items) (sym (begun_items answer.begun gives.gave_up.queue))
         (held_then e.queues.queue.streams transfer.retransmission.outstanding.items gives.gave_up.waiting.streams gives.gave_up.queue.outstanding.items between.waiting.streams gives.gave_up.queue.outstanding.items gave
         (held_alike gives.gave_up.waiting.streams between.waiting.streams gives.gave_up.queue.outstanding.items
-        (requesting_messages (streams_within (room_in e (filled draft (plain_contents answer.acknowledgements)))) answer.begun gives.gave_up.waiting) gave.free))
+        (requesting_messages (streams_within (room_of_draft e (filled_draft draft (plain_contents answer.acknowledgements)))) answer.begun gives.gave_up.waiting) gave.free))
 
     gives_held : KeepsHeld e.queues.queue.streams transfer.retransmission.outstanding.items answer.after.queues.queue.streams (items_in answer.after.queues.transfer)
     gives_held =
@@ -346,7 +346,7 @@ module _ (P : ℕ → Type 0) where
         (held_then e.queues.queue.streams transfer.retransmission.outstanding.items between.waiting.streams between.queue.outstanding.items gives.sent.waiting.streams gives.sent.queue.outstanding.items requested
         (fills_where_held e.moment (may_give between.waiting between.queue) between gives.sent requested.free gives.fills))
 
-  given_held : (b : Bool) (ask : Ask) (e : Endpoint) (draft : Emission) (transfer : Transfer) (answer : Answer) → GivesWhere b ask e draft transfer answer → e.queues.transfer ≡ Some transfer → FreeQueuesOn e.queues → HoldsQueues e.queues answer.after.queues
+  given_held : (b : Bool) (ask : Ask) (e : Endpoint) (draft : Emission) (transfer : Transfer) (answer : Answer) → GivesUnlessIdle b ask e draft transfer answer → e.queues.transfer ≡ Some transfer → FreeQueuesOn e.queues → HoldsQueues e.queues answer.after.queues
   given_held true ask e draft transfer answer gives known free = same_queues e.queues answer.after.queues (ap (λ (a : Answer). a.after.queues) gives) free
   given_held false ask e draft transfer answer gives known free =
       subst (λ (t : Option Transfer). KeepsHeld e.queues.queue.streams (items_in t) answer.after.queues.queue.streams (items_in answer.after.queues.transfer)) (sym known)
@@ -356,21 +356,21 @@ module _ (P : ℕ → Type 0) where
   answered_held ask e draft None answer answered known free = same_queues e.queues answer.after.queues (ap (λ (a : Answer). a.after.queues) answered) free
   answered_held ask e draft (Some transfer) answer answered known free = given_held (is_idle e.queues.queue transfer) ask e draft transfer answer answered known free
 
-  asked_held : (ask : Ask) (e : Endpoint) (draft : Emission) (answer : Answer) → IsFlushAnswer ask e draft answer → FreeQueuesOn e.queues → HoldsQueues e.queues (asked e draft answer).after.queues
+  asked_held : (ask : Ask) (e : Endpoint) (draft : Emission) (answer : Answer) → IsFlushAnswer ask e draft answer → FreeQueuesOn e.queues → HoldsQueues e.queues (asked_outcome e draft answer).after.queues
   asked_held ask e draft answer answered free =
       subst (λ (b : EndpointQueues). HoldsQueues e.queues b)
-      (sym (out_below answer.after (map filling_event answer.told) draft.with_checksum draft.packet.tag (filled draft (answer_contents answer)).packet.contents))
+      (sym (out_below answer.after (map filling_event answer.told) draft.with_checksum draft.packet.tag (filled_draft draft (answer_contents answer)).packet.contents))
       (answered_held ask e draft e.queues.transfer answer answered.by_transfer refl free)
 
   pub flush_held : (ask : Ask) (n : ℕ) (e : Endpoint) (draft : Emission) (answers : List Answer) → AreFlushAnswers ask n e draft answers → FreeQueuesOn e.queues → HoldsQueues e.queues (flush_of e draft answers).after.queues
   flush_held _ _ _ _ _ (at_limit ask e draft) free = same_held e.queues.queue.streams (items_in e.queues.transfer) free
   flush_held _ _ _ _ _ (at_empty ask more e draft answer is empty) free = asked_held ask e draft answer is free
   flush_held _ _ _ _ _ (after_packet ask more e draft answer answers is some rest) free =
-      let between : EndpointQueues = (asked e draft answer).after.queues in
-      let after : EndpointQueues = (flush_of (asked e draft answer).after (next_draft e.core draft) answers).after.queues in
+      let between : EndpointQueues = (asked_outcome e draft answer).after.queues in
+      let after : EndpointQueues = (flush_of (asked_outcome e draft answer).after (next_draft e.core draft) answers).after.queues in
       let one = asked_held ask e draft answer is free in
       held_then e.queues.queue.streams (items_in e.queues.transfer) between.queue.streams (items_in between.transfer) after.queue.streams (items_in after.transfer) one
-      (flush_held _ more (asked e draft answer).after (next_draft e.core draft) answers rest one.free)
+      (flush_held _ more (asked_outcome e draft answer).after (next_draft e.core draft) answers rest one.free)
 
   -- It was sent or waits then, as before.
   pub kept_held : (old new : History) (more : List Slot) (first acknowledged place : ℕ) (below after : EndpointQueues) → P place → new.log ≡ more ++ old.log → HoldsQueues below after → InFlight new first acknowledged after.transfer
@@ -408,7 +408,7 @@ placed_free id queued place other message are p same at =
     let one : p.message ≡ message = cc in
     unlimited_on_at id queued other message are at (ap (λ (m : Message). m.stream) (sym one) ∙ p.on)
 
-free_held : (id : ℕ) (queued : List Message) (history : History) (first acknowledged : ℕ) (streams : List Stream) (u : Option UnderWay) (transfer : Option Transfer) → AreUnlimitedOn id queued → Cut queued history.log → HoldsQueued queued history.log streams u
+free_held : (id : ℕ) (queued : List Message) (history : History) (first acknowledged : ℕ) (streams : List Stream) (u : Option UnderWay) (transfer : Option Transfer) → AreUnlimitedOn id queued → IsLogOfPieces queued history.log → HoldsQueued queued history.log streams u
     → InFlight history first acknowledged transfer → AreFreeOn (IsPlacedOn id queued) streams (items_in transfer)
 free_held id queued history first acknowledged streams u transfer are cut queue_holds flight =
     record {

@@ -7,13 +7,13 @@ use Rattle.dcsctp_spec.specs.association.Choices.{plain_contents}
 use Rattle.dcsctp_spec.specs.endpoint.BegunResets.{streams_within, request_contents, queue_requesting, retransmission_begun}
 use Rattle.dcsctp_spec.specs.endpoint.Endpoint.{Endpoint}
 use Rattle.dcsctp_spec.specs.endpoint.Event.{Event}
-use Rattle.dcsctp_spec.specs.endpoint.FlushOutcomes.{Ask, Gives, room_in, stage_of, may_forward, Answer, filled, GivesUpWhere, FillsWhere}
+use Rattle.dcsctp_spec.specs.endpoint.FlushOutcomes.{Ask, Gives, room_of_draft, stage_of, may_forward, Answer, filled_draft, GivesUpThenForwards, FillsIfAllowed}
 use Rattle.dcsctp_spec.specs.types.declared.sending.UnderWay.{UnderWay}
-use Rattle.dcsctp_spec.specs.types.queues.SendStreams.{Waiting, Stream, without_front, stream_counted, served, stream_at}
+use Rattle.dcsctp_spec.specs.types.queues.SendStreams.{Waiting, Stream, without_front, stream_counted, served_stream, stream_at}
 use Rattle.dcsctp_spec.specs.queues.Abandoning.{GivesUpFirst}
 use Rattle.dcsctp_spec.specs.queues.SendQueue.{SendQueueState}
-use Rattle.dcsctp_spec.specs.queues.Sending.{Fragment, Drops, none as drops_none, more as drops_more, reduced, next_turn, begun_message_counted as taking_turn, begun_numbered, without_rest, after_part, after_last, produced, is_last, TakesFragment, DiscardsNamed}
-use Rattle.dcsctp_spec.specs.queues.Filling.{Stage, ClosesMessage, GivesUpAt, payload_room, StepAgain, StepNew, StageSteps, none as steps_none, more as steps_more, resent_packet_counted, FillsPacket}
+use Rattle.dcsctp_spec.specs.queues.Sending.{Fragment, Drops, none as drops_none, more as drops_more, reduced_queue, next_turn, begun_message_counted as taking_turn, begun_numbered, without_rest, after_part, after_last, queue_after_producing, is_last, TakesFragment, DiscardsNamed}
+use Rattle.dcsctp_spec.specs.queues.Filling.{Stage, ClosesMessage, GivesUpItem, payload_room, StepAgain, StepNew, StageSteps, none as steps_none, more as steps_more, resent_packet_counted, FillsPacket}
 use Rattle.dcsctp_spec.specs.queues.Items.{Item}
 use Rattle.dcsctp_spec.specs.queues.Outstanding.{header}
 use Rattle.dcsctp_spec.specs.queues.Retransmission.{RetransmissionState}
@@ -28,7 +28,7 @@ pub record FollowsPauses (Relates : List Stream → List Stream → Type 0) : Ty
 module _ (Relates : List Stream → List Stream → Type 0) (follows : FollowsPauses Relates) where
   -- ---- one message
 
-  by_reduced : (place size : ℕ) (queue : SendQueueState) → Relates queue.streams (reduced place size queue).streams
+  by_reduced : (place size : ℕ) (queue : SendQueueState) → Relates queue.streams (reduced_queue place size queue).streams
   by_reduced place size queue = follows.set place (record (stream_at queue.streams place) { amount = (stream_at queue.streams place).amount - size }) queue.streams refl refl
 
   by_without : (place : ℕ) (streams : List Stream) → Relates streams (slice_set streams place (without_front (stream_at streams place)))
@@ -36,8 +36,8 @@ module _ (Relates : List Stream → List Stream → Type 0) (follows : FollowsPa
 
   by_rest : (place sent : ℕ) (message : Waiting) (queue : SendQueueState) → Relates queue.streams (without_rest place sent message queue).streams
   by_rest place sent message queue =
-      follows.both queue.streams (reduced place (length message.payload - sent) queue).streams (without_rest place sent message queue).streams
-      (by_reduced place (length message.payload - sent) queue) (by_without place (reduced place (length message.payload - sent) queue).streams)
+      follows.both queue.streams (reduced_queue place (length message.payload - sent) queue).streams (without_rest place sent message queue).streams
+      (by_reduced place (length message.payload - sent) queue) (by_without place (reduced_queue place (length message.payload - sent) queue).streams)
 
   pub by_dropped : {P : Type 0} (now : ℕ) (old : SendQueueState) (events : List (Event P)) (new : SendQueueState) → Drops now old events new → Relates old.streams new.streams
   by_dropped now old events new drops_none = follows.same old.streams
@@ -61,24 +61,24 @@ module _ (Relates : List Stream → List Stream → Type 0) (follows : FollowsPa
 
       go : (b : Bool) → Relates queue.streams (if b then taking_turn place message.is_unordered queue else queue).streams
       go true =
-          follows.set place (served (next_turn queue) (stream_counted queue.is_interleaved message.is_unordered (stream_at queue.streams place))) queue.streams
+          follows.set place (served_stream (next_turn queue) (stream_counted queue.is_interleaved message.is_unordered (stream_at queue.streams place))) queue.streams
           (its_id queue.is_interleaved message.is_unordered (stream_at queue.streams place)) (its_pause queue.is_interleaved message.is_unordered (stream_at queue.streams place))
       go false = follows.same queue.streams
 
   pub by_part : (place max : ℕ) (message : Waiting) (under_way : UnderWay) (queue : SendQueueState) → Relates queue.streams (after_part place max message under_way queue).streams
   by_part place max message under_way queue =
-      follows.both queue.streams (reduced place max queue).streams (after_part place max message under_way queue).streams (by_reduced place max queue)
-      (by_numbered place message under_way (reduced place max queue))
+      follows.both queue.streams (reduced_queue place max queue).streams (after_part place max message under_way queue).streams (by_reduced place max queue)
+      (by_numbered place message under_way (reduced_queue place max queue))
 
   by_last : (place : ℕ) (message : Waiting) (under_way : UnderWay) (queue : SendQueueState) → Relates queue.streams (after_last place message under_way queue).streams
   by_last place message under_way queue =
-      let less : SendQueueState = reduced place (length message.payload - under_way.sent) queue in
+      let less : SendQueueState = reduced_queue place (length message.payload - under_way.sent) queue in
       let numbered : SendQueueState = begun_numbered place message under_way less in
       follows.both queue.streams numbered.streams (after_last place message under_way queue).streams
       (follows.both queue.streams less.streams numbered.streams (by_reduced place (length message.payload - under_way.sent) queue) (by_numbered place message under_way less))
       (by_without place numbered.streams)
 
-  pub by_produced : (place max : ℕ) (message : Waiting) (under_way : UnderWay) (queue : SendQueueState) → Relates queue.streams (produced place max message under_way queue).streams
+  pub by_produced : (place max : ℕ) (message : Waiting) (under_way : UnderWay) (queue : SendQueueState) → Relates queue.streams (queue_after_producing place max message under_way queue).streams
   by_produced place max message under_way queue = go (is_last max message under_way)
     where
       go : (b : Bool) → Relates queue.streams (if b then after_last place message under_way queue else after_part place max message under_way queue).streams
@@ -88,7 +88,7 @@ module _ (Relates : List Stream → List Stream → Type 0) (follows : FollowsPa
   pub by_taken : {P : Type 0} (now max : ℕ) (old new : SendQueueState) (before after : List (Event P)) (part : Fragment) → TakesFragment now max old before part new after → Relates old.streams new.streams
   by_taken now max old new before after part takes =
       subst (λ (q : SendQueueState). Relates old.streams q.streams) (sym takes.left)
-      (follows.both old.streams takes.queue.streams (produced takes.place max takes.message takes.under_way takes.queue).streams (by_dropped now old takes.drops.events takes.queue takes.drops.drops)
+      (follows.both old.streams takes.queue.streams (queue_after_producing takes.place max takes.message takes.under_way takes.queue).streams (by_dropped now old takes.drops.events takes.queue takes.drops.drops)
       (by_produced takes.place max takes.message takes.under_way takes.queue))
 
   pub by_discarded : {P : Type 0} (old new : SendQueueState) (stream message_id : ℕ) (before after : List (Event P)) (dropped : Bool) → DiscardsNamed old stream message_id before dropped new after
@@ -116,7 +116,7 @@ module _ (Relates : List Stream → List Stream → Type 0) (follows : FollowsPa
         | inr e ↦ same_stage old new (ap (λ (s : Stage). s.waiting) e.1)
       ]
 
-  pub by_giving_up : (now place : ℕ) (old new : Stage) → GivesUpAt now place old new → StagesRelate old new
+  pub by_giving_up : (now place : ℕ) (old new : Stage) → GivesUpItem now place old new → StagesRelate old new
   by_giving_up now place old new gives =
       stages_then old gives.closed new (by_closing now gives.last old gives.closed gives.last.fragment.is_end gives.closes) (same_stage gives.closed new (ap (λ (s : Stage). s.waiting) gives.is))
 
@@ -147,22 +147,22 @@ module _ (Relates : List Stream → List Stream → Type 0) (follows : FollowsPa
 
   -- ---- one packet, before the request and after it
 
-  by_giving_up_where : (b : Bool) (now room : ℕ) (transfer : Transfer) (old new : Stage) (next : Option ℕ) (chunks : List Plain) → GivesUpWhere b now transfer room old new next chunks → StagesRelate old new
+  by_giving_up_where : (b : Bool) (now room : ℕ) (transfer : Transfer) (old new : Stage) (next : Option ℕ) (chunks : List Plain) → GivesUpThenForwards b now transfer room old new next chunks → StagesRelate old new
   by_giving_up_where true now room transfer old new next chunks gives = by_steps (GivesUpFirst now) (λ o n s. by_giving_up now s.place o n s.gives_up) old new gives.0.steps
   by_giving_up_where false now room transfer old new next chunks gives = same_stage old new (ap (λ (s : Stage). s.waiting) gives.0)
 
-  by_filling_where : (now : ℕ) (b : Bool) (old new : Stage) → FillsWhere b now old new → StagesRelate old new
+  by_filling_where : (now : ℕ) (b : Bool) (old new : Stage) → FillsIfAllowed b now old new → StagesRelate old new
   by_filling_where now true old new fills = by_filling now old new fills
   by_filling_where now false old new fills = elim fills [ inl e ↦ same_stage old new (ap (λ (s : Stage). s.waiting) e) | inr e ↦ by_filling now old new e ]
 
   pub before_request : (ask : Ask) (e : Endpoint) (draft : Emission) (transfer : Transfer) (answer : Answer) (gives : Gives ask e draft transfer answer) → Relates e.queues.queue.streams gives.gave_up.waiting.streams
   before_request ask e draft transfer answer gives =
-      by_giving_up_where (may_forward ask e transfer.retransmission) e.moment (room_in e (filled draft (plain_contents gives.sacks))) transfer (stage_of e.queues.queue transfer.retransmission [] 0) gives.gave_up gives.next
+      by_giving_up_where (may_forward ask e transfer.retransmission) e.moment (room_of_draft e (filled_draft draft (plain_contents gives.sacks))) transfer (stage_of e.queues.queue transfer.retransmission [] 0) gives.gave_up gives.next
       gives.forwards gives.gives_up
 
   pub after_request : (ask : Ask) (e : Endpoint) (draft : Emission) (transfer : Transfer) (answer : Answer) (gives : Gives ask e draft transfer answer)
-      → Relates (queue_requesting (streams_within (room_in e (filled draft (plain_contents answer.acknowledgements)))) answer.begun gives.gave_up.waiting).streams gives.sent.waiting.streams
+      → Relates (queue_requesting (streams_within (room_of_draft e (filled_draft draft (plain_contents answer.acknowledgements)))) answer.begun gives.gave_up.waiting).streams gives.sent.waiting.streams
   after_request ask e draft transfer answer gives =
-      let left : SendQueueState = queue_requesting (streams_within (room_in e (filled draft (plain_contents answer.acknowledgements)))) answer.begun gives.gave_up.waiting in
+      let left : SendQueueState = queue_requesting (streams_within (room_of_draft e (filled_draft draft (plain_contents answer.acknowledgements)))) answer.begun gives.gave_up.waiting in
       let begun : RetransmissionState = retransmission_begun answer.begun gives.gave_up.queue in
-      by_filling_where e.moment (may_give left begun) (stage_of left begun gives.gave_up.told (room_in e (filled draft (plain_contents answer.acknowledgements ++ request_contents answer.begun)))) gives.sent gives.fills
+      by_filling_where e.moment (may_give left begun) (stage_of left begun gives.gave_up.told (room_of_draft e (filled_draft draft (plain_contents answer.acknowledgements ++ request_contents answer.begun)))) gives.sent gives.fills

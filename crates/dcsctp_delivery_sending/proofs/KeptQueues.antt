@@ -2,13 +2,13 @@
 use Rattle.std.proofs.Common.{◌≡◌, ◌==◌, ℕ, zero, suc, Bool, true, false, List, [], ◌∷◌, length, map, refl, sym, ◌∙◌, ap, arith, subst, inl}
 use Rattle.std.specs.Prelude.{Option, None, Some, if◌then◌else◌}
 use Rattle.dcsctp_spec.specs.types.declared.sending.UnderWay.{UnderWay}
-use Rattle.dcsctp_spec.specs.types.queues.SendStreams.{Stream, stream_at, unused, begun_anew, amount_raised}
+use Rattle.dcsctp_spec.specs.types.queues.SendStreams.{Stream, stream_at, unused_stream, renumbered_stream, amount_raised}
 use Rattle.dcsctp_spec.specs.queues.SendQueue.{SendQueueState, stream_changed, put_back, queue_restarted}
 use Rattle.dcsctp_delivery_sending.specs.Log.{Message, Slot, History, new_history}
 use Rattle.dcsctp_delivery_sending.specs.Pieces.{Going, HoldsQueued}
 use Rattle.dcsctp_delivery_sending.specs.Queueing.{QueueHolds, QueueWaits}
 use Rattle.dcsctp_delivery_sending.proofs.Streams.{Alike, alike_hold}
-use Rattle.dcsctp_delivery_sending.specs.Numbers.{KeptWhere, CountsWhere, Numbered}
+use Rattle.dcsctp_delivery_sending.specs.Numbers.{IsUnderWayKept, CountsByKind, NumbersMessages}
 use Rattle.dcsctp_delivery_sending.proofs.Counting.{Begins, counts_idle, counts_anew, ssns_anew}
 
 -- ---- another association
@@ -19,7 +19,7 @@ fresh_going queued log streams (Some u) g =
     record { place = g.place; message = g.message; at = g.at; unfinished = g.unfinished; begun = g.begun; there = g.there; came = inl refl; front = g.front }
 
 -- the numbers continue
-pub begins_again : (b : Bool) (history : History) (streams : List Stream) (u : Option UnderWay) → CountsWhere b history streams u → Begins b streams u
+pub begins_again : (b : Bool) (history : History) (streams : List Stream) (u : Option UnderWay) → CountsByKind b history streams u → Begins b streams u
 begins_again true history streams u counts = counts_anew history streams u counts
 begins_again false history streams u counts = ssns_anew streams u
 
@@ -29,7 +29,7 @@ begins_idle true streams = counts_idle streams
 begins_idle false streams = ssns_anew streams None
 
 -- so they are numbered
-pub numbered_new : (queue : SendQueueState) (begins : Begins queue.is_interleaved queue.streams queue.under_way) → KeptWhere queue.streams queue.under_way → Numbered (new_history begins.floors) queue
+pub numbered_new : (queue : SendQueueState) (begins : Begins queue.is_interleaved queue.streams queue.under_way) → IsUnderWayKept queue.streams queue.under_way → NumbersMessages (new_history begins.floors) queue
 numbered_new queue begins kept = record { kinds = λ n f at. absurd (cc); counts = begins.counts; kept = kept }
 
 -- what waits is held also where an association begins
@@ -54,7 +54,7 @@ kept_hold queued history queue queues =
     }
 
 -- streams of which numbers and amounts alone changed
-pub mapped_alike : (f : Stream → Stream) → ((s : Stream) → (f s).id ≡ s.id) → ((s : Stream) → (f s).messages ≡ s.messages) → (f (unused 0 0 0)).messages ≡ [] → (streams : List Stream) → Alike streams (map f streams)
+pub mapped_alike : (f : Stream → Stream) → ((s : Stream) → (f s).id ≡ s.id) → ((s : Stream) → (f s).messages ≡ s.messages) → (f (unused_stream 0 0 0)).messages ≡ [] → (streams : List Stream) → Alike streams (map f streams)
 mapped_alike f same_id same none streams = record { sizes = sizes streams; ids = ids streams; messages = messages streams }
   where
     sizes : (l : List Stream) → length (map f l) ≡ length l
@@ -90,7 +90,7 @@ back_streams : (queued : List Message) (u : Option UnderWay) (queue : SendQueueS
 back_streams queued None queue queue_holds = queue_holds
 back_streams queued (Some u) queue queue_holds =
     alike_hold queued [] None queue.streams (stream_changed u.stream_id.0 (amount_raised u.sent) queue.streams)
-    (mapped_alike (λ s. if s.id == u.stream_id.0 then amount_raised u.sent s else s) (λ s. one_id (s.id == u.stream_id.0) s) (λ s. one_messages (s.id == u.stream_id.0) s) (one_messages ((unused 0 0 0).id == u.stream_id.0) (unused 0 0 0)) queue.streams) queue_holds
+    (mapped_alike (λ s. if s.id == u.stream_id.0 then amount_raised u.sent s else s) (λ s. one_id (s.id == u.stream_id.0) s) (λ s. one_messages (s.id == u.stream_id.0) s) (one_messages ((unused_stream 0 0 0).id == u.stream_id.0) (unused_stream 0 0 0)) queue.streams) queue_holds
   where
     one_id : (b : Bool) (s : Stream) → (if b then amount_raised u.sent s else s).id ≡ s.id
     one_id true s = refl
@@ -117,17 +117,17 @@ restarted_hold queued history queue queues =
     record {
       floors = begins.floors;
       holds = record {
-        queue_holds = subst (λ (u : Option UnderWay). HoldsQueued queued [] (map begun_anew (put_back queue.under_way queue).streams) u) (sym idle)
-            (alike_hold queued [] None (put_back queue.under_way queue).streams (map begun_anew (put_back queue.under_way queue).streams)
-            (mapped_alike begun_anew (λ s. refl) (λ s. refl) refl (put_back queue.under_way queue).streams) back);
+        queue_holds = subst (λ (u : Option UnderWay). HoldsQueued queued [] (map renumbered_stream (put_back queue.under_way queue).streams) u) (sym idle)
+            (alike_hold queued [] None (put_back queue.under_way queue).streams (map renumbered_stream (put_back queue.under_way queue).streams)
+            (mapped_alike renumbered_stream (λ s. refl) (λ s. refl) refl (put_back queue.under_way queue).streams) back);
         next = back_next queue.under_way queue ∙ queues.next;
-        numbers = numbered_new (queue_restarted queue) begins (subst (λ (u : Option UnderWay). KeptWhere (queue_restarted queue).streams u) (sym idle) tt);
+        numbers = numbered_new (queue_restarted queue) begins (subst (λ (u : Option UnderWay). IsUnderWayKept (queue_restarted queue).streams u) (sym idle) tt);
       };
     }
 
 pub one_set : (f : Stream → Stream) → ((s : Stream) → (f s).id ≡ s.id) → ((s : Stream) → (f s).messages ≡ s.messages) → (id : ℕ) (streams : List Stream) → Alike streams (stream_changed id f streams)
 one_set f same_id same id streams =
-    mapped_alike (λ s. if s.id == id then f s else s) (λ s. keeps_id (s.id == id) s) (λ s. keeps_messages (s.id == id) s) (keeps_messages ((unused 0 0 0).id == id) (unused 0 0 0)) streams
+    mapped_alike (λ s. if s.id == id then f s else s) (λ s. keeps_id (s.id == id) s) (λ s. keeps_messages (s.id == id) s) (keeps_messages ((unused_stream 0 0 0).id == id) (unused_stream 0 0 0)) streams
   where
     keeps_id : (b : Bool) (s : Stream) → (if b then f s else s).id ≡ s.id
     keeps_id true s = same_id s

@@ -9,22 +9,22 @@ use Rattle.dcsctp_spec.specs.types.declared.progress.Change.TheVariants.{SendAga
 use Rattle.dcsctp_spec.specs.types.declared.progress.ItemState.{ItemState}
 use Rattle.dcsctp_spec.specs.types.declared.progress.ItemState.TheVariants.{InFlight, Marked, Acknowledged, Abandoned}
 use Rattle.dcsctp_spec.specs.types.declared.progress.Progress.{Progress}
-use Rattle.dcsctp_spec.specs.types.queues.Progress.{is_marked, is_abandoned, just_sent, missed, missed_where, marked_lost, acknowledged, progress_changed, tells_of}
+use Rattle.dcsctp_spec.specs.types.queues.Progress.{is_marked, is_abandoned, just_sent, missed_progress, missed_if_told, marked_lost, acknowledged_progress, progress_changed, tells_whether_missing}
 use Rattle.dcsctp_spec.specs.queues.Items.{Item}
 use Rattle.dcsctp_spec.specs.queues.NextItem.{is_used_up, is_over, is_abandonment_due}
 use Rattle.dcsctp_spec.specs.queues.Sending.{Fragment}
 use Rattle.dcsctp_delivery_sending.specs.Log.{Slot, History}
-use Rattle.dcsctp_delivery_sending.specs.Pieces.{LimitedWhere}
+use Rattle.dcsctp_delivery_sending.specs.Pieces.{HasNoLimits}
 use Rattle.dcsctp_delivery_sending.specs.Queueing.{has_limits}
 use Rattle.dcsctp_delivery_sending.specs.Stages.{IsNamedFragment, IsOfLimited}
 use Rattle.dcsctp_delivery_sending.proofs.Places.{at_stays}
 
 -- a message that waits has the limits of its options
 pub no_limits : (now : ℕ) (options : SendOptions)
-    → LimitedWhere (has_limits options) (option_map (λ lifetime. min (now + as_nanos lifetime) max_nanos) options.lifetime) options.max_retransmissions
+    → HasNoLimits (has_limits options) (option_map (λ lifetime. min (now + as_nanos lifetime) max_nanos) options.lifetime) options.max_retransmissions
 no_limits now options = go (λ lifetime. min (now + as_nanos lifetime) max_nanos) options.lifetime options.max_retransmissions
   where
-    go : {A : Type 0} (ends : A → ℕ) (lifetime : Option A) (most : Option ℕ) → LimitedWhere (is_some lifetime || is_some most) (option_map ends lifetime) most
+    go : {A : Type 0} (ends : A → ℕ) (lifetime : Option A) (most : Option ℕ) → HasNoLimits (is_some lifetime || is_some most) (option_map ends lifetime) most
     go ends None None free = (refl, refl)
     go ends None (Some most) free = absurd (cc)
     go ends (Some lifetime) most free = absurd (cc)
@@ -39,20 +39,20 @@ pub sending_leaves : (next : ℕ) → Leaves (SendAgain next)
 sending_leaves next progress is = absurd (cc)
 
 pub missing_leaves : (newest : Option ℕ) → Leaves (Miss newest)
-missing_leaves newest progress is = told (tells_of progress.sent_before newest) is
+missing_leaves newest progress is = told (tells_whether_missing progress.sent_before newest) is
   where
     few : (a b : Bool) → is_abandoned (if a then record progress { state = Marked; misses = 3 } else if b then record progress { misses = progress.misses + 1 } else progress).state ≡ true → is_abandoned progress.state ≡ true
     few true b is = absurd (cc)
     few false true is = is
     few false false is = is
 
-    one : (state : ItemState) → is_abandoned (missed state progress).state ≡ true → is_abandoned progress.state ≡ true
+    one : (state : ItemState) → is_abandoned (missed_progress state progress).state ≡ true → is_abandoned progress.state ≡ true
     one InFlight is = few (progress.misses == 2) (nat_lt progress.misses 2) is
     one Marked is = is
     one Acknowledged is = is
     one Abandoned is = is
 
-    told : (tells : Bool) → is_abandoned (missed_where tells progress).state ≡ true → is_abandoned progress.state ≡ true
+    told : (tells : Bool) → is_abandoned (missed_if_told tells progress).state ≡ true → is_abandoned progress.state ≡ true
     told true is = one progress.state is
     told false is = is
 
@@ -68,7 +68,7 @@ losing_leaves progress is = one progress.state is
 pub acknowledging_leaves : Leaves Acknowledge
 acknowledging_leaves progress is = one progress.state is
   where
-    one : (state : ItemState) → is_abandoned (acknowledged state progress).state ≡ true → is_abandoned progress.state ≡ true
+    one : (state : ItemState) → is_abandoned (acknowledged_progress state progress).state ≡ true → is_abandoned progress.state ≡ true
     one InFlight is = absurd (cc)
     one Marked is = absurd (cc)
     one Acknowledged is = is
@@ -79,15 +79,15 @@ abbrev pub Keeps : Change → Type 0
 Keeps change = (progress : Progress) → is_abandoned progress.state ≡ true → is_abandoned (progress_changed change progress).state ≡ true
 
 pub missing_keeps : (newest : Option ℕ) → Keeps (Miss newest)
-missing_keeps newest progress is = told (tells_of progress.sent_before newest)
+missing_keeps newest progress is = told (tells_whether_missing progress.sent_before newest)
   where
-    one : (state : ItemState) → is_abandoned state ≡ true → is_abandoned progress.state ≡ true → is_abandoned (missed state progress).state ≡ true
+    one : (state : ItemState) → is_abandoned state ≡ true → is_abandoned progress.state ≡ true → is_abandoned (missed_progress state progress).state ≡ true
     one InFlight same is' = absurd (cc)
     one Marked same is' = is'
     one Acknowledged same is' = is'
     one Abandoned same is' = is'
 
-    told : (tells : Bool) → is_abandoned (missed_where tells progress).state ≡ true
+    told : (tells : Bool) → is_abandoned (missed_if_told tells progress).state ≡ true
     told true = one progress.state is is
     told false = is
 
@@ -103,7 +103,7 @@ losing_keeps progress is = one progress.state is
 pub acknowledging_keeps : Keeps Acknowledge
 acknowledging_keeps progress is = one progress.state is
   where
-    one : (state : ItemState) → is_abandoned state ≡ true → is_abandoned (acknowledged state progress).state ≡ true
+    one : (state : ItemState) → is_abandoned state ≡ true → is_abandoned (acknowledged_progress state progress).state ≡ true
     one InFlight same = absurd (cc)
     one Marked same = absurd (cc)
     one Acknowledged same = is
@@ -138,7 +138,7 @@ pub limited_due : (history : History) (own now : ℕ) (negotiated : Bool) (item 
 limited_due history own now negotiated item n due =
     record { number = n.number; piece = n.piece; at = n.at; of = n.of; limited = go n.piece.message.is_limited n.limits }
   where
-    go : (limited : Bool) → LimitedWhere limited item.fragment.expires_at item.fragment.max_retransmissions → limited ≡ true
+    go : (limited : Bool) → HasNoLimits limited item.fragment.expires_at item.fragment.max_retransmissions → limited ≡ true
     go true limits = refl
     go false limits = absurd (never_due now negotiated item (limits refl).0 (limits refl).1 due)
 

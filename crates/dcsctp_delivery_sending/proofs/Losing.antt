@@ -14,11 +14,11 @@ use Rattle.dcsctp_spec.specs.queues.SendQueue.{SendQueueState, stream_changed}
 use Rattle.dcsctp_spec.specs.queues.Transfer.{Transfer, EndpointQueues, may_give, is_idle}
 use Rattle.dcsctp_spec.specs.endpoint.Endpoint.{Endpoint}
 use Rattle.dcsctp_spec.specs.endpoint.BegunResets.{BegunReset, streams_within, request_contents, queue_requesting, retransmission_begun}
-use Rattle.dcsctp_spec.specs.endpoint.FlushOutcomes.{Ask, Gives, room_in, stage_of, may_forward, filling_event, Answer, answer_contents, filled, asked, next_draft, flush_of, first_ask, packets_allowed, GivesUpWhere, FillsWhere, GivesWhere, IsAnswerOfQueues, IsFlushAnswer, AreFlushAnswers, at_limit, at_empty, after_packet, FlushAnswers}
+use Rattle.dcsctp_spec.specs.endpoint.FlushOutcomes.{Ask, Gives, room_of_draft, stage_of, may_forward, filling_event, Answer, answer_contents, filled_draft, asked_outcome, next_draft, flush_of, first_ask, packets_allowed, GivesUpThenForwards, FillsIfAllowed, GivesUnlessIdle, IsAnswerOfQueues, IsFlushAnswer, AreFlushAnswers, at_limit, at_empty, after_packet, FlushAnswers}
 use Rattle.dcsctp_delivery_sending.specs.Places.{HasEntry, at_place}
-use Rattle.dcsctp_delivery_sending.specs.Log.{Message, Slot, Cut, History, log_extended, with_mark}
+use Rattle.dcsctp_delivery_sending.specs.Log.{Message, Slot, IsLogOfPieces, History, log_extended, with_mark}
 use Rattle.dcsctp_delivery_sending.specs.Pieces.{WaitingWasQueued, AllQueued, HoldsQueued}
-use Rattle.dcsctp_delivery_sending.specs.Flushes.{InFlight, QueuesFollowLog, SendsLogged, reset_begun_by}
+use Rattle.dcsctp_delivery_sending.specs.Flushes.{InFlight, QueuesFollowLog, SendsLogged, begun_reset_of}
 use Rattle.dcsctp_delivery_sending.specs.Losing.{AreUnlimited, WasSentOf, IsKept, NoneLost}
 use Rattle.dcsctp_delivery_sending.proofs.Extended.{at_more}
 use Rattle.dcsctp_delivery_sending.proofs.Handing.{changed_alike}
@@ -28,11 +28,11 @@ use Rattle.dcsctp_delivery_sending.proofs.Places.{at_cases}
 
 -- ---- one packet
 
-gives_up_where_keeps : (b : Bool) (now room : ℕ) (transfer : Transfer) (old new : Stage) (next : Option ℕ) (chunks : List Plain) → FreeStage old → GivesUpWhere b now transfer room old new next chunks → KeepsStage old new
+gives_up_where_keeps : (b : Bool) (now room : ℕ) (transfer : Transfer) (old new : Stage) (next : Option ℕ) (chunks : List Plain) → FreeStage old → GivesUpThenForwards b now transfer room old new next chunks → KeepsStage old new
 gives_up_where_keeps true now room transfer old new next chunks free gives = gives_up_keeps now old new free gives.0
 gives_up_where_keeps false now room transfer old new next chunks free gives = same_keeps old new gives.0 free
 
-fills_where_keeps : (now : ℕ) (b : Bool) (old new : Stage) → FreeStage old → FillsWhere b now old new → KeepsStage old new
+fills_where_keeps : (now : ℕ) (b : Bool) (old new : Stage) → FreeStage old → FillsIfAllowed b now old new → KeepsStage old new
 fills_where_keeps now true old new free fills = fills_keep now old new free fills
 fills_where_keeps now false old new free fills = elim fills [ inl e ↦ same_keeps old new e free | inr e ↦ fills_keep now old new free e ]
 
@@ -69,8 +69,8 @@ module _ (ask : Ask) (e : Endpoint) (draft : Emission) (transfer : Transfer) (an
   -- once a request was begun, if one was
   abbrev between : Stage
   between =
-      stage_of (queue_requesting (streams_within (room_in e (filled draft (plain_contents answer.acknowledgements)))) answer.begun gives.gave_up.waiting) (retransmission_begun answer.begun gives.gave_up.queue) gives.gave_up.told
-      (room_in e (filled draft (plain_contents answer.acknowledgements ++ request_contents answer.begun)))
+      stage_of (queue_requesting (streams_within (room_of_draft e (filled_draft draft (plain_contents answer.acknowledgements)))) answer.begun gives.gave_up.waiting) (retransmission_begun answer.begun gives.gave_up.queue) gives.gave_up.told
+      (room_of_draft e (filled_draft draft (plain_contents answer.acknowledgements ++ request_contents answer.begun)))
 
   gave : KeepsStage (stage_of e.queues.queue transfer.retransmission [] 0) gives.gave_up
   gave = gives_up_where_keeps (may_forward ask e transfer.retransmission) e.moment _ transfer (stage_of e.queues.queue transfer.retransmission [] 0) gives.gave_up gives.next gives.forwards free gives.gives_up
@@ -80,7 +80,7 @@ module _ (ask : Ask) (e : Endpoint) (draft : Emission) (transfer : Transfer) (an
       subst (λ (o : OutstandingState). Keeps e.queues.queue.streams transfer.retransmission.outstanding.items between.waiting.streams o.items) (sym (begun_items answer.begun gives.gave_up.queue))
       (keeps_then e.queues.queue.streams transfer.retransmission.outstanding.items gives.gave_up.waiting.streams gives.gave_up.queue.outstanding.items between.waiting.streams gives.gave_up.queue.outstanding.items gave
       (keeps_alike gives.gave_up.waiting.streams between.waiting.streams gives.gave_up.queue.outstanding.items
-      (requesting_messages (streams_within (room_in e (filled draft (plain_contents answer.acknowledgements)))) answer.begun gives.gave_up.waiting) gave.free))
+      (requesting_messages (streams_within (room_of_draft e (filled_draft draft (plain_contents answer.acknowledgements)))) answer.begun gives.gave_up.waiting) gave.free))
 
   gives_keep : Keeps e.queues.queue.streams transfer.retransmission.outstanding.items answer.after.queues.queue.streams (items_in answer.after.queues.transfer)
   gives_keep =
@@ -88,7 +88,7 @@ module _ (ask : Ask) (e : Endpoint) (draft : Emission) (transfer : Transfer) (an
       (keeps_then e.queues.queue.streams transfer.retransmission.outstanding.items between.waiting.streams between.queue.outstanding.items gives.sent.waiting.streams gives.sent.queue.outstanding.items requested
       (fills_where_keeps e.moment (may_give between.waiting between.queue) between gives.sent requested.free gives.fills))
 
-given_keeps : (b : Bool) (ask : Ask) (e : Endpoint) (draft : Emission) (transfer : Transfer) (answer : Answer) → GivesWhere b ask e draft transfer answer → e.queues.transfer ≡ Some transfer → FreeQueues e.queues → KeepsQueues e.queues answer.after.queues
+given_keeps : (b : Bool) (ask : Ask) (e : Endpoint) (draft : Emission) (transfer : Transfer) (answer : Answer) → GivesUnlessIdle b ask e draft transfer answer → e.queues.transfer ≡ Some transfer → FreeQueues e.queues → KeepsQueues e.queues answer.after.queues
 given_keeps true ask e draft transfer answer gives known free = same_queues e.queues answer.after.queues (ap (λ (a : Answer). a.after.queues) gives) free
 given_keeps false ask e draft transfer answer gives known free =
     subst (λ (t : Option Transfer). Keeps e.queues.queue.streams (items_in t) answer.after.queues.queue.streams (items_in answer.after.queues.transfer)) (sym known)
@@ -98,10 +98,10 @@ answered_keeps : (ask : Ask) (e : Endpoint) (draft : Emission) (transfer : Optio
 answered_keeps ask e draft None answer answered known free = same_queues e.queues answer.after.queues (ap (λ (a : Answer). a.after.queues) answered) free
 answered_keeps ask e draft (Some transfer) answer answered known free = given_keeps (is_idle e.queues.queue transfer) ask e draft transfer answer answered known free
 
-asked_keeps : (ask : Ask) (e : Endpoint) (draft : Emission) (answer : Answer) → IsFlushAnswer ask e draft answer → FreeQueues e.queues → KeepsQueues e.queues (asked e draft answer).after.queues
+asked_keeps : (ask : Ask) (e : Endpoint) (draft : Emission) (answer : Answer) → IsFlushAnswer ask e draft answer → FreeQueues e.queues → KeepsQueues e.queues (asked_outcome e draft answer).after.queues
 asked_keeps ask e draft answer answered free =
     subst (λ (b : EndpointQueues). KeepsQueues e.queues b)
-    (sym (out_below answer.after (map filling_event answer.told) draft.with_checksum draft.packet.tag (filled draft (answer_contents answer)).packet.contents))
+    (sym (out_below answer.after (map filling_event answer.told) draft.with_checksum draft.packet.tag (filled_draft draft (answer_contents answer)).packet.contents))
     (answered_keeps ask e draft e.queues.transfer answer answered.by_transfer refl free)
 
 -- ---- a flush
@@ -110,11 +110,11 @@ pub flush_keeps : (ask : Ask) (n : ℕ) (e : Endpoint) (draft : Emission) (answe
 flush_keeps _ _ _ _ _ (at_limit ask e draft) free = keeps_same e.queues.queue.streams (items_in e.queues.transfer) free
 flush_keeps _ _ _ _ _ (at_empty ask more e draft answer is empty) free = asked_keeps ask e draft answer is free
 flush_keeps _ _ _ _ _ (after_packet ask more e draft answer answers is some rest) free =
-    let between : EndpointQueues = (asked e draft answer).after.queues in
-    let after : EndpointQueues = (flush_of (asked e draft answer).after (next_draft e.core draft) answers).after.queues in
+    let between : EndpointQueues = (asked_outcome e draft answer).after.queues in
+    let after : EndpointQueues = (flush_of (asked_outcome e draft answer).after (next_draft e.core draft) answers).after.queues in
     let one = asked_keeps ask e draft answer is free in
     keeps_then e.queues.queue.streams (items_in e.queues.transfer) between.queue.streams (items_in between.transfer) after.queue.streams (items_in after.transfer) one
-    (flush_keeps _ more (asked e draft answer).after (next_draft e.core draft) answers rest one.free)
+    (flush_keeps _ more (asked_outcome e draft answer).after (next_draft e.core draft) answers rest one.free)
 
 -- ---- by the log
 
@@ -131,7 +131,7 @@ queued_of queued id [] w are has = absurd has
 queued_of queued id (v ∷ messages) w are has = elim has [ inl e ↦ subst (λ (x : Waiting). WaitingWasQueued queued id x) (sym e) are.0 | inr t ↦ queued_of queued id messages w are.1 t ]
 
 -- Nothing has limits where no message that was queued has.
-pub free_of : (queued : List Message) (history : History) (first acknowledged : ℕ) (streams : List Stream) (u : Option UnderWay) (transfer : Option Transfer) → AreUnlimited queued → Cut queued history.log → HoldsQueued queued history.log streams u
+pub free_of : (queued : List Message) (history : History) (first acknowledged : ℕ) (streams : List Stream) (u : Option UnderWay) (transfer : Option Transfer) → AreUnlimited queued → IsLogOfPieces queued history.log → HoldsQueued queued history.log streams u
     → InFlight history first acknowledged transfer → AreFree streams (items_in transfer)
 free_of queued history first acknowledged streams u transfer are cut queue_holds flight =
     record {
@@ -193,11 +193,11 @@ marked_log (Some begun) ids bound history = refl
 
 pub flushing_loses_none : (queued : List Message) (history : History) (first acknowledged : ℕ) (e : Endpoint) (draft : Emission) (answers : List Answer) → AreUnlimited queued → QueuesFollowLog queued history first acknowledged e.queues
     → FlushAnswers e draft answers
-    → (sends : SendsLogged queued history first acknowledged e.queues.queue (reset_begun_by answers) (flush_of e draft answers).after.queues (flush_of e draft answers).events)
+    → (sends : SendsLogged queued history first acknowledged e.queues.queue (begun_reset_of answers) (flush_of e draft answers).after.queues (flush_of e draft answers).events)
     → NoneLost queued history.log e.queues.queue.streams → NoneLost queued (sends.more ++ history.log) (flush_of e draft answers).after.queues.queue.streams
 flushing_loses_none queued history first acknowledged e draft answers are stands allowed sends lost =
-    let new : History = with_mark (reset_begun_by answers) sends.ids sends.bound (log_extended sends.more history) in
-    let same : new.log ≡ sends.more ++ history.log = marked_log (reset_begun_by answers) sends.ids sends.bound (log_extended sends.more history) in
+    let new : History = with_mark (begun_reset_of answers) sends.ids sends.bound (log_extended sends.more history) in
+    let same : new.log ≡ sends.more ++ history.log = marked_log (begun_reset_of answers) sends.ids sends.bound (log_extended sends.more history) in
     subst (λ (l : List Slot). NoneLost queued l (flush_of e draft answers).after.queues.queue.streams) same
     (λ place message at.
     kept_on history new sends.more first acknowledged place e.queues (flush_of e draft answers).after.queues same

@@ -10,7 +10,7 @@ use Rattle.dcsctp_spec.specs.queues.Retransmission.{RetransmissionState, counted
 use Rattle.dcsctp_spec.specs.queues.SendQueue.{SendQueueState}
 use Rattle.dcsctp_spec.specs.queues.Sending.{Fragment, TakesFragment, Chooses, Discards}
 use Rattle.dcsctp_delivery_sending.specs.Places.{HasEntry, at_place}
-use Rattle.dcsctp_delivery_sending.specs.Log.{Message, Piece, Slot, Cut, Mark, History, Resets, with_slot}
+use Rattle.dcsctp_delivery_sending.specs.Log.{Message, Piece, Slot, IsLogOfPieces, Mark, History, Resets, with_slot}
 use Rattle.dcsctp_delivery_sending.specs.Pieces.{IsGoing, HoldsQueued, HandsOutPiece}
 use Rattle.dcsctp_delivery_sending.specs.Stages.{IsNamedFragment, Pends, IsMark, AreMarks}
 use Rattle.dcsctp_delivery_sending.proofs.Places.{decide, at_below, at_cases, at_stays}
@@ -99,7 +99,7 @@ takes_on queued history now max old new before after part handed takes started =
     go (Some u) is chosen =
         record { under_way = u; is = is; stream = sym (ap (λ (v : UnderWay). v.stream_id.0) chosen.1) ∙ sym (ap (λ (f : Fragment). f.stream) takes.is) ∙ handed.says.stream }
 
-module _ (queued : List Message) (history : History) (first : ℕ) (old_going new_going : Option UnderWay) (part : Fragment) (new : SendQueueState) (handed : HandsOutPiece queued history part new) (cut : Cut queued history.log)
+module _ (queued : List Message) (history : History) (first : ℕ) (old_going new_going : Option UnderWay) (part : Fragment) (new : SendQueueState) (handed : HandsOutPiece queued history part new) (cut : IsLogOfPieces queued history.log)
     (goes_on : 0 < handed.piece.start → GoesOn old_going handed.piece) where
   -- No piece of the same message lies before a reset of its stream.
   crossed : (mark : Mark) → IsMark history first old_going mark → (m : ℕ) (f : Piece) → at_place m history.log ≡ Some (Some f) → f.place ≡ handed.piece.place → Resets mark f.message.stream → m < mark.bound → ⊥

@@ -3,8 +3,8 @@ use Rattle.std.proofs.Common.{◌≡◌, ◌≢◌, ◌==◌, ℕ, zero, suc, Bo
 use Rattle.std.specs.Prelude.{◌⊎◌, ◌||◌, Option, None, Some, nat_lt, if◌then◌else◌}
 use Rattle.std.proofs.lemmas.Bool.Decides.{eqb_tells, leb_tells}
 use Rattle.dcsctp_spec.specs.types.declared.sending.UnderWay.{UnderWay}
-use Rattle.dcsctp_spec.specs.types.queues.SendStreams.{Waiting, Stream, front_of, stream_at, unused}
-use Rattle.dcsctp_spec.specs.queues.SendQueue.{SendQueueState, with_stream, is_used, used}
+use Rattle.dcsctp_spec.specs.types.queues.SendStreams.{Waiting, Stream, front_of, stream_at, unused_stream}
+use Rattle.dcsctp_spec.specs.queues.SendQueue.{SendQueueState, with_stream, is_used, used_streams}
 use Rattle.dcsctp_delivery_sending.specs.Places.{at_place}
 use Rattle.dcsctp_delivery_sending.specs.Log.{Message, Piece, Slot}
 use Rattle.dcsctp_delivery_sending.specs.Pieces.{AllQueued, AllBeyond, Ascend, unbegun, Going, HoldsQueued}
@@ -198,11 +198,11 @@ module _ (queued : List Message) (log : List Slot) (s : Stream) (old new : List 
                 | inr e ↦ elim at' [ inl e' ↦ absurd (omega (arith, e.0, e.1, e'.0, e'.1, both)) | inr e' ↦ omega (arith, e.1, e'.1, both) ]
               ]
 
-pub used_hold : (queued : List Message) (log : List Slot) (queue : SendQueueState) (id : ℕ) → id < 2 ^ 16 → HoldsQueued queued log queue.streams queue.under_way → HoldsQueued queued log (used queue id) queue.under_way
+pub used_hold : (queued : List Message) (log : List Slot) (queue : SendQueueState) (id : ℕ) → id < 2 ^ 16 → HoldsQueued queued log queue.streams queue.under_way → HoldsQueued queued log (used_streams queue id) queue.under_way
 used_hold queued log queue id fits queue_holds = go (is_used id queue.streams) refl
   where
     s : Stream
-    s = unused id queue.default_priority queue.default_threshold
+    s = unused_stream id queue.default_priority queue.default_threshold
 
     go : (b : Bool) → is_used id queue.streams ≡ b → HoldsQueued queued log (if b then queue.streams else with_stream s queue.streams) queue.under_way
     go true is = queue_holds

@@ -5,16 +5,16 @@ use Rattle.dcsctp_spec.specs.endpoint.Event.{Event}
 use Rattle.dcsctp_spec.specs.Packet.{Plain, Emission}
 use Rattle.dcsctp_spec.specs.endpoint.Endpoint.{Endpoint}
 use Rattle.dcsctp_spec.specs.types.declared.sending.UnderWay.{UnderWay}
-use Rattle.dcsctp_spec.specs.queues.Filling.{Stage, ClosesMessage, GivesUpAt, payload_room, StepAgain, StepNew, StageSteps, none as steps_none, more as steps_more, resent_packet_counted, FillsPacket}
+use Rattle.dcsctp_spec.specs.queues.Filling.{Stage, ClosesMessage, GivesUpItem, payload_room, StepAgain, StepNew, StageSteps, none as steps_none, more as steps_more, resent_packet_counted, FillsPacket}
 use Rattle.dcsctp_spec.specs.queues.Abandoning.{GivesUpFirst}
 use Rattle.dcsctp_spec.specs.queues.Items.{Item}
 use Rattle.dcsctp_spec.specs.queues.Outstanding.{header}
 use Rattle.dcsctp_spec.specs.queues.SendQueue.{SendQueueState}
-use Rattle.dcsctp_spec.specs.queues.Sending.{Fragment, Drops, none as drops_none, more as drops_more, begun_message_counted as taking_turn, begun_numbered, reduced, after_part, after_last, produced, is_last, TakesFragment, DiscardsNamed}
+use Rattle.dcsctp_spec.specs.queues.Sending.{Fragment, Drops, none as drops_none, more as drops_more, begun_message_counted as taking_turn, begun_numbered, reduced_queue, after_part, after_last, queue_after_producing, is_last, TakesFragment, DiscardsNamed}
 use Rattle.dcsctp_spec.specs.types.queues.SendStreams.{Waiting}
 use Rattle.dcsctp_spec.specs.queues.Transfer.{Transfer, EndpointQueues, is_idle}
 use Rattle.dcsctp_spec.specs.endpoint.BegunResets.{BegunReset, queue_requesting}
-use Rattle.dcsctp_spec.specs.endpoint.FlushOutcomes.{filling_event, Answer, answer_contents, filled, asked, next_draft, flush_of, Ask, later_ask, GivesUpWhere, FillsWhere, GivesWhere, IsAnswerOfQueues, IsFlushAnswer, AreFlushAnswers, at_limit, at_empty, after_packet}
+use Rattle.dcsctp_spec.specs.endpoint.FlushOutcomes.{filling_event, Answer, answer_contents, filled_draft, asked_outcome, next_draft, flush_of, Ask, later_ask, GivesUpThenForwards, FillsIfAllowed, GivesUnlessIdle, IsAnswerOfQueues, IsFlushAnswer, AreFlushAnswers, at_limit, at_empty, after_packet}
 use Rattle.dcsctp_delivery_sending.proofs.Packets.{out_below}
 
 -- ---- both stay
@@ -29,12 +29,12 @@ numbered_next place message under_way queue = go (under_way.sent == 0)
     go true = refl
     go false = refl
 
-produced_next : (place max : ℕ) (message : Waiting) (under_way : UnderWay) (queue : SendQueueState) → fixed (produced place max message under_way queue) ≡ fixed queue
+produced_next : (place max : ℕ) (message : Waiting) (under_way : UnderWay) (queue : SendQueueState) → fixed (queue_after_producing place max message under_way queue) ≡ fixed queue
 produced_next place max message under_way queue = go (is_last max message under_way)
   where
     go : (b : Bool) → fixed (if b then after_last place message under_way queue else after_part place max message under_way queue) ≡ fixed queue
-    go true = numbered_next place message under_way (reduced place (length message.payload - under_way.sent) queue)
-    go false = numbered_next place message under_way (reduced place max queue)
+    go true = numbered_next place message under_way (reduced_queue place (length message.payload - under_way.sent) queue)
+    go false = numbered_next place message under_way (reduced_queue place max queue)
 
 drops_next : {P : Type 0} (now : ℕ) (old : SendQueueState) (events : List (Event P)) (new : SendQueueState) → Drops now old events new → fixed new ≡ fixed old
 drops_next now old events new drops_none = refl
@@ -61,7 +61,7 @@ closes_next now last old new false closes =
       | inr e ↦ ap (λ (s : Stage). fixed s.waiting) e.1
     ]
 
-gives_next : (now place : ℕ) (old new : Stage) → GivesUpAt now place old new → Next old new
+gives_next : (now place : ℕ) (old new : Stage) → GivesUpItem now place old new → Next old new
 unfolding Next
 gives_next now place old new gives = ap (λ (s : Stage). fixed s.waiting) gives.is ∙ closes_next now gives.last old gives.closed gives.last.fragment.is_end gives.closes
 
@@ -88,12 +88,12 @@ fills_next now old new fills =
     ap (λ (s : Stage). fixed s.waiting) fills.is ∙ steps_next (StepNew now) (anew_next now) (resent_packet_counted old.room fills.fills.resent) fills.sent fills.fills.anew
     ∙ steps_next (StepAgain now) (again_next now) old fills.fills.resent fills.fills.again
 
-fills_where_next : (now : ℕ) (b : Bool) (old new : Stage) → FillsWhere b now old new → Next old new
+fills_where_next : (now : ℕ) (b : Bool) (old new : Stage) → FillsIfAllowed b now old new → Next old new
 unfolding Next
 fills_where_next now true old new fills = fills_next now old new fills
 fills_where_next now false old new fills = elim fills [ inl e ↦ ap (λ (s : Stage). fixed s.waiting) e | inr e ↦ fills_next now old new e ]
 
-gives_where_next : (b : Bool) (now room : ℕ) (transfer : Transfer) (old new : Stage) (next : Option ℕ) (chunks : List Plain) → GivesUpWhere b now transfer room old new next chunks → Next old new
+gives_where_next : (b : Bool) (now room : ℕ) (transfer : Transfer) (old new : Stage) (next : Option ℕ) (chunks : List Plain) → GivesUpThenForwards b now transfer room old new next chunks → Next old new
 unfolding Next
 gives_where_next true now room transfer old new next chunks gives = steps_next (GivesUpFirst now) (λ o n s. gives_next now s.place o n s.gives_up) old new gives.0.steps
 gives_where_next false now room transfer old new next chunks gives = ap (λ (s : Stage). fixed s.waiting) gives.0
@@ -106,7 +106,7 @@ requesting_next count (Some begun) queue = refl
 BelowNext : EndpointQueues → EndpointQueues → Type 0
 BelowNext old new = fixed new.queue ≡ fixed old.queue
 
-given_next : (b : Bool) (ask : Ask) (e : Endpoint) (draft : Emission) (transfer : Transfer) (answer : Answer) → GivesWhere b ask e draft transfer answer → BelowNext e.queues answer.after.queues
+given_next : (b : Bool) (ask : Ask) (e : Endpoint) (draft : Emission) (transfer : Transfer) (answer : Answer) → GivesUnlessIdle b ask e draft transfer answer → BelowNext e.queues answer.after.queues
 unfolding BelowNext Next
 given_next true ask e draft transfer answer gives = ap (λ (a : Answer). fixed a.after.queues.queue) gives
 given_next false ask e draft transfer answer gives =
@@ -118,17 +118,17 @@ unfolding BelowNext
 answered_next ask e draft None answer answered = ap (λ (a : Answer). fixed a.after.queues.queue) answered
 answered_next ask e draft (Some transfer) answer answered = given_next (is_idle e.queues.queue transfer) ask e draft transfer answer answered
 
-asked_next : (ask : Ask) (e : Endpoint) (draft : Emission) (answer : Answer) → IsFlushAnswer ask e draft answer → BelowNext e.queues (asked e draft answer).after.queues
+asked_next : (ask : Ask) (e : Endpoint) (draft : Emission) (answer : Answer) → IsFlushAnswer ask e draft answer → BelowNext e.queues (asked_outcome e draft answer).after.queues
 unfolding BelowNext
 asked_next ask e draft answer answered =
-    ap (λ (b : EndpointQueues). fixed b.queue) (out_below answer.after (map filling_event answer.told) draft.with_checksum draft.packet.tag (filled draft (answer_contents answer)).packet.contents)
+    ap (λ (b : EndpointQueues). fixed b.queue) (out_below answer.after (map filling_event answer.told) draft.with_checksum draft.packet.tag (filled_draft draft (answer_contents answer)).packet.contents)
     ∙ answered_next ask e draft e.queues.transfer answer answered.by_transfer
 
 flush_fixed : (ask : Ask) (n : ℕ) (e : Endpoint) (draft : Emission) (answers : List Answer) → AreFlushAnswers ask n e draft answers → fixed (flush_of e draft answers).after.queues.queue ≡ fixed e.queues.queue
 unfolding BelowNext
 flush_fixed _ _ _ _ _ (at_limit ask e draft) = refl
 flush_fixed _ _ _ _ _ (at_empty ask more e draft answer is empty) = asked_next ask e draft answer is
-flush_fixed _ _ _ _ _ (after_packet ask more e draft answer answers is some rest) = flush_fixed later_ask more (asked e draft answer).after (next_draft e.core draft) answers rest ∙ asked_next ask e draft answer is
+flush_fixed _ _ _ _ _ (after_packet ask more e draft answer answers is some rest) = flush_fixed later_ask more (asked_outcome e draft answer).after (next_draft e.core draft) answers rest ∙ asked_next ask e draft answer is
 
 pub flush_next : (ask : Ask) (n : ℕ) (e : Endpoint) (draft : Emission) (answers : List Answer) → AreFlushAnswers ask n e draft answers → (flush_of e draft answers).after.queues.queue.next_message_id ≡ e.queues.queue.next_message_id
 flush_next ask n e draft answers allowed = ap (λ (f : ℕ × Bool). f.0) (flush_fixed ask n e draft answers allowed)

@@ -3,13 +3,13 @@ use Rattle.std.proofs.Common.{◌≡◌, ◌==◌, ℕ, Bool, true, false, ◌+�
 use Rattle.std.specs.Prelude.{Option, None, Some, slice_set, if◌then◌else◌}
 use Rattle.std.proofs.lemmas.Bool.{eqb-true}
 use Rattle.dcsctp_spec.specs.types.declared.sending.UnderWay.{UnderWay}
-use Rattle.dcsctp_spec.specs.types.queues.SendStreams.{Waiting, Stream, front_of, without_front, stream_at, unused}
-use Rattle.dcsctp_spec.specs.queues.SendQueue.{SendQueueState, stream_changed, used}
+use Rattle.dcsctp_spec.specs.types.queues.SendStreams.{Waiting, Stream, front_of, without_front, stream_at, unused_stream}
+use Rattle.dcsctp_spec.specs.queues.SendQueue.{SendQueueState, stream_changed, used_streams}
 use Rattle.dcsctp_spec.specs.endpoint.Event.{Event}
-use Rattle.dcsctp_spec.specs.queues.Sending.{Drops, none as drops_none, more as drops_more, reduced, without_rest}
+use Rattle.dcsctp_spec.specs.queues.Sending.{Drops, none as drops_none, more as drops_more, reduced_queue, without_rest}
 use Rattle.dcsctp_delivery_sending.specs.Log.{Slot, History, with_slot}
 use Rattle.dcsctp_delivery_sending.specs.Turns.{IsSsnOfTurn}
-use Rattle.dcsctp_delivery_sending.specs.Numbers.{stream_named, next_mid, is_handed_out, KeptWhere, LastIs, CountsMessages, CountsTurns, CountsWhere, Numbered}
+use Rattle.dcsctp_delivery_sending.specs.Numbers.{stream_named, next_mid, is_handed_out, IsUnderWayKept, LastIs, CountsMessages, CountsTurns, CountsByKind, NumbersMessages}
 use Rattle.dcsctp_delivery_sending.proofs.Places.{at_below}
 use Rattle.dcsctp_delivery_sending.proofs.Turns.{turn_old}
 use Rattle.dcsctp_delivery_sending.proofs.Stages.{with_none}
@@ -61,8 +61,8 @@ pub numbers_mapped : (u : Option UnderWay) (f : Stream → Stream) → ((s : Str
     → ((v : UnderWay) → u ≡ Some v → (s : Stream) → s.id ≡ v.stream_id.0 → KeepsFront s (f s)) → (streams : List Stream) → NumbersStay u streams (map f streams)
 numbers_mapped u f same_id mids fronts streams =
     record {
-      mids = λ id. found_mapped SameMids id (unused 0 0 0) f same_id (same_mids (unused 0 0 0)) (λ s is. mids s) streams;
-      fronts = λ v is. found_mapped KeepsFront v.stream_id.0 (unused 0 0 0) f same_id (same_front (unused 0 0 0)) (λ s here. fronts v is s here) streams;
+      mids = λ id. found_mapped SameMids id (unused_stream 0 0 0) f same_id (same_mids (unused_stream 0 0 0)) (λ s is. mids s) streams;
+      fronts = λ v is. found_mapped KeepsFront v.stream_id.0 (unused_stream 0 0 0) f same_id (same_front (unused_stream 0 0 0)) (λ s here. fronts v is s here) streams;
     }
 
 -- one stream is changed so
@@ -88,12 +88,12 @@ pub numbers_set : (u : Option UnderWay) (place : ℕ) (new : Stream) (streams : 
     → ((v : UnderWay) → u ≡ Some v → KeepsFront (stream_at streams place) new) → NumbersStay u streams (slice_set streams place new)
 numbers_set u place new streams is mids fronts =
     record {
-      mids = λ id. found_set SameMids id (unused 0 0 0) new same_mids place streams is (λ here. mids);
-      fronts = λ v here. found_set KeepsFront v.stream_id.0 (unused 0 0 0) new same_front place streams is (λ same. fronts v here);
+      mids = λ id. found_set SameMids id (unused_stream 0 0 0) new same_mids place streams is (λ here. mids);
+      fronts = λ v here. found_set KeepsFront v.stream_id.0 (unused_stream 0 0 0) new same_front place streams is (λ same. fronts v here);
     }
 
 -- one is used for the first time
-pub numbers_used : (u : Option UnderWay) (queue : SendQueueState) (id : ℕ) → NumbersStay u queue.streams (used queue id)
+pub numbers_used : (u : Option UnderWay) (queue : SendQueueState) (id : ℕ) → NumbersStay u queue.streams (used_streams queue id)
 numbers_used u queue id =
     record {
       mids = λ other. found_used SameMids other queue id same_mids (λ s t unordered ordered none pause. record { ordered = sym (ap (λ (p : ℕ × ℕ). p.1) ordered); unordered = sym (ap (λ (p : ℕ × ℕ). p.1) unordered); ssn = sym (ap (λ (p : ℕ × ℕ). p.0) ordered) });
@@ -105,7 +105,7 @@ numbers_used u queue id =
     }
 
 -- that much leaves a stream
-pub numbers_reduced : (u : Option UnderWay) (place size : ℕ) (queue : SendQueueState) → NumbersStay u queue.streams (reduced place size queue).streams
+pub numbers_reduced : (u : Option UnderWay) (place size : ℕ) (queue : SendQueueState) → NumbersStay u queue.streams (reduced_queue place size queue).streams
 numbers_reduced u place size queue =
     numbers_set u place (record (stream_at queue.streams place) { amount = (stream_at queue.streams place).amount - size }) queue.streams refl (record { ordered = refl; unordered = refl; ssn = refl })
     (λ v is. front_kept (stream_at queue.streams place) (record (stream_at queue.streams place) { amount = (stream_at queue.streams place).amount - size }) refl (λ e. e))
@@ -119,8 +119,8 @@ pub numbers_dropped : {P : Type 0} (now : ℕ) (old : SendQueueState) (events : 
 numbers_dropped now old events new drops_none = numbers_same None old.streams
 numbers_dropped now old events new (drops_more events' queue place message drops next front expired) =
     numbers_then None old.streams queue.streams (without_rest place 0 message queue).streams (numbers_dropped now old events' queue drops)
-    (numbers_then None queue.streams (reduced place (length message.payload - 0) queue).streams (without_rest place 0 message queue).streams (numbers_reduced None place (length message.payload - 0) queue)
-    (numbers_without place (reduced place (length message.payload - 0) queue).streams))
+    (numbers_then None queue.streams (reduced_queue place (length message.payload - 0) queue).streams (without_rest place 0 message queue).streams (numbers_reduced None place (length message.payload - 0) queue)
+    (numbers_without place (reduced_queue place (length message.payload - 0) queue).streams))
 
 pub kind_dropped : {P : Type 0} (now : ℕ) (old : SendQueueState) (events : List (Event P)) (new : SendQueueState) → Drops now old events new → new.is_interleaved ≡ old.is_interleaved
 kind_dropped now old events new drops_none = refl
@@ -159,23 +159,23 @@ turns_stay id log u old new stay c =
           );
     }
 
-pub where_stay : (b : Bool) (history : History) (u : Option UnderWay) (old new : List Stream) → NumbersStay u old new → CountsWhere b history old u → CountsWhere b history new u
+pub where_stay : (b : Bool) (history : History) (u : Option UnderWay) (old new : List Stream) → NumbersStay u old new → CountsByKind b history old u → CountsByKind b history new u
 where_stay false history u old new stay counts =
     record { turns = λ id start. turns_stay id history.log u old new stay (counts.turns id start); closes = counts.closes; rests = counts.rests }
 where_stay true history u old new stay counts = counts_stay history u old new stay counts
 
-pub kept_stays : (u : Option UnderWay) (old new : List Stream) → NumbersStay u old new → KeptWhere old u → KeptWhere new u
+pub kept_stays : (u : Option UnderWay) (old new : List Stream) → NumbersStay u old new → IsUnderWayKept old u → IsUnderWayKept new u
 kept_stays None old new stay kept = tt
 kept_stays (Some v) old new stay kept = (stay.fronts v refl).kept kept
 
 -- a queue that is numbered as another
-pub numbered_stay : (history : History) (old new : SendQueueState) → new.is_interleaved ≡ old.is_interleaved → new.under_way ≡ old.under_way → NumbersStay old.under_way old.streams new.streams → Numbered history old → Numbered history new
+pub numbered_stay : (history : History) (old new : SendQueueState) → new.is_interleaved ≡ old.is_interleaved → new.under_way ≡ old.under_way → NumbersStay old.under_way old.streams new.streams → NumbersMessages history old → NumbersMessages history new
 numbered_stay history old new kind going stay numbers =
     record {
       kinds = λ n f at. numbers.kinds n f at ∙ sym kind;
-      counts = subst (λ (b : Bool). CountsWhere b history new.streams new.under_way) (sym kind)
-          (subst (λ (u : Option UnderWay). CountsWhere old.is_interleaved history new.streams u) (sym going) (where_stay old.is_interleaved history old.under_way old.streams new.streams stay numbers.counts));
-      kept = subst (λ (u : Option UnderWay). KeptWhere new.streams u) (sym going) (kept_stays old.under_way old.streams new.streams stay numbers.kept);
+      counts = subst (λ (b : Bool). CountsByKind b history new.streams new.under_way) (sym kind)
+          (subst (λ (u : Option UnderWay). CountsByKind old.is_interleaved history new.streams u) (sym going) (where_stay old.is_interleaved history old.under_way old.streams new.streams stay numbers.counts));
+      kept = subst (λ (u : Option UnderWay). IsUnderWayKept new.streams u) (sym going) (kept_stays old.under_way old.streams new.streams stay numbers.kept);
     }
 
 -- the message under way ends, and its end takes a TSN
@@ -190,7 +190,7 @@ counts_ended history u streams counts =
       going = tt;
     }
 
-where_ended : (b : Bool) (history : History) (u : Option UnderWay) (streams : List Stream) → CountsWhere b history streams u → CountsWhere b (with_slot None history) streams None
+where_ended : (b : Bool) (history : History) (u : Option UnderWay) (streams : List Stream) → CountsByKind b history streams u → CountsByKind b (with_slot None history) streams None
 where_ended false history u streams counts =
     record {
       turns = λ id start. (
@@ -209,12 +209,12 @@ where_ended false history u streams counts =
     }
 where_ended true history u streams counts = counts_ended history u streams counts
 
-pub numbered_ended : (history : History) (old new : SendQueueState) → new.is_interleaved ≡ old.is_interleaved → new.under_way ≡ None → NumbersStay None old.streams new.streams → Numbered history old → Numbered (with_slot None history) new
+pub numbered_ended : (history : History) (old new : SendQueueState) → new.is_interleaved ≡ old.is_interleaved → new.under_way ≡ None → NumbersStay None old.streams new.streams → NumbersMessages history old → NumbersMessages (with_slot None history) new
 numbered_ended history old new kind going stay numbers =
     record {
       kinds = λ n f at. numbers.kinds n f (with_none history.log n f at) ∙ sym kind;
-      counts = subst (λ (b : Bool). CountsWhere b (with_slot None history) new.streams new.under_way) (sym kind)
-          (subst (λ (u : Option UnderWay). CountsWhere old.is_interleaved (with_slot None history) new.streams u) (sym going)
+      counts = subst (λ (b : Bool). CountsByKind b (with_slot None history) new.streams new.under_way) (sym kind)
+          (subst (λ (u : Option UnderWay). CountsByKind old.is_interleaved (with_slot None history) new.streams u) (sym going)
           (where_stay old.is_interleaved (with_slot None history) None old.streams new.streams stay (where_ended old.is_interleaved history old.under_way old.streams numbers.counts)));
-      kept = subst (λ (u : Option UnderWay). KeptWhere new.streams u) (sym going) tt;
+      kept = subst (λ (u : Option UnderWay). IsUnderWayKept new.streams u) (sym going) tt;
     }

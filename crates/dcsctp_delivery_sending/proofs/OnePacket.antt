@@ -9,10 +9,10 @@ use Rattle.dcsctp_spec.specs.queues.OwnResets.{ready_streams}
 use Rattle.dcsctp_spec.specs.queues.SendQueue.{SendQueueState}
 use Rattle.dcsctp_spec.specs.queues.Transfer.{Transfer, EndpointQueues, may_give, is_idle}
 use Rattle.dcsctp_spec.specs.endpoint.BegunResets.{streams_within, request_contents, queue_requesting, retransmission_begun}
-use Rattle.dcsctp_spec.specs.endpoint.FlushOutcomes.{may_be_asked, filling_event, Answer, answer_contents, filled, asked, Ask, room_in, GivesUpWhere, may_forward, FillsWhere, Gives, GivesWhere, IsAnswerOfQueues, IsFlushAnswer, stage_of, nothing_waits}
-use Rattle.dcsctp_delivery_sending.specs.Log.{Message, Slot, History, log_extended, with_mark, Cut}
+use Rattle.dcsctp_spec.specs.endpoint.FlushOutcomes.{may_be_asked, filling_event, Answer, answer_contents, filled_draft, asked_outcome, Ask, room_of_draft, GivesUpThenForwards, may_forward, FillsIfAllowed, Gives, GivesUnlessIdle, IsAnswerOfQueues, IsFlushAnswer, stage_of, nothing_waits}
+use Rattle.dcsctp_delivery_sending.specs.Log.{Message, Slot, History, log_extended, with_mark, IsLogOfPieces}
 use Rattle.dcsctp_delivery_sending.specs.Stages.{Bears, Stands, Stays}
-use Rattle.dcsctp_delivery_sending.specs.Flushes.{NamedBy, AreHandedFor, SayAll, InFlight, PendsWhere, QueuesFollowLog, SendsLogged}
+use Rattle.dcsctp_delivery_sending.specs.Flushes.{IsNamedByReset, AreHandedFor, SayAll, InFlight, PendsIfConnected, QueuesFollowLog, SendsLogged}
 use Rattle.dcsctp_delivery_sending.proofs.BegunMarks.{bears_marked, pends_marked, marks_marked}
 use Rattle.dcsctp_delivery_sending.proofs.Filling.{stay, fills_stay}
 use Rattle.dcsctp_delivery_sending.proofs.GivingUp.{Ends, end, give_up_all_ends}
@@ -28,16 +28,16 @@ use Rattle.dcsctp_delivery_sending.specs.Numbers.{stream_named, is_handed_out, A
 use Rattle.dcsctp_delivery_sending.proofs.Packets.{said_sacks, out_below, out_says, say_both, said_chunks, said_request, said_forwards}
 
 gives_up_where : (queued : List Message) (history : History) (first acknowledged now room : ℕ) (b : Bool) (transfer : Transfer) (old new : Stage) (next : Option ℕ) (chunks : List Plain) → Stands queued history first acknowledged old
-    → GivesUpWhere b now transfer room old new next chunks → Ends queued history first acknowledged new
+    → GivesUpThenForwards b now transfer room old new next chunks → Ends queued history first acknowledged new
 gives_up_where queued history first acknowledged now room false transfer old new next chunks stands gives = end queued history first acknowledged new (subst (λ (s : Stage). Stands queued history first acknowledged s) (sym gives.0) stands)
 gives_up_where queued history first acknowledged now room true transfer old new next chunks stands gives = give_up_all_ends queued history first acknowledged now old new stands gives.0
 
-forwards_where : (queued : List Message) (history : History) → Cut queued history.log → (first acknowledged now room : ℕ) (b : Bool) (transfer : Transfer) (old new : Stage) (next : Option ℕ) (chunks : List Plain) → AreOfKind new.queue.outstanding.is_interleaved history.log → Bears history first acknowledged new.queue.outstanding → GivesUpWhere b now transfer room old new next chunks
+forwards_where : (queued : List Message) (history : History) → IsLogOfPieces queued history.log → (first acknowledged now room : ℕ) (b : Bool) (transfer : Transfer) (old new : Stage) (next : Option ℕ) (chunks : List Plain) → AreOfKind new.queue.outstanding.is_interleaved history.log → Bears history first acknowledged new.queue.outstanding → GivesUpThenForwards b now transfer room old new next chunks
     → SayAll history first acknowledged (plain_contents chunks)
 forwards_where queued history cut first acknowledged now room false transfer old new next chunks kinds bears gives = subst (λ (l : List Plain). SayAll history first acknowledged (plain_contents l)) (sym gives.2) tt
 forwards_where queued history cut first acknowledged now room true transfer old new next chunks kinds bears gives = said_forwards history first acknowledged queued cut _ now transfer room new.queue next chunks kinds bears (λ made. made) gives.1
 
-fills_where : (queued : List Message) (history : History) (first acknowledged now : ℕ) (b : Bool) (old new : Stage) → Stands queued history first acknowledged old → FillsWhere b now old new → Stays queued history first acknowledged new
+fills_where : (queued : List Message) (history : History) (first acknowledged now : ℕ) (b : Bool) (old new : Stage) → Stands queued history first acknowledged old → FillsIfAllowed b now old new → Stays queued history first acknowledged new
 fills_where queued history first acknowledged now true old new stands fills = fills_stay queued history first acknowledged now old new stands fills
 fills_where queued history first acknowledged now false old new stands fills =
     elim fills [
@@ -56,7 +56,7 @@ record Answers' (queued : List Message) (history : History) (first acknowledged 
   pub says : SayAll (with_mark answer.begun ids bound (log_extended more history)) first acknowledged (answer_contents answer)
   pub current : AreCurrent history more
   pub kept : AreKept answer.after.queues.queue.streams more
-  pub handed : (id : ℕ) → is_handed_out (stream_named id answer.after.queues.queue.streams).pause ≡ true → (is_handed_out (stream_named id old.streams).pause ≡ true) ⊎ NamedBy answer.begun ids id
+  pub handed : (id : ℕ) → is_handed_out (stream_named id answer.after.queues.queue.streams).pause ≡ true → (is_handed_out (stream_named id old.streams).pause ≡ true) ⊎ IsNamedByReset answer.begun ids id
   pub stay : StayHanded old.streams answer.after.queues.queue.streams
   pub named : AreHandedFor answer.begun ids answer.after.queues.queue.streams
 
@@ -75,7 +75,7 @@ module _ (queued : List Message) (history : History) (first acknowledged : ℕ) 
   bound = length (gave.more ++ history.log)
 
   room : ℕ
-  room = room_in e (filled draft (plain_contents answer.acknowledgements))
+  room = room_of_draft e (filled_draft draft (plain_contents answer.acknowledgements))
 
   -- these streams were handed out for the request, if one was begun
   ids : List ℕ
@@ -85,7 +85,7 @@ module _ (queued : List Message) (history : History) (first acknowledged : ℕ) 
   between : Stage
   between =
       stage_of (queue_requesting (streams_within room) answer.begun gives.gave_up.waiting) (retransmission_begun answer.begun gives.gave_up.queue) gives.gave_up.told
-      (room_in e (filled draft (plain_contents answer.acknowledgements ++ request_contents answer.begun)))
+      (room_of_draft e (filled_draft draft (plain_contents answer.acknowledgements ++ request_contents answer.begun)))
 
   noted : History
   noted = with_mark answer.begun ids bound (log_extended gave.more history)
@@ -139,7 +139,7 @@ module _ (queued : List Message) (history : History) (first acknowledged : ℕ) 
       (said_chunks all first acknowledged gives.sent.queue.outstanding.is_interleaved answer.data_chunks
       (chunks_of_log all first acknowledged gives.sent.queue.outstanding gives.sent.tsns answer.data_chunks (kinds_of all_stand.numbers all_stand.kind) all_stand.bears gives.chunks)))
 
-  all_handed : (id : ℕ) → is_handed_out (stream_named id gives.sent.waiting.streams).pause ≡ true → (is_handed_out (stream_named id e.queues.queue.streams).pause ≡ true) ⊎ NamedBy answer.begun ids id
+  all_handed : (id : ℕ) → is_handed_out (stream_named id gives.sent.waiting.streams).pause ≡ true → (is_handed_out (stream_named id e.queues.queue.streams).pause ≡ true) ⊎ IsNamedByReset answer.begun ids id
   unfolding between room ids
   all_handed id handed =
       elim (requesting_handed (streams_within room) answer.begun gives.gave_up.waiting id
@@ -199,7 +199,7 @@ nothing_stays queued history first acknowledged e answer stands is =
     })
 
 gives_where : (queued : List Message) (history : History) (first acknowledged : ℕ) (ask : Ask) (b : Bool) (e : Endpoint) (draft : Emission) (transfer : Transfer) (answer : Answer) → e.queues.transfer ≡ Some transfer
-    → QueuesFollowLog queued history first acknowledged e.queues → GivesWhere b ask e draft transfer answer → Answers' queued history first acknowledged e.queues.queue answer
+    → QueuesFollowLog queued history first acknowledged e.queues → GivesUnlessIdle b ask e draft transfer answer → Answers' queued history first acknowledged e.queues.queue answer
 gives_where queued history first acknowledged ask true e draft transfer answer known stands gives = nothing_stays queued history first acknowledged e answer stands gives
 gives_where queued history first acknowledged ask false e draft transfer answer known stands gives =
     gives_stays queued history first acknowledged ask e draft transfer answer gives
@@ -207,7 +207,7 @@ gives_where queued history first acknowledged ask false e draft transfer answer 
       queue_holds = stands.queue_holds;
       cut = stands.cut;
       bears = subst (λ (t : Option Transfer). InFlight history first acknowledged t) known stands.flight;
-      pends = subst (λ (t : Option Transfer). PendsWhere history t) known stands.pends;
+      pends = subst (λ (t : Option Transfer). PendsIfConnected history t) known stands.pends;
       marks = stands.marks;
       numbers = stands.numbers;
       kind = subst (λ (t : Option Transfer). IsOfKind e.queues.queue.is_interleaved t) known stands.kind;
@@ -220,10 +220,10 @@ answered_below queued history first acknowledged ask e draft (Some transfer) ans
     gives_where queued history first acknowledged ask (is_idle e.queues.queue transfer) e draft transfer answer known stands answered
 
 pub asked_sends : (queued : List Message) (history : History) (first acknowledged : ℕ) (ask : Ask) (e : Endpoint) (draft : Emission) (answer : Answer) → QueuesFollowLog queued history first acknowledged e.queues → SayAll history first acknowledged draft.packet.contents
-    → IsFlushAnswer ask e draft answer → SendsLogged queued history first acknowledged e.queues.queue answer.begun (asked e draft answer).after.queues (asked e draft answer).events
+    → IsFlushAnswer ask e draft answer → SendsLogged queued history first acknowledged e.queues.queue answer.begun (asked_outcome e draft answer).after.queues (asked_outcome e draft answer).events
 asked_sends queued history first acknowledged ask e draft answer stands say answered =
     let left = answered_below queued history first acknowledged ask e draft e.queues.transfer answer refl stands answered.by_transfer in
-    let contents : List Content = (filled draft (answer_contents answer)).packet.contents in
+    let contents : List Content = (filled_draft draft (answer_contents answer)).packet.contents in
     let below = out_below answer.after (map filling_event answer.told) draft.with_checksum draft.packet.tag contents in
     let all : History = with_mark answer.begun left.ids left.bound (log_extended left.more history) in
     let extends = extends_noted answer.begun left.ids left.bound left.more history left.low in

@@ -10,14 +10,14 @@ use Rattle.dcsctp_spec.specs.types.Setting.{Setting, stream_priority, stream_low
 use Rattle.dcsctp_spec.specs.types.declared.sending.Pause.{Pause}
 use Rattle.dcsctp_spec.specs.types.declared.sending.Pause.TheVariants.{Open, Pausing, HandedOut}
 use Rattle.dcsctp_spec.specs.types.declared.sending.UnderWay.{UnderWay}
-use Rattle.dcsctp_spec.specs.types.queues.SendStreams.{Waiting, Stream, stream_at, unused, with_message, committed, rolled_back, handed_out}
-use Rattle.dcsctp_spec.specs.queues.OwnResets.{is_ready, ready_streams, handing_out, queue_committed, queue_rolled_back, prepared, prepared_all, prepared_open, prepared_stream, dropped_size, count_under_way, with_used, is_open_pause}
-use Rattle.dcsctp_spec.specs.queues.SendQueue.{SendQueueState, stream_changed, with_stream, is_used, used, with_threshold, with_priority, queue_stream, queued as waiting_as}
+use Rattle.dcsctp_spec.specs.types.queues.SendStreams.{Waiting, Stream, stream_at, unused_stream, with_message, committed_stream, rolled_back, handed_out}
+use Rattle.dcsctp_spec.specs.queues.OwnResets.{is_ready, ready_streams, handing_out, queue_committed, queue_rolled_back, queue_with_prepared, prepared_all, prepared_open, prepared_stream, dropped_size, count_under_way, with_used, is_open_pause}
+use Rattle.dcsctp_spec.specs.queues.SendQueue.{SendQueueState, stream_changed, with_stream, is_used, used_streams, with_threshold, with_priority, queue_stream, queued_message as waiting_as}
 use Rattle.dcsctp_spec.specs.queues.Transfer.{Transfer, EndpointQueues, is_idle}
 use Rattle.dcsctp_spec.specs.queues.Incoming.{is_named}
 use Rattle.dcsctp_spec.specs.endpoint.BegunResets.{BegunReset, queue_requesting, streams_within}
 use Rattle.dcsctp_spec.specs.endpoint.Endpoint.{Endpoint}
-use Rattle.dcsctp_spec.specs.endpoint.FlushOutcomes.{Ask, later_ask, room_in, filling_event, Answer, answer_contents, filled, asked, next_draft, flush_of, GivesWhere, IsAnswerOfQueues, IsFlushAnswer, AreFlushAnswers, at_limit, at_empty, after_packet}
+use Rattle.dcsctp_spec.specs.endpoint.FlushOutcomes.{Ask, later_ask, room_of_draft, filling_event, Answer, answer_contents, filled_draft, asked_outcome, next_draft, flush_of, GivesUnlessIdle, IsAnswerOfQueues, IsFlushAnswer, AreFlushAnswers, at_limit, at_empty, after_packet}
 use Rattle.dcsctp_spec.specs.endpoint.MessageOutcomes.{Sending, sending_queued}
 use Rattle.dcsctp_spec.specs.endpoint.SettingOutcomes.{set_in_queue}
 use Rattle.dcsctp_delivery_sending.specs.Places.{HasEntry}
@@ -63,25 +63,25 @@ module _ (id : ℕ) where
       go true rest = (are.0, rest)
       go false rest = (λ on. is, are)
 
-  open_used : (queue : SendQueueState) (other : ℕ) → OpenStays queue.streams (used queue other)
+  open_used : (queue : SendQueueState) (other : ℕ) → OpenStays queue.streams (used_streams queue other)
   open_used queue other are = go (is_used other queue.streams)
     where
-      go : (b : Bool) → IsOpenOn id (if b then queue.streams else with_stream (unused other queue.default_priority queue.default_threshold) queue.streams)
+      go : (b : Bool) → IsOpenOn id (if b then queue.streams else with_stream (unused_stream other queue.default_priority queue.default_threshold) queue.streams)
       go true = are
-      go false = open_with (unused other queue.default_priority queue.default_threshold) queue.streams refl are
+      go false = open_with (unused_stream other queue.default_priority queue.default_threshold) queue.streams refl are
 
   -- ---- messages, settings, ends of resets, and resets of other streams
 
   pub queueing_open_on : (now : ℕ) (sending : Sending) (queue : SendQueueState) → OpenStays queue.streams (sending_queued now sending queue).streams
   queueing_open_on now sending queue are =
-      open_changed sending.message.stream (with_message (waiting_as now sending.message sending.options queue)) (λ s here is. is) (used queue sending.message.stream) (open_used queue sending.message.stream are)
+      open_changed sending.message.stream (with_message (waiting_as now sending.message sending.options queue)) (λ s here is. is) (used_streams queue sending.message.stream) (open_used queue sending.message.stream are)
 
   pub setting_open_on : (setting : Setting) (queue : SendQueueState) → OpenStays queue.streams (set_in_queue setting queue).streams
-  setting_open_on (stream_priority other priority) queue are = open_changed other (with_priority priority) (λ s here is. is) (used queue other) (open_used queue other are)
-  setting_open_on (stream_low_threshold other bytes) queue are = open_changed other (with_threshold bytes) (λ s here is. is) (used queue other) (open_used queue other are)
+  setting_open_on (stream_priority other priority) queue are = open_changed other (with_priority priority) (λ s here is. is) (used_streams queue other) (open_used queue other are)
+  setting_open_on (stream_low_threshold other bytes) queue are = open_changed other (with_threshold bytes) (λ s here is. is) (used_streams queue other) (open_used queue other are)
   setting_open_on (longest_message bytes) queue are = are
 
-  committed_id : (s : Stream) (p : Pause) → s.pause ≡ p → (committed s).id ≡ s.id
+  committed_id : (s : Stream) (p : Pause) → s.pause ≡ p → (committed_stream s).id ≡ s.id
   committed_id s Open is = rw is refl
   committed_id s Pausing is = rw is refl
   committed_id s HandedOut is = rw is refl
@@ -92,7 +92,7 @@ module _ (id : ℕ) where
   rolled_id s HandedOut is = rw is refl
 
   pub committing_open_on : (queue : SendQueueState) → OpenStays queue.streams (queue_committed queue).streams
-  committing_open_on queue are = open_mapped committed (λ s is on. (let opened : s.pause ≡ Open = is (sym (committed_id s s.pause refl) ∙ on) in rw opened refl)) queue.streams are
+  committing_open_on queue are = open_mapped committed_stream (λ s is on. (let opened : s.pause ≡ Open = is (sym (committed_id s s.pause refl) ∙ on) in rw opened refl)) queue.streams are
 
   pub rolling_back_open_on : (queue : SendQueueState) → OpenStays queue.streams (queue_rolled_back queue).streams
   rolling_back_open_on queue are = open_mapped rolled_back (λ s is on. (let opened : s.pause ≡ Open = is (sym (rolled_id s s.pause refl) ∙ on) in rw opened refl)) queue.streams are
@@ -106,7 +106,7 @@ module _ (id : ℕ) where
       let both = not_first (first == id) (is_named ids id) none in
       (elim (eqb_tells first id) [ inl e ↦ λ is. (let clash : true ≡ false = sym e.0 ∙ both.0 in absurd (cc)) | inr e ↦ e.1 ], both.1)
 
-  prepared_open_on : (other : ℕ) (queue : SendQueueState) → (other ≡ id → ⊥) → OpenStays queue.streams (prepared other queue).streams
+  prepared_open_on : (other : ℕ) (queue : SendQueueState) → (other ≡ id → ⊥) → OpenStays queue.streams (queue_with_prepared other queue).streams
   prepared_open_on other queue ne are = go (is_open_pause (queue_stream start other).pause)
     where
       start : SendQueueState
@@ -121,7 +121,7 @@ module _ (id : ℕ) where
   preparing_open_on [] queue none are = are
   preparing_open_on (other ∷ ids) queue none are =
       let both = other_than other ids none in
-      preparing_open_on ids (prepared other queue) both.1 (prepared_open_on other queue both.0 are)
+      preparing_open_on ids (queue_with_prepared other queue) both.1 (prepared_open_on other queue both.0 are)
 
   -- ---- a flush
 
@@ -154,28 +154,28 @@ module _ (id : ℕ) where
   requesting_open count None queue are = are
   requesting_open count (Some begun) queue are = handing_open (take count (ready_streams queue)) queue.streams (none_taken count (ready_streams queue) (none_ready queue.under_way queue.streams are)) are
 
-  given_open : (b : Bool) (ask : Ask) (e : Endpoint) (draft : Emission) (transfer : Transfer) (answer : Answer) → GivesWhere b ask e draft transfer answer → OpenStays e.queues.queue.streams answer.after.queues.queue.streams
+  given_open : (b : Bool) (ask : Ask) (e : Endpoint) (draft : Emission) (transfer : Transfer) (answer : Answer) → GivesUnlessIdle b ask e draft transfer answer → OpenStays e.queues.queue.streams answer.after.queues.queue.streams
   given_open true ask e draft transfer answer gives are = subst (λ (a : Answer). IsOpenOn id a.after.queues.queue.streams) (sym gives) are
   given_open false ask e draft transfer answer gives are =
       subst (λ (b : EndpointQueues). IsOpenOn id b.queue.streams) (sym gives.below)
       (after_request OpenStays open_follow ask e draft transfer answer gives
-      (requesting_open (streams_within (room_in e (filled draft (plain_contents answer.acknowledgements)))) answer.begun gives.gave_up.waiting (before_request OpenStays open_follow ask e draft transfer answer gives are)))
+      (requesting_open (streams_within (room_of_draft e (filled_draft draft (plain_contents answer.acknowledgements)))) answer.begun gives.gave_up.waiting (before_request OpenStays open_follow ask e draft transfer answer gives are)))
 
   answered_open : (ask : Ask) (e : Endpoint) (draft : Emission) (transfer : Option Transfer) (answer : Answer) → IsAnswerOfQueues ask e draft answer transfer → OpenStays e.queues.queue.streams answer.after.queues.queue.streams
   answered_open ask e draft None answer answered are = subst (λ (a : Answer). IsOpenOn id a.after.queues.queue.streams) (sym answered) are
   answered_open ask e draft (Some transfer) answer answered are = given_open (is_idle e.queues.queue transfer) ask e draft transfer answer answered are
 
-  asked_open : (ask : Ask) (e : Endpoint) (draft : Emission) (answer : Answer) → IsFlushAnswer ask e draft answer → OpenStays e.queues.queue.streams (asked e draft answer).after.queues.queue.streams
+  asked_open : (ask : Ask) (e : Endpoint) (draft : Emission) (answer : Answer) → IsFlushAnswer ask e draft answer → OpenStays e.queues.queue.streams (asked_outcome e draft answer).after.queues.queue.streams
   asked_open ask e draft answer answered are =
       subst (λ (b : EndpointQueues). IsOpenOn id b.queue.streams)
-      (sym (out_below answer.after (map filling_event answer.told) draft.with_checksum draft.packet.tag (filled draft (answer_contents answer)).packet.contents))
+      (sym (out_below answer.after (map filling_event answer.told) draft.with_checksum draft.packet.tag (filled_draft draft (answer_contents answer)).packet.contents))
       (answered_open ask e draft e.queues.transfer answer answered.by_transfer are)
 
   pub flush_open_on : (ask : Ask) (n : ℕ) (e : Endpoint) (draft : Emission) (answers : List Answer) → AreFlushAnswers ask n e draft answers → OpenStays e.queues.queue.streams (flush_of e draft answers).after.queues.queue.streams
   flush_open_on _ _ _ _ _ (at_limit ask e draft) are = are
   flush_open_on _ _ _ _ _ (at_empty ask more e draft answer is empty) are = asked_open ask e draft answer is are
   flush_open_on _ _ _ _ _ (after_packet ask more e draft answer answers is some rest) are =
-      flush_open_on later_ask more (asked e draft answer).after (next_draft e.core draft) answers rest (asked_open ask e draft answer is are)
+      flush_open_on later_ask more (asked_outcome e draft answer).after (next_draft e.core draft) answers rest (asked_open ask e draft answer is are)
 
   -- ---- What waits on the stream waits still where others are prepared to be reset.
 
@@ -202,12 +202,12 @@ module _ (id : ℕ) where
       go true (suc q) on has rest = waits_later first (with_stream s streams) w (rest (record { q = q; on = on; has = has }))
       go false q on has rest = record { q = suc q; on = on; has = has }
 
-  used_waits : (queue : SendQueueState) (other : ℕ) (w : Waiting) → WaitsOn queue.streams w → WaitsOn (used queue other) w
+  used_waits : (queue : SendQueueState) (other : ℕ) (w : Waiting) → WaitsOn queue.streams w → WaitsOn (used_streams queue other) w
   used_waits queue other w waits = go (is_used other queue.streams)
     where
-      go : (b : Bool) → WaitsOn (if b then queue.streams else with_stream (unused other queue.default_priority queue.default_threshold) queue.streams) w
+      go : (b : Bool) → WaitsOn (if b then queue.streams else with_stream (unused_stream other queue.default_priority queue.default_threshold) queue.streams) w
       go true = waits
-      go false = with_waits (unused other queue.default_priority queue.default_threshold) queue.streams w waits
+      go false = with_waits (unused_stream other queue.default_priority queue.default_threshold) queue.streams w waits
 
   -- a stream of another number changes
   elsewhere_waits : (other : ℕ) (f : Stream → Stream) (streams : List Stream) (w : Waiting) → (other ≡ id → ⊥) → WaitsOn streams w → WaitsOn (stream_changed other f streams) w
@@ -223,7 +223,7 @@ module _ (id : ℕ) where
           ]
       go (s ∷ streams) (suc q) on has = waits_later (if s.id == other then f s else s) (stream_changed other f streams) w (go streams q on has)
 
-  prepared_waits : (other : ℕ) (queue : SendQueueState) (w : Waiting) → (other ≡ id → ⊥) → WaitsOn queue.streams w → WaitsOn (prepared other queue).streams w
+  prepared_waits : (other : ℕ) (queue : SendQueueState) (w : Waiting) → (other ≡ id → ⊥) → WaitsOn queue.streams w → WaitsOn (queue_with_prepared other queue).streams w
   prepared_waits other queue w ne waits = go (is_open_pause (queue_stream start other).pause)
     where
       start : SendQueueState
@@ -237,4 +237,4 @@ module _ (id : ℕ) where
   preparing_waits [] queue w none waits = waits
   preparing_waits (other ∷ ids) queue w none waits =
       let both = other_than other ids none in
-      preparing_waits ids (prepared other queue) w both.1 (prepared_waits other queue w both.0 waits)
+      preparing_waits ids (queue_with_prepared other queue) w both.1 (prepared_waits other queue w both.0 waits)

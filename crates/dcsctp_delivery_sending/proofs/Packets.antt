@@ -3,7 +3,7 @@ use Rattle.std.proofs.Common.{◌≡◌, ℕ, Bool, true, false, ◌+◌, ◌-�
 use Rattle.std.specs.Prelude.{Option, None, Some, slice_get, nat_le, if◌then◌else◌}
 use Rattle.dcsctp_spec.specs.wire.Content.{ChunkContent, data_chunk, i_data_chunk, init_chunk, init_ack_chunk, sack_chunk, heartbeat_chunk, heartbeat_ack_chunk, abort_chunk, shutdown_chunk, shutdown_ack_chunk, error_chunk, cookie_echo_chunk, cookie_ack_chunk, shutdown_complete_chunk, re_config_chunk, forward_tsn_chunk, i_forward_tsn_chunk, unknown_chunk}
 use Rattle.dcsctp_spec.specs.wire.Spelling.{chunk_bytes}
-use Rattle.dcsctp_spec.specs.endpoint.Event.{Event, sent, connected, closed, connection_restarted, aborted, error, buffered_amount_low, total_buffered_amount_low, streams_reset_failed, streams_reset_performed, incoming_stream_reset, lifecycle_message_fully_sent, lifecycle_message_maybe_expired, lifecycle_message_expired, lifecycle_message_delivered, lifecycle_end, packets_in}
+use Rattle.dcsctp_spec.specs.endpoint.Event.{Event, sent, connected, closed, connection_restarted, aborted, error, buffered_amount_low, total_buffered_amount_low, streams_reset_failed, streams_reset_performed, incoming_stream_reset, lifecycle_message_fully_sent, lifecycle_message_maybe_expired, lifecycle_message_expired, lifecycle_message_delivered, lifecycle_end, packets_of_events}
 use Rattle.dcsctp_spec.specs.Packet.{Plain, unknown, heartbeat, heartbeat_ack, unworked, plain, init, init_ack, cookie_echo, cookie_ack, re_config, abort, shutdown, shutdown_ack, shutdown_complete, plain_out, Content, Emission}
 use Rattle.dcsctp_spec.specs.endpoint.Endpoint.{Endpoint}
 use Rattle.dcsctp_spec.specs.Reconfiguration.{ResetParameter, outgoing_reset_request, incoming_reset_request, reconfiguration_response, other_reset_parameter}
@@ -16,8 +16,8 @@ use Rattle.dcsctp_spec.specs.queues.Skipping.{forward_chunk}
 use Rattle.dcsctp_spec.specs.queues.Transfer.{Transfer}
 use Rattle.dcsctp_spec.specs.queues.Tracker.{TrackerState}
 use Rattle.dcsctp_spec.specs.endpoint.BegunResets.{BegunReset, request_contents}
-use Rattle.dcsctp_spec.specs.endpoint.FlushOutcomes.{FillingEvent, amount_is_low, total_amount_is_low, message_is_sent, message_may_have_expired, message_has_expired, message_ends, filling_event, goes_out, where_fits, own_sack, Acknowledges, ForwardsWhere}
-use Rattle.dcsctp_delivery_sending.specs.Log.{Slot, History, log_extended, with_mark, Message, Cut}
+use Rattle.dcsctp_spec.specs.endpoint.FlushOutcomes.{FillingEvent, amount_is_low, total_amount_is_low, message_is_sent, message_may_have_expired, message_has_expired, message_ends, filling_event, goes_out, where_fits, own_sack, Acknowledges, ForwardsIfAbandoned}
+use Rattle.dcsctp_delivery_sending.specs.Log.{Slot, History, log_extended, with_mark, Message, IsLogOfPieces}
 use Rattle.dcsctp_delivery_sending.specs.Numbers.{AreOfKind}
 use Rattle.dcsctp_delivery_sending.specs.Stages.{Bears, IsOfLimited, IsOfLog, AreOfLog}
 use Rattle.dcsctp_delivery_sending.specs.Flushes.{AreBegun, NoRequests, IsPassed, AreForwardEntries, HasLimited, PassesAcknowledged, SaysPlain, NoPlain, NoContent, NoData, SaysContent, SayAll, PacketsSay}
@@ -33,7 +33,7 @@ module _ (history : History) (first acknowledged : ℕ) where
   say_both [] others say say' = say'
   say_both (c ∷ contents) others say say' = (say.0, say_both contents others say.1 say')
 
-  pub packets_both : (events others : List (Event Emission)) → PacketsSay history first acknowledged (packets_in events) → PacketsSay history first acknowledged (packets_in others) → PacketsSay history first acknowledged (packets_in (events ++ others))
+  pub packets_both : (events others : List (Event Emission)) → PacketsSay history first acknowledged (packets_of_events events) → PacketsSay history first acknowledged (packets_of_events others) → PacketsSay history first acknowledged (packets_of_events (events ++ others))
   packets_both [] others say say' = say'
   packets_both (sent e ∷ events) others say say' = (say.0, packets_both events others say.1 say')
   packets_both (connected ∷ events) others say say' = packets_both events others say say'
@@ -92,8 +92,8 @@ module _ (history : History) (first acknowledged : ℕ) where
   passed_by count outstanding b within =
       record { passed = acknowledged + count; below = omega (arith, b.count, within); is = (let at = b.tsn in grind (arith, at)) }
 
-  pub said_forwards : (queued : List Message) → Cut queued history.log → (made : Bool) (now : ℕ) (transfer : Transfer) (room : ℕ) (state : RetransmissionState) (next : Option ℕ) (chunks : List Plain) → AreOfKind state.outstanding.is_interleaved history.log → Bears history first acknowledged state.outstanding
-      → (made ≡ true → is_first_abandoned state.outstanding.items ≡ true) → ForwardsWhere made now transfer room state next chunks
+  pub said_forwards : (queued : List Message) → IsLogOfPieces queued history.log → (made : Bool) (now : ℕ) (transfer : Transfer) (room : ℕ) (state : RetransmissionState) (next : Option ℕ) (chunks : List Plain) → AreOfKind state.outstanding.is_interleaved history.log → Bears history first acknowledged state.outstanding
+      → (made ≡ true → is_first_abandoned state.outstanding.items ≡ true) → ForwardsIfAbandoned made now transfer room state next chunks
       → SayAll history first acknowledged (plain_contents chunks)
   unfolding passed_by
   said_forwards queued cut false now transfer room state next chunks kinds b abandoned forwards = subst (λ (l : List Plain). SayAll history first acknowledged (plain_contents l)) (sym forwards.1) tt
@@ -109,7 +109,7 @@ module _ (history : History) (first acknowledged : ℕ) where
   said_request None ids bound = tt
   said_request (Some begun) ids bound = ((record { mark = record { bound = bound; begun = begun; ids = ids }; has = inl refl; is = refl }, tt), tt)
 
-  told_none : (told : List FillingEvent) → PacketsSay history first acknowledged (packets_in (map filling_event told))
+  told_none : (told : List FillingEvent) → PacketsSay history first acknowledged (packets_of_events (map filling_event told))
   told_none [] = tt
   told_none (amount_is_low stream ∷ told) = told_none told
   told_none (total_amount_is_low ∷ told) = told_none told
@@ -119,7 +119,7 @@ module _ (history : History) (first acknowledged : ℕ) where
   told_none (message_ends id ∷ told) = told_none told
 
   pub out_says : (e : Endpoint) (told : List FillingEvent) (with_checksum : Bool) (tag : ℕ) (contents : List Content) → SayAll history first acknowledged contents
-      → PacketsSay history first acknowledged (packets_in (goes_out e (map filling_event told) with_checksum tag contents).events)
+      → PacketsSay history first acknowledged (packets_of_events (goes_out e (map filling_event told) with_checksum tag contents).events)
   out_says e told with_checksum tag [] say = told_none told
   out_says e told with_checksum tag (c ∷ contents) say =
       packets_both (map filling_event told) (sent (record { with_checksum = with_checksum; packet = record { tag = tag; contents = c ∷ contents } }) ∷ []) (told_none told) (say, tt)

@@ -5,10 +5,10 @@ use Rattle.dcsctp_spec.specs.types.declared.sending.Pause.{Pause}
 use Rattle.dcsctp_spec.specs.types.declared.sending.Pause.TheVariants.{Open, Pausing, HandedOut}
 use Rattle.dcsctp_spec.specs.types.declared.sending.Turn.{Turn}
 use Rattle.dcsctp_spec.specs.types.declared.sending.UnderWay.{UnderWay}
-use Rattle.dcsctp_spec.specs.types.queues.SendStreams.{Waiting, Stream, unused, turn_if, turn_of}
+use Rattle.dcsctp_spec.specs.types.queues.SendStreams.{Waiting, Stream, unused_stream, turn_if, turn_of}
 use Rattle.dcsctp_spec.specs.queues.SendQueue.{SendQueueState}
-use Rattle.dcsctp_spec.specs.queues.Sending.{after_part, after_last, produced, is_last}
-use Rattle.dcsctp_delivery_sending.specs.Numbers.{stream_named, is_handed_out, KeptWhere, AreCurrent, AreKept}
+use Rattle.dcsctp_spec.specs.queues.Sending.{after_part, after_last, queue_after_producing, is_last}
+use Rattle.dcsctp_delivery_sending.specs.Numbers.{stream_named, is_handed_out, IsUnderWayKept, AreCurrent, AreKept}
 use Rattle.dcsctp_spec.specs.queues.Filling.{Stage, StepAgain, StepNew, StageSteps}
 use Rattle.dcsctp_delivery_sending.specs.Log.{Slot, History}
 use Rattle.dcsctp_delivery_sending.proofs.Places.{at_either}
@@ -30,10 +30,10 @@ pauses_follow =
     record {
       same = λ streams id. refl;
       both = pauses_then;
-      set = λ place new streams is same id. found_set SamePause id (unused 0 0 0) new (λ s. refl) place streams is (λ here. ap is_handed_out same);
+      set = λ place new streams is same id. found_set SamePause id (unused_stream 0 0 0) new (λ s. refl) place streams is (λ here. ap is_handed_out same);
     }
 
-pub pauses_produced : (place max : ℕ) (message : Waiting) (under_way : UnderWay) (queue : SendQueueState) → PausesStay queue.streams (produced place max message under_way queue).streams
+pub pauses_produced : (place max : ℕ) (message : Waiting) (under_way : UnderWay) (queue : SendQueueState) → PausesStay queue.streams (queue_after_producing place max message under_way queue).streams
 pauses_produced place max message under_way queue = by_produced PausesStay pauses_follow place max message under_way queue
 
 pauses_part : (place max : ℕ) (message : Waiting) (under_way : UnderWay) (queue : SendQueueState) → PausesStay queue.streams (after_part place max message under_way queue).streams
@@ -41,10 +41,10 @@ pauses_part place max message under_way queue = by_part PausesStay pauses_follow
 
 -- the stream of the message under way still isn't handed out
 pub produced_kept : (place max : ℕ) (message : Waiting) (under_way : UnderWay) (queue : SendQueueState) → is_handed_out (stream_named under_way.stream_id.0 queue.streams).pause ≡ false
-    → KeptWhere (produced place max message under_way queue).streams (produced place max message under_way queue).under_way
+    → IsUnderWayKept (queue_after_producing place max message under_way queue).streams (queue_after_producing place max message under_way queue).under_way
 produced_kept place max message under_way queue kept = go (is_last max message under_way)
   where
-    go : (b : Bool) → KeptWhere (if b then after_last place message under_way queue else after_part place max message under_way queue).streams (if b then after_last place message under_way queue else after_part place max message under_way queue).under_way
+    go : (b : Bool) → IsUnderWayKept (if b then after_last place message under_way queue else after_part place max message under_way queue).streams (if b then after_last place message under_way queue else after_part place max message under_way queue).under_way
     go true = tt
     go false = pauses_part place max message under_way queue under_way.stream_id.0 ∙ kept
 

@@ -3,17 +3,17 @@ use Rattle.std.proofs.Common.{◌≡◌, ◌≢◌, ℕ, ◌<◌, List, [], ◌�
 use Rattle.std.specs.Prelude.{◌⊎◌, Some}
 use Rattle.std.proofs.lemmas.Bool.{eq-eqb}
 use Rattle.std.proofs.lemmas.Bool.Decides.{eqb_tells}
-use Rattle.dcsctp_delivery_sending.specs.Places.{at_place, set_at}
+use Rattle.dcsctp_delivery_sending.specs.Places.{at_place, table_with}
 
 pub decide : (m n : ℕ) → (m ≡ n) ⊎ (m ≢ n)
 decide m n = elim (eqb_tells m n) [ inl e ↦ inl e.1 | inr e ↦ inr e.1 ]
 
 -- ---- tables
 
-pub set_same : {A : Type 0} (n : ℕ) (v : A) (f : ℕ → A) → set_at n v f n ≡ v
+pub set_same : {A : Type 0} (n : ℕ) (v : A) (f : ℕ → A) → table_with n v f n ≡ v
 set_same n v f = rw (eq-eqb n n refl) refl
 
-pub set_other : {A : Type 0} (n m : ℕ) (v : A) (f : ℕ → A) → m ≢ n → set_at n v f m ≡ f m
+pub set_other : {A : Type 0} (n m : ℕ) (v : A) (f : ℕ → A) → m ≢ n → table_with n v f m ≡ f m
 set_other n m v f ne = elim (eqb_tells m n) [ inl e ↦ absurd (ne e.1) | inr e ↦ rw e.0 refl ]
 
 -- ---- places

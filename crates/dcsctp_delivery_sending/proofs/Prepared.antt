@@ -5,12 +5,12 @@ use Rattle.std.specs.List.{AllByRecursion}
 use Rattle.std.proofs.lemmas.Bool.Decides.{eqb_tells}
 use Rattle.dcsctp_spec.specs.types.declared.sending.UnderWay.{UnderWay}
 use Rattle.dcsctp_spec.specs.types.queues.SendStreams.{Waiting, Stream, front_of, stream_at}
-use Rattle.dcsctp_spec.specs.queues.OwnResets.{is_open_pause, count_under_way, dropped_size, prepared_stream, with_used, prepared_open, prepared, prepared_all}
+use Rattle.dcsctp_spec.specs.queues.OwnResets.{is_open_pause, count_under_way, dropped_size, prepared_stream, with_used, prepared_open, queue_with_prepared, prepared_all}
 use Rattle.dcsctp_spec.specs.queues.SendQueue.{SendQueueState, queue_stream, stream_changed}
 use Rattle.dcsctp_delivery_sending.specs.Log.{Message, Slot, History}
 use Rattle.dcsctp_delivery_sending.specs.Pieces.{AllQueued, AllBeyond, Ascend, unbegun, Going, HoldsQueued}
 use Rattle.dcsctp_delivery_sending.specs.Queueing.{QueueHolds}
-use Rattle.dcsctp_delivery_sending.specs.Numbers.{Numbered}
+use Rattle.dcsctp_delivery_sending.specs.Numbers.{NumbersMessages}
 use Rattle.dcsctp_delivery_sending.proofs.Numbers.{SameMids, KeepsFront, same_front, numbers_used, numbers_mapped, numbered_stay}
 use Rattle.std.proofs.lemmas.Bool.{eqb-true}
 use Rattle.dcsctp_delivery_sending.proofs.Places.{decide}
@@ -161,7 +161,7 @@ module _ (queued : List Message) (log : List Slot) (id : ℕ) (u : Option UnderW
         room = (let room = queue_holds.room in record { whole = omega (arith, room.whole, lighter); count = omega (arith, room.count, lighter) });
       }
 
-prepared_one : (queued : List Message) (history : History) (id : ℕ) (queue : SendQueueState) → id < 2 ^ 16 → QueueHolds queued history queue → QueueHolds queued history (prepared id queue)
+prepared_one : (queued : List Message) (history : History) (id : ℕ) (queue : SendQueueState) → id < 2 ^ 16 → QueueHolds queued history queue → QueueHolds queued history (queue_with_prepared id queue)
 prepared_one queued history id queue fits queues = go (is_open_pause (queue_stream start id).pause)
   where
     start : SendQueueState
@@ -188,7 +188,7 @@ prepared_one queued history id queue fits queues = go (is_open_pause (queue_stre
         taken [] = refl
         taken (w ∷ l) = refl
 
-    kept : Numbered history (prepared_open id start)
+    kept : NumbersMessages history (prepared_open id start)
     kept =
         numbered_stay history start (prepared_open id start) refl refl
         (numbers_mapped queue.under_way (λ s. if s.id == id then prepared_stream (dropped_size id start) (count_under_way id start.under_way) s else s) (λ s. one_id (s.id == id) s) (λ s. one_mids (s.id == id) s)
@@ -215,7 +215,7 @@ prepared_one queued history id queue fits queues = go (is_open_pause (queue_stre
 
 pub preparing_kind : (ids : List ℕ) (queue : SendQueueState) → (prepared_all ids queue).is_interleaved ≡ queue.is_interleaved
 preparing_kind [] queue = refl
-preparing_kind (id ∷ ids) queue = preparing_kind ids (prepared id queue) ∙ go (is_open_pause (queue_stream (with_used id queue) id).pause)
+preparing_kind (id ∷ ids) queue = preparing_kind ids (queue_with_prepared id queue) ∙ go (is_open_pause (queue_stream (with_used id queue) id).pause)
   where
     go : (b : Bool) → (if b then prepared_open id (with_used id queue) else with_used id queue).is_interleaved ≡ queue.is_interleaved
     go true = refl
@@ -223,4 +223,4 @@ preparing_kind (id ∷ ids) queue = preparing_kind ids (prepared id queue) ∙ g
 
 pub preparing_hold : (queued : List Message) (history : History) (ids : List ℕ) (queue : SendQueueState) → AllByRecursion (λ id. id < 2 ^ 16) ids → QueueHolds queued history queue → QueueHolds queued history (prepared_all ids queue)
 preparing_hold queued history [] queue fit queues = queues
-preparing_hold queued history (id ∷ ids) queue fit queues = preparing_hold queued history ids (prepared id queue) fit.1 (prepared_one queued history id queue fit.0 queues)
+preparing_hold queued history (id ∷ ids) queue fit queues = preparing_hold queued history ids (queue_with_prepared id queue) fit.1 (prepared_one queued history id queue fit.0 queues)

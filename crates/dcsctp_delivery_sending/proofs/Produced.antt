@@ -4,9 +4,9 @@ use Rattle.std.specs.Prelude.{◌⊎◌, Option, None, Some, if◌then◌else◌
 use Rattle.std.proofs.lemmas.Bool.Decides.{eqb_tells, leb_tells}
 use Rattle.std.proofs.lemmas.List.{get_or-set_same, get_or_past}
 use Rattle.dcsctp_spec.specs.types.declared.sending.UnderWay.{UnderWay}
-use Rattle.dcsctp_spec.specs.types.queues.SendStreams.{Waiting, Stream, front_of, without_front, unused, stream_at}
+use Rattle.dcsctp_spec.specs.types.queues.SendStreams.{Waiting, Stream, front_of, without_front, unused_stream, stream_at}
 use Rattle.dcsctp_spec.specs.queues.SendQueue.{SendQueueState}
-use Rattle.dcsctp_spec.specs.queues.Sending.{fragment, reduced, begun_numbered, after_part, after_last, produced, is_last, size_produced}
+use Rattle.dcsctp_spec.specs.queues.Sending.{fragment, reduced_queue, begun_numbered, after_part, after_last, queue_after_producing, is_last, size_produced}
 use Rattle.dcsctp_delivery_sending.specs.Places.{at_place}
 use Rattle.dcsctp_delivery_sending.specs.Log.{Message, Piece, Slot, IsPiece}
 use Rattle.dcsctp_delivery_sending.specs.Pieces.{IsWaitingMessage, AllQueued, AllBeyond, Ascend, unbegun, IsGoing, HoldsQueued, CarriesPiece}
@@ -24,7 +24,7 @@ within_streams streams place w front =
       | inl e ↦ e.1
       | inr e ↦
           (let beyond : length streams ≤ place = (let lt : length streams < suc place = e.1 in omega arith) in
-          let nothing : ◌≡◌ {A = Option Waiting} None (Some w) = ap (λ (s : Stream). front_of s.messages) (sym (get_or_past streams place (unused 0 0 0) beyond)) ∙ front in
+          let nothing : ◌≡◌ {A = Option Waiting} None (Some w) = ap (λ (s : Stream). front_of s.messages) (sym (get_or_past streams place (unused_stream 0 0 0) beyond)) ∙ front in
           absurd (cc))
     ]
 
@@ -34,7 +34,7 @@ there_or_empty streams q =
       | inl e ↦ inl e.1
       | inr e ↦
           (let beyond : length streams ≤ q = (let lt : length streams < suc q = e.1 in omega arith) in
-          inr (ap (λ (s : Stream). s.messages) (get_or_past streams q (unused 0 0 0) beyond)))
+          inr (ap (λ (s : Stream). s.messages) (get_or_past streams q (unused_stream 0 0 0) beyond)))
     ]
 
 pub none_beyond : (place : ℕ) (messages : List Waiting) → messages ≡ [] → AllBeyond place messages
@@ -135,10 +135,10 @@ module _ (queued : List Message) (log : List Slot) (max place : ℕ) (queue : Se
 
   last_here : (stream_at (after_last place message under_way queue).streams place).messages ≡ drop 1 (stream_at queue.streams place).messages
   last_here =
-      let between = begun_numbered place message under_way (reduced place (length message.payload - under_way.sent) queue) in
+      let between = begun_numbered place message under_way (reduced_queue place (length message.payload - under_way.sent) queue) in
       let same = numbered_reduced place (length message.payload - under_way.sent) message under_way queue in
       let size : length between.streams ≡ length queue.streams = same.sizes in
-      ap (λ (s : Stream). s.messages) (get_or-set_same between.streams place (without_front (stream_at between.streams place)) (unused 0 0 0) (omega (arith, within)))
+      ap (λ (s : Stream). s.messages) (get_or-set_same between.streams place (without_front (stream_at between.streams place)) (unused_stream 0 0 0) (omega (arith, within)))
       ∙ ap (λ (l : List Waiting). drop 1 l) (same.messages place)
 
   part_going : (u : UnderWay) → u.stream_id.0 ≡ under_way.stream_id.0 → u.sent ≡ under_way.sent + max → u.mid ≡ under_way.mid → u.next_fsn ≡ (under_way.next_fsn + 1) % 2 ^ 32 → is_last max message under_way ≡ false
@@ -202,7 +202,7 @@ module _ (queued : List Message) (log : List Slot) (max place : ℕ) (queue : Se
 
   last_room : HasRoomForLog queued (Some piece ∷ log) (after_last place message under_way queue).streams None
   last_room =
-      let between = begun_numbered place message under_way (reduced place (length message.payload - under_way.sent) queue) in
+      let between = begun_numbered place message under_way (reduced_queue place (length message.payload - under_way.sent) queue) in
       let alike' = numbered_reduced place (length message.payload - under_way.sent) message under_way queue in
       let same = weight_same queue.streams between.streams alike'.sizes alike'.messages in
       let left = weight_front between.streams place message (ap front_of (alike'.messages place) ∙ front) in
@@ -216,7 +216,7 @@ module _ (queued : List Message) (log : List Slot) (max place : ℕ) (queue : Se
   next_going : UnderWay
   next_going = record under_way { next_fsn = (under_way.next_fsn + 1) % 2 ^ 32; sent = under_way.sent + max }
 
-  pub it_hold : ((q : ℕ) → (stream_at queue.streams q).id < 2 ^ 16) → HoldsQueued queued (Some piece ∷ log) (produced place max message under_way queue).streams (produced place max message under_way queue).under_way
+  pub it_hold : ((q : ℕ) → (stream_at queue.streams q).id < 2 ^ 16) → HoldsQueued queued (Some piece ∷ log) (queue_after_producing place max message under_way queue).streams (queue_after_producing place max message under_way queue).under_way
   unfolding next_going
   it_hold small = go (is_last max message under_way) refl
     where

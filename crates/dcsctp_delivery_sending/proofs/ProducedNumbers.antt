@@ -4,9 +4,9 @@ use Rattle.std.specs.Prelude.{None, Some, slice_set, if◌then◌else◌}
 use Rattle.std.proofs.lemmas.Bool.Decides.{eqb_tells}
 use Rattle.std.proofs.lemmas.List.{length-set, get_or-set_same}
 use Rattle.dcsctp_spec.specs.types.declared.sending.UnderWay.{UnderWay}
-use Rattle.dcsctp_spec.specs.types.queues.SendStreams.{Waiting, Stream, front_of, stream_counted, served, unused, stream_at}
+use Rattle.dcsctp_spec.specs.types.queues.SendStreams.{Waiting, Stream, front_of, stream_counted, served_stream, unused_stream, stream_at}
 use Rattle.dcsctp_spec.specs.queues.SendQueue.{SendQueueState}
-use Rattle.dcsctp_spec.specs.queues.Sending.{reduced, next_turn, begun_message_counted, begun_numbered, after_part, after_last, produced, is_last}
+use Rattle.dcsctp_spec.specs.queues.Sending.{reduced_queue, next_turn, begun_message_counted, begun_numbered, after_part, after_last, queue_after_producing, is_last}
 use Rattle.dcsctp_delivery_sending.specs.Log.{Piece, Slot, HasBefore, History, with_slot}
 use Rattle.dcsctp_delivery_sending.specs.Numbers.{stream_named, next_mid, CountsMessages, AreOfKind, IsCurrent}
 use Rattle.dcsctp_delivery_sending.proofs.Places.{at_cases}
@@ -25,21 +25,21 @@ numbered_kind place message under_way queue = go (under_way.sent == 0)
     go true = refl
     go false = refl
 
-pub produced_kind : (place max : ℕ) (message : Waiting) (under_way : UnderWay) (queue : SendQueueState) → (produced place max message under_way queue).is_interleaved ≡ queue.is_interleaved
+pub produced_kind : (place max : ℕ) (message : Waiting) (under_way : UnderWay) (queue : SendQueueState) → (queue_after_producing place max message under_way queue).is_interleaved ≡ queue.is_interleaved
 produced_kind place max message under_way queue = go (is_last max message under_way)
   where
     go : (b : Bool) → (if b then after_last place message under_way queue else after_part place max message under_way queue).is_interleaved ≡ queue.is_interleaved
-    go true = numbered_kind place message under_way (reduced place (length message.payload - under_way.sent) queue)
-    go false = numbered_kind place message under_way (reduced place max queue)
+    go true = numbered_kind place message under_way (reduced_queue place (length message.payload - under_way.sent) queue)
+    go false = numbered_kind place message under_way (reduced_queue place max queue)
 
 -- a message that is begun is counted
 numbered_begun : (place : ℕ) (message : Waiting) (under_way : UnderWay) (queue : SendQueueState) → under_way.sent ≡ 0 → queue.is_interleaved ≡ true
-    → (begun_numbered place message under_way queue).streams ≡ slice_set queue.streams place (served (next_turn queue) (stream_counted true message.is_unordered (stream_at queue.streams place)))
+    → (begun_numbered place message under_way queue).streams ≡ slice_set queue.streams place (served_stream (next_turn queue) (stream_counted true message.is_unordered (stream_at queue.streams place)))
 numbered_begun place message under_way queue sent kind = go (under_way.sent == 0) (ap (λ (k : ℕ). k == 0) sent)
   where
     go : (b : Bool) → b ≡ true → (if b then begun_message_counted place message.is_unordered queue else queue).streams
-        ≡ slice_set queue.streams place (served (next_turn queue) (stream_counted true message.is_unordered (stream_at queue.streams place)))
-    go true e = ap (λ (b : Bool). slice_set queue.streams place (served (next_turn queue) (stream_counted b message.is_unordered (stream_at queue.streams place)))) kind
+        ≡ slice_set queue.streams place (served_stream (next_turn queue) (stream_counted true message.is_unordered (stream_at queue.streams place)))
+    go true e = ap (λ (b : Bool). slice_set queue.streams place (served_stream (next_turn queue) (stream_counted b message.is_unordered (stream_at queue.streams place)))) kind
     go false e = absurd (cc)
 
 -- one that continues is not
@@ -53,17 +53,17 @@ numbered_on place message under_way queue some =
 
 -- ---- a stream that is counted
 
-mid_counted : (turn : ℕ) (kind : Bool) (s : Stream) → next_mid kind (served turn (stream_counted true kind s)) ≡ (next_mid kind s + 1) % 2 ^ 32
+mid_counted : (turn : ℕ) (kind : Bool) (s : Stream) → next_mid kind (served_stream turn (stream_counted true kind s)) ≡ (next_mid kind s + 1) % 2 ^ 32
 mid_counted turn true s = refl
 mid_counted turn false s = refl
 
-mid_apart : (turn : ℕ) (kind b : Bool) (s : Stream) → (b ≡ kind → ⊥) → next_mid b (served turn (stream_counted true kind s)) ≡ next_mid b s
+mid_apart : (turn : ℕ) (kind b : Bool) (s : Stream) → (b ≡ kind → ⊥) → next_mid b (served_stream turn (stream_counted true kind s)) ≡ next_mid b s
 mid_apart turn true true s ne = absurd (ne refl)
 mid_apart turn true false s ne = refl
 mid_apart turn false true s ne = refl
 mid_apart turn false false s ne = absurd (ne refl)
 
-id_counted : (turn : ℕ) (kind : Bool) (s : Stream) → (served turn (stream_counted true kind s)).id ≡ s.id
+id_counted : (turn : ℕ) (kind : Bool) (s : Stream) → (served_stream turn (stream_counted true kind s)).id ≡ s.id
 id_counted turn true s = refl
 id_counted turn false s = refl
 
@@ -84,7 +84,7 @@ module _ (history : History) (max place : ℕ) (queue : SendQueueState) (message
   kind = message.is_unordered
 
   between : ℕ → SendQueueState
-  between size = begun_numbered place message under_way (reduced place size queue)
+  between size = begun_numbered place message under_way (reduced_queue place size queue)
 
   alike : (size : ℕ) → Alike queue.streams (between size).streams
   unfolding between
@@ -95,7 +95,7 @@ module _ (history : History) (max place : ℕ) (queue : SendQueueState) (message
       let same = alike size in
       let sizes : length (between size).streams ≡ length queue.streams = same.sizes in
       subst (λ (k : ℕ). stream_named k (between size).streams ≡ stream_at (between size).streams place) (same.ids place)
-      (found_at (unused 0 0 0) place (between size).streams (omega (arith, within)) (distinct_on queue.streams (between size).streams (alike_is_shorter queue.streams (between size).streams same) distinct))
+      (found_at (unused_stream 0 0 0) place (between size).streams (omega (arith, within)) (distinct_on queue.streams (between size).streams (alike_is_shorter queue.streams (between size).streams same) distinct))
 
   -- the message under way stays that
   goes_part : (streams : List Stream) (size : ℕ) → streams ≡ (between size).streams → (u v : UnderWay) → Some u ≡ Some v → u.stream_id.0 ≡ under_way.stream_id.0 → u.mid ≡ under_way.mid → GoesOn streams id kind piece.mid v
@@ -112,16 +112,16 @@ module _ (history : History) (max place : ℕ) (queue : SendQueueState) (message
     counted_here : (size : ℕ) → next_mid kind (stream_named id (between size).streams) ≡ (next_mid kind (stream_named id queue.streams) + 1) % 2 ^ 32
     unfolding between
     counted_here size =
-        let left : List Stream = (reduced place size queue).streams in
-        let turn : ℕ = next_turn (reduced place size queue) in
-        let set = numbered_begun place message under_way (reduced place size queue) sent_is interleaved in
+        let left : List Stream = (reduced_queue place size queue).streams in
+        let turn : ℕ = next_turn (reduced_queue place size queue) in
+        let set = numbered_begun place message under_way (reduced_queue place size queue) sent_is interleaved in
         let long : place < length left = (let sizes : length left ≡ length queue.streams = length-set queue.streams place _ in omega (arith, within)) in
         ap (next_mid kind) (there size) ∙ ap (λ (l : List Stream). next_mid kind (stream_at l place)) set
-        ∙ ap (next_mid kind) (get_or-set_same left place (served turn (stream_counted true kind (stream_at left place))) (unused 0 0 0) long)
+        ∙ ap (next_mid kind) (get_or-set_same left place (served_stream turn (stream_counted true kind (stream_at left place))) (unused_stream 0 0 0) long)
         ∙ mid_counted turn kind (stream_at left place)
-        ∙ ap (λ (s : Stream). (next_mid kind s + 1) % 2 ^ 32) (get_or-set_same queue.streams place _ (unused 0 0 0) within)
+        ∙ ap (λ (s : Stream). (next_mid kind s + 1) % 2 ^ 32) (get_or-set_same queue.streams place _ (unused_stream 0 0 0) within)
         ∙ ap (λ (k : ℕ). (k + 1) % 2 ^ 32) (same_next kind (stream_at queue.streams place))
-        ∙ ap (λ (s : Stream). (next_mid kind s + 1) % 2 ^ 32) (sym (found_at (unused 0 0 0) place queue.streams within distinct))
+        ∙ ap (λ (s : Stream). (next_mid kind s + 1) % 2 ^ 32) (sym (found_at (unused_stream 0 0 0) place queue.streams within distinct))
       where
         same_next : (b : Bool) (s : Stream) → next_mid b (record s { amount = s.amount - size }) ≡ next_mid b s
         same_next true s = refl
@@ -130,12 +130,12 @@ module _ (history : History) (max place : ℕ) (queue : SendQueueState) (message
     counted_else : (size other : ℕ) (b : Bool) → Other id kind other b → next_mid b (stream_named other (between size).streams) ≡ next_mid b (stream_named other queue.streams)
     unfolding between SameNext
     counted_else size other b apart =
-        let left : List Stream = (reduced place size queue).streams in
-        let turn : ℕ = next_turn (reduced place size queue) in
-        let set = numbered_begun place message under_way (reduced place size queue) sent_is interleaved in
-        let long : (stream_at left place).id ≡ id = ap (λ (s : Stream). s.id) (get_or-set_same queue.streams place _ (unused 0 0 0) within) in
+        let left : List Stream = (reduced_queue place size queue).streams in
+        let turn : ℕ = next_turn (reduced_queue place size queue) in
+        let set = numbered_begun place message under_way (reduced_queue place size queue) sent_is interleaved in
+        let long : (stream_at left place).id ≡ id = ap (λ (s : Stream). s.id) (get_or-set_same queue.streams place _ (unused_stream 0 0 0) within) in
         ap (λ (l : List Stream). next_mid b (stream_named other l)) set
-        ∙ found_set (SameNext b) other (unused 0 0 0) (served turn (stream_counted true kind (stream_at left place))) (λ s. refl) place left (id_counted turn kind (stream_at left place))
+        ∙ found_set (SameNext b) other (unused_stream 0 0 0) (served_stream turn (stream_counted true kind (stream_at left place))) (λ s. refl) place left (id_counted turn kind (stream_at left place))
         (λ same. mid_apart turn kind b (stream_at left place) (apart (sym same ∙ id_counted turn kind (stream_at left place) ∙ long)))
         ∙ mid_stays b (stream_named other queue.streams) (stream_named other left) ((numbers_reduced None place size queue).mids other)
 
@@ -160,7 +160,7 @@ module _ (history : History) (max place : ℕ) (queue : SendQueueState) (message
           (λ other b apart. mid_stays b (stream_named other (between rest).streams) (stream_named other (after_last place message under_way queue).streams) (gone.mids other) ∙ counted_else rest other b apart)
           (λ v is. absurd (cc))
 
-      pub begun_counts : CountsMessages (with_slot (Some piece) history) (produced place max message under_way queue).streams (produced place max message under_way queue).under_way
+      pub begun_counts : CountsMessages (with_slot (Some piece) history) (queue_after_producing place max message under_way queue).streams (queue_after_producing place max message under_way queue).under_way
       begun_counts = go (is_last max message under_way)
         where
           go : (b : Bool) → CountsMessages (with_slot (Some piece) history) (if b then after_last place message under_way queue else after_part place max message under_way queue).streams
@@ -174,7 +174,7 @@ module _ (history : History) (max place : ℕ) (queue : SendQueueState) (message
     is_waiting : c.going.waiting ≡ message
     is_waiting =
         let found : stream_named under_way.stream_id.0 queue.streams ≡ stream_at queue.streams place =
-        subst (λ (k : ℕ). stream_named k queue.streams ≡ stream_at queue.streams place) id_is (found_at (unused 0 0 0) place queue.streams within distinct) in
+        subst (λ (k : ℕ). stream_named k queue.streams ≡ stream_at queue.streams place) id_is (found_at (unused_stream 0 0 0) place queue.streams within distinct) in
         let both : Some c.going.waiting ≡ Some message = sym c.going.front ∙ ap (λ (s : Stream). front_of s.messages) found ∙ front in
         cc
 
@@ -191,7 +191,7 @@ module _ (history : History) (max place : ℕ) (queue : SendQueueState) (message
     stays : (size : ℕ) → NumbersStay None queue.streams (between size).streams
     unfolding between
     stays size =
-        subst (λ (l : List Stream). NumbersStay None queue.streams l) (sym (numbered_on place message under_way (reduced place size queue) some)) (numbers_reduced None place size queue)
+        subst (λ (l : List Stream). NumbersStay None queue.streams l) (sym (numbered_on place message under_way (reduced_queue place size queue) some)) (numbers_reduced None place size queue)
 
     goes_later : (streams : List Stream) (size : ℕ) → streams ≡ (between size).streams → (u v : UnderWay) → Some u ≡ Some v → u.stream_id.0 ≡ under_way.stream_id.0 → u.mid ≡ under_way.mid
         → GoesOn streams under_way.stream_id.0 c.going.waiting.is_unordered piece.mid v
@@ -212,7 +212,7 @@ module _ (history : History) (max place : ℕ) (queue : SendQueueState) (message
         counts_continued history queue.streams (after_last place message under_way queue).streams under_way None piece c (stream_is ∙ id_is) (kind_is ∙ same_kind) number_is row
         (numbers_then None queue.streams (between rest).streams (after_last place message under_way queue).streams (stays rest) (numbers_without place (between rest).streams)) (λ v is. absurd (cc))
 
-    pub later_counts : CountsMessages (with_slot (Some piece) history) (produced place max message under_way queue).streams (produced place max message under_way queue).under_way
+    pub later_counts : CountsMessages (with_slot (Some piece) history) (queue_after_producing place max message under_way queue).streams (queue_after_producing place max message under_way queue).under_way
     later_counts = go (is_last max message under_way)
       where
         go : (b : Bool) → CountsMessages (with_slot (Some piece) history) (if b then after_last place message under_way queue else after_part place max message under_way queue).streams

@@ -5,9 +5,9 @@ use Rattle.std.proofs.lemmas.Bool.{eq-eqb}
 use Rattle.std.proofs.lemmas.Bool.Decides.{eqb_tells, leb_tells}
 use Rattle.std.proofs.lemmas.List.{length-set, get_or-set_same}
 use Rattle.dcsctp_spec.specs.types.declared.sending.UnderWay.{UnderWay}
-use Rattle.dcsctp_spec.specs.types.queues.SendStreams.{Waiting, Stream, front_of, stream_counted, served, unused, stream_at}
+use Rattle.dcsctp_spec.specs.types.queues.SendStreams.{Waiting, Stream, front_of, stream_counted, served_stream, unused_stream, stream_at}
 use Rattle.dcsctp_spec.specs.queues.SendQueue.{SendQueueState}
-use Rattle.dcsctp_spec.specs.queues.Sending.{reduced, next_turn, begun_message_counted, begun_numbered, after_part, after_last, produced, is_last, size_produced}
+use Rattle.dcsctp_spec.specs.queues.Sending.{reduced_queue, next_turn, begun_message_counted, begun_numbered, after_part, after_last, queue_after_producing, is_last, size_produced}
 use Rattle.dcsctp_delivery_sending.specs.Places.{at_place}
 use Rattle.dcsctp_delivery_sending.specs.Log.{Piece, Slot, newest, is_end, History, with_slot}
 use Rattle.dcsctp_delivery_sending.specs.Turns.{begun_on, IsSsnOfTurn}
@@ -23,12 +23,12 @@ after_ssn : Bool → ℕ → ℕ
 after_ssn true ssn = ssn
 after_ssn false ssn = (ssn + 1) % 2 ^ 16
 
-ssn_counted : (turn : ℕ) (kind : Bool) (s : Stream) → (served turn (stream_counted false kind s)).next_ssn ≡ after_ssn kind s.next_ssn
+ssn_counted : (turn : ℕ) (kind : Bool) (s : Stream) → (served_stream turn (stream_counted false kind s)).next_ssn ≡ after_ssn kind s.next_ssn
 unfolding after_ssn
 ssn_counted turn true s = refl
 ssn_counted turn false s = refl
 
-id_counted : (turn : ℕ) (kind : Bool) (s : Stream) → (served turn (stream_counted false kind s)).id ≡ s.id
+id_counted : (turn : ℕ) (kind : Bool) (s : Stream) → (served_stream turn (stream_counted false kind s)).id ≡ s.id
 id_counted turn true s = refl
 id_counted turn false s = refl
 
@@ -53,64 +53,64 @@ module _ (history : History) (max place : ℕ) (queue : SendQueueState) (message
   now = Some piece ∷ history.log
 
   between : ℕ → SendQueueState
-  between size = begun_numbered place message under_way (reduced place size queue)
+  between size = begun_numbered place message under_way (reduced_queue place size queue)
 
   alike : (size : ℕ) → Alike queue.streams (between size).streams
   unfolding between
   alike size = numbered_reduced place size message under_way queue
 
   named : stream_named here queue.streams ≡ stream_at queue.streams place
-  named = found_at (unused 0 0 0) place queue.streams within distinct
+  named = found_at (unused_stream 0 0 0) place queue.streams within distinct
 
   there : (size : ℕ) → stream_named here (between size).streams ≡ stream_at (between size).streams place
   there size =
       let same = alike size in
       let sizes : length (between size).streams ≡ length queue.streams = same.sizes in
       subst (λ (k : ℕ). stream_named k (between size).streams ≡ stream_at (between size).streams place) (same.ids place)
-      (found_at (unused 0 0 0) place (between size).streams (omega (arith, within)) (distinct_on queue.streams (between size).streams (alike_is_shorter queue.streams (between size).streams same) distinct))
+      (found_at (unused_stream 0 0 0) place (between size).streams (omega (arith, within)) (distinct_on queue.streams (between size).streams (alike_is_shorter queue.streams (between size).streams same) distinct))
 
   -- ---- which number comes next
 
   -- a message that is begun is counted
   streams_begun : (size : ℕ) → under_way.sent ≡ 0
-      → (between size).streams ≡ slice_set (reduced place size queue).streams place (served (next_turn (reduced place size queue)) (stream_counted false kind (stream_at (reduced place size queue).streams place)))
+      → (between size).streams ≡ slice_set (reduced_queue place size queue).streams place (served_stream (next_turn (reduced_queue place size queue)) (stream_counted false kind (stream_at (reduced_queue place size queue).streams place)))
   unfolding between
   streams_begun size sent = go (under_way.sent == 0) (eq-eqb under_way.sent 0 sent)
     where
-      go : (b : Bool) → b ≡ true → (if b then begun_message_counted place kind (reduced place size queue) else reduced place size queue).streams
-          ≡ slice_set (reduced place size queue).streams place (served (next_turn (reduced place size queue)) (stream_counted false kind (stream_at (reduced place size queue).streams place)))
+      go : (b : Bool) → b ≡ true → (if b then begun_message_counted place kind (reduced_queue place size queue) else reduced_queue place size queue).streams
+          ≡ slice_set (reduced_queue place size queue).streams place (served_stream (next_turn (reduced_queue place size queue)) (stream_counted false kind (stream_at (reduced_queue place size queue).streams place)))
       go true e =
-          ap (λ (b : Bool). slice_set (reduced place size queue).streams place (served (next_turn (reduced place size queue)) (stream_counted b kind (stream_at (reduced place size queue).streams place)))) plain
+          ap (λ (b : Bool). slice_set (reduced_queue place size queue).streams place (served_stream (next_turn (reduced_queue place size queue)) (stream_counted b kind (stream_at (reduced_queue place size queue).streams place)))) plain
       go false e = absurd (cc)
 
-  streams_on : (size : ℕ) → 0 < under_way.sent → (between size).streams ≡ (reduced place size queue).streams
+  streams_on : (size : ℕ) → 0 < under_way.sent → (between size).streams ≡ (reduced_queue place size queue).streams
   unfolding between
   streams_on size some =
       elim (eqb_tells under_way.sent 0) [ inl e ↦ absurd (let none : under_way.sent ≡ 0 = e.1 in omega arith) | inr e ↦ go (under_way.sent == 0) e.0 ]
     where
-      go : (b : Bool) → b ≡ false → (if b then begun_message_counted place kind (reduced place size queue) else reduced place size queue).streams ≡ (reduced place size queue).streams
+      go : (b : Bool) → b ≡ false → (if b then begun_message_counted place kind (reduced_queue place size queue) else reduced_queue place size queue).streams ≡ (reduced_queue place size queue).streams
       go true e = absurd (cc)
       go false e = refl
 
   ssn_here : (size : ℕ) → under_way.sent ≡ 0 → (stream_named here (between size).streams).next_ssn ≡ after_ssn kind (stream_named here queue.streams).next_ssn
   ssn_here size sent =
-      let left : List Stream = (reduced place size queue).streams in
-      let turn : ℕ = next_turn (reduced place size queue) in
+      let left : List Stream = (reduced_queue place size queue).streams in
+      let turn : ℕ = next_turn (reduced_queue place size queue) in
       let long : place < length left = (let sizes : length left ≡ length queue.streams = length-set queue.streams place _ in omega (arith, within)) in
       ap (λ (s : Stream). s.next_ssn) (there size) ∙ ap (λ (l : List Stream). (stream_at l place).next_ssn) (streams_begun size sent)
-      ∙ ap (λ (s : Stream). s.next_ssn) (get_or-set_same left place (served turn (stream_counted false kind (stream_at left place))) (unused 0 0 0) long)
+      ∙ ap (λ (s : Stream). s.next_ssn) (get_or-set_same left place (served_stream turn (stream_counted false kind (stream_at left place))) (unused_stream 0 0 0) long)
       ∙ ssn_counted turn kind (stream_at left place)
-      ∙ ap (λ (s : Stream). after_ssn kind s.next_ssn) (get_or-set_same queue.streams place _ (unused 0 0 0) within)
+      ∙ ap (λ (s : Stream). after_ssn kind s.next_ssn) (get_or-set_same queue.streams place _ (unused_stream 0 0 0) within)
       ∙ ap (λ (s : Stream). after_ssn kind s.next_ssn) (sym named)
 
   ssn_else : (size other : ℕ) → under_way.sent ≡ 0 → (other ≡ here → ⊥) → (stream_named other (between size).streams).next_ssn ≡ (stream_named other queue.streams).next_ssn
   unfolding SameSsn
   ssn_else size other sent apart =
-      let left : List Stream = (reduced place size queue).streams in
-      let turn : ℕ = next_turn (reduced place size queue) in
-      let long : (stream_at left place).id ≡ here = ap (λ (s : Stream). s.id) (get_or-set_same queue.streams place _ (unused 0 0 0) within) in
+      let left : List Stream = (reduced_queue place size queue).streams in
+      let turn : ℕ = next_turn (reduced_queue place size queue) in
+      let long : (stream_at left place).id ≡ here = ap (λ (s : Stream). s.id) (get_or-set_same queue.streams place _ (unused_stream 0 0 0) within) in
       ap (λ (l : List Stream). (stream_named other l).next_ssn) (streams_begun size sent)
-      ∙ found_set SameSsn other (unused 0 0 0) (served turn (stream_counted false kind (stream_at left place))) (λ s. refl) place left (id_counted turn kind (stream_at left place))
+      ∙ found_set SameSsn other (unused_stream 0 0 0) (served_stream turn (stream_counted false kind (stream_at left place))) (λ s. refl) place left (id_counted turn kind (stream_at left place))
       (λ same. absurd (apart (sym same ∙ id_counted turn kind (stream_at left place) ∙ long)))
       ∙ ((numbers_reduced None place size queue).mids other).ssn
 
@@ -126,7 +126,7 @@ module _ (history : History) (max place : ℕ) (queue : SendQueueState) (message
   ItsTurn id = piece.message.stream ≡ id → piece.message.is_unordered ≡ false → IsSsnOfTurn piece.ssn (begun_on id now)
 
   produced_turns : (id : ℕ) (u : Option UnderWay) → CountsTurns id history.log queue.streams u → NextIs id → ItsTurn id
-      → CountsTurns id now (produced place max message under_way queue).streams (produced place max message under_way queue).under_way
+      → CountsTurns id now (queue_after_producing place max message under_way queue).streams (queue_after_producing place max message under_way queue).under_way
   unfolding between
   produced_turns id u c next its = go (is_last max message under_way)
     where
@@ -152,7 +152,7 @@ module _ (history : History) (max place : ℕ) (queue : SendQueueState) (message
 
   -- the first fragment of a message
   begun_turns : (id : ℕ) → under_way.sent ≡ 0 → piece.start ≡ 0 → under_way.ssn ≡ (stream_named here queue.streams).next_ssn ⊎ (kind ≡ true) → CountsTurns id history.log queue.streams None
-      → CountsTurns id now (produced place max message under_way queue).streams (produced place max message under_way queue).under_way
+      → CountsTurns id now (queue_after_producing place max message under_way queue).streams (queue_after_producing place max message under_way queue).under_way
   unfolding after_ssn
   begun_turns id sent start ssn c =
       elim (eqb_tells id here) [
@@ -162,7 +162,7 @@ module _ (history : History) (max place : ℕ) (queue : SendQueueState) (message
         | inl e ↦ by_kind kind refl e.1
       ]
     where
-      by_kind : (b : Bool) → kind ≡ b → id ≡ here → CountsTurns id now (produced place max message under_way queue).streams (produced place max message under_way queue).under_way
+      by_kind : (b : Bool) → kind ≡ b → id ≡ here → CountsTurns id now (queue_after_producing place max message under_way queue).streams (queue_after_producing place max message under_way queue).under_way
       by_kind true is at =
           let same = starts_apart id piece history.log (kind_is ∙ is) in
           produced_turns id None c
@@ -183,7 +183,7 @@ module _ (history : History) (max place : ℕ) (queue : SendQueueState) (message
 
   -- a later one
   later_turns : (id : ℕ) → 0 < under_way.sent → piece.start ≡ under_way.sent → CountsTurns id history.log queue.streams (Some under_way)
-      → CountsTurns id now (produced place max message under_way queue).streams (produced place max message under_way queue).under_way
+      → CountsTurns id now (queue_after_producing place max message under_way queue).streams (queue_after_producing place max message under_way queue).under_way
   later_turns id some start c =
       let same = starts_none id piece history.log (omega (arith, some, start)) in
       produced_turns id (Some under_way) c (λ size. ap (λ (k : ℕ). k % 2 ^ 16) (ssn_on size id some) ∙ c.next ∙ ap (λ (k : ℕ). k % 2 ^ 16) (sym same))
@@ -199,7 +199,7 @@ module _ (history : History) (max place : ℕ) (queue : SendQueueState) (message
   -- ---- it ends a message, or not
 
   ends_so : piece.start ≡ under_way.sent → piece.size ≡ size_produced max message under_way → piece.message.payload ≡ message.payload → under_way.sent < length message.payload
-      → (produced place max message under_way queue).under_way ≡ None → is_end piece ≡ true
+      → (queue_after_producing place max message under_way queue).under_way ≡ None → is_end piece ≡ true
   ends_so start size payload unfinished = go (is_last max message under_way) refl
     where
       lengths : length piece.message.payload ≡ length message.payload
@@ -213,7 +213,7 @@ module _ (history : History) (max place : ℕ) (queue : SendQueueState) (message
 
   pub begun_ssns : under_way.sent ≡ 0 → piece.start ≡ under_way.sent → piece.size ≡ size_produced max message under_way → piece.message.payload ≡ message.payload → under_way.sent < length message.payload
       → under_way.ssn ≡ (stream_named here queue.streams).next_ssn ⊎ (kind ≡ true) → CountsSsns history queue.streams None
-      → CountsSsns (with_slot (Some piece) history) (produced place max message under_way queue).streams (produced place max message under_way queue).under_way
+      → CountsSsns (with_slot (Some piece) history) (queue_after_producing place max message under_way queue).streams (queue_after_producing place max message under_way queue).under_way
   begun_ssns sent start size payload unfinished ssn c =
       record {
         turns = λ id from. begun_turns id sent (start ∙ sent) ssn (c.turns id (record { floor = from.floor; none = from.none }));
@@ -233,7 +233,7 @@ module _ (history : History) (max place : ℕ) (queue : SendQueueState) (message
 
   pub later_ssns : 0 < under_way.sent → piece.start ≡ under_way.sent → piece.size ≡ size_produced max message under_way → piece.message.payload ≡ message.payload → under_way.sent < length message.payload
       → CountsSsns history queue.streams (Some under_way)
-      → CountsSsns (with_slot (Some piece) history) (produced place max message under_way queue).streams (produced place max message under_way queue).under_way
+      → CountsSsns (with_slot (Some piece) history) (queue_after_producing place max message under_way queue).streams (queue_after_producing place max message under_way queue).under_way
   later_ssns some start size payload unfinished c =
       record {
         turns = λ id from. later_turns id some start (c.turns id (record { floor = from.floor; none = from.none }));

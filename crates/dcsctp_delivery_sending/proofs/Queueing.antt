@@ -4,10 +4,10 @@ use Rattle.std.specs.Prelude.{◌⊎◌, Option, None, Some, if◌then◌else◌
 use Rattle.std.proofs.lemmas.Bool.Decides.{eqb_tells}
 use Rattle.dcsctp_spec.specs.types.declared.sending.UnderWay.{UnderWay}
 use Rattle.dcsctp_spec.specs.types.queues.SendStreams.{Waiting, Stream, front_of, stream_at, with_message}
-use Rattle.dcsctp_spec.specs.queues.SendQueue.{SendQueueState, stream_changed, used, queued as waiting_as}
+use Rattle.dcsctp_spec.specs.queues.SendQueue.{SendQueueState, stream_changed, used_streams, queued_message as waiting_as}
 use Rattle.dcsctp_spec.specs.endpoint.MessageOutcomes.{Sending, sending_queued}
 use Rattle.dcsctp_delivery_sending.specs.Places.{at_place}
-use Rattle.dcsctp_delivery_sending.specs.Log.{Message, Piece, Slot, Cut, History}
+use Rattle.dcsctp_delivery_sending.specs.Log.{Message, Piece, Slot, IsLogOfPieces, History}
 use Rattle.dcsctp_delivery_sending.specs.Pieces.{WaitingWasQueued, AllQueued, AllBeyond, Ascend, unbegun, Going, HoldsQueued}
 use Rattle.dcsctp_delivery_sending.specs.Queueing.{message_of, QueueHolds}
 use Rattle.dcsctp_delivery_sending.proofs.Places.{decide, at_new, at_below, at_stays}
@@ -200,7 +200,7 @@ exactly id m (s ∷ l) zero below is = elim (eqb_tells s.id id) [ inl e ↦ rw e
 exactly id m (s ∷ l) (suc q) below is = exactly id m l q (omega arith) is
 
 pub queueing_hold : (queued : List Message) (history : History) (now : ℕ) (sending : Sending) (queue : SendQueueState) → sending.message.stream < 2 ^ 16 → length queued + 1 < 2 ^ 64 → 0 < length sending.message.payload
-    → Cut queued history.log → QueueHolds queued history queue → QueueHolds (message_of sending ∷ queued) history (sending_queued now sending queue)
+    → IsLogOfPieces queued history.log → QueueHolds queued history queue → QueueHolds (message_of sending ∷ queued) history (sending_queued now sending queue)
 queueing_hold queued history now sending queue fits few some cut queues =
     record {
       queue_holds = added_hold queued (message_of sending) history.log sending.message.stream m streams (stream_changed sending.message.stream (with_message m) streams) queue.under_way (one_more sending.message.stream m streams)
@@ -222,4 +222,4 @@ queueing_hold queued history now sending queue fits few some cut queues =
     m = waiting_as now sending.message sending.options queue
 
     streams : List Stream
-    streams = used queue sending.message.stream
+    streams = used_streams queue sending.message.stream

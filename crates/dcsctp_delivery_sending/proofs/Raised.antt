@@ -7,7 +7,7 @@ use Rattle.dcsctp_spec.specs.queues.Outstanding.{OutstandingState}
 use Rattle.dcsctp_spec.specs.queues.Sending.{Fragment}
 use Rattle.dcsctp_spec.specs.queues.Transfer.{Transfer}
 use Rattle.dcsctp_delivery_sending.specs.Log.{History, new_history}
-use Rattle.dcsctp_delivery_sending.specs.Flushes.{InFlight, PendsWhere}
+use Rattle.dcsctp_delivery_sending.specs.Flushes.{InFlight, PendsIfConnected}
 use Rattle.dcsctp_delivery_sending.specs.Stages.{IsNamedFragment, Bears, AreMarks}
 use Rattle.dcsctp_delivery_sending.proofs.Extended.{as_itself, Extends}
 
@@ -30,7 +30,7 @@ pub flight_floors : (floors : ℕ → Bool → ℕ) (history : History) (first a
 flight_floors floors history first acknowledged None flight = flight
 flight_floors floors history first acknowledged (Some transfer) flight = bears_floors floors history first acknowledged transfer.retransmission.outstanding flight
 
-pub pends_floors : (floors : ℕ → Bool → ℕ) (history : History) (transfer : Option Transfer) → PendsWhere history transfer → PendsWhere (with_floors floors history) transfer
+pub pends_floors : (floors : ℕ → Bool → ℕ) (history : History) (transfer : Option Transfer) → PendsIfConnected history transfer → PendsIfConnected (with_floors floors history) transfer
 pends_floors floors history None pends = tt
 pends_floors floors history (Some transfer) pends = record { next = pends.next; none = pends.none }
 
@@ -44,6 +44,6 @@ marks_floors floors history first under_way marks mark has =
 pub marks_new : (floors : ℕ → Bool → ℕ) (first : ℕ) (under_way : Option UnderWay) → AreMarks (new_history floors) first under_way
 marks_new floors first under_way mark has = absurd has
 
-pub pends_new : (floors : ℕ → Bool → ℕ) (transfer : Option Transfer) → PendsWhere (new_history floors) transfer
+pub pends_new : (floors : ℕ → Bool → ℕ) (transfer : Option Transfer) → PendsIfConnected (new_history floors) transfer
 pends_new floors None = tt
 pends_new floors (Some transfer) = record { next = λ mark has is. absurd has; none = λ begun none. refl }

@@ -10,8 +10,8 @@ use Rattle.dcsctp_spec.specs.queues.Sending.{Fragment}
 use Rattle.dcsctp_spec.specs.queues.Transfer.{Transfer, EndpointQueues}
 use Rattle.dcsctp_delivery_sending.specs.Places.{HasEntry}
 use Rattle.dcsctp_delivery_sending.specs.Log.{Message, Mark, mark_renewed, History, with_renewed, Resets}
-use Rattle.dcsctp_delivery_sending.specs.Numbers.{LastIs, CountsWhere, Numbered}
-use Rattle.dcsctp_delivery_sending.specs.Flushes.{InFlight, PendsWhere, QueuesFollowLog}
+use Rattle.dcsctp_delivery_sending.specs.Numbers.{LastIs, CountsByKind, NumbersMessages}
+use Rattle.dcsctp_delivery_sending.specs.Flushes.{InFlight, PendsIfConnected, QueuesFollowLog}
 use Rattle.dcsctp_delivery_sending.specs.Stages.{IsNamedFragment, Bears, IsMark, AreMarks}
 
 module _ (history : History) (number : ℕ) (renewed : Mark) (known : HasEntry renewed history.marks) where
@@ -54,7 +54,7 @@ module _ (history : History) (number : ℕ) (renewed : Mark) (known : HasEntry r
   flight_renewed first acknowledged None flight = flight
   flight_renewed first acknowledged (Some transfer) flight = bears_renewed first acknowledged transfer.retransmission.outstanding flight
 
-  pends_renewed : (transfer : Option Transfer) → PendsWhere history transfer → PendsWhere now transfer
+  pends_renewed : (transfer : Option Transfer) → PendsIfConnected history transfer → PendsIfConnected now transfer
   pends_renewed None pends = tt
   pends_renewed (Some transfer) pends = record { next = of_each (λ mark. mark.bound ≡ length history.log → transfer.retransmission.reset_begun ≡ true) (λ is. is) pends.next; none = λ begun none. absurd (cc) }
 
@@ -66,12 +66,12 @@ module _ (history : History) (number : ℕ) (renewed : Mark) (known : HasEntry r
   last_renewed streams counts None last = tt
   last_renewed streams counts (Some under_way) l = record { waiting = l.waiting; front = l.front; mid = l.mid; is = l.is; from = l.from; last = l.last; came = l.came }
 
-  counts_renewed : (is_interleaved : Bool) (streams : List Stream) (under_way : Option UnderWay) → CountsWhere is_interleaved history streams under_way → CountsWhere is_interleaved now streams under_way
+  counts_renewed : (is_interleaved : Bool) (streams : List Stream) (under_way : Option UnderWay) → CountsByKind is_interleaved history streams under_way → CountsByKind is_interleaved now streams under_way
   counts_renewed false streams under_way c = record { turns = λ id start. c.turns id (record { floor = start.floor; none = λ mark has names. start.none mark (inr has) names }); closes = c.closes; rests = c.rests }
   counts_renewed true streams under_way c =
       record { counts = c.counts; few = c.few; next = c.next; below = c.below; apart = c.apart; going = last_renewed streams c.counts under_way c.going }
 
-  numbered_renewed : (queue : SendQueueState) → Numbered history queue → Numbered now queue
+  numbered_renewed : (queue : SendQueueState) → NumbersMessages history queue → NumbersMessages now queue
   numbered_renewed queue n = record { kinds = n.kinds; counts = counts_renewed queue.is_interleaved queue.streams queue.under_way n.counts; kept = n.kept }
 
   pub below_renewed : (queued : List Message) (first acknowledged : ℕ) (below : EndpointQueues) → QueuesFollowLog queued history first acknowledged below → QueuesFollowLog queued now first acknowledged below

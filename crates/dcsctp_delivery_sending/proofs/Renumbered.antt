@@ -2,13 +2,13 @@
 use Rattle.std.proofs.Common.{◌≡◌, ◌==◌, ℕ, zero, suc, Bool, true, false, ◌<◌, ◌+◌, ◌%◌, ◌^◌, List, [], ◌∷◌, length, refl, sym, ◌∙◌, ap, arith, subst, inl, inr}
 use Rattle.std.specs.Prelude.{Option, None, Some, if◌then◌else◌}
 use Rattle.dcsctp_spec.specs.types.declared.sending.UnderWay.{UnderWay}
-use Rattle.dcsctp_spec.specs.types.queues.SendStreams.{stream_counted, Waiting, Stream, front_of, next_numbers, stream_at, unused}
-use Rattle.dcsctp_spec.specs.queues.SendQueue.{found_in, queue_stream, message_renumbered, numbered_for, numbered_where, is_other, front_counted, is_front_unordered, SendQueueState, stream_changed}
+use Rattle.dcsctp_spec.specs.types.queues.SendStreams.{stream_counted, Waiting, Stream, front_of, next_numbers, stream_at, unused_stream}
+use Rattle.dcsctp_spec.specs.queues.SendQueue.{stream_found, queue_stream, message_renumbered, numbered_for, numbered_if_new, is_other, front_counted, is_front_unordered, SendQueueState, stream_changed}
 use Rattle.dcsctp_delivery_sending.specs.Log.{Message, new_history}
 use Rattle.dcsctp_delivery_sending.specs.Pieces.{IsGoing, HoldsQueued}
 use Rattle.dcsctp_delivery_sending.specs.Queueing.{QueueWaits}
 use Rattle.dcsctp_delivery_sending.proofs.Streams.{alike_hold}
-use Rattle.dcsctp_delivery_sending.specs.Numbers.{stream_named, next_mid, KeptWhere, CountsWhere}
+use Rattle.dcsctp_delivery_sending.specs.Numbers.{stream_named, next_mid, IsUnderWayKept, CountsByKind}
 use Rattle.dcsctp_delivery_sending.proofs.StreamsNamed.{found_at, found_mapped}
 use Rattle.dcsctp_delivery_sending.proofs.Pauses.{SamePause}
 use Rattle.dcsctp_delivery_sending.proofs.Counting.{Begins, counts_rest, ssns_anew}
@@ -35,7 +35,7 @@ is_same false true e = absurd (cc)
 is_same false false e = refl
 
 -- the stream with a number, if there is one: then the default doesn't matter
-found_default : (d e : Stream) (id q : ℕ) (streams : List Stream) → q < length streams → (stream_at streams q).id ≡ id → found_in d id streams ≡ found_in e id streams
+found_default : (d e : Stream) (id q : ℕ) (streams : List Stream) → q < length streams → (stream_at streams q).id ≡ id → stream_found d id streams ≡ stream_found e id streams
 found_default d e id q [] within is = absurd (omega arith)
 found_default d e id zero (s ∷ streams) within is = elim (eqb_tells s.id id) [ inl t ↦ rw t.0 refl | inr t ↦ absurd (t.1 is) ]
 found_default d e id (suc q) (s ∷ streams) within is =
@@ -44,7 +44,7 @@ found_default d e id (suc q) (s ∷ streams) within is =
       | inr t ↦ rw t.0 (found_default d e id q streams (omega arith) is)
     ]
 
-found_changed : (d : Stream) (f : Stream → Stream) → ((s : Stream) → (f s).id ≡ s.id) → (id q : ℕ) (streams : List Stream) → q < length streams → (stream_at streams q).id ≡ id → found_in d id (stream_changed id f streams) ≡ f (found_in d id streams)
+found_changed : (d : Stream) (f : Stream → Stream) → ((s : Stream) → (f s).id ≡ s.id) → (id q : ℕ) (streams : List Stream) → q < length streams → (stream_at streams q).id ≡ id → stream_found d id (stream_changed id f streams) ≡ f (stream_found d id streams)
 found_changed d f same id q [] within is = absurd (omega arith)
 found_changed d f same id zero (s ∷ streams) within is =
     elim (eqb_tells s.id id) [
@@ -71,7 +71,7 @@ renumbered_counts queued true u queue queue_holds =
     g = queue_holds.going
 
     named : stream_named id queue.streams ≡ stream_at queue.streams g.there.q
-    named = subst (λ (k : ℕ). stream_named k queue.streams ≡ stream_at queue.streams g.there.q) g.there.is (found_at (unused 0 0 0) g.there.q queue.streams g.there.within queue_holds.distinct)
+    named = subst (λ (k : ℕ). stream_named k queue.streams ≡ stream_at queue.streams g.there.q) g.there.is (found_at (unused_stream 0 0 0) g.there.q queue.streams g.there.within queue_holds.distinct)
 
     keeps_id : (s : Stream) → (front_counted true s).id ≡ s.id
     keeps_id s = go (is_front_unordered s.messages)
@@ -85,7 +85,7 @@ renumbered_counts queued true u queue queue_holds =
     keeps_messages false s = refl
 
     changes : stream_named id (stream_changed id (front_counted true) queue.streams) ≡ front_counted true (stream_named id queue.streams)
-    changes = found_changed (unused 0 0 0) (front_counted true) keeps_id id g.there.q queue.streams g.there.within g.there.is
+    changes = found_changed (unused_stream 0 0 0) (front_counted true) keeps_id id g.there.q queue.streams g.there.within g.there.is
 
     front : front_of (stream_named id (stream_changed id (front_counted true) queue.streams)).messages ≡ Some g.there.waiting
     front = ap (λ (s : Stream). front_of s.messages) changes ∙ ap front_of (keeps_messages (is_front_unordered (stream_named id queue.streams).messages) (stream_named id queue.streams)) ∙ ap (λ (s : Stream). front_of s.messages) named ∙ g.there.front
@@ -103,7 +103,7 @@ renumbered_counts queued true u queue queue_holds =
 
     mid : (message_renumbered u (queue_stream queue id)).mid ≡ next_mid g.there.waiting.is_unordered (stream_named id queue.streams)
     mid =
-        ap (λ (s : Stream). (next_numbers (is_front_unordered s.messages) s).1) (found_default (unused id queue.default_priority queue.default_threshold) (unused 0 0 0) id g.there.q queue.streams g.there.within g.there.is)
+        ap (λ (s : Stream). (next_numbers (is_front_unordered s.messages) s).1) (found_default (unused_stream id queue.default_priority queue.default_threshold) (unused_stream 0 0 0) id g.there.q queue.streams g.there.within g.there.is)
         ∙ ap (λ (b : Bool). next_mid b (stream_named id queue.streams)) kind
 
     next : next_mid g.there.waiting.is_unordered (stream_named id (stream_changed id (front_counted true) queue.streams)) % 2 ^ 32 ≡ ((message_renumbered u (queue_stream queue id)).mid + 1) % 2 ^ 32
@@ -116,7 +116,7 @@ renumbered_counts queued true u queue queue_holds =
 pub numbered_kind : (enabled : Bool) (queue : SendQueueState) → (numbered_for enabled queue).is_interleaved ≡ enabled
 numbered_kind enabled queue = go queue.under_way (is_other queue.is_interleaved enabled)
   where
-    go : (u : Option UnderWay) (b : Bool) → (numbered_where u b (record queue { is_interleaved = enabled })).is_interleaved ≡ enabled
+    go : (u : Option UnderWay) (b : Bool) → (numbered_if_new u b (record queue { is_interleaved = enabled })).is_interleaved ≡ enabled
     go None b = refl
     go (Some u) false = refl
     go (Some u) true = refl
@@ -146,27 +146,27 @@ numbered_hold queued enabled queue waits = go queue.under_way refl (is_other que
     start = record queue { is_interleaved = enabled }
 
     -- this holds for these streams
-    so : (streams : List Stream) (u : Option UnderWay) → HoldsQueued queued [] streams u → Begins enabled streams u → KeptWhere streams u → QueueWaits queued (record start { streams = streams; under_way = u })
+    so : (streams : List Stream) (u : Option UnderWay) → HoldsQueued queued [] streams u → Begins enabled streams u → IsUnderWayKept streams u → QueueWaits queued (record start { streams = streams; under_way = u })
     so streams u queue_holds begins kept = record { floors = begins.floors; holds = record { queue_holds = queue_holds; next = waits.holds.next; numbers = numbered_new (record start { streams = streams; under_way = u }) begins kept } }
 
-    go : (u : Option UnderWay) → queue.under_way ≡ u → (b : Bool) → is_other queue.is_interleaved enabled ≡ b → HoldsQueued queued [] queue.streams u → QueueWaits queued (numbered_where u b (record start { under_way = u }))
+    go : (u : Option UnderWay) → queue.under_way ≡ u → (b : Bool) → is_other queue.is_interleaved enabled ≡ b → HoldsQueued queued [] queue.streams u → QueueWaits queued (numbered_if_new u b (record start { under_way = u }))
     go None is b other queue_holds = so queue.streams None queue_holds (begins_idle enabled queue.streams) tt
     go (Some u) is false other queue_holds =
         so queue.streams (Some u) queue_holds
         (record {
           floors = waits.floors;
-          counts = subst (λ (b : Bool). CountsWhere b (new_history waits.floors) queue.streams (Some u)) (is_same queue.is_interleaved enabled other)
-              (subst (λ (v : Option UnderWay). CountsWhere queue.is_interleaved (new_history waits.floors) queue.streams v) is waits.holds.numbers.counts);
+          counts = subst (λ (b : Bool). CountsByKind b (new_history waits.floors) queue.streams (Some u)) (is_same queue.is_interleaved enabled other)
+              (subst (λ (v : Option UnderWay). CountsByKind queue.is_interleaved (new_history waits.floors) queue.streams v) is waits.holds.numbers.counts);
         })
-        (subst (λ (v : Option UnderWay). KeptWhere queue.streams v) is waits.holds.numbers.kept)
+        (subst (λ (v : Option UnderWay). IsUnderWayKept queue.streams v) is waits.holds.numbers.kept)
     go (Some u) is true other queue_holds =
         so (stream_changed u.stream_id.0 (front_counted enabled) queue.streams) (Some (message_renumbered u (queue_stream queue u.stream_id.0)))
         (numbered_again queued u _ _ (stream_changed u.stream_id.0 (front_counted enabled) queue.streams)
         (alike_hold queued [] (Some u) queue.streams (stream_changed u.stream_id.0 (front_counted enabled) queue.streams)
         (one_set (front_counted enabled) (λ s. same_id enabled (is_front_unordered s.messages) s) (λ s. same_messages enabled (is_front_unordered s.messages) s) u.stream_id.0 queue.streams) queue_holds))
         (renumbered_counts queued enabled u (record start { under_way = Some u }) queue_holds)
-        (found_mapped SamePause u.stream_id.0 (unused 0 0 0) (λ s. if s.id == u.stream_id.0 then front_counted enabled s else s) (λ s. one_id (s.id == u.stream_id.0) s) refl
-        (λ s here. one_pause (s.id == u.stream_id.0) s) queue.streams ∙ subst (λ (v : Option UnderWay). KeptWhere queue.streams v) is waits.holds.numbers.kept)
+        (found_mapped SamePause u.stream_id.0 (unused_stream 0 0 0) (λ s. if s.id == u.stream_id.0 then front_counted enabled s else s) (λ s. one_id (s.id == u.stream_id.0) s) refl
+        (λ s here. one_pause (s.id == u.stream_id.0) s) queue.streams ∙ subst (λ (v : Option UnderWay). IsUnderWayKept queue.streams v) is waits.holds.numbers.kept)
       where
         one_id : (b : Bool) (s : Stream) → (if b then front_counted enabled s else s).id ≡ s.id
         one_id true s = same_id enabled (is_front_unordered s.messages) s

@@ -10,9 +10,9 @@ use Rattle.dcsctp_spec.specs.queues.Outstanding.{OutstandingState}
 use Rattle.dcsctp_spec.specs.queues.SendQueue.{SendQueueState}
 use Rattle.dcsctp_spec.specs.queues.Sending.{Fragment}
 use Rattle.dcsctp_delivery_sending.specs.Places.{at_place}
-use Rattle.dcsctp_delivery_sending.specs.Log.{Message, Piece, Slot, IsPiece, HasBefore, Cut, History, with_slot}
+use Rattle.dcsctp_delivery_sending.specs.Log.{Message, Piece, Slot, IsPiece, HasBefore, IsLogOfPieces, History, with_slot}
 use Rattle.dcsctp_delivery_sending.specs.Pieces.{HandsOutPiece}
-use Rattle.dcsctp_delivery_sending.specs.Stages.{SaysSlot, SaysAt, IsNamedFragment, IsOfLimited, IsAbandonedAt, AreMessagesWhole, Bears, Pends}
+use Rattle.dcsctp_delivery_sending.specs.Stages.{SaysSlot, SaysTsn, IsNamedFragment, IsOfLimited, IsAbandonedItem, AreMessagesWhole, Bears, Pends}
 use Rattle.dcsctp_delivery_sending.proofs.Limits.{Leaves, limited_stays}
 use Rattle.dcsctp_delivery_sending.proofs.Places.{at_new, at_old, at_cases, at_below, at_stays}
 
@@ -29,7 +29,7 @@ before_stays : (slot : Slot) (log : List Slot) (n : ℕ) (f : Piece) → HasBefo
 before_stays slot log n f b =
     record { earlier = b.earlier; is = b.is; before = b.before; at = at_stays b.earlier slot (Some b.before) log b.at; start = b.start; place = b.place; message = b.message; mid = b.mid; fsn = b.fsn }
 
-pub cut_none : (queued : List Message) (log : List Slot) → ((n : ℕ) (f : Piece) → at_place n log ≡ Some (Some f) → n + 1 ≡ length log → f.message.is_limited ≡ true) → Cut queued log → Cut queued (None ∷ log)
+pub cut_none : (queued : List Message) (log : List Slot) → ((n : ℕ) (f : Piece) → at_place n log ≡ Some (Some f) → n + 1 ≡ length log → f.message.is_limited ≡ true) → IsLogOfPieces queued log → IsLogOfPieces queued (None ∷ log)
 cut_none queued log newest_limited cut =
     record {
       pieces = λ n f at. cut.pieces n f (with_none log n f at);
@@ -42,7 +42,7 @@ cut_none queued log newest_limited cut =
       ];
     }
 
-pub cut_more : (queued : List Message) (history : History) (part : Fragment) (new : SendQueueState) (handed : HandsOutPiece queued history part new) → Cut queued history.log → Cut queued (Some handed.piece ∷ history.log)
+pub cut_more : (queued : List Message) (history : History) (part : Fragment) (new : SendQueueState) (handed : HandsOutPiece queued history part new) → IsLogOfPieces queued history.log → IsLogOfPieces queued (Some handed.piece ∷ history.log)
 cut_more queued history part new handed cut =
     record {
       pieces = λ n f at. elim (at_cases n (Some handed.piece) (Some f) history.log at) [
@@ -149,7 +149,7 @@ item_below (i ∷ items) (suc k) item at = omega (arith, item_below items k item
 -- What was abandoned still is, if the change keeps it so.
 pub abandoned_still : (change : Change) (start end : ℕ) (items : List Item) (place : ℕ)
     → ((k : ℕ) (item : Item) → slice_get items k ≡ Some item → start ≤ k → k < end → is_abandoned item.progress.state ≡ true → is_abandoned (progress_changed change item.progress).state ≡ true)
-    → IsAbandonedAt items place → IsAbandonedAt (changed_between change start end items) place
+    → IsAbandonedItem items place → IsAbandonedItem (changed_between change start end items) place
 abandoned_still change start end items place keeps (item, at, is) =
     let (new, at') = item_at place (changed_between change start end items) (let below = item_below items place item at in omega (arith, below, changed_length change start end items)) in
     let was = changed_at change start end place items new at' in
@@ -168,7 +168,7 @@ abandoned_still change start end items place keeps (item, at, is) =
 pub whole_changed : (log : List Slot) (acknowledged : ℕ) (change : Change) (start end : ℕ) (items : List Item) → AreMessagesWhole log acknowledged items
     → ((k : ℕ) (item : Item) → slice_get items k ≡ Some item → start ≤ k → k < end → is_abandoned item.progress.state ≡ true → is_abandoned (progress_changed change item.progress).state ≡ true)
     → ((k : ℕ) (item : Item) → slice_get items k ≡ Some item → start ≤ k → k < end → is_abandoned (progress_changed change item.progress).state ≡ true → item.fragment.is_end ≡ false
-    → IsAbandonedAt (changed_between change start end items) (k + 1) ⊎ (2 ^ 31 ≤ acknowledged + k + 2))
+    → IsAbandonedItem (changed_between change start end items) (k + 1) ⊎ (2 ^ 31 ≤ acknowledged + k + 2))
     → AreMessagesWhole log acknowledged (changed_between change start end items)
 whole_changed log acknowledged change start end items w keeps newly =
     record {
@@ -203,7 +203,7 @@ bears_abandoned history first acknowledged change start end outstanding b limite
       count = omega (arith, b.count, changed_length change start end outstanding.items);
       items = λ k item at. (
           let was = changed_at change start end k outstanding.items item at in
-          subst (λ (part : Fragment). SaysAt history.log (acknowledged + k) part) was.fragment (b.items k was.old was.at)
+          subst (λ (part : Fragment). SaysTsn history.log (acknowledged + k) part) was.fragment (b.items k was.old was.at)
           );
       named = λ k item at. (
           let was = changed_at change start end k outstanding.items item at in

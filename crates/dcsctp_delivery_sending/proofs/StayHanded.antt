@@ -9,12 +9,12 @@ use Rattle.dcsctp_spec.specs.types.declared.sending.Pause.{Pause}
 use Rattle.dcsctp_spec.specs.types.declared.sending.Pause.TheVariants.{Open, Pausing, HandedOut}
 use Rattle.dcsctp_spec.specs.queues.Incoming.{is_named}
 use Rattle.dcsctp_spec.specs.queues.Reassembly.{names_stream}
-use Rattle.dcsctp_spec.specs.queues.OwnResets.{is_open_pause, count_under_way, dropped_size, prepared_stream, with_used, prepared_open, prepared, prepared_all, handing_out, ready_streams, is_ready}
-use Rattle.dcsctp_spec.specs.queues.SendQueue.{SendQueueState, stream_changed, found_in, queue_stream, is_used, used, with_priority, with_threshold, queued}
-use Rattle.dcsctp_spec.specs.types.queues.SendStreams.{Stream, stream_at, unused, with_message, handed_out}
+use Rattle.dcsctp_spec.specs.queues.OwnResets.{is_open_pause, count_under_way, dropped_size, prepared_stream, with_used, prepared_open, queue_with_prepared, prepared_all, handing_out, ready_streams, is_ready}
+use Rattle.dcsctp_spec.specs.queues.SendQueue.{SendQueueState, stream_changed, stream_found, queue_stream, is_used, used_streams, with_priority, with_threshold, queued_message}
+use Rattle.dcsctp_spec.specs.types.queues.SendStreams.{Stream, stream_at, unused_stream, with_message, handed_out}
 use Rattle.dcsctp_spec.specs.types.declared.association.Held.{Held}
-use Rattle.dcsctp_spec.specs.endpoint.BegunResets.{BegunReset, streams_within, stream_field, begun_where, queue_requesting}
-use Rattle.dcsctp_spec.specs.endpoint.FlushOutcomes.{Ask, first_ask, later_ask, begun_at}
+use Rattle.dcsctp_spec.specs.endpoint.BegunResets.{BegunReset, streams_within, stream_field, begun_if_ready, queue_requesting}
+use Rattle.dcsctp_spec.specs.endpoint.FlushOutcomes.{Ask, first_ask, later_ask, begun_by_ask}
 use Rattle.dcsctp_spec.specs.endpoint.MessageOutcomes.{Sending, sending_queued}
 use Rattle.dcsctp_spec.specs.types.Setting.{Setting, stream_priority, stream_low_threshold, longest_message}
 use Rattle.dcsctp_spec.specs.endpoint.SettingOutcomes.{set_in_queue}
@@ -36,7 +36,7 @@ StayHanded old new = (id : ℕ) → IsHanded (stream_named id old) → IsHanded 
 changed_stay : (other : ℕ) (f : Stream → Stream) → ((s : Stream) → (f s).id ≡ s.id) → ((s : Stream) → s.id ≡ other → IsHanded s → IsHanded (f s)) → (streams : List Stream) → StayHanded streams (stream_changed other f streams)
 unfolding StaysHanded
 changed_stay other f ids stays streams id =
-    found_mapped StaysHanded id (unused 0 0 0) (λ s. if s.id == other then f s else s) (λ s. one_id (s.id == other) s) (λ h. h) (λ s here. one (s.id == other) s refl) streams
+    found_mapped StaysHanded id (unused_stream 0 0 0) (λ s. if s.id == other then f s else s) (λ s. one_id (s.id == other) s) (λ h. h) (λ s here. one (s.id == other) s refl) streams
   where
     one_id : (b : Bool) (s : Stream) → (if b then f s else s).id ≡ s.id
     one_id true s = ids s
@@ -46,7 +46,7 @@ changed_stay other f ids stays streams id =
     one true s is h = stays s (eqb-true s.id other is) h
     one false s is h = h
 
-used_stay : (queue : SendQueueState) (other : ℕ) → StayHanded queue.streams (used queue other)
+used_stay : (queue : SendQueueState) (other : ℕ) → StayHanded queue.streams (used_streams queue other)
 unfolding StaysHanded
 used_stay queue other id = found_used StaysHanded id queue other (λ s h. h) (λ s t unordered ordered none pause h. ap is_handed_out pause ∙ h)
 
@@ -54,18 +54,18 @@ used_stay queue other id = found_used StaysHanded id queue other (λ s h. h) (λ
 
 pub queueing_stays : (now : ℕ) (sending : Sending) (queue : SendQueueState) → StayHanded queue.streams (sending_queued now sending queue).streams
 queueing_stays now sending queue id handed =
-    changed_stay sending.message.stream (with_message (queued now sending.message sending.options queue)) (λ s. refl) (λ s here h. h) (used queue sending.message.stream) id (used_stay queue sending.message.stream id handed)
+    changed_stay sending.message.stream (with_message (queued_message now sending.message sending.options queue)) (λ s. refl) (λ s here h. h) (used_streams queue sending.message.stream) id (used_stay queue sending.message.stream id handed)
 
 pub setting_stays : (setting : Setting) (queue : SendQueueState) → StayHanded queue.streams (set_in_queue setting queue).streams
-setting_stays (stream_priority other priority) queue id handed = changed_stay other (with_priority priority) (λ s. refl) (λ s here h. h) (used queue other) id (used_stay queue other id handed)
-setting_stays (stream_low_threshold other bytes) queue id handed = changed_stay other (with_threshold bytes) (λ s. refl) (λ s here h. h) (used queue other) id (used_stay queue other id handed)
+setting_stays (stream_priority other priority) queue id handed = changed_stay other (with_priority priority) (λ s. refl) (λ s here h. h) (used_streams queue other) id (used_stay queue other id handed)
+setting_stays (stream_low_threshold other bytes) queue id handed = changed_stay other (with_threshold bytes) (λ s. refl) (λ s here h. h) (used_streams queue other) id (used_stay queue other id handed)
 setting_stays (longest_message bytes) queue id handed = handed
 
 -- the stream of another number stays
 elsewhere_stays : (other : ℕ) (f : Stream → Stream) (streams : List Stream) (id : ℕ) → ((s : Stream) → (f s).id ≡ s.id) → (id ≡ other → ⊥) → IsHanded (stream_named id streams) → IsHanded (stream_named id (stream_changed other f streams))
 unfolding StaysHanded
 elsewhere_stays other f streams id ids ne =
-    found_mapped StaysHanded id (unused 0 0 0) (λ s. if s.id == other then f s else s) (λ s. one_id (s.id == other) s) (λ h. h) (λ s here. one (s.id == other) s here refl) streams
+    found_mapped StaysHanded id (unused_stream 0 0 0) (λ s. if s.id == other then f s else s) (λ s. one_id (s.id == other) s) (λ h. h) (λ s here. one (s.id == other) s here refl) streams
   where
     one_id : (b : Bool) (s : Stream) → (if b then f s else s).id ≡ s.id
     one_id true s = ids s
@@ -76,7 +76,7 @@ elsewhere_stays other f streams id ids ne =
     one false s here is h = h
 
 -- a stream that is open isn't handed out
-open_not_handed : (d : Stream) (id : ℕ) (streams : List Stream) → is_open_pause (found_in d id streams).pause ≡ true → IsHanded (stream_named id streams) → ⊥
+open_not_handed : (d : Stream) (id : ℕ) (streams : List Stream) → is_open_pause (stream_found d id streams).pause ≡ true → IsHanded (stream_named id streams) → ⊥
 open_not_handed d id [] opened handed = absurd (cc)
 open_not_handed d id (s ∷ streams) opened handed =
     elim (eqb_tells s.id id) [
@@ -89,7 +89,7 @@ open_not_handed d id (s ∷ streams) opened handed =
     clash Pausing opened handed = absurd (cc)
     clash HandedOut opened handed = absurd (cc)
 
-prepared_stays : (other : ℕ) (queue : SendQueueState) → StayHanded queue.streams (prepared other queue).streams
+prepared_stays : (other : ℕ) (queue : SendQueueState) → StayHanded queue.streams (queue_with_prepared other queue).streams
 prepared_stays other queue id handed = go (is_open_pause (queue_stream start other).pause) refl
   where
     start : SendQueueState
@@ -98,13 +98,13 @@ prepared_stays other queue id handed = go (is_open_pause (queue_stream start oth
     go : (b : Bool) → is_open_pause (queue_stream start other).pause ≡ b → IsHanded (stream_named id (if b then prepared_open other start else start).streams)
     go true opened =
         elsewhere_stays other (prepared_stream (dropped_size other start) (count_under_way other start.under_way)) start.streams id (λ s. refl)
-        (λ same. open_not_handed (unused other start.default_priority start.default_threshold) other start.streams opened (subst (λ (k : ℕ). IsHanded (stream_named k start.streams)) same (used_stay queue other id handed)))
+        (λ same. open_not_handed (unused_stream other start.default_priority start.default_threshold) other start.streams opened (subst (λ (k : ℕ). IsHanded (stream_named k start.streams)) same (used_stay queue other id handed)))
         (used_stay queue other id handed)
     go false shut = used_stay queue other id handed
 
 pub preparing_stays : (ids : List ℕ) (queue : SendQueueState) → StayHanded queue.streams (prepared_all ids queue).streams
 preparing_stays [] queue id handed = handed
-preparing_stays (other ∷ ids) queue id handed = preparing_stays ids (prepared other queue) id (prepared_stays other queue id handed)
+preparing_stays (other ∷ ids) queue id handed = preparing_stays ids (queue_with_prepared other queue) id (prepared_stays other queue id handed)
 
 -- ---- streams that are handed out
 
@@ -211,21 +211,21 @@ field_named (first ∷ ids) id small named =
 
 -- ---- what a request names
 
-where_names : (follows : Bool) (outstanding : Option ℕ) (number last_tsn : ℕ) (streams : List ℕ) (begun : BegunReset) → Some begun ≡ begun_where follows outstanding number last_tsn streams → (id : ℕ) → names_stream begun.reset.streams id ≡ true → is_named streams id ≡ true
+where_names : (follows : Bool) (outstanding : Option ℕ) (number last_tsn : ℕ) (streams : List ℕ) (begun : BegunReset) → Some begun ≡ begun_if_ready follows outstanding number last_tsn streams → (id : ℕ) → names_stream begun.reset.streams id ≡ true → is_named streams id ≡ true
 where_names follows (Some n) number last_tsn streams begun is id names = absurd (cc)
 where_names follows None number last_tsn [] begun is id names = absurd (cc)
 where_names follows None number last_tsn (s ∷ streams) begun is id names =
     let same : begun ≡ record { number = number; reset = record { last_tsn = last_tsn; streams = s ∷ streams; is_new = follows } } = cc in
     subst (λ (b : BegunReset). names_stream b.reset.streams id ≡ true) same names
 
-begun_names : (ask : Ask) (follows : Bool) (held : Option Held) (room last_tsn : ℕ) (queue : SendQueueState) (begun : BegunReset) → Some begun ≡ begun_at ask follows held room last_tsn queue
+begun_names : (ask : Ask) (follows : Bool) (held : Option Held) (room last_tsn : ℕ) (queue : SendQueueState) (begun : BegunReset) → Some begun ≡ begun_by_ask ask follows held room last_tsn queue
     → (id : ℕ) → names_stream begun.reset.streams id ≡ true → is_named (map stream_field (take (streams_within room) (ready_streams queue))) id ≡ true
 begun_names later_ask follows held room last_tsn queue begun is id names = absurd (cc)
 begun_names first_ask follows None room last_tsn queue begun is id names = absurd (cc)
 begun_names first_ask follows (Some held) room last_tsn queue begun is id names = where_names follows held.own_outstanding held.own_next last_tsn (map stream_field (take (streams_within room) (ready_streams queue))) begun is id names
 
 -- The streams that the request names were handed out for it.
-pub begun_handed : (ask : Ask) (follows : Bool) (held : Option Held) (room last_tsn : ℕ) (queue : SendQueueState) (begun : Option BegunReset) → begun ≡ begun_at ask follows held room last_tsn queue → ((q : ℕ) → (stream_at queue.streams q).id < 2 ^ 16)
+pub begun_handed : (ask : Ask) (follows : Bool) (held : Option Held) (room last_tsn : ℕ) (queue : SendQueueState) (begun : Option BegunReset) → begun ≡ begun_by_ask ask follows held room last_tsn queue → ((q : ℕ) → (stream_at queue.streams q).id < 2 ^ 16)
     → AreHandedFor begun (take (streams_within room) (ready_streams queue)) (queue_requesting (streams_within room) begun queue).streams
 begun_handed ask follows held room last_tsn queue None is small = tt
 begun_handed ask follows held room last_tsn queue (Some begun) is small = λ id names.

@@ -4,10 +4,10 @@ use Rattle.std.specs.Prelude.{nat_lt, if◌then◌else◌}
 use Rattle.std.proofs.lemmas.Bool.Decides.{eqb_tells}
 use Rattle.dcsctp_spec.specs.types.declared.sending.Pause.{Pause}
 use Rattle.dcsctp_spec.specs.types.declared.sending.Pause.TheVariants.{Open, Pausing, HandedOut}
-use Rattle.dcsctp_spec.specs.types.queues.SendStreams.{Waiting, Stream, stream_at, unused, with_message, committed, rolled_back}
+use Rattle.dcsctp_spec.specs.types.queues.SendStreams.{Waiting, Stream, stream_at, unused_stream, with_message, committed_stream, rolled_back}
 use Rattle.dcsctp_spec.specs.types.Setting.{Setting, stream_priority, stream_low_threshold, longest_message}
 use Rattle.dcsctp_spec.specs.queues.OwnResets.{queue_committed, queue_rolled_back}
-use Rattle.dcsctp_spec.specs.queues.SendQueue.{SendQueueState, stream_changed, with_stream, is_used, used, with_threshold, with_priority, queued as waiting_as}
+use Rattle.dcsctp_spec.specs.queues.SendQueue.{SendQueueState, stream_changed, with_stream, is_used, used_streams, with_threshold, with_priority, queued_message as waiting_as}
 use Rattle.dcsctp_spec.specs.endpoint.MessageOutcomes.{Sending, sending_queued}
 use Rattle.dcsctp_spec.specs.endpoint.SettingOutcomes.{set_in_queue}
 use Rattle.dcsctp_delivery_sending.specs.Places.{HasEntry}
@@ -49,13 +49,13 @@ with_at s (first ∷ l) q w has = go (nat_lt first.id s.id) q has (λ r h. with_
     go true (suc r) has' rest = (let (k, there) = rest r has' in (suc k, there))
     go false r has' rest = (suc r, has')
 
-waits_used : (queue : SendQueueState) (id place : ℕ) → StillWaits queue.streams place → StillWaits (used queue id) place
+waits_used : (queue : SendQueueState) (id place : ℕ) → StillWaits queue.streams place → StillWaits (used_streams queue id) place
 waits_used queue id place waits = go (is_used id queue.streams)
   where
-    go : (b : Bool) → StillWaits (if b then queue.streams else with_stream (unused id queue.default_priority queue.default_threshold) queue.streams) place
+    go : (b : Bool) → StillWaits (if b then queue.streams else with_stream (unused_stream id queue.default_priority queue.default_threshold) queue.streams) place
     go true = waits
     go false =
-        let (k, has) = with_at (unused id queue.default_priority queue.default_threshold) queue.streams waits.q waits.waiting waits.has in
+        let (k, has) = with_at (unused_stream id queue.default_priority queue.default_threshold) queue.streams waits.q waits.waiting waits.has in
         record { q = k; waiting = waits.waiting; has = has; is = waits.is }
 
 -- ---- what is queued
@@ -85,12 +85,12 @@ among_with s (first ∷ l) = go (nat_lt first.id s.id) (among_with s l)
     go true rest = among_later s.id first (with_stream s l) rest
     go false rest = record { k = 0; within = omega arith; is = refl }
 
-among_all : (queue : SendQueueState) (id : ℕ) → IsAmong id (used queue id)
+among_all : (queue : SendQueueState) (id : ℕ) → IsAmong id (used_streams queue id)
 among_all queue id = go (is_used id queue.streams) refl
   where
-    go : (b : Bool) → is_used id queue.streams ≡ b → IsAmong id (if b then queue.streams else with_stream (unused id queue.default_priority queue.default_threshold) queue.streams)
+    go : (b : Bool) → is_used id queue.streams ≡ b → IsAmong id (if b then queue.streams else with_stream (unused_stream id queue.default_priority queue.default_threshold) queue.streams)
     go true is = among_used id queue.streams is
-    go false is = among_with (unused id queue.default_priority queue.default_threshold) queue.streams
+    go false is = among_with (unused_stream id queue.default_priority queue.default_threshold) queue.streams
 
 append_has : (m : Waiting) (messages : List Waiting) → HasEntry m (messages ++ m ∷ [])
 append_has m [] = inl refl
@@ -110,25 +110,25 @@ pub queued_waits : (now : ℕ) (sending : Sending) (queue : SendQueueState) → 
 queued_waits now sending queue =
     let a = among_all queue sending.message.stream in
     let m : Waiting = waiting_as now sending.message sending.options queue in
-    record { q = a.k; waiting = m; has = changed_has sending.message.stream m (used queue sending.message.stream) a.k a.within a.is; is = refl }
+    record { q = a.k; waiting = m; has = changed_has sending.message.stream m (used_streams queue sending.message.stream) a.k a.within a.is; is = refl }
 
 -- and what waited before still does.
 pub queueing_waits : (now : ℕ) (sending : Sending) (queue : SendQueueState) (place : ℕ) → StillWaits queue.streams place → StillWaits (sending_queued now sending queue).streams place
 queueing_waits now sending queue place waits =
     let m : Waiting = waiting_as now sending.message sending.options queue in
-    waits_changed sending.message.stream (with_message m) (λ s w has. append_keeps m s.messages w has) (used queue sending.message.stream) place (waits_used queue sending.message.stream place waits)
+    waits_changed sending.message.stream (with_message m) (λ s w has. append_keeps m s.messages w has) (used_streams queue sending.message.stream) place (waits_used queue sending.message.stream place waits)
 
 -- ---- settings, and ends of resets
 
 pub setting_waits : (setting : Setting) (queue : SendQueueState) (place : ℕ) → StillWaits queue.streams place → StillWaits (set_in_queue setting queue).streams place
-setting_waits (stream_priority id priority) queue place waits = waits_changed id (with_priority priority) (λ s w has. has) (used queue id) place (waits_used queue id place waits)
-setting_waits (stream_low_threshold id bytes) queue place waits = waits_changed id (with_threshold bytes) (λ s w has. has) (used queue id) place (waits_used queue id place waits)
+setting_waits (stream_priority id priority) queue place waits = waits_changed id (with_priority priority) (λ s w has. has) (used_streams queue id) place (waits_used queue id place waits)
+setting_waits (stream_low_threshold id bytes) queue place waits = waits_changed id (with_threshold bytes) (λ s w has. has) (used_streams queue id) place (waits_used queue id place waits)
 setting_waits (longest_message bytes) queue place waits = waits
 
 pub committing_waits : (queue : SendQueueState) (place : ℕ) → StillWaits queue.streams place → StillWaits (queue_committed queue).streams place
-committing_waits queue place waits = waits_mapped committed (λ s w has. one s s.pause refl w has) queue.streams place waits
+committing_waits queue place waits = waits_mapped committed_stream (λ s w has. one s s.pause refl w has) queue.streams place waits
   where
-    one : (s : Stream) (p : Pause) → s.pause ≡ p → WaitOn s (committed s)
+    one : (s : Stream) (p : Pause) → s.pause ≡ p → WaitOn s (committed_stream s)
     one s Open is w has = rw is has
     one s Pausing is w has = rw is has
     one s HandedOut is w has = rw is has

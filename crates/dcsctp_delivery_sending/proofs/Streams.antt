@@ -5,9 +5,9 @@ use Rattle.std.proofs.lemmas.Bool.Decides.{eqb_tells, leb_tells}
 use Rattle.std.proofs.lemmas.List.{length-set, get_or-set_same, get_or-set_other, get_or_past}
 use Rattle.dcsctp_spec.specs.endpoint.Event.{Event}
 use Rattle.dcsctp_spec.specs.types.declared.sending.UnderWay.{UnderWay}
-use Rattle.dcsctp_spec.specs.types.queues.SendStreams.{Waiting, Stream, front_of, without_front, stream_counted, served, unused, stream_at}
+use Rattle.dcsctp_spec.specs.types.queues.SendStreams.{Waiting, Stream, front_of, without_front, stream_counted, served_stream, unused_stream, stream_at}
 use Rattle.dcsctp_spec.specs.queues.SendQueue.{SendQueueState}
-use Rattle.dcsctp_spec.specs.queues.Sending.{Drops, none, more, reduced, next_turn, begun_message_counted, begun_numbered, without_rest, after_last}
+use Rattle.dcsctp_spec.specs.queues.Sending.{Drops, none, more, reduced_queue, next_turn, begun_message_counted, begun_numbered, without_rest, after_last}
 use Rattle.dcsctp_delivery_sending.specs.Places.{at_place}
 use Rattle.dcsctp_delivery_sending.specs.Log.{Message, Slot, newest}
 use Rattle.dcsctp_delivery_sending.specs.Pieces.{WaitingWasQueued, AllQueued, AllBeyond, Ascend, unbegun, Going, HoldsQueued}
@@ -37,12 +37,12 @@ at_set : (streams : List Stream) (place q : ℕ) (new : Stream) → (stream_at (
 at_set streams place q new =
     elim (eqb_tells q place) [
       | inl e ↦ elim (leb_tells (suc place) (length streams)) [
-        | inl within ↦ inr (e.1, ap (stream_at (slice_set streams place new)) e.1 ∙ get_or-set_same streams place new (unused 0 0 0) within.1)
+        | inl within ↦ inr (e.1, ap (stream_at (slice_set streams place new)) e.1 ∙ get_or-set_same streams place new (unused_stream 0 0 0) within.1)
         | inr past ↦
             (let beyond : length streams ≤ q = (let same : q ≡ place = e.1 in let lt : length streams < suc place = past.1 in omega arith) in
-            inl (get_or_past (slice_set streams place new) q (unused 0 0 0) (omega (arith, length-set streams place new)) ∙ sym (get_or_past streams q (unused 0 0 0) beyond)))
+            inl (get_or_past (slice_set streams place new) q (unused_stream 0 0 0) (omega (arith, length-set streams place new)) ∙ sym (get_or_past streams q (unused_stream 0 0 0) beyond)))
       ]
-      | inr e ↦ inl (get_or-set_other streams place q new (unused 0 0 0) e.1)
+      | inr e ↦ inl (get_or-set_other streams place q new (unused_stream 0 0 0) e.1)
     ]
 
 alike_set : (streams : List Stream) (place : ℕ) (new : Stream) → new.id ≡ (stream_at streams place).id → new.messages ≡ (stream_at streams place).messages → Alike streams (slice_set streams place new)
@@ -214,15 +214,15 @@ front_queued queued id (v ∷ messages) w are e = let same : v ≡ w = cc in sub
 
 -- ---- moves of the queue
 
-pub reduced_alike : (place size : ℕ) (queue : SendQueueState) → Alike queue.streams (reduced place size queue).streams
+pub reduced_alike : (place size : ℕ) (queue : SendQueueState) → Alike queue.streams (reduced_queue place size queue).streams
 reduced_alike place size queue = alike_set queue.streams place (record (stream_at queue.streams place) { amount = (stream_at queue.streams place).amount - size }) refl refl
 
 counted_alike : (interleaved unordered : Bool) (turn place : ℕ) (streams : List Stream)
-    → Alike streams (slice_set streams place (served turn (stream_counted interleaved unordered (stream_at streams place))))
-counted_alike true true turn place streams = alike_set streams place (served turn (stream_counted true true (stream_at streams place))) refl refl
-counted_alike true false turn place streams = alike_set streams place (served turn (stream_counted true false (stream_at streams place))) refl refl
-counted_alike false true turn place streams = alike_set streams place (served turn (stream_counted false true (stream_at streams place))) refl refl
-counted_alike false false turn place streams = alike_set streams place (served turn (stream_counted false false (stream_at streams place))) refl refl
+    → Alike streams (slice_set streams place (served_stream turn (stream_counted interleaved unordered (stream_at streams place))))
+counted_alike true true turn place streams = alike_set streams place (served_stream turn (stream_counted true true (stream_at streams place))) refl refl
+counted_alike true false turn place streams = alike_set streams place (served_stream turn (stream_counted true false (stream_at streams place))) refl refl
+counted_alike false true turn place streams = alike_set streams place (served_stream turn (stream_counted false true (stream_at streams place))) refl refl
+counted_alike false false turn place streams = alike_set streams place (served_stream turn (stream_counted false false (stream_at streams place))) refl refl
 
 numbered_alike : (place : ℕ) (message : Waiting) (under_way : UnderWay) (queue : SendQueueState) → Alike queue.streams (begun_numbered place message under_way queue).streams
 numbered_alike place message under_way queue = go (under_way.sent == 0)
@@ -231,21 +231,21 @@ numbered_alike place message under_way queue = go (under_way.sent == 0)
     go true = counted_alike queue.is_interleaved message.is_unordered (next_turn queue) place queue.streams
     go false = alike_same queue.streams
 
-pub numbered_reduced : (place size : ℕ) (message : Waiting) (under_way : UnderWay) (queue : SendQueueState) → Alike queue.streams (begun_numbered place message under_way (reduced place size queue)).streams
+pub numbered_reduced : (place size : ℕ) (message : Waiting) (under_way : UnderWay) (queue : SendQueueState) → Alike queue.streams (begun_numbered place message under_way (reduced_queue place size queue)).streams
 numbered_reduced place size message under_way queue =
-    alike_twice queue.streams (reduced place size queue).streams (begun_numbered place message under_way (reduced place size queue)).streams (reduced_alike place size queue)
-    (numbered_alike place message under_way (reduced place size queue))
+    alike_twice queue.streams (reduced_queue place size queue).streams (begun_numbered place message under_way (reduced_queue place size queue)).streams (reduced_alike place size queue)
+    (numbered_alike place message under_way (reduced_queue place size queue))
 
 pub last_shorter : (place : ℕ) (message : Waiting) (under_way : UnderWay) (queue : SendQueueState) → Shorter queue.streams (after_last place message under_way queue).streams
 last_shorter place message under_way queue =
-    let between = begun_numbered place message under_way (reduced place (length message.payload - under_way.sent) queue) in
+    let between = begun_numbered place message under_way (reduced_queue place (length message.payload - under_way.sent) queue) in
     alike_shorter queue.streams between.streams (after_last place message under_way queue).streams (numbered_reduced place (length message.payload - under_way.sent) message under_way queue)
     (shorter_set between.streams place)
 
 pub rest_shorter : (place sent : ℕ) (message : Waiting) (queue : SendQueueState) → Shorter queue.streams (without_rest place sent message queue).streams
 rest_shorter place sent message queue =
-    alike_shorter queue.streams (reduced place (length message.payload - sent) queue).streams (without_rest place sent message queue).streams (reduced_alike place (length message.payload - sent) queue)
-    (shorter_set (reduced place (length message.payload - sent) queue).streams place)
+    alike_shorter queue.streams (reduced_queue place (length message.payload - sent) queue).streams (without_rest place sent message queue).streams (reduced_alike place (length message.payload - sent) queue)
+    (shorter_set (reduced_queue place (length message.payload - sent) queue).streams place)
 
 pub drops_hold : {P : Type 0} (queued : List Message) (log : List Slot) (now : ℕ) (old : SendQueueState) (events : List (Event P)) (new : SendQueueState) → Drops now old events new
     → HoldsQueued queued log old.streams None → HoldsQueued queued log new.streams None

@@ -7,17 +7,17 @@ use Rattle.dcsctp_spec.specs.types.declared.sending.UnderWay.{UnderWay}
 use Rattle.dcsctp_spec.specs.types.queues.SendStreams.{Stream}
 use Rattle.dcsctp_delivery_sending.specs.Places.{at_place}
 use Rattle.dcsctp_delivery_sending.specs.Log.{Piece, Slot}
-use Rattle.dcsctp_delivery_sending.specs.Turns.{begun_on, turn_at, IsSsnOfTurn}
+use Rattle.dcsctp_delivery_sending.specs.Turns.{begun_on, turn_of_tsn, IsSsnOfTurn}
 use Rattle.dcsctp_delivery_sending.specs.Numbers.{stream_named, GoesInTurn, CountsTurns}
 use Rattle.dcsctp_delivery_sending.proofs.Places.{at_below, at_cases, at_new, at_stays}
 
-pub turn_new : (id : ℕ) (slot : Slot) (log : List Slot) → turn_at id (length log) (slot ∷ log) ≡ begun_on id (slot ∷ log)
+pub turn_new : (id : ℕ) (slot : Slot) (log : List Slot) → turn_of_tsn id (length log) (slot ∷ log) ≡ begun_on id (slot ∷ log)
 turn_new id slot log = rw (eq-eqb (length log) (length log) refl) refl
 
-pub turn_old : (id n : ℕ) (slot : Slot) (log : List Slot) → n < length log → turn_at id n (slot ∷ log) ≡ turn_at id n log
+pub turn_old : (id n : ℕ) (slot : Slot) (log : List Slot) → n < length log → turn_of_tsn id n (slot ∷ log) ≡ turn_of_tsn id n log
 turn_old id n slot log below = elim (eqb_tells n (length log)) [ inl e ↦ (let is : n ≡ length log = e.1 in absurd (omega arith)) | inr e ↦ rw e.0 refl ]
 
-pub turn_more : (id n : ℕ) (more log : List Slot) → n < length log → turn_at id n (more ++ log) ≡ turn_at id n log
+pub turn_more : (id n : ℕ) (more log : List Slot) → n < length log → turn_of_tsn id n (more ++ log) ≡ turn_of_tsn id n log
 turn_more id n [] log below = refl
 turn_more id n (slot ∷ more) log below = turn_old id n slot (more ++ log) (longer more) ∙ turn_more id n more log below
   where
@@ -68,7 +68,7 @@ turns_with id log piece old new u v c next its goes =
       sent = λ n f at on ordered. elim (at_cases n (Some piece) (Some f) log at) [
         | inl e ↦
             (let same : piece ≡ f = (let both : Some piece ≡ Some f = e.1 in cc) in
-            let here : turn_at id n (Some piece ∷ log) ≡ begun_on id (Some piece ∷ log) = ap (λ (k : ℕ). turn_at id k (Some piece ∷ log)) e.0 ∙ turn_new id (Some piece) log in
+            let here : turn_of_tsn id n (Some piece ∷ log) ≡ begun_on id (Some piece ∷ log) = ap (λ (k : ℕ). turn_of_tsn id k (Some piece ∷ log)) e.0 ∙ turn_new id (Some piece) log in
             let turn = its (ap (λ (g : Piece). g.message.stream) same ∙ on) (ap (λ (g : Piece). g.message.is_unordered) same ∙ ordered) in
             subst (λ (k : ℕ). IsSsnOfTurn f.ssn k) (sym here) (subst (λ (g : Piece). IsSsnOfTurn g.ssn (begun_on id (Some piece ∷ log))) same turn))
         | inr old' ↦ subst (λ (k : ℕ). IsSsnOfTurn f.ssn k) (sym (turn_old id n (Some piece) log (at_below n (Some f) log old'))) (c.sent n f old' on ordered)

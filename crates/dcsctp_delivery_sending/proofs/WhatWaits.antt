@@ -5,9 +5,9 @@ use Rattle.std.proofs.lemmas.Bool.Decides.{eqb_tells}
 use Rattle.std.proofs.lemmas.List.{get_or-set_same, get_or-set_other}
 use Rattle.dcsctp_spec.specs.endpoint.Event.{Event}
 use Rattle.dcsctp_spec.specs.types.declared.sending.UnderWay.{UnderWay}
-use Rattle.dcsctp_spec.specs.types.queues.SendStreams.{Waiting, Stream, front_of, is_expired, without_front, stream_at, unused}
+use Rattle.dcsctp_spec.specs.types.queues.SendStreams.{Waiting, Stream, front_of, is_expired, without_front, stream_at, unused_stream}
 use Rattle.dcsctp_spec.specs.queues.SendQueue.{SendQueueState}
-use Rattle.dcsctp_spec.specs.queues.Sending.{Drops, none as drops_none, more as drops_more, reduced, begun_numbered, after_part, after_last, produced, is_last}
+use Rattle.dcsctp_spec.specs.queues.Sending.{Drops, none as drops_none, more as drops_more, reduced_queue, begun_numbered, after_part, after_last, queue_after_producing, is_last}
 use Rattle.dcsctp_delivery_sending.specs.Places.{HasEntry}
 use Rattle.dcsctp_delivery_sending.specs.Losing.{NoneExpires}
 use Rattle.dcsctp_delivery_sending.proofs.Streams.{Shorter, alike_is_shorter, numbered_reduced, last_shorter}
@@ -38,13 +38,13 @@ module _ (place : ℕ) (message : Waiting) (under_way : UnderWay) (queue : SendQ
   pub last_waits : (q : ℕ) (w : Waiting) → HasEntry w (stream_at queue.streams q).messages → (w ≡ message) ⊎ HasEntry w (stream_at (after_last place message under_way queue).streams q).messages
   last_waits q w has =
       let size : ℕ = length message.payload - under_way.sent in
-      let between : SendQueueState = begun_numbered place message under_way (reduced place (length message.payload - under_way.sent) queue) in
+      let between : SendQueueState = begun_numbered place message under_way (reduced_queue place (length message.payload - under_way.sent) queue) in
       let alike = numbered_reduced place (length message.payload - under_way.sent) message under_way queue in
       let here : HasEntry w (stream_at between.streams q).messages = subst (λ (l : List Waiting). HasEntry w l) (sym (alike.messages q)) has in
       let sizes = alike.sizes in
       let within : place < length between.streams = (let inside = within_streams queue.streams place message front in omega (arith, inside, sizes)) in
       elim (eqb_tells q place) [
-        | inr e ↦ inr (subst (λ (s : Stream). HasEntry w s.messages) (sym (get_or-set_other between.streams place q (without_front (stream_at between.streams place)) (unused 0 0 0) e.1)) here)
+        | inr e ↦ inr (subst (λ (s : Stream). HasEntry w s.messages) (sym (get_or-set_other between.streams place q (without_front (stream_at between.streams place)) (unused_stream 0 0 0) e.1)) here)
         | inl e ↦
             (let there : HasEntry w (stream_at between.streams place).messages = subst (λ (k : ℕ). HasEntry w (stream_at between.streams k).messages) e.1 here in
             let front' : front_of (stream_at between.streams place).messages ≡ Some message = ap front_of (alike.messages place) ∙ front in
@@ -52,7 +52,7 @@ module _ (place : ℕ) (message : Waiting) (under_way : UnderWay) (queue : SendQ
               | inl same ↦ inl same
               | inr rest ↦
                   inr (subst (λ (k : ℕ). HasEntry w (stream_at (slice_set between.streams place (without_front (stream_at between.streams place))) k).messages) (sym e.1)
-                  (subst (λ (s : Stream). HasEntry w s.messages) (sym (get_or-set_same between.streams place (without_front (stream_at between.streams place)) (unused 0 0 0) within)) rest))
+                  (subst (λ (s : Stream). HasEntry w s.messages) (sym (get_or-set_same between.streams place (without_front (stream_at between.streams place)) (unused_stream 0 0 0) within)) rest))
             ])
       ]
     where
@@ -61,7 +61,7 @@ module _ (place : ℕ) (message : Waiting) (under_way : UnderWay) (queue : SendQ
       first_or_rest (v ∷ messages) e has' = let same : v ≡ message = cc in elim has' [ inl is ↦ inl (is ∙ same) | inr t ↦ inr t ]
 
   -- It waits still, or is the message that was handed out.
-  pub produced_waits : (max q : ℕ) (w : Waiting) → HasEntry w (stream_at queue.streams q).messages → (w ≡ message) ⊎ HasEntry w (stream_at (produced place max message under_way queue).streams q).messages
+  pub produced_waits : (max q : ℕ) (w : Waiting) → HasEntry w (stream_at queue.streams q).messages → (w ≡ message) ⊎ HasEntry w (stream_at (queue_after_producing place max message under_way queue).streams q).messages
   produced_waits max q w has = go (is_last max message under_way)
     where
       go : (b : Bool) → (w ≡ message) ⊎ HasEntry w (stream_at (if b then after_last place message under_way queue else after_part place max message under_way queue).streams q).messages
@@ -81,7 +81,7 @@ shorter_waited old new shorter q w has =
       | inr e ↦ dropped_waited (stream_at old q).messages w (subst (λ (l : List Waiting). HasEntry w l) e has)
     ]
 
-pub produced_waited : (place max : ℕ) (message : Waiting) (under_way : UnderWay) (queue : SendQueueState) (q : ℕ) (w : Waiting) → HasEntry w (stream_at (produced place max message under_way queue).streams q).messages
+pub produced_waited : (place max : ℕ) (message : Waiting) (under_way : UnderWay) (queue : SendQueueState) (q : ℕ) (w : Waiting) → HasEntry w (stream_at (queue_after_producing place max message under_way queue).streams q).messages
     → HasEntry w (stream_at queue.streams q).messages
 produced_waited place max message under_way queue q w has = go (is_last max message under_way) has
   where

@@ -8,7 +8,7 @@ use Rattle.dcsctp_spec.specs.types.declared.progress.Change.TheVariants.{Abandon
 use Rattle.dcsctp_spec.specs.types.declared.progress.Progress.{Progress}
 use Rattle.dcsctp_spec.specs.types.declared.sending.UnderWay.{UnderWay}
 use Rattle.dcsctp_spec.specs.types.queues.Progress.{is_abandoned, progress_changed}
-use Rattle.dcsctp_spec.specs.queues.Filling.{Stage, ClosesMessage, GivesUpAt}
+use Rattle.dcsctp_spec.specs.queues.Filling.{Stage, ClosesMessage, GivesUpItem}
 use Rattle.dcsctp_spec.specs.queues.ItemMessages.{AreMessageItems, EndsDropped}
 use Rattle.dcsctp_spec.specs.queues.Items.{Item, changed_item, changed_between}
 use Rattle.dcsctp_spec.specs.queues.Outstanding.{OutstandingState}
@@ -17,9 +17,9 @@ use Rattle.dcsctp_spec.specs.queues.Sending.{Fragment, DiscardsNamed, IsMessageU
 use Rattle.dcsctp_spec.specs.types.queues.SendStreams.{stream_at}
 use Rattle.dcsctp_delivery_sending.specs.Places.{at_place}
 use Rattle.dcsctp_delivery_sending.specs.Log.{Message, Piece, Slot, History, newest, with_slot}
-use Rattle.dcsctp_delivery_sending.specs.Numbers.{CountsSsns, CountsWhere}
+use Rattle.dcsctp_delivery_sending.specs.Numbers.{CountsSsns, CountsByKind}
 use Rattle.dcsctp_delivery_sending.specs.Pieces.{HandsOutPiece, IsGoing, HoldsQueued, CarriesPiece}
-use Rattle.dcsctp_delivery_sending.specs.Stages.{SaysSlot, SaysAt, IsAbandonedAt, AreMessagesWhole, Bears, Stands}
+use Rattle.dcsctp_delivery_sending.specs.Stages.{SaysSlot, SaysTsn, IsAbandonedItem, AreMessagesWhole, Bears, Stands}
 use Rattle.dcsctp_delivery_sending.proofs.Places.{at_new, at_stays}
 use Rattle.dcsctp_delivery_sending.proofs.Stages.{item_at, abandoned_still, whole_changed}
 use Rattle.dcsctp_delivery_sending.proofs.Streams.{front_queued}
@@ -27,7 +27,7 @@ use Rattle.dcsctp_delivery_sending.proofs.Streams.{front_queued}
 -- ---- a new item continues the message of the last one
 
 -- an item that isn't an end carries a piece
-piece_at : (history : History) (acknowledged k : ℕ) (item : Item) (items : List Item) → AreMessagesWhole history.log acknowledged items → slice_get items k ≡ Some item → item.fragment.is_end ≡ false → SaysAt history.log (acknowledged + k) item.fragment
+piece_at : (history : History) (acknowledged k : ℕ) (item : Item) (items : List Item) → AreMessagesWhole history.log acknowledged items → slice_get items k ≡ Some item → item.fragment.is_end ≡ false → SaysTsn history.log (acknowledged + k) item.fragment
     → (f : Piece) × (at_place (acknowledged + k) history.log ≡ Some (Some f)) × CarriesPiece item.fragment f
 piece_at history acknowledged k item items w at unended says = go says.slot says.at says.says
   where
@@ -44,7 +44,7 @@ continues queued history first acknowledged outstanding b plain none part new ha
     let next : acknowledged + k + 1 ≡ length history.log = omega (arith, count, is_last) in
     elim (eqb_tells handed.piece.start 0) [
       | inl e ↦
-          (let c : CountsSsns (with_slot (Some handed.piece) history) new.streams new.under_way = subst (λ (x : Bool). CountsWhere x (with_slot (Some handed.piece) history) new.streams new.under_way) kind handed.numbers.counts in
+          (let c : CountsSsns (with_slot (Some handed.piece) history) new.streams new.under_way = subst (λ (x : Bool). CountsByKind x (with_slot (Some handed.piece) history) new.streams new.under_way) kind handed.numbers.counts in
           let end = c.closes (acknowledged + k) f handed.piece (at_stays (acknowledged + k) (Some handed.piece) (Some f) history.log there)
           (subst (λ (n : ℕ). at_place n (Some handed.piece ∷ history.log) ≡ Some (Some handed.piece)) (sym next) (at_new (Some handed.piece) history.log)) e.1 in
           absurd (let clash : true ≡ false = sym end ∙ sym says.end ∙ unended in cc))
@@ -111,7 +111,7 @@ under_way_still queued history first acknowledged old stands plain none k last a
     is_newest = (let count = stands.bears.count in at_newest history.log (acknowledged + k) (Some found.0) found.1 (omega (arith, count, is_last)))
 
     counts : CountsSsns history old.waiting.streams old.waiting.under_way
-    counts = subst (λ (x : Bool). CountsWhere x history old.waiting.streams old.waiting.under_way) (sym stands.kind ∙ plain) stands.numbers.counts
+    counts = subst (λ (x : Bool). CountsByKind x history old.waiting.streams old.waiting.under_way) (sym stands.kind ∙ plain) stands.numbers.counts
 
     go : (u : Option UnderWay) → old.waiting.under_way ≡ u → IsMessageUnderWay old.waiting last.fragment.stream last.fragment.message_id
     go None is = absurd (let end = counts.rests is found.0 is_newest in let clash : true ≡ false = sym end ∙ sym found.2.end ∙ unended in cc)
@@ -174,25 +174,25 @@ closes_longer now last old new false (inl closes) =
         (let same = ap (λ (o : OutstandingState). length o.items) ends.grows in omega (arith, same, length-append old.queue.outstanding.items (ends.item ∷ [])), ap (λ (o : OutstandingState). o.is_interleaved) ends.grows)
     go false ends = (let same = ap (λ (o : OutstandingState). length o.items) ends in omega (arith, same), ap (λ (o : OutstandingState). o.is_interleaved) ends)
 
-module _ (queued : List Message) (history : History) (first acknowledged now place : ℕ) (old new : Stage) (stands : Stands queued history first acknowledged old) (gives : GivesUpAt now place old new)
+module _ (queued : List Message) (history : History) (first acknowledged now place : ℕ) (old new : Stage) (stands : Stands queued history first acknowledged old) (gives : GivesUpItem now place old new)
     (plain' : gives.closed.queue.outstanding.is_interleaved ≡ false) (none : history.marks ≡ []) where
   plain : old.queue.outstanding.is_interleaved ≡ false
   plain = sym (closes_longer now gives.last old gives.closed gives.last.fragment.is_end gives.closes).1 ∙ plain'
 
   -- its end comes after its last item, or there is no TSN left for it
-  end_comes : gives.last.fragment.is_end ≡ false → IsAbandonedAt gives.closed.queue.outstanding.items (gives.last_place + 1) ⊎ (2 ^ 31 ≤ acknowledged + gives.last_place + 2)
+  end_comes : gives.last.fragment.is_end ≡ false → IsAbandonedItem gives.closed.queue.outstanding.items (gives.last_place + 1) ⊎ (2 ^ 31 ≤ acknowledged + gives.last_place + 2)
   end_comes unended = go gives.last.fragment.is_end unended gives.closes
     where
       tail : gives.last_place + 1 ≡ length old.queue.outstanding.items
       tail = tail_place history first acknowledged place gives.start gives.last_place old gives.last stands.bears gives.message gives.at unended plain none
 
-      go : (end : Bool) → end ≡ false → ClosesMessage now gives.last old gives.closed end → IsAbandonedAt gives.closed.queue.outstanding.items (gives.last_place + 1) ⊎ (2 ^ 31 ≤ acknowledged + gives.last_place + 2)
+      go : (end : Bool) → end ≡ false → ClosesMessage now gives.last old gives.closed end → IsAbandonedItem gives.closed.queue.outstanding.items (gives.last_place + 1) ⊎ (2 ^ 31 ≤ acknowledged + gives.last_place + 2)
       go true e closes = absurd (cc)
       go false e (inr closes) = (let full = closes.0 in inr (omega (arith, full, tail)))
       go false e (inl closes) = by_drop closes.1.drops.is_dropped closes.1.drops.drops closes.1.drops.ends
         where
           by_drop : (dropped : Bool) → DiscardsNamed old.waiting gives.last.fragment.stream gives.last.fragment.message_id old.told dropped gives.closed.waiting gives.closed.told
-              → EndsDropped now old.queue.reset_begun gives.last old.queue.outstanding closes.1.outstanding dropped → IsAbandonedAt gives.closed.queue.outstanding.items (gives.last_place + 1) ⊎ (2 ^ 31 ≤ acknowledged + gives.last_place + 2)
+              → EndsDropped now old.queue.reset_begun gives.last old.queue.outstanding closes.1.outstanding dropped → IsAbandonedItem gives.closed.queue.outstanding.items (gives.last_place + 1) ⊎ (2 ^ 31 ≤ acknowledged + gives.last_place + 2)
           by_drop true discards ends =
               inl (
                 ends.item,
@@ -211,7 +211,7 @@ module _ (queued : List Message) (history : History) (first acknowledged now pla
       within = gives.message.1.within
 
       newly : (k : ℕ) (item : Item) → slice_get gives.closed.queue.outstanding.items k ≡ Some item → gives.start ≤ k → k < gives.last_place + 1 → is_abandoned (progress_changed Abandon item.progress).state ≡ true → item.fragment.is_end ≡ false
-          → IsAbandonedAt (changed_between Abandon gives.start (gives.last_place + 1) gives.closed.queue.outstanding.items) (k + 1) ⊎ (2 ^ 31 ≤ acknowledged + k + 2)
+          → IsAbandonedItem (changed_between Abandon gives.start (gives.last_place + 1) gives.closed.queue.outstanding.items) (k + 1) ⊎ (2 ^ 31 ≤ acknowledged + k + 2)
       newly k item at from below is unended =
           elim (leb_tells (k + 1) gives.last_place) [
             | inl e ↦
@@ -227,7 +227,7 @@ module _ (queued : List Message) (history : History) (first acknowledged now pla
                 let same : item ≡ gives.last = cc in
                 elim (end_comes (ap (λ (x : Item). x.fragment.is_end) (sym same) ∙ unended)) [
                   | inl next ↦
-                      inl (subst (λ (n : ℕ). IsAbandonedAt (changed_between Abandon gives.start (gives.last_place + 1) gives.closed.queue.outstanding.items) n) (ap (λ (n : ℕ). n + 1) (sym here))
+                      inl (subst (λ (n : ℕ). IsAbandonedItem (changed_between Abandon gives.start (gives.last_place + 1) gives.closed.queue.outstanding.items) n) (ap (λ (n : ℕ). n + 1) (sym here))
                       (abandoned_still Abandon gives.start (gives.last_place + 1) gives.closed.queue.outstanding.items (gives.last_place + 1) (λ j other at_j from_j below_j is_j. refl) next))
                   | inr last ↦ inr (omega (arith, last, here))
                 ])

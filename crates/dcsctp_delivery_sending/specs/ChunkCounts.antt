@@ -5,7 +5,7 @@ use Rattle.std.specs.Prelude.{◌==◌, if◌then◌else◌, ◌≤◌, ◌+◌,
 use Rattle.dcsctp_spec.specs.wire.Content.{data_chunk, i_data_chunk}
 use Rattle.dcsctp_spec.specs.types.declared.sending.UnderWay.{UnderWay}
 use Rattle.dcsctp_spec.specs.endpoint.Endpoint.{Endpoint}
-use Rattle.dcsctp_spec.specs.endpoint.Event.{packets_in}
+use Rattle.dcsctp_spec.specs.endpoint.Event.{packets_of_events}
 use Rattle.dcsctp_spec.specs.Packet.{Content, unworked, plain, Emission}
 use Rattle.dcsctp_spec.specs.queues.Items.{Item}
 use Rattle.dcsctp_spec.specs.queues.SendQueue.{SendQueueState}
@@ -24,9 +24,9 @@ chunks_among [] = 0
 chunks_among (content ∷ contents) = counts content + chunks_among contents
 
 -- and each in these packets
-abbrev pub chunks_in : List Emission → ℕ
-chunks_in [] = 0
-chunks_in (emission ∷ emissions) = chunks_among emission.packet.contents + chunks_in emissions
+abbrev pub chunks_among_packets : List Emission → ℕ
+chunks_among_packets [] = 0
+chunks_among_packets (emission ∷ emissions) = chunks_among emission.packet.contents + chunks_among_packets emissions
 
 -- and each in those of them that go to this verification tag
 abbrev pub chunks_to : ℕ → List Emission → ℕ
@@ -42,15 +42,15 @@ going (Some under_way) = 1
 abbrev pub tsns_of : SendQueueState → List Item → ℕ
 tsns_of queue items = length items + going queue.under_way
 
-abbrev pub tsns_where : SendQueueState → Option Transfer → ℕ
-tsns_where queue None = going queue.under_way
-tsns_where queue (Some transfer) = tsns_of queue transfer.retransmission.outstanding.items
+abbrev pub tsns_if_connected : SendQueueState → Option Transfer → ℕ
+tsns_if_connected queue None = going queue.under_way
+tsns_if_connected queue (Some transfer) = tsns_of queue transfer.retransmission.outstanding.items
 
 abbrev pub tsns_of_queues : EndpointQueues → ℕ
-tsns_of_queues sender_queues = tsns_where sender_queues.queue sender_queues.transfer
+tsns_of_queues sender_queues = tsns_if_connected sender_queues.queue sender_queues.transfer
 
 -- A flush assigns at most two TSNs for each chunk of data that it sends.
 abbrev pub FlushesAssignFew : Type 0
 FlushesAssignFew =
     (e : Endpoint) (draft : Emission) (answers : List Answer) → FlushAnswers e draft answers
-    → tsns_of_queues (flush_of e draft answers).after.queues ≤ tsns_of_queues e.queues + 2 * chunks_in (packets_in (flush_of e draft answers).events)
+    → tsns_of_queues (flush_of e draft answers).after.queues ≤ tsns_of_queues e.queues + 2 * chunks_among_packets (packets_of_events (flush_of e draft answers).events)

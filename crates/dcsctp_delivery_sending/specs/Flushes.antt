@@ -2,7 +2,7 @@
 -- begin a reset of our streams (RFC 6525, section 5.1.2).
 use Rattle.std.specs.Prelude.{◌≡◌, ◌<◌, ◌≤◌, ◌⊎◌, ◌+◌, ◌-◌, ◌%◌, ◌^◌, ℕ, Bool, true, false, Option, None, Some, List, [], ◌∷◌, length}
 use Rattle.dcsctp_spec.specs.wire.Content.{DataContent, IDataContent, data_chunk, i_data_chunk, forward_tsn_chunk, i_forward_tsn_chunk}
-use Rattle.dcsctp_spec.specs.endpoint.Event.{Event, packets_in}
+use Rattle.dcsctp_spec.specs.endpoint.Event.{Event, packets_of_events}
 use Rattle.dcsctp_spec.specs.Packet.{Plain, unworked, plain, re_config, Content, Emission}
 use Rattle.dcsctp_spec.specs.Reconfiguration.{RequestedReset, ResetParameter, outgoing_reset_request, incoming_reset_request}
 use Rattle.dcsctp_spec.specs.queues.Incoming.{is_named}
@@ -17,11 +17,11 @@ use Rattle.dcsctp_spec.specs.queues.Skipping.{entry_bytes}
 use Rattle.std.specs.List.{flat_map}
 use Rattle.dcsctp_spec.specs.queues.Transfer.{Transfer, EndpointQueues}
 use Rattle.dcsctp_spec.specs.endpoint.FlushOutcomes.{Answer, FlushAnswers, flush_of}
-use Rattle.dcsctp_delivery_sending.specs.Log.{Message, Piece, Slot, IsEndSlot, Cut, History, log_extended, with_mark, Mark, Resets}
+use Rattle.dcsctp_delivery_sending.specs.Log.{Message, Piece, Slot, IsEndSlot, IsLogOfPieces, History, log_extended, with_mark, Mark, Resets}
 use Rattle.dcsctp_delivery_sending.specs.Places.{HasEntry, at_place}
-use Rattle.dcsctp_delivery_sending.specs.Numbers.{stream_named, is_handed_out, AreCurrent, AreKept, Numbered, KindAt, IsOfKind}
+use Rattle.dcsctp_delivery_sending.specs.Numbers.{stream_named, is_handed_out, AreCurrent, AreKept, NumbersMessages, IsPieceOfKind, IsOfKind}
 use Rattle.dcsctp_delivery_sending.specs.Pieces.{HoldsQueued}
-use Rattle.dcsctp_delivery_sending.specs.Stages.{SaysAt, Bears, Pends, AreMarks}
+use Rattle.dcsctp_delivery_sending.specs.Stages.{SaysTsn, Bears, Pends, AreMarks}
 
 -- ---- what a packet says
 
@@ -29,17 +29,17 @@ use Rattle.dcsctp_delivery_sending.specs.Stages.{SaysAt, Bears, Pends, AreMarks}
 pub record IsData (log : List Slot) (first : ℕ) (chunk : DataContent) : Type 0 where
   pub number : ℕ
   pub part : Fragment
-  pub says : SaysAt log number part
+  pub says : SaysTsn log number part
   pub is : chunk ≡ data_said ((first + number) % 2 ^ 32) part
-  pub kind : KindAt false log number
+  pub kind : IsPieceOfKind false log number
 
 -- So does the I-DATA chunk.
 pub record IsInterleaved (log : List Slot) (first : ℕ) (chunk : IDataContent) : Type 0 where
   pub number : ℕ
   pub part : Fragment
-  pub says : SaysAt log number part
+  pub says : SaysTsn log number part
   pub is : chunk ≡ i_data_said ((first + number) % 2 ^ 32) part
-  pub kind : KindAt true log number
+  pub kind : IsPieceOfKind true log number
 
 -- The TSN was assigned, or is the one before the first: so many are passed.
 pub record IsPassed (log : List Slot) (first tsn : ℕ) : Type 0 where
@@ -173,31 +173,31 @@ InFlight history first acknowledged None = length history.log ≡ acknowledged
 InFlight history first acknowledged (Some transfer) = Bears history first acknowledged transfer.retransmission.outstanding
 
 -- What is sent next says that a reset was begun before it.
-abbrev pub PendsWhere : History → Option Transfer → Type 0
-PendsWhere history None = Unit {0}
-PendsWhere history (Some transfer) = Pends history transfer.retransmission.reset_begun
+abbrev pub PendsIfConnected : History → Option Transfer → Type 0
+PendsIfConnected history None = Unit {0}
+PendsIfConnected history (Some transfer) = Pends history transfer.retransmission.reset_begun
 
 -- What waits was queued, and what is in flight is in the log.
 pub record QueuesFollowLog (queued : List Message) (history : History) (first acknowledged : ℕ) (sender_queues : EndpointQueues) : Type 0 where
   pub queue_holds : HoldsQueued queued history.log sender_queues.queue.streams sender_queues.queue.under_way
-  pub cut : Cut queued history.log
+  pub cut : IsLogOfPieces queued history.log
   pub flight : InFlight history first acknowledged sender_queues.transfer
-  pub pends : PendsWhere history sender_queues.transfer
+  pub pends : PendsIfConnected history sender_queues.transfer
   pub marks : AreMarks history first sender_queues.queue.under_way
-  pub numbers : Numbered history sender_queues.queue
+  pub numbers : NumbersMessages history sender_queues.queue
   pub kind : IsOfKind sender_queues.queue.is_interleaved sender_queues.transfer
 
 -- ---- what a flush leaves
 
 -- the reset of our streams that a flush began: its first packet alone may have the request
-abbrev pub reset_begun_by : List Answer → Option BegunReset
-reset_begun_by [] = None
-reset_begun_by (answer ∷ answers) = answer.begun
+abbrev pub begun_reset_of : List Answer → Option BegunReset
+begun_reset_of [] = None
+begun_reset_of (answer ∷ answers) = answer.begun
 
 -- It is one of these streams, which were handed out for the reset that was begun.
-abbrev pub NamedBy : Option BegunReset → List ℕ → ℕ → Type 0
-NamedBy None ids id = ⊥
-NamedBy (Some begun) ids id = is_named ids id ≡ true
+abbrev pub IsNamedByReset : Option BegunReset → List ℕ → ℕ → Type 0
+IsNamedByReset None ids id = ⊥
+IsNamedByReset (Some begun) ids id = is_named ids id ≡ true
 
 -- Each stream that the request names was handed out for it, and still is.
 abbrev pub AreHandedFor : Option BegunReset → List ℕ → List Stream → Type 0
@@ -215,10 +215,10 @@ pub record SendsLogged (queued : List Message) (history : History) (first acknow
   pub low : length history.log ≤ bound
   pub high : bound ≤ length more + length history.log
   pub stands : QueuesFollowLog queued (with_mark begun ids bound (log_extended more history)) first acknowledged after
-  pub packets : PacketsSay (with_mark begun ids bound (log_extended more history)) first acknowledged (packets_in events)
+  pub packets : PacketsSay (with_mark begun ids bound (log_extended more history)) first acknowledged (packets_of_events events)
   pub current : AreCurrent history more
   pub kept : AreKept after.queue.streams more
-  pub handed : (id : ℕ) → is_handed_out (stream_named id after.queue.streams).pause ≡ true → (is_handed_out (stream_named id old.streams).pause ≡ true) ⊎ NamedBy begun ids id
+  pub handed : (id : ℕ) → is_handed_out (stream_named id after.queue.streams).pause ≡ true → (is_handed_out (stream_named id old.streams).pause ≡ true) ⊎ IsNamedByReset begun ids id
   pub stay : (id : ℕ) → is_handed_out (stream_named id old.streams).pause ≡ true → is_handed_out (stream_named id after.queue.streams).pause ≡ true
   pub named : AreHandedFor begun ids after.queue.streams
 
@@ -227,4 +227,4 @@ abbrev pub FlushesSendPieces : Type 0
 FlushesSendPieces =
     (queued : List Message) (history : History) (first acknowledged : ℕ) (e : Endpoint) (draft : Emission) (answers : List Answer) → QueuesFollowLog queued history first acknowledged e.queues
     → SayAll history first acknowledged draft.packet.contents → FlushAnswers e draft answers
-    → SendsLogged queued history first acknowledged e.queues.queue (reset_begun_by answers) (flush_of e draft answers).after.queues (flush_of e draft answers).events
+    → SendsLogged queued history first acknowledged e.queues.queue (begun_reset_of answers) (flush_of e draft answers).after.queues (flush_of e draft answers).events

@@ -83,7 +83,7 @@ pub record HasBefore (log : List Slot) (number : ℕ) (piece : Piece) : Type 0 w
 -- may carry the rest of a message whose beginning was sent in an earlier one. Of two messages of a stream the one that is begun
 -- later was queued later, and with interleaving has the higher number, if both are ordered or both unordered. Right after a piece
 -- an end without one is that of its message, which may be abandoned.
-pub record Cut (queued : List Message) (log : List Slot) : Type 0 where
+pub record IsLogOfPieces (queued : List Message) (log : List Slot) : Type 0 where
   pub pieces : (n : ℕ) (f : Piece) → at_place n log ≡ Some (Some f) → IsPiece queued f
   pub rows : (n : ℕ) (f : Piece) → 0 < n → at_place n log ≡ Some (Some f) → 0 < f.start → HasBefore log n f
   pub ascends : (m n : ℕ) (f g : Piece) → m < n → at_place m log ≡ Some (Some f) → at_place n log ≡ Some (Some g) → g.start ≡ 0

@@ -5,16 +5,16 @@ use Rattle.std.specs.Prelude.{◌≡◌, ◌<◌, ◌≤◌, ◌+◌, ◌%◌, �
 use Rattle.dcsctp_spec.specs.types.declared.sending.UnderWay.{UnderWay}
 use Rattle.dcsctp_spec.specs.types.declared.sending.Pause.{Pause}
 use Rattle.dcsctp_spec.specs.types.declared.sending.Pause.TheVariants.{Open, Pausing, HandedOut}
-use Rattle.dcsctp_spec.specs.types.queues.SendStreams.{Waiting, Stream, front_of, next_numbers, unused}
-use Rattle.dcsctp_spec.specs.queues.SendQueue.{SendQueueState, found_in}
+use Rattle.dcsctp_spec.specs.types.queues.SendStreams.{Waiting, Stream, front_of, next_numbers, unused_stream}
+use Rattle.dcsctp_spec.specs.queues.SendQueue.{SendQueueState, stream_found}
 use Rattle.dcsctp_spec.specs.queues.Transfer.{Transfer}
 use Rattle.dcsctp_delivery_sending.specs.Places.{HasEntry, at_place}
 use Rattle.dcsctp_delivery_sending.specs.Log.{Piece, Slot, Mark, newest, is_end, History, Resets}
-use Rattle.dcsctp_delivery_sending.specs.Turns.{begun_on, turn_at, IsSsnOfTurn}
+use Rattle.dcsctp_delivery_sending.specs.Turns.{begun_on, turn_of_tsn, IsSsnOfTurn}
 
 -- the stream of this number, or one that was never used
 abbrev pub stream_named : ℕ → List Stream → Stream
-stream_named id streams = found_in (unused 0 0 0) id streams
+stream_named id streams = stream_found (unused_stream 0 0 0) id streams
 
 -- the MID of the message that is begun next on it, by whether that is unordered
 abbrev pub next_mid : Bool → Stream → ℕ
@@ -27,9 +27,9 @@ is_handed_out Pausing = false
 is_handed_out HandedOut = true
 
 -- The stream of the message under way isn't handed out.
-abbrev pub KeptWhere : List Stream → Option UnderWay → Type 0
-KeptWhere streams None = Unit {0}
-KeptWhere streams (Some under_way) = is_handed_out (stream_named under_way.stream_id.0 streams).pause ≡ false
+abbrev pub IsUnderWayKept : List Stream → Option UnderWay → Type 0
+IsUnderWayKept streams None = Unit {0}
+IsUnderWayKept streams (Some under_way) = is_handed_out (stream_named under_way.stream_id.0 streams).pause ≡ false
 
 -- The piece was sent since the last reset of its stream.
 abbrev pub IsCurrent : History → Piece → Type 0
@@ -84,7 +84,7 @@ pub record GoesInTurn (id : ℕ) (log : List Slot) (streams : List Stream) (unde
 -- The SSNs of a stream count its ordered messages.
 pub record CountsTurns (id : ℕ) (log : List Slot) (streams : List Stream) (under_way : Option UnderWay) : Type 0 where
   pub next : (stream_named id streams).next_ssn % 2 ^ 16 ≡ begun_on id log % 2 ^ 16
-  pub sent : (n : ℕ) (f : Piece) → at_place n log ≡ Some (Some f) → f.message.stream ≡ id → f.message.is_unordered ≡ false → IsSsnOfTurn f.ssn (turn_at id n log)
+  pub sent : (n : ℕ) (f : Piece) → at_place n log ≡ Some (Some f) → f.message.stream ≡ id → f.message.is_unordered ≡ false → IsSsnOfTurn f.ssn (turn_of_tsn id n log)
   pub going : (u : UnderWay) → under_way ≡ Some u → u.stream_id.0 ≡ id → GoesInTurn id log streams u
 
 -- So they do on each stream. A message is begun only once the one before has ended, or is abandoned.
@@ -94,23 +94,23 @@ pub record CountsSsns (history : History) (streams : List Stream) (under_way : O
   pub rests : under_way ≡ None → (f : Piece) → newest history.log ≡ Some (Some f) → is_end f ≡ true
 
 -- Without interleaving SSNs count, and with it MIDs do.
-abbrev pub CountsWhere : Bool → History → List Stream → Option UnderWay → Type 0
-CountsWhere false history streams under_way = CountsSsns history streams under_way
-CountsWhere true history streams under_way = CountsMessages history streams under_way
+abbrev pub CountsByKind : Bool → History → List Stream → Option UnderWay → Type 0
+CountsByKind false history streams under_way = CountsSsns history streams under_way
+CountsByKind true history streams under_way = CountsMessages history streams under_way
 
 -- Each piece was sent as the queue numbers messages.
 abbrev pub AreOfKind : Bool → List Slot → Type 0
 AreOfKind is_interleaved log = (n : ℕ) (f : Piece) → at_place n log ≡ Some (Some f) → f.is_interleaved ≡ is_interleaved
 
 -- This holds for the piece of this TSN, if it carries one.
-abbrev pub KindAt : Bool → List Slot → ℕ → Type 0
-KindAt is_interleaved log number = (f : Piece) → at_place number log ≡ Some (Some f) → f.is_interleaved ≡ is_interleaved
+abbrev pub IsPieceOfKind : Bool → List Slot → ℕ → Type 0
+IsPieceOfKind is_interleaved log number = (f : Piece) → at_place number log ≡ Some (Some f) → f.is_interleaved ≡ is_interleaved
 
 -- So the messages of a queue are numbered.
-pub record Numbered (history : History) (queue : SendQueueState) : Type 0 where
+pub record NumbersMessages (history : History) (queue : SendQueueState) : Type 0 where
   pub kinds : AreOfKind queue.is_interleaved history.log
-  pub counts : CountsWhere queue.is_interleaved history queue.streams queue.under_way
-  pub kept : KeptWhere queue.streams queue.under_way
+  pub counts : CountsByKind queue.is_interleaved history queue.streams queue.under_way
+  pub kept : IsUnderWayKept queue.streams queue.under_way
 
 -- What is in flight is sent as the queue numbers messages.
 abbrev pub IsOfKind : Bool → Option Transfer → Type 0
@@ -128,4 +128,4 @@ pub data IsUnambiguous (history : History) : Type 0 where
 
 -- This holds for each such log.
 abbrev pub LogsAreUnambiguous : Type 0
-LogsAreUnambiguous = (history : History) (queue : SendQueueState) → Numbered history queue → length history.log < 2 ^ 31 → IsUnambiguous history
+LogsAreUnambiguous = (history : History) (queue : SendQueueState) → NumbersMessages history queue → length history.log < 2 ^ 31 → IsUnambiguous history

@@ -8,12 +8,12 @@ use Rattle.dcsctp_spec.specs.queues.SendQueue.{SendQueueState}
 use Rattle.dcsctp_spec.specs.queues.Sending.{Fragment, TakesFragment}
 use Rattle.dcsctp_delivery_sending.specs.Places.{at_place}
 use Rattle.dcsctp_delivery_sending.specs.Weights.{HasRoomForLog}
-use Rattle.dcsctp_delivery_sending.specs.Numbers.{stream_named, is_handed_out, IsCurrent, Numbered}
+use Rattle.dcsctp_delivery_sending.specs.Numbers.{stream_named, is_handed_out, IsCurrent, NumbersMessages}
 use Rattle.dcsctp_delivery_sending.specs.Log.{Message, Piece, Slot, newest, is_beginning, is_end, piece_bytes, IsPiece, HasBefore, History, with_slot}
 
 -- A message that may not be abandoned has no limits (RFC 3758).
-abbrev pub LimitedWhere : Bool → Option ℕ → Option ℕ → Type 0
-LimitedWhere is_limited expires_at max_retransmissions = is_limited ≡ false → (expires_at ≡ None) × (max_retransmissions ≡ None)
+abbrev pub HasNoLimits : Bool → Option ℕ → Option ℕ → Type 0
+HasNoLimits is_limited expires_at max_retransmissions = is_limited ≡ false → (expires_at ≡ None) × (max_retransmissions ≡ None)
 
 -- The message that waits on the stream is this one.
 pub record IsWaitingMessage (id : ℕ) (waiting : Waiting) (message : Message) : Type 0 where
@@ -21,7 +21,7 @@ pub record IsWaitingMessage (id : ℕ) (waiting : Waiting) (message : Message) :
   pub ppid : waiting.ppid ≡ message.ppid
   pub unordered : waiting.is_unordered ≡ message.is_unordered
   pub payload : waiting.payload ≡ message.payload
-  pub limits : LimitedWhere message.is_limited waiting.expires_at waiting.max_retransmissions
+  pub limits : HasNoLimits message.is_limited waiting.expires_at waiting.max_retransmissions
 
 -- The message that waits was queued, and isn't spent: its identifier counts the messages queued before it.
 pub record WaitingWasQueued (queued : List Message) (id : ℕ) (waiting : Waiting) : Type 0 where
@@ -107,7 +107,7 @@ pub record CarriesPiece (part : Fragment) (piece : Piece) : Type 0 where
   pub beginning : part.is_beginning ≡ is_beginning piece
   pub end : part.is_end ≡ is_end piece
   pub payload : part.payload ≡ piece_bytes piece
-  pub limits : LimitedWhere piece.message.is_limited part.expires_at part.max_retransmissions
+  pub limits : HasNoLimits piece.message.is_limited part.expires_at part.max_retransmissions
   pub mid : part.mid % 2 ^ 32 ≡ piece.mid % 2 ^ 32
   pub fsn : part.fsn ≡ piece.fsn
   pub ssn : part.ssn ≡ piece.ssn
@@ -122,7 +122,7 @@ pub record HandsOutPiece (queued : List Message) (history : History) (part : Fra
       → f.message.is_unordered ≡ piece.message.is_unordered → f.mid < piece.mid
   pub says : CarriesPiece part piece
   pub queue_holds : HoldsQueued queued (Some piece ∷ history.log) new.streams new.under_way
-  pub numbers : Numbered (with_slot (Some piece) history) new
+  pub numbers : NumbersMessages (with_slot (Some piece) history) new
   pub current : piece.is_interleaved ≡ true → IsCurrent history piece
   pub kept : is_handed_out (stream_named piece.message.stream new.streams).pause ≡ false
 
@@ -130,5 +130,5 @@ pub record HandsOutPiece (queued : List Message) (history : History) (part : Fra
 abbrev pub PiecesFollow : Type 0
 PiecesFollow =
     (queued : List Message) (history : History) (now max : ℕ) (old new : SendQueueState) (told_before told_after : List (Event (List ℕ))) (part : Fragment)
-    → 0 < max → HoldsQueued queued history.log old.streams old.under_way → Numbered history old → TakesFragment now max old told_before part new told_after
+    → 0 < max → HoldsQueued queued history.log old.streams old.under_way → NumbersMessages history old → TakesFragment now max old told_before part new told_after
     → HandsOutPiece queued history part new

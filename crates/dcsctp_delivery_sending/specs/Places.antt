@@ -12,5 +12,5 @@ at_place place [] = None
 at_place place (newest ∷ earlier) = if place == length earlier then Some newest else at_place place earlier
 
 -- the table, with this entry at the number
-abbrev pub set_at : {A : Type 0} → ℕ → A → (ℕ → A) → (ℕ → A)
-set_at number entry table = λ other. if other == number then entry else table other
+abbrev pub table_with : {A : Type 0} → ℕ → A → (ℕ → A) → (ℕ → A)
+table_with number entry table = λ other. if other == number then entry else table other

@@ -9,8 +9,8 @@ use Rattle.dcsctp_spec.specs.queues.OwnResets.{prepared_all, queue_committed, qu
 use Rattle.dcsctp_spec.specs.types.Setting.{Setting, stream_priority, stream_low_threshold, longest_message}
 use Rattle.dcsctp_spec.specs.endpoint.SettingOutcomes.{set_in_queue}
 use Rattle.dcsctp_spec.specs.endpoint.MessageOutcomes.{Sending, sending_queued}
-use Rattle.dcsctp_delivery_sending.specs.Log.{Message, Cut, History, new_history}
-use Rattle.dcsctp_delivery_sending.specs.Numbers.{stream_named, is_handed_out, Numbered}
+use Rattle.dcsctp_delivery_sending.specs.Log.{Message, IsLogOfPieces, History, new_history}
+use Rattle.dcsctp_delivery_sending.specs.Numbers.{stream_named, is_handed_out, NumbersMessages}
 use Rattle.dcsctp_delivery_sending.specs.Pieces.{HoldsQueued}
 
 -- May a message with these options be abandoned (RFC 3758)?
@@ -26,7 +26,7 @@ message_of sending =
 pub record QueueHolds (queued : List Message) (history : History) (queue : SendQueueState) : Type 0 where
   pub queue_holds : HoldsQueued queued history.log queue.streams queue.under_way
   pub next : queue.next_message_id ≡ length queued
-  pub numbers : Numbered history queue
+  pub numbers : NumbersMessages history queue
 
 -- So it is where an association begins, with some floors.
 pub record QueueWaits (queued : List Message) (queue : SendQueueState) : Type 0 where
@@ -37,7 +37,7 @@ pub record QueueWaits (queued : List Message) (queue : SendQueueState) : Type 0 
 abbrev pub QueueingKeeps : Type 0
 QueueingKeeps =
     (queued : List Message) (history : History) (now : ℕ) (sending : Sending) (queue : SendQueueState) → sending.message.stream < 2 ^ 16 → length queued + 1 < 2 ^ 64 → 0 < length sending.message.payload
-    → Cut queued history.log → QueueHolds queued history queue → QueueHolds (message_of sending ∷ queued) history (sending_queued now sending queue)
+    → IsLogOfPieces queued history.log → QueueHolds queued history queue → QueueHolds (message_of sending ∷ queued) history (sending_queued now sending queue)
 
 -- In another association no TSN was assigned yet. What was under way is the rest of a message,
 abbrev pub KeptQueuesHold : Type 0

@@ -11,9 +11,9 @@ use Rattle.dcsctp_spec.specs.types.queues.Progress.{is_abandoned}
 use Rattle.dcsctp_spec.specs.endpoint.BegunResets.{stream_field}
 use Rattle.dcsctp_delivery_sending.specs.Places.{HasEntry, at_place}
 use Rattle.dcsctp_spec.specs.types.declared.sending.UnderWay.{UnderWay}
-use Rattle.dcsctp_delivery_sending.specs.Log.{Message, Piece, Slot, Cut, Mark, History, log_extended, Resets}
-use Rattle.dcsctp_delivery_sending.specs.Numbers.{Numbered, KindAt, AreCurrent, AreKept}
-use Rattle.dcsctp_delivery_sending.specs.Pieces.{LimitedWhere, CarriesPiece, HoldsQueued}
+use Rattle.dcsctp_delivery_sending.specs.Log.{Message, Piece, Slot, IsLogOfPieces, Mark, History, log_extended, Resets}
+use Rattle.dcsctp_delivery_sending.specs.Numbers.{NumbersMessages, IsPieceOfKind, AreCurrent, AreKept}
+use Rattle.dcsctp_delivery_sending.specs.Pieces.{HasNoLimits, CarriesPiece, HoldsQueued}
 
 -- The fragment says what the slot does. The end of an abandoned message has no payload.
 abbrev pub SaysSlot : Fragment → Slot → Type 0
@@ -33,7 +33,7 @@ pub record IsNamedFragment (history : History) (own : ℕ) (part : Fragment) : T
   pub mid : part.mid % 2 ^ 32 ≡ piece.mid % 2 ^ 32
   pub ssn : part.ssn ≡ piece.ssn
   pub up_to : number ≤ own
-  pub limits : LimitedWhere piece.message.is_limited part.expires_at part.max_retransmissions
+  pub limits : HasNoLimits piece.message.is_limited part.expires_at part.max_retransmissions
 
 -- The fragment is of the message of a piece of the log, and that may be abandoned (RFC 3758).
 pub record IsOfLimited (log : List Slot) (part : Fragment) : Type 0 where
@@ -44,21 +44,21 @@ pub record IsOfLimited (log : List Slot) (part : Fragment) : Type 0 where
   pub limited : piece.message.is_limited ≡ true
 
 -- The fragment says what the TSN carries that is so many after the first.
-pub record SaysAt (log : List Slot) (number : ℕ) (part : Fragment) : Type 0 where
+pub record SaysTsn (log : List Slot) (number : ℕ) (part : Fragment) : Type 0 where
   pub slot : Slot
   pub at : at_place number log ≡ Some slot
   pub says : SaysSlot part slot
 
 -- The item at this place was abandoned.
-abbrev pub IsAbandonedAt : List Item → ℕ → Type 0
-IsAbandonedAt items place = (item : Item) × (slice_get items place ≡ Some item) × (is_abandoned item.progress.state ≡ true)
+abbrev pub IsAbandonedItem : List Item → ℕ → Type 0
+IsAbandonedItem items place = (item : Item) × (slice_get items place ≡ Some item) × (is_abandoned item.progress.state ≡ true)
 
 -- Without interleaving the items of a message follow one another, up to its end. They are abandoned together, unless there are no
 -- TSNs left for the end. No reset was begun between them.
 pub record AreMessagesWhole (log : List Slot) (acknowledged : ℕ) (items : List Item) : Type 0 where
   pub closed : (k : ℕ) (item : Item) → slice_get items k ≡ Some item → at_place (acknowledged + k) log ≡ Some None → item.fragment.is_end ≡ true
   pub joined : (k : ℕ) (item next : Item) → slice_get items k ≡ Some item → slice_get items (k + 1) ≡ Some next → item.fragment.is_end ≡ false → next.fragment.message_id ≡ item.fragment.message_id
-  pub together : (k : ℕ) (item : Item) → slice_get items k ≡ Some item → is_abandoned item.progress.state ≡ true → item.fragment.is_end ≡ false → IsAbandonedAt items (k + 1) ⊎ (2 ^ 31 ≤ acknowledged + k + 2)
+  pub together : (k : ℕ) (item : Item) → slice_get items k ≡ Some item → is_abandoned item.progress.state ≡ true → item.fragment.is_end ≡ false → IsAbandonedItem items (k + 1) ⊎ (2 ^ 31 ≤ acknowledged + k + 2)
   pub begins : (k : ℕ) (item : Item) → slice_get items k ≡ Some item → item.begins_after_reset ≡ true → acknowledged + k ≡ 0
 
 -- The items in flight are those of the newest TSNs. `first` is the first TSN of the association, and `acknowledged` how many were
@@ -66,7 +66,7 @@ pub record AreMessagesWhole (log : List Slot) (acknowledged : ℕ) (items : List
 pub record Bears (history : History) (first acknowledged : ℕ) (outstanding : OutstandingState) : Type 0 where
   pub tsn : outstanding.first_tsn ≡ (first + acknowledged) % 2 ^ 32
   pub count : length history.log ≡ acknowledged + length outstanding.items
-  pub items : (k : ℕ) (item : Item) → slice_get outstanding.items k ≡ Some item → SaysAt history.log (acknowledged + k) item.fragment
+  pub items : (k : ℕ) (item : Item) → slice_get outstanding.items k ≡ Some item → SaysTsn history.log (acknowledged + k) item.fragment
   pub named : (k : ℕ) (item : Item) → slice_get outstanding.items k ≡ Some item → IsNamedFragment history (acknowledged + k) item.fragment
   pub splits : (mark : Mark) → HasEntry mark history.marks → (k : ℕ) (item : Item) → slice_get outstanding.items k ≡ Some item → acknowledged + k ≡ mark.bound
       → item.begins_after_reset ≡ true
@@ -95,11 +95,11 @@ AreMarks history first under_way = (mark : Mark) → HasEntry mark history.marks
 -- What waits was queued, and what is in flight is in the log.
 pub record Stands (queued : List Message) (history : History) (first acknowledged : ℕ) (stage : Stage) : Type 0 where
   pub queue_holds : HoldsQueued queued history.log stage.waiting.streams stage.waiting.under_way
-  pub cut : Cut queued history.log
+  pub cut : IsLogOfPieces queued history.log
   pub bears : Bears history first acknowledged stage.queue.outstanding
   pub pends : Pends history stage.queue.reset_begun
   pub marks : AreMarks history first stage.waiting.under_way
-  pub numbers : Numbered history stage.waiting
+  pub numbers : NumbersMessages history stage.waiting
   pub kind : stage.queue.outstanding.is_interleaved ≡ stage.waiting.is_interleaved
 
 -- So it is again; more TSNs may have been assigned, to pieces of streams that aren't handed out.
@@ -113,9 +113,9 @@ pub record Stays (queued : List Message) (history : History) (first acknowledged
 pub record IsOfLog (log : List Slot) (first : ℕ) (is_interleaved : Bool) (chunk : Plain) : Type 0 where
   pub number : ℕ
   pub part : Fragment
-  pub says : SaysAt log number part
+  pub says : SaysTsn log number part
   pub is : chunk ≡ unworked (chunk_said is_interleaved ((first + number) % 2 ^ 32) part)
-  pub kind : KindAt is_interleaved log number
+  pub kind : IsPieceOfKind is_interleaved log number
 
 -- Each does.
 abbrev pub AreOfLog : List Slot → ℕ → Bool → List Plain → Type 0

@@ -14,9 +14,9 @@ begun_on id [] = 0
 begun_on id (slot ∷ earlier) = if begins_on id slot then suc (begun_on id earlier) else begun_on id earlier
 
 -- and how many up to this TSN
-abbrev pub turn_at : ℕ → ℕ → List Slot → ℕ
-turn_at id n [] = 0
-turn_at id n (slot ∷ earlier) = if n == length earlier then begun_on id (slot ∷ earlier) else turn_at id n earlier
+abbrev pub turn_of_tsn : ℕ → ℕ → List Slot → ℕ
+turn_of_tsn id n [] = 0
+turn_of_tsn id n (slot ∷ earlier) = if n == length earlier then begun_on id (slot ∷ earlier) else turn_of_tsn id n earlier
 
 -- The message that was begun as the last of so many has this SSN.
 pub record IsSsnOfTurn (ssn turn : ℕ) : Type 0 where

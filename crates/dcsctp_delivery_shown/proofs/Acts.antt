@@ -6,7 +6,7 @@ use Rattle.dcsctp_spec_lemmas.specs.wire.Content.{PacketContent}
 use Rattle.dcsctp_spec_lemmas.specs.wire.Format.{IsPacket}
 use Rattle.dcsctp_spec_lemmas.specs.types.declared.capabilities.Capabilities.{Capabilities}
 use Rattle.dcsctp_spec_lemmas.specs.types.declared.options.Options.{Options}
-use Rattle.dcsctp_spec_lemmas.specs.spec.Admission.{Admission, all_chunks, shutdown_acks_alone, refused, admits, shutdown_acks_in}
+use Rattle.dcsctp_spec_lemmas.specs.spec.Admission.{Admission, all_chunks, shutdown_acks_alone, refused, admits, shutdown_acks_of}
 use Rattle.dcsctp_spec_lemmas.specs.spec.endpoint.MessageOutcomes.{awaits_opening}
 use Rattle.dcsctp_spec_lemmas.specs.spec.endpoint.CallTurns.{asked_again, Transition, Turns, AlongTurns, AfterChunk, ChunkTurns, AdmittedTurns, HandleInput, unreadable, readable, after_all, effects_of, events_of}
 use Rattle.dcsctp_spec_lemmas.specs.spec.endpoint.Endpoint.{Endpoint, Core, closed, cookie_wait, cookie_echoed, open_in, established, shutdown_pending, shutdown_sent, shutdown_received, shutdown_ack_sent}
@@ -14,17 +14,17 @@ use Rattle.dcsctp_spec_lemmas.specs.spec.endpoint.Following.{Following, next_chu
 use Rattle.dcsctp_spec_laws.specs.TurnLaws.{ChunksAreControlled}
 use Rattle.dcsctp_spec_lemmas.specs.types.Offer.{Offer, offer_of}
 use Rattle.dcsctp_spec_lemmas.specs.spec.endpoint.Outcome.{Outcome}
-use Rattle.dcsctp_spec_lemmas.specs.spec.Packet.{Content, init_ack, cookie_echo, shutdown_ack, Packet, packet_in}
+use Rattle.dcsctp_spec_lemmas.specs.spec.Packet.{Content, init_ack, cookie_echo, shutdown_ack, Packet, packet_of_content}
 use Rattle.dcsctp_spec_runs.specs.Past.{HasEffect}
 use Rattle.dcsctp_spec_lemmas.specs.types.Schedule.{CallContent, set_call, reset_call, send_call, send_many_call}
 use Rattle.dcsctp_spec_lemmas.specs.types.Settings.{SameOptions, wire_options}
 use Rattle.dcsctp_spec_lemmas.specs.spec.endpoint.UserTurns.{UserTurns}
 use Rattle.dcsctp_spec_lemmas.specs.spec.endpoint.Turn.{Input, BeginTurn, arrival, refusal, chunk_input, packet_ends, has_data_chunk, unreadable_text}
-use Rattle.dcsctp_spec_lemmas.specs.spec.association.Effect.{AssociationIdentity, Effect, holds, identity_in}
+use Rattle.dcsctp_spec_lemmas.specs.spec.association.Effect.{AssociationIdentity, Effect, holds, identity_of_core}
 use Rattle.dcsctp_spec_laws.proofs.TurnLemmas.{same_after}
 use Rattle.dcsctp_theorem_sockets.proofs.NewAssociations.{FirstAlone}
 use Rattle.dcsctp_theorem_sockets.proofs.NoHolding.{HoldsNone, none-append}
-use Rattle.dcsctp_delivery_turns.specs.Actions.{came_by, IsOpening, Opened}
+use Rattle.dcsctp_delivery_turns.specs.Actions.{content_of_input, IsOpening, RecordsOpening}
 use Rattle.dcsctp_delivery_sockets.specs.Echoes.{MayFollow, AllMayFollow}
 use Rattle.dcsctp_delivery_sockets.proofs.Calls.{of_turns, MayCall, MaySend, of_call}
 use Rattle.dcsctp_delivery_sockets.proofs.OpenFitting.{OpensFitting, AllOpenFitting}
@@ -91,7 +91,7 @@ all_calm : (tag : ℕ) (contents : List Content) → AllMayFollow contents → A
 all_calm tag [] may = tt
 all_calm tag (content ∷ contents) may = (follows_calm tag content may.0, all_calm tag contents may.1)
 
-acks_calm : (tag : ℕ) (contents : List Content) → AllCalm tag (shutdown_acks_in contents)
+acks_calm : (tag : ℕ) (contents : List Content) → AllCalm tag (shutdown_acks_of contents)
 acks_calm tag [] = tt
 acks_calm tag (shutdown_ack ∷ contents) = (tt, acks_calm tag contents)
 acks_calm tag (content ∷ contents) = acks_calm tag contents
@@ -127,8 +127,8 @@ module _ (law : ChunksAreControlled) (kinds : Capabilities) where
   call_acts e call turns taken known h = calm_act e turns (of_call IsCalm calls_calm e call turns (sends_calm call) taken) known h
 
   -- The association that the first chunk begins is the only one, and stays.
-  begun_first : (e : Endpoint) (t : Transition) (rest : List Transition) → GoodTurn e t → (came : Option Content) (opened : Opened came t.outcome) → HoldsNone (effects_of rest)
-      → identity_in (after_all t.outcome.after rest).core ≡ identity_in t.outcome.after.core → Notes e (t ∷ rest)
+  begun_first : (e : Endpoint) (t : Transition) (rest : List Transition) → GoodTurn e t → (came : Option Content) (opened : RecordsOpening came t.outcome) → HoldsNone (effects_of rest)
+      → identity_of_core (after_all t.outcome.after rest).core ≡ identity_of_core t.outcome.after.core → Notes e (t ∷ rest)
   begun_first e t rest good came opened none stays =
       let link : AssociationIdentity = opened.link in
       let later : HoldsNone opened.later = subst FirstAlone opened.noted good.first in
@@ -136,7 +136,7 @@ module _ (law : ChunksAreControlled) (kinds : Capabilities) where
       (good.anew link (subst (HasEffect (holds link)) (sym opened.noted) (inl refl))) (stays ∙ opened.linked)
 
   front_notes : (came : Option Content) (e : Endpoint) (t : Transition) (rest : List Transition) → GoodTurn e t → MovesLink came e t.outcome → HoldsNone (effects_of rest)
-      → identity_in (after_all t.outcome.after rest).core ≡ identity_in t.outcome.after.core → Notes e (t ∷ rest)
+      → identity_of_core (after_all t.outcome.after rest).core ≡ identity_of_core t.outcome.after.core → Notes e (t ∷ rest)
   front_notes came e t rest good (link_begins opened) none stays = begun_first e t rest good came opened none stays
   front_notes came e t rest good (link_stays is) none stays =
       notes_none (none-append t.outcome.effects (effects_of rest) (none_among t.outcome.effects (λ link has. good.anew link has (sym is ∙ good.held link has))) none)
@@ -147,12 +147,12 @@ module _ (law : ChunksAreControlled) (kinds : Capabilities) where
   front_act : (asks : Bool) (e : Endpoint) (tag : ℕ) (content : Content) (contents : List Content) (t : Transition) (rest : List Transition) → FrontKinds kinds (offer_of e.options) content → AllMayFollow contents → AllAllowed kinds contents
       → EndpointIs kinds e → OpensFitting t → Known e t → AlongTurns Known t.outcome.after rest → ChunkTurns e tag (content ∷ contents) (packet_ends ∷ asked_again asks) (t ∷ rest) → ActIs kinds e (t ∷ rest)
   front_act asks e tag content contents t rest front may allowed h fits here known taken =
-      let so : TurnIs kinds e (Some content) t.outcome = turn_is kinds e (chunk_input tag content) t.outcome h tt (begins_so kinds law e tag content t.outcome front (λ opening. fits (subst (λ (i : Input). IsOpening (came_by i)) (sym taken.0.is) opening)) taken.0.comes) taken.0.comes in
+      let so : TurnIs kinds e (Some content) t.outcome = turn_is kinds e (chunk_input tag content) t.outcome h tt (begins_so kinds law e tag content t.outcome front (λ opening. fits (subst (λ (i : Input). IsOpening (content_of_input i)) (sym taken.0.is) opening)) taken.0.comes) taken.0.comes in
       let calm : AreCalm rest =
       tail_calm t.outcome.following t.outcome.after (packet_ends ∷ asked_again asks) rest (ChunkTurns t.outcome.after tag contents (packet_ends ∷ asked_again asks) rest) (tail_is_calm asks)
       (λ others. chunks_calm t.outcome.after tag contents (packet_ends ∷ asked_again asks) rest (all_calm tag contents may) (tail_is_calm asks) others) taken.1 in
       let left : Calm kinds t.outcome.after rest = calm_turns kinds rest t.outcome.after calm known so.after in
-      let stays : identity_in (after_all t.outcome.after rest).core ≡ identity_in t.outcome.after.core =
+      let stays : identity_of_core (after_all t.outcome.after rest).core ≡ identity_of_core t.outcome.after.core =
       after_link kinds law asks t.outcome.following t.outcome.after rest (ChunkTurns t.outcome.after tag contents (packet_ends ∷ asked_again asks) rest) so.after
       (λ others. rest_link kinds law asks t.outcome.after tag contents rest may allowed so.after others) taken.1 in
       record {
@@ -177,21 +177,21 @@ module _ (law : ChunksAreControlled) (kinds : Capabilities) where
       → EndpointIs kinds e → AllOpenFitting turns → AlongTurns Known e turns → AdmittedTurns e packet admission turns → ActIs kinds e turns
   admitted_act mine e packet all_chunks [] own are allowed h fit known taken = absurd taken
   admitted_act mine e packet all_chunks (t ∷ turns) own are allowed h fit known taken =
-      one_then kinds e t turns (subst IsCalm (sym taken.0.is) tt, tt) known.0 h (begin_effects e e.core (has_data_chunk e.options.follow_rfc packet.contents) t.outcome taken.0.comes) (ap identity_in (begin_core e e.core (has_data_chunk e.options.follow_rfc packet.contents) t.outcome taken.0.comes))
+      one_then kinds e t turns (subst IsCalm (sym taken.0.is) tt, tt) known.0 h (begin_effects e e.core (has_data_chunk e.options.follow_rfc packet.contents) t.outcome taken.0.comes) (ap identity_of_core (begin_core e e.core (has_data_chunk e.options.follow_rfc packet.contents) t.outcome taken.0.comes))
       (λ is. whole_act (awaits_opening t.outcome.after t.outcome.after.core) t.outcome.after packet.tag packet.contents turns
       (contents_of mine t.outcome.after.options packet.contents (same_after mine e.options t.outcome.after.options own known.0.1.options) are) allowed is fit.1 known.1 taken.1)
   admitted_act mine e packet shutdown_acks_alone turns own are allowed h fit known taken =
-      calm_act e turns (chunks_calm e packet.tag (shutdown_acks_in packet.contents) [] turns (acks_calm packet.tag packet.contents) tt taken) known h
+      calm_act e turns (chunks_calm e packet.tag (shutdown_acks_of packet.contents) [] turns (acks_calm packet.tag packet.contents) tt taken) known h
   admitted_act mine e packet (refused text) turns own are allowed h fit known taken = calm_act e turns (of_turns IsCalm e (refusal text ∷ []) turns (tt, tt) taken) known h
 
   -- This holds for the bytes of a packet that the other socket sent.
   pub packet_acts : (mine : Options) (e : Endpoint) (bytes : List ℕ) (was : Packet) (turns : List Transition) → SameOptions mine e.options → ContentsAre kinds (offer_of mine) was.contents
-      → ContentsAllowed kinds was.contents → ((packet : PacketContent) → IsPacket (wire_options e.options) packet bytes → packet_in packet ≡ was) → EndpointIs kinds e → AllOpenFitting turns → AlongTurns Known e turns
+      → ContentsAllowed kinds was.contents → ((packet : PacketContent) → IsPacket (wire_options e.options) packet bytes → packet_of_content packet ≡ was) → EndpointIs kinds e → AllOpenFitting turns → AlongTurns Known e turns
       → HandleInput e bytes turns → ActIs kinds e turns
   packet_acts mine e bytes was turns own are allowed is h fit known (unreadable _ none taken) =
       calm_act e turns (of_turns IsCalm e (arrival ∷ refusal unreadable_text ∷ []) turns (tt, (tt, tt)) taken) known h
   packet_acts mine e bytes was _ own are allowed is h fit known (readable packet counted turns found counting taken) =
       let core : counted.outcome.after.core ≡ e.core = ap (λ (x : Outcome). x.after.core) counting.comes in
-      one_then kinds e counted turns (subst IsCalm (sym counting.is) tt, tt) known.0 h (ap (λ (x : Outcome). x.effects) counting.comes) (ap identity_in core)
+      one_then kinds e counted turns (subst IsCalm (sym counting.is) tt, tt) known.0 h (ap (λ (x : Outcome). x.effects) counting.comes) (ap identity_of_core core)
       (λ left. admitted_act mine counted.outcome.after was (admits e.core was) turns (same_after mine e.options counted.outcome.after.options own known.0.1.options) are allowed left fit.1 known.1
       (subst (λ (p : Packet). AdmittedTurns counted.outcome.after p (admits e.core p) turns) (is packet found) taken))

@@ -8,9 +8,9 @@ use Rattle.dcsctp_spec_lemmas.specs.wire.declared.chunk.sack.GapAckBlock.{GapAck
 use Rattle.dcsctp_spec_lemmas.specs.types.declared.capabilities.Capabilities.{Capabilities}
 use Rattle.dcsctp_spec_lemmas.specs.spec.queues.Abandoning.{GivesUpFirst, GivesUpAll}
 use Rattle.dcsctp_spec_lemmas.specs.types.declared.progress.Change.TheVariants.{Miss}
-use Rattle.dcsctp_spec_lemmas.specs.spec.queues.Acknowledging.{covered, lossy, missed_until, exiting, AcknowledgesItems, acknowledged_until, opens, probes_lost, window_settled_at}
+use Rattle.dcsctp_spec_lemmas.specs.spec.queues.Acknowledging.{covered_items, lossy, missed_until, exiting, AcknowledgesItems, acknowledged_until, opens, probes_lost, window_after_settling}
 use Rattle.dcsctp_spec_lemmas.specs.spec.queues.AtOnce.{empty_stage, SendsAtOnce}
-use Rattle.dcsctp_spec_lemmas.specs.spec.queues.Filling.{Stage, DropsRestAt, ClosesMessage, GivesUpAt, SendsMarked, SendsNew, FindsNone, StepAgain, StepNew, StageSteps, none, more, resent_packet_counted, FillsPacket}
+use Rattle.dcsctp_spec_lemmas.specs.spec.queues.Filling.{Stage, DropsRestOfMessage, ClosesMessage, GivesUpItem, SendsMarked, SendsNew, FindsNone, StepAgain, StepNew, StageSteps, none, more, resent_packet_counted, FillsPacket}
 use Rattle.dcsctp_spec_lemmas.specs.spec.queues.ItemMessages.{EndsDropped}
 use Rattle.dcsctp_spec_lemmas.specs.spec.queues.Items.{Item, marked_items, changed_between}
 use Rattle.dcsctp_spec_lemmas.specs.spec.queues.Outstanding.{OutstandingState, tsn_at, acknowledged_count}
@@ -18,8 +18,8 @@ use Rattle.dcsctp_spec_lemmas.specs.spec.queues.Retransmission.{RetransmissionSt
 use Rattle.dcsctp_spec_lemmas.specs.spec.queues.SendQueue.{SendQueueState}
 use Rattle.dcsctp_spec_lemmas.specs.spec.queues.Transfer.{Transfer}
 use Rattle.dcsctp_spec_lemmas.specs.spec.endpoint.BegunResets.{BegunReset, retransmission_begun}
-use Rattle.dcsctp_spec_lemmas.specs.spec.endpoint.FlushOutcomes.{FillsWhere}
-use Rattle.dcsctp_spec_lemmas.specs.spec.endpoint.TransferMoves.{timed_by, TakesSack}
+use Rattle.dcsctp_spec_lemmas.specs.spec.endpoint.FlushOutcomes.{FillsIfAllowed}
+use Rattle.dcsctp_spec_lemmas.specs.spec.endpoint.TransferMoves.{timed_transfer, TakesSack}
 
 -- It is sent as these capabilities say.
 abbrev pub IsOf : Capabilities → RetransmissionState → Type 0
@@ -35,7 +35,7 @@ module _ (kinds : Capabilities) where
   dropped_same now begins last old new true does = ap (λ (o : OutstandingState). o.is_interleaved) does.grows
   dropped_same now begins last old new false does = ap (λ (o : OutstandingState). o.is_interleaved) does
 
-  drops_is : (now : ℕ) (last : Item) (old new : Stage) → StageIs old → DropsRestAt now last old new → StageIs new
+  drops_is : (now : ℕ) (last : Item) (old new : Stage) → StageIs old → DropsRestOfMessage now last old new → StageIs new
   drops_is now last old new h does =
       subst StageIs (sym does.is) (dropped_same now old.queue.reset_begun last old.queue.outstanding does.outstanding does.drops.is_dropped does.drops.ends ∙ h.0, h.1)
 
@@ -44,7 +44,7 @@ module _ (kinds : Capabilities) where
   closes_is now last old new false h (inl does) = drops_is now last old new h does.1
   closes_is now last old new false h (inr does) = subst StageIs (sym does.1) h
 
-  gives_up_is : (now place : ℕ) (old new : Stage) → StageIs old → GivesUpAt now place old new → StageIs new
+  gives_up_is : (now place : ℕ) (old new : Stage) → StageIs old → GivesUpItem now place old new → StageIs new
   gives_up_is now place old new h does = subst StageIs (sym does.is) (closes_is now does.last old does.closed does.last.fragment.is_end h does.closes)
 
   -- ---- steps
@@ -79,7 +79,7 @@ module _ (kinds : Capabilities) where
       let counted : StageIs (resent_packet_counted old.room does.fills.resent) = counted_is (old.room - does.fills.resent.room) does.fills.resent.queue resent in
       subst StageIs (sym does.is) (steps_are (StepNew now) (λ o n k step. anew_is now o n k step.1) (resent_packet_counted old.room does.fills.resent) does.sent counted does.fills.anew)
 
-  pub fills_where_is : (b : Bool) (now : ℕ) (old new : Stage) → StageIs old → FillsWhere b now old new → StageIs new
+  pub fills_where_is : (b : Bool) (now : ℕ) (old new : Stage) → StageIs old → FillsIfAllowed b now old new → StageIs new
   fills_where_is true now old new h does = fills_is now old new h does
   fills_where_is false now old new h (inl same) = subst StageIs (sym same) h
   fills_where_is false now old new h (inr does) = fills_is now old new h does
@@ -112,7 +112,7 @@ module _ (kinds : Capabilities) where
   probes_is true state h = h
   probes_is false state h = h
 
-  settled_is : (now window count : ℕ) (state : RetransmissionState) → IsOf kinds state → IsOf kinds (window_settled_at now window count state)
+  settled_is : (now window count : ℕ) (state : RetransmissionState) → IsOf kinds state → IsOf kinds (window_after_settling now window count state)
   settled_is now window count state h = let told : RetransmissionState = record state { peer_window = window } in probes_is (opens state told) told h
 
   acknowledged_is : (now cumulative window : ℕ) (blocks : List GapAckBlock) (old new : RetransmissionState) → IsOf kinds old → AcknowledgesItems now cumulative window blocks old new → IsOf kinds new
@@ -121,9 +121,9 @@ module _ (kinds : Capabilities) where
       let left : RetransmissionState = acknowledged_until count blocks does.limit (option_map (tsn_at old.outstanding) does.newest) (exiting cumulative old) in
       subst (IsOf kinds) (sym does.is)
       (settled_is now window count left
-      (missed_is count does.limit (option_map (tsn_at old.outstanding) does.newest) (with_items (covered count blocks old.outstanding.items) (exiting cumulative old)) h))
+      (missed_is count does.limit (option_map (tsn_at old.outstanding) does.newest) (with_items (covered_items count blocks old.outstanding.items) (exiting cumulative old)) h))
 
-  pub timed_is : (round_trip : Option ℕ) (transfer : Transfer) → IsOf kinds transfer.retransmission → IsOf kinds (timed_by round_trip transfer).retransmission
+  pub timed_is : (round_trip : Option ℕ) (transfer : Transfer) → IsOf kinds transfer.retransmission → IsOf kinds (timed_transfer round_trip transfer).retransmission
   timed_is None transfer h = h
   timed_is (Some round_trip) transfer h = h
 

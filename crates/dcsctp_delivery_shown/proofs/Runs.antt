@@ -9,12 +9,12 @@ use Rattle.dcsctp_spec_lemmas.specs.types.declared.schedule.Side.TheVariants as 
 use Rattle.dcsctp_spec_lemmas.specs.spec.endpoint.CallTurns.{Transition, AlongTurns, events_of}
 use Rattle.dcsctp_spec_lemmas.specs.spec.endpoint.Endpoint.{Core, closed, cookie_wait, cookie_echoed, open_in, association_of, fresh_endpoint}
 use Rattle.dcsctp_spec_runs.specs.Fitting.{AllSent}
-use Rattle.dcsctp_spec_lemmas.specs.types.Offer.{Offer, offer_of, negotiated}
+use Rattle.dcsctp_spec_lemmas.specs.types.Offer.{Offer, offer_of, negotiated_capabilities}
 use Rattle.dcsctp_spec_lemmas.specs.types.Schedule.{StepContent, ActContent, step_act, outside_act, IsHonestAct, AreHonest}
 use Rattle.dcsctp_spec_runs.specs.Sockets.{PerformedAct, Both, of_side, of_other, side_turns_added, turns_after, endpoint_after, packets_shown, StepTurns, SocketRun, side_of, side_of_act, NextTurns, acts_of}
 use Rattle.dcsctp_spec_runs.specs.World as machine
 use Rattle.dcsctp_spec_runs.specs.World.{world_after}
-use Rattle.dcsctp_spec_lemmas.specs.spec.association.Effect.{Effect, AssociationIdentity, identity_in}
+use Rattle.dcsctp_spec_lemmas.specs.spec.association.Effect.{Effect, AssociationIdentity, identity_of_core}
 use Rattle.dcsctp_spec_runs.specs.Past.{current}
 use Rattle.dcsctp_spec_runs.proofs.RunsAlong.{run_along}
 use Rattle.dcsctp_spec_lemmas.proofs.TurnLists.{events_of-append}
@@ -28,7 +28,7 @@ use Rattle.dcsctp_delivery_directions.specs.Directions.{nothing_asked}
 use Rattle.dcsctp_delivery_sockets.proofs.Delivery.{DeliveryLaws}
 use Rattle.dcsctp_delivery_sockets.proofs.Echoes.{true_world}
 use Rattle.dcsctp_theorem_association.specs.OneSide.{LeavesCore}
-use Rattle.dcsctp_theorem_sockets.specs.Agreement.{noted_past}
+use Rattle.dcsctp_theorem_sockets.specs.Agreement.{recorded_past}
 use Rattle.dcsctp_delivery_sockets.proofs.KnownPeers.{IsMove, run_starts, run_through, ran_leaves}
 use Rattle.dcsctp_delivery_sockets.proofs.Known.{along_front, along_rest, sent_front, IsOwn, own_turn}
 use Rattle.dcsctp_delivery_shown.specs.Shown.{identity_shown, identities_shown, OneTakesThePlace, ShownTagsSuffice}
@@ -70,19 +70,19 @@ both_front kinds options turns sides.B more h = record { a = h.a; b = side_front
 
 -- the association of a side after these turns
 abbrev link_at : Options → List Transition → Option AssociationIdentity
-link_at options turns = identity_in (endpoint_after options turns).core
+link_at options turns = identity_of_core (endpoint_after options turns).core
 
 -- The association is what the past leaves.
-current_leaves : (past : List Effect) (core : Core) → LeavesCore past core → current past ≡ identity_in core
+current_leaves : (past : List Effect) (core : Core) → LeavesCore past core → current past ≡ identity_of_core core
 current_leaves past closed leaves = leaves
 current_leaves past (cookie_wait my) leaves = leaves
 current_leaves past (cookie_echoed my held cookie) leaves = leaves.link
 current_leaves past (open_in phase my held) leaves = leaves.link
 
-is_current : (kinds : Capabilities) (mine theirs : Options) (turns more : List Transition) → SideGood kinds mine theirs (turns ++ more) → current (noted_past turns) ≡ identity_in (endpoint_after mine turns).core
+is_current : (kinds : Capabilities) (mine theirs : Options) (turns more : List Transition) → SideGood kinds mine theirs (turns ++ more) → current (recorded_past turns) ≡ identity_of_core (endpoint_after mine turns).core
 is_current kinds mine theirs turns more good =
-    current_leaves (noted_past turns) (endpoint_after mine turns).core
-    (ran_leaves mine (endpoint_after mine turns) (noted_past turns) (run_through mine turns (fresh_endpoint mine) [] (run_starts mine) (along_front IsMove (fresh_endpoint mine) turns more good.moves)))
+    current_leaves (recorded_past turns) (endpoint_after mine turns).core
+    (ran_leaves mine (endpoint_after mine turns) (recorded_past turns) (run_through mine turns (fresh_endpoint mine) [] (run_starts mine) (along_front IsMove (fresh_endpoint mine) turns more good.moves)))
 
 module _ (law : DeliveryLaws) (kinds : Capabilities) (options : Both Options) (are : AreUsable options) where
   stepped : (turns : Both (List Transition)) (step : StepContent) (more : List Transition) (side : Side) (shown_a shown_b : List (Option AssociationIdentity)) → Joined options turns → BothGood kinds options (side_turns_added side more turns)
@@ -105,7 +105,7 @@ module _ (law : DeliveryLaws) (kinds : Capabilities) (options : Both Options) (a
 
   -- ---- a run
 
-  shown_is : (core : Core) → identity_in core ≡ identity_shown (association_of core)
+  shown_is : (core : Core) → identity_of_core core ≡ identity_shown (association_of core)
   shown_is closed = refl
   shown_is (cookie_wait my) = refl
   shown_is (cookie_echoed my held cookie) = refl
@@ -138,7 +138,7 @@ module _ (law : DeliveryLaws) (kinds : Capabilities) (options : Both Options) (a
 
 -- what both ends negotiate
 abbrev kinds_of : Both Options → Capabilities
-kinds_of options = negotiated (offer_of options.a) (offer_of options.b)
+kinds_of options = negotiated_capabilities (offer_of options.a) (offer_of options.b)
 
 and_swap : (a b : Bool) → (a && b) ≡ (b && a)
 and_swap true true = refl
@@ -146,7 +146,7 @@ and_swap true false = refl
 and_swap false true = refl
 and_swap false false = refl
 
-swapped_kinds : (one other : Offer) → SameKinds (negotiated other one) (negotiated one other)
+swapped_kinds : (one other : Offer) → SameKinds (negotiated_capabilities other one) (negotiated_capabilities one other)
 swapped_kinds one other = (and_swap other.message_interleaving one.message_interleaving, and_swap other.partial_reliability one.partial_reliability)
 
 true_past : (own their : Options) (side other : machine.SideState) → side.options ≡ own → other.options ≡ their → TruePast (offer_of side.options) (offer_of other.options) side.past other.past
@@ -185,8 +185,8 @@ shown_tags_suffice law options run are runs honest fresh = (
       },
   λ one. (
     record {
-      a = h.a.past.each_but (noted_past (turns_after run).b) (identities_shown sides.B options run) h.b.past.among one.a;
-      b = h.b.past.each_but (noted_past (turns_after run).a) (identities_shown sides.A options run) h.a.past.among one.b;
+      a = h.a.past.each_but (recorded_past (turns_after run).b) (identities_shown sides.B options run) h.b.past.among one.a;
+      b = h.b.past.each_but (recorded_past (turns_after run).a) (identities_shown sides.A options run) h.a.past.among one.b;
       matched = matched one;
     },
     together one,
@@ -196,7 +196,7 @@ shown_tags_suffice law options run are runs honest fresh = (
     h : BothSides (kinds_of options) options (turns_after run) (identities_shown sides.A options run) (identities_shown sides.B options run)
     h = both_sides law (kinds_of options) options are run runs honest (both_good law options run are runs honest fresh)
 
-    matched : OneTakesThePlace options run → MatchOrUnmatched options.a options.b (noted_past (turns_after run).a) (noted_past (turns_after run).b)
+    matched : OneTakesThePlace options run → MatchOrUnmatched options.a options.b (recorded_past (turns_after run).a) (recorded_past (turns_after run).b)
     matched one link other has has' share =
         let is = one.matched link other (h.a.past.among link has) (h.b.past.among other has') share in (
           is.0,

@@ -5,14 +5,14 @@ use Rattle.dcsctp_spec_lemmas.specs.types.declared.capabilities.Capabilities.{Ca
 use Rattle.dcsctp_spec_lemmas.specs.types.declared.options.Options.{Options}
 use Rattle.dcsctp_spec_lemmas.specs.spec.endpoint.CallTurns.{Transition, after_all, effects_of, events_of}
 use Rattle.dcsctp_spec_lemmas.specs.spec.endpoint.Endpoint.{Endpoint, fresh_endpoint}
-use Rattle.dcsctp_spec_lemmas.specs.spec.endpoint.Event.{Event, packets_in}
+use Rattle.dcsctp_spec_lemmas.specs.spec.endpoint.Event.{Event, packets_of_events}
 use Rattle.dcsctp_spec_lemmas.specs.spec.Packet.{Emission}
 use Rattle.dcsctp_spec_runs.specs.Past.{HasEffect, Each, current}
 use Rattle.dcsctp_spec_runs.specs.Sockets.{endpoint_after}
 use Rattle.dcsctp_spec_runs.specs.World.{after_effects}
-use Rattle.dcsctp_spec_lemmas.specs.spec.association.Effect.{AssociationIdentity, Effect, draws, sends, holds, connects, ends, begins, gives_up, completes, fails, accepts, performs, renews, resumes, identity_in}
+use Rattle.dcsctp_spec_lemmas.specs.spec.association.Effect.{AssociationIdentity, Effect, draws, sends, holds, connects, ends, begins, gives_up, completes, fails, accepts, performs, renews, resumes, identity_of_core}
 use Rattle.dcsctp_spec_lemmas.proofs.TurnLists.{after_all-append, events_of-append}
-use Rattle.dcsctp_theorem_sockets.specs.Agreement.{noted_past}
+use Rattle.dcsctp_theorem_sockets.specs.Agreement.{recorded_past}
 use Rattle.dcsctp_theorem_sockets.proofs.NoHolding.{HoldsNone}
 use Rattle.dcsctp_theorem_sockets.proofs.Signs.{in_after}
 use Rattle.dcsctp_delivery_sockets.specs.Delivery.{IsOfNewTags, IsOfNewTagsBut}
@@ -42,9 +42,9 @@ pub record PastIs (options : Options) (past : List Effect) (shown : List (Option
 
 pub record SideIs (kinds : Capabilities) (mine : Options) (turns : List Transition) (shown : List (Option AssociationIdentity)) : Type 0 where
   pub is : EndpointIs kinds (endpoint_after mine turns)
-  pub says : AreAllowed kinds (packets_in (events_of turns))
-  pub newest : IsNewest (identity_in (endpoint_after mine turns).core) shown
-  pub past : PastIs mine (noted_past turns) shown
+  pub says : AreAllowed kinds (packets_of_events (events_of turns))
+  pub newest : IsNewest (identity_of_core (endpoint_after mine turns).core) shown
+  pub past : PastIs mine (recorded_past turns) shown
 
 -- ---- where no association is recorded
 
@@ -172,27 +172,27 @@ module _ (options : Options) (link : AssociationIdentity) (later past : List Eff
 
 -- ---- an act
 
-notes_past : (options : Options) (e : Endpoint) (more : List Transition) (past : List Effect) (shown : List (Option AssociationIdentity)) → IsNewest (identity_in e.core) shown → current past ≡ identity_in e.core → Notes e more → PastIs options past shown
-    → PastIs options (after_effects (effects_of more) past) (identity_in (after_all e more).core ∷ shown)
-notes_past options e more past shown newest is_current (notes_none none) h = none_past options (effects_of more) past (identity_in (after_all e more).core) shown none h
+notes_past : (options : Options) (e : Endpoint) (more : List Transition) (past : List Effect) (shown : List (Option AssociationIdentity)) → IsNewest (identity_of_core e.core) shown → current past ≡ identity_of_core e.core → Notes e more → PastIs options past shown
+    → PastIs options (after_effects (effects_of more) past) (identity_of_core (after_all e more).core ∷ shown)
+notes_past options e more past shown newest is_current (notes_none none) h = none_past options (effects_of more) past (identity_of_core (after_all e more).core) shown none h
 notes_past options e more past shown newest is_current (notes_one link later is later_none other there) h =
     subst (λ (entry : Option AssociationIdentity). PastIs options (after_effects (effects_of more) past) (entry ∷ shown)) (sym there)
-    (subst (λ (es : List Effect). PastIs options (after_effects es past) (Some link ∷ shown)) (sym is) (one_past options link later past (identity_in e.core) shown later_none newest is_current other h))
+    (subst (λ (es : List Effect). PastIs options (after_effects es past) (Some link ∷ shown)) (sym is) (one_past options link later past (identity_of_core e.core) shown later_none newest is_current other h))
 
 module _ (kinds : Capabilities) (mine : Options) (turns : List Transition) (shown : List (Option AssociationIdentity)) where
   -- the side that acts
-  pub acted_side : (more : List Transition) → current (noted_past turns) ≡ identity_in (endpoint_after mine turns).core → SideIs kinds mine turns shown → ActIs kinds (endpoint_after mine turns) more → SideIs kinds mine (turns ++ more) (identity_in (endpoint_after mine (turns ++ more)).core ∷ shown)
+  pub acted_side : (more : List Transition) → current (recorded_past turns) ≡ identity_of_core (endpoint_after mine turns).core → SideIs kinds mine turns shown → ActIs kinds (endpoint_after mine turns) more → SideIs kinds mine (turns ++ more) (identity_of_core (endpoint_after mine (turns ++ more)).core ∷ shown)
   acted_side more is_current h act =
       let e : Endpoint = endpoint_after mine turns in
       let last : after_all e more ≡ endpoint_after mine (turns ++ more) = sym (after_all-append (fresh_endpoint mine) turns more) in
       record {
         is = subst (EndpointIs kinds) last act.is;
-        says = subst (λ (events : List (Event Emission)). AreAllowed kinds (packets_in events)) (sym (events_of-append turns more)) (events_both kinds (events_of turns) (events_of more) h.says act.says);
+        says = subst (λ (events : List (Event Emission)). AreAllowed kinds (packets_of_events events)) (sym (events_of-append turns more)) (events_both kinds (events_of turns) (events_of more) h.says act.says);
         newest = refl;
-        past = subst (λ (p : List Effect). PastIs mine p (identity_in (endpoint_after mine (turns ++ more)).core ∷ shown)) (sym (past_more turns more))
-            (subst (λ (d : Endpoint). PastIs mine (after_effects (effects_of more) (noted_past turns)) (identity_in d.core ∷ shown)) last (notes_past mine e more (noted_past turns) shown h.newest is_current act.notes h.past));
+        past = subst (λ (p : List Effect). PastIs mine p (identity_of_core (endpoint_after mine (turns ++ more)).core ∷ shown)) (sym (past_more turns more))
+            (subst (λ (d : Endpoint). PastIs mine (after_effects (effects_of more) (recorded_past turns)) (identity_of_core d.core ∷ shown)) last (notes_past mine e more (recorded_past turns) shown h.newest is_current act.notes h.past));
       }
 
   -- and the other one
-  pub rested_side : SideIs kinds mine turns shown → SideIs kinds mine turns (identity_in (endpoint_after mine turns).core ∷ shown)
+  pub rested_side : SideIs kinds mine turns shown → SideIs kinds mine turns (identity_of_core (endpoint_after mine turns).core ∷ shown)
   rested_side h = record { is = h.is; says = h.says; newest = refl; past = record { among = λ link has. inr (h.past.among link has); each = λ serve. h.past.each serve.1; each_but = λ theirs their_shown were serve. h.past.each_but theirs their_shown were serve.1 } }

@@ -9,10 +9,10 @@ use Rattle.dcsctp_spec_lemmas.specs.types.declared.capabilities.Capabilities.{Ca
 use Rattle.dcsctp_spec_lemmas.specs.types.declared.options.Options.{Options}
 use Rattle.dcsctp_spec_lemmas.specs.spec.endpoint.CallTurns.{Transition, HandleInput, AlongTurns, events_of}
 use Rattle.dcsctp_spec_lemmas.specs.spec.endpoint.Endpoint.{Endpoint}
-use Rattle.dcsctp_spec_lemmas.specs.spec.endpoint.Event.{Event, sent, packets_in}
+use Rattle.dcsctp_spec_lemmas.specs.spec.endpoint.Event.{Event, sent, packets_of_events}
 use Rattle.dcsctp_spec_runs.specs.Fitting.{AllSent, FitsEndpoint, IsSendable}
-use Rattle.dcsctp_spec_lemmas.specs.types.Offer.{Offer, offer_of, negotiated}
-use Rattle.dcsctp_spec_lemmas.specs.spec.Packet.{Content, re_config, plain, packet_in, Emission, emission_bytes}
+use Rattle.dcsctp_spec_lemmas.specs.types.Offer.{Offer, offer_of, negotiated_capabilities}
+use Rattle.dcsctp_spec_lemmas.specs.spec.Packet.{Content, re_config, plain, packet_of_content, Emission, emission_bytes}
 use Rattle.dcsctp_spec_lemmas.specs.types.Schedule.{StepContent, call_step, delivery_step}
 use Rattle.dcsctp_spec_lemmas.specs.types.Settings.{SameOptions, FitsOptions, wire_options, ports_of}
 use Rattle.dcsctp_spec_runs.specs.Sockets.{endpoint_after, packets_shown, DeliveryTurns, StepTurns}
@@ -49,7 +49,7 @@ record MayCome (kinds : Capabilities) (mine : Offer) (emission : Emission) : Typ
   was_true : WasTrue kinds mine emission
   allowed : IsAllowed kinds emission
 
-may_come : (kinds : Capabilities) (mine : Offer) (events : List (Event Emission)) → AllSent (WasTrue kinds mine) events → AreAllowed kinds (packets_in events) → AllSent (MayCome kinds mine) events
+may_come : (kinds : Capabilities) (mine : Offer) (events : List (Event Emission)) → AllSent (WasTrue kinds mine) events → AreAllowed kinds (packets_of_events events) → AllSent (MayCome kinds mine) events
 may_come kinds mine [] true_of_each allowed = tt
 may_come kinds mine (sent emission ∷ events) true_of_each allowed = (record { was_true = true_of_each.0; allowed = allowed.0 }, may_come kinds mine events true_of_each.1 allowed.1)
 may_come kinds mine (event ∷ events) true_of_each allowed = (tt, may_come kinds mine events true_of_each.1 allowed)
@@ -63,7 +63,7 @@ all_follow : (contents : List Content) → AllBehind contents → AllMayFollow c
 all_follow [] behind = tt
 all_follow (content ∷ contents) behind = (follows content behind.0, all_follow contents behind.1)
 
-module _ (kinds : Capabilities) (sender mine : Offer) (theirs own : List Effect) (same : SameKinds (negotiated mine sender) kinds) where
+module _ (kinds : Capabilities) (sender mine : Offer) (theirs own : List Effect) (same : SameKinds (negotiated_capabilities mine sender) kinds) where
   contents_are : (tag : ℕ) (contents : List Content) → TrueContents sender mine theirs own tag contents → ContentsAre kinds mine contents
   contents_are tag [] is = tt
   contents_are tag (content ∷ contents) is = (front_kinds kinds sender mine theirs own tag content same is.0, all_follow contents is.1)
@@ -82,7 +82,7 @@ module _ (law : DeliveryLaws) (kinds : Capabilities) (mine theirs : Options) (tu
   handled : (bytes : List ℕ) → IsSent (MayCome kinds (offer_of mine)) (emission_bytes (ports_of theirs)) bytes → HandleInput (endpoint_after mine turns) bytes more → ActIs kinds (endpoint_after mine turns) more
   handled bytes out taken =
       let e : Endpoint = endpoint_after mine turns in
-      let is : (packet : PacketContent) → IsPacket (wire_options e.options) packet bytes → packet_in packet ≡ out.emission.packet =
+      let is : (packet : PacketContent) → IsPacket (wire_options e.options) packet bytes → packet_of_content packet ≡ out.emission.packet =
       λ packet found. reads_as_sent law.below.built e.options theirs out.emission packet their_fits out.good.was_true.sendable (subst (λ (bs : List ℕ). IsPacket (wire_options e.options) packet bs) out.is found) in
       packet_acts law.moves.chunks kinds mine e bytes out.emission.packet more own out.good.was_true.are out.good.allowed is h.is
       (packet_opens law.below.offers e bytes out.emission more fits out.good.was_true.sendable is taken) known taken

@@ -10,7 +10,7 @@ use Rattle.dcsctp_spec_lemmas.specs.types.declared.schedule.Side.TheVariants as 
 use Rattle.dcsctp_spec_lemmas.specs.types.Schedule.{AreHonest}
 use Rattle.dcsctp_spec_lemmas.specs.spec.Packet.{Emission}
 use Rattle.dcsctp_spec_lemmas.specs.spec.endpoint.CallTurns.{events_of}
-use Rattle.dcsctp_spec_lemmas.specs.spec.endpoint.Event.{packets_in}
+use Rattle.dcsctp_spec_lemmas.specs.spec.endpoint.Event.{packets_of_events}
 use Rattle.dcsctp_spec_runs.specs.Sockets.{PerformedAct, Both, of_side, turns_after, SocketRun, acts_of, associations_of}
 use Rattle.dcsctp_spec_lemmas.specs.spec.association.Effect.{AssociationIdentity, identity_of}
 use Rattle.dcsctp_theorem_sockets.specs.Agreement.{AreUsable, AreFresh}
@@ -122,7 +122,7 @@ pub record OneTakesThePlace (options : Both Options) (run : List PerformedAct) :
   pub a : ServeOnceBut options.a (identities_shown sides.B options run) (identities_shown sides.A options run)
   pub b : ServeOnceBut options.b (identities_shown sides.A options run) (identities_shown sides.B options run)
   pub matched : MatchShownBut options.a options.b (identities_shown sides.A options run) (identities_shown sides.B options run)
-  pub little : (side : Side) → LittleWasShown (identities_shown side options run) (packets_in (events_of (of_side side (turns_after run))))
+  pub little : (side : Side) → LittleWasShown (identities_shown side options run) (packets_of_events (events_of (of_side side (turns_after run))))
 
 -- ---- the law
 

@@ -9,9 +9,9 @@ use Rattle.dcsctp_spec_lemmas.specs.types.Settings.{wire_options}
 use Rattle.dcsctp_spec_lemmas.specs.spec.Admission.{admits}
 use Rattle.dcsctp_spec_lemmas.specs.spec.endpoint.CallTurns.{Transition, AlongTurns, IsTurn, Turns, AdmittedTurns, HandleInput, unreadable, readable, after_all, effects_of, events_of}
 use Rattle.dcsctp_spec_lemmas.specs.spec.endpoint.Endpoint.{Endpoint, Core}
-use Rattle.dcsctp_spec_lemmas.specs.spec.endpoint.Event.{Event, packets_in}
+use Rattle.dcsctp_spec_lemmas.specs.spec.endpoint.Event.{Event, packets_of_events}
 use Rattle.dcsctp_spec_lemmas.specs.spec.endpoint.Outcome.{Outcome}
-use Rattle.dcsctp_spec_lemmas.specs.spec.Packet.{Packet, packet_in, Emission}
+use Rattle.dcsctp_spec_lemmas.specs.spec.Packet.{Packet, packet_of_content, Emission}
 use Rattle.dcsctp_spec_lemmas.specs.spec.endpoint.Turn.{Input, arrival, refusal, chunk_input, Turn, unreadable_text}
 use Rattle.dcsctp_spec_lemmas.specs.spec.endpoint.Turn as inputs
 use Rattle.dcsctp_spec_runs.specs.World.{after_effects}
@@ -20,11 +20,11 @@ use Rattle.dcsctp_theorem_association.proofs.Growth.{after_effects-append}
 use Rattle.dcsctp_delivery_sending.specs.Log.{Message}
 use Rattle.dcsctp_delivery_sending.specs.Places as places
 use Rattle.dcsctp_delivery_directions.proofs.RequestCounts.{requests_more_to}
-use Rattle.dcsctp_delivery_turns.specs.Actions.{came_by, queued_after, IsCall}
+use Rattle.dcsctp_delivery_turns.specs.Actions.{content_of_input, queued_after, IsCall}
 use Rattle.dcsctp_delivery_turns.specs.Sides.{WasSent}
 use Rattle.dcsctp_delivery_associations.specs.Laws.{AsksLittle, ResetsWereSeen, AreEnds}
 use Rattle.dcsctp_delivery_associations.specs.Reads.{Reading, reading_after}
-use Rattle.dcsctp_delivery_sockets.specs.Acts.{queued_through, AreTurns, AreNewPeers, HearsBack, ResetsIn}
+use Rattle.dcsctp_delivery_sockets.specs.Acts.{queued_through, AreTurns, AreNewPeers, HearsBack, ResetsAsAllowed}
 use Rattle.dcsctp_delivery_sockets.specs.Echoes.{GoesToMaker}
 use Rattle.dcsctp_delivery_sockets.specs.Packets.{reading_through, AreNewTags}
 use Rattle.dcsctp_delivery_associations.proofs.Growing.{input_adds}
@@ -50,44 +50,44 @@ asks_little packets more little tag = (let both = requests_more_to tag packets m
 module _ (never_resets : ℕ → Bool) (seen : List (Event Emission)) (options : Options) (d : Endpoint) (their_past : List Effect) (reading : Reading) where
   -- the first of these turns
   sender_first : (t : Transition) (turns : List Transition) (e : Endpoint) (queued : List Message) (past : List Effect) (packets : List Emission) → AreEnds never_resets seen options e queued past packets d their_past reading → AreTurns e (t ∷ turns)
-      → AlongTurns (ResetsIn never_resets) e (t ∷ turns) → AlongTurns (HearsBack (packets_in seen)) e (t ∷ turns) → AreNewPeers past their_past e (t ∷ turns) → length (queued_through e (t ∷ turns) queued) < 2 ^ 64
-      → AsksLittle ((packets ++ packets_in t.outcome.events) ++ packets_in (events_of turns))
-      → AreEnds never_resets seen options t.outcome.after (queued_after e t.input queued) (after_effects t.outcome.effects past) (packets ++ packets_in t.outcome.events) d their_past reading
+      → AlongTurns (ResetsAsAllowed never_resets) e (t ∷ turns) → AlongTurns (HearsBack (packets_of_events seen)) e (t ∷ turns) → AreNewPeers past their_past e (t ∷ turns) → length (queued_through e (t ∷ turns) queued) < 2 ^ 64
+      → AsksLittle ((packets ++ packets_of_events t.outcome.events) ++ packets_of_events (events_of turns))
+      → AreEnds never_resets seen options t.outcome.after (queued_after e t.input queued) (after_effects t.outcome.effects past) (packets ++ packets_of_events t.outcome.events) d their_past reading
   sender_first t turns e queued past packets h taken resets back new few all =
       let grows = queued_grows t.outcome.after turns (queued_after e t.input queued) in
-      (subst (λ (n : ℕ → Bool). AreEnds n seen options t.outcome.after (queued_after e t.input queued) (after_effects t.outcome.effects past) (packets ++ packets_in t.outcome.events) d their_past reading) h.is
+      (subst (λ (n : ℕ → Bool). AreEnds n seen options t.outcome.after (queued_after e t.input queued) (after_effects t.outcome.effects past) (packets ++ packets_of_events t.outcome.events) d their_past reading) h.is
       (sender_turns options h.ends e queued past packets d their_past reading h.between t.input t.outcome new.1 h.answered
-      (asks_little (packets ++ packets_in t.outcome.events) (packets_in (events_of turns)) all) seen h.reported back.0 (omega (arith, few, grows)) new.2 (λ id never. resets.0 id (sym (ap (λ (n : ℕ → Bool). n id) h.is) ∙ never)) new.3 new.4 new.0 taken.0))
+      (asks_little (packets ++ packets_of_events t.outcome.events) (packets_of_events (events_of turns)) all) seen h.reported back.0 (omega (arith, few, grows)) new.2 (λ id never. resets.0 id (sym (ap (λ (n : ℕ → Bool). n id) h.is) ∙ never)) new.3 new.4 new.0 taken.0))
 
   pub senders_act : (turns : List Transition) (e : Endpoint) (queued : List Message) (past : List Effect) (packets : List Emission) → AreEnds never_resets seen options e queued past packets d their_past reading → AreTurns e turns
-      → AlongTurns (ResetsIn never_resets) e turns → AlongTurns (HearsBack (packets_in seen)) e turns → AreNewPeers past their_past e turns → length (queued_through e turns queued) < 2 ^ 64 → AsksLittle (packets ++ packets_in (events_of turns))
-      → AreEnds never_resets seen options (after_all e turns) (queued_through e turns queued) (after_effects (effects_of turns) past) (packets ++ packets_in (events_of turns)) d their_past reading
+      → AlongTurns (ResetsAsAllowed never_resets) e turns → AlongTurns (HearsBack (packets_of_events seen)) e turns → AreNewPeers past their_past e turns → length (queued_through e turns queued) < 2 ^ 64 → AsksLittle (packets ++ packets_of_events (events_of turns))
+      → AreEnds never_resets seen options (after_all e turns) (queued_through e turns queued) (after_effects (effects_of turns) past) (packets ++ packets_of_events (events_of turns)) d their_past reading
   senders_act [] e queued past packets h taken resets back new few little = subst (λ (l : List Emission). AreEnds never_resets seen options e queued past l d their_past reading) (sym (append-nil packets)) h
   senders_act (t ∷ turns) e queued past packets h taken resets back new few little =
-      let all : AsksLittle ((packets ++ packets_in t.outcome.events) ++ packets_in (events_of turns)) = subst AsksLittle (sym (packets_apart packets t turns)) little in
+      let all : AsksLittle ((packets ++ packets_of_events t.outcome.events) ++ packets_of_events (events_of turns)) = subst AsksLittle (sym (packets_apart packets t turns)) little in
       let first = sender_first t turns e queued past packets h taken resets back new few all in
-      let rest = senders_act turns t.outcome.after (queued_after e t.input queued) (after_effects t.outcome.effects past) (packets ++ packets_in t.outcome.events) first taken.1 resets.1 back.1 new.5 few all in
-      subst (λ (l : List Effect). AreEnds never_resets seen options (after_all t.outcome.after turns) (queued_through t.outcome.after turns (queued_after e t.input queued)) l (packets ++ packets_in (t.outcome.events ++ events_of turns)) d their_past reading)
+      let rest = senders_act turns t.outcome.after (queued_after e t.input queued) (after_effects t.outcome.effects past) (packets ++ packets_of_events t.outcome.events) first taken.1 resets.1 back.1 new.5 few all in
+      subst (λ (l : List Effect). AreEnds never_resets seen options (after_all t.outcome.after turns) (queued_through t.outcome.after turns (queued_after e t.input queued)) l (packets ++ packets_of_events (t.outcome.events ++ events_of turns)) d their_past reading)
       (sym (after_effects-append t.outcome.effects (effects_of turns) past))
       (subst (λ (l : List Emission). AreEnds never_resets seen options (after_all t.outcome.after turns) (queued_through t.outcome.after turns (queued_after e t.input queued)) (after_effects (effects_of turns) (after_effects t.outcome.effects past)) l d their_past reading)
       (packets_apart packets t turns) rest)
 
   -- Of each reset that the sender's user is told is performed, the receiver's was told.
   pub senders_reset : (turns : List Transition) (e : Endpoint) (queued : List Message) (past : List Effect) (packets : List Emission) → AreEnds never_resets seen options e queued past packets d their_past reading → AreTurns e turns
-      → AlongTurns (ResetsIn never_resets) e turns → AlongTurns (HearsBack (packets_in seen)) e turns → AreNewPeers past their_past e turns → length (queued_through e turns queued) < 2 ^ 64 → AsksLittle (packets ++ packets_in (events_of turns))
+      → AlongTurns (ResetsAsAllowed never_resets) e turns → AlongTurns (HearsBack (packets_of_events seen)) e turns → AreNewPeers past their_past e turns → length (queued_through e turns queued) < 2 ^ 64 → AsksLittle (packets ++ packets_of_events (events_of turns))
       → AllByRecursion (λ turn. ResetsWereSeen seen turn.outcome) turns
   senders_reset [] e queued past packets h taken resets back new few little = tt
   senders_reset (t ∷ turns) e queued past packets h taken resets back new few little =
-      let all : AsksLittle ((packets ++ packets_in t.outcome.events) ++ packets_in (events_of turns)) = subst AsksLittle (sym (packets_apart packets t turns)) little in
+      let all : AsksLittle ((packets ++ packets_of_events t.outcome.events) ++ packets_of_events (events_of turns)) = subst AsksLittle (sym (packets_apart packets t turns)) little in
       let first = sender_first t turns e queued past packets h taken resets back new few all in (
-        resets_were_seen seen options h.ends e queued past packets d their_past reading t.input t.outcome h.between h.answered h.reported (asks_little packets (packets_in (events_of (t ∷ turns))) little) new.3 new.0 taken.0,
-        senders_reset turns t.outcome.after (queued_after e t.input queued) (after_effects t.outcome.effects past) (packets ++ packets_in t.outcome.events) first taken.1 resets.1 back.1 new.5 few all,
+        resets_were_seen seen options h.ends e queued past packets d their_past reading t.input t.outcome h.between h.answered h.reported (asks_little packets (packets_of_events (events_of (t ∷ turns))) little) new.3 new.0 taken.0,
+        senders_reset turns t.outcome.after (queued_after e t.input queued) (after_effects t.outcome.effects past) (packets ++ packets_of_events t.outcome.events) first taken.1 resets.1 back.1 new.5 few all,
       )
 
 -- ---- the receiver
 
 -- Where no chunk is handled, all that is was sent.
-none_sent : (sent : List Emission) (input : Input) → NoChunk input → WasSent sent (came_by input)
+none_sent : (sent : List Emission) (input : Input) → NoChunk input → WasSent sent (content_of_input input)
 none_sent sent (chunk_input tag content) none = absurd none
 none_sent sent inputs.arrival none = tt
 none_sent sent (inputs.refusal text) none = tt
@@ -123,7 +123,7 @@ module _ (never_resets : ℕ → Bool) (options : Options) (e : Endpoint) (queue
       (subst NoChunk (sym turn.is) none, subst IsCall (sym turn.is) may, subst (λ (i : Input). Turn d i t.outcome) (sym turn.is) turn.comes)
 
   pub receivers_handle : (seen : List (Event Emission)) (d : Endpoint) (their_past : List Effect) (reading : Reading) (emission : Emission) (bytes : List ℕ) (turns : List Transition) → AreEnds never_resets seen options e queued past packets d their_past reading → places.HasEntry emission packets
-      → GoesToMaker emission → ((packet : PacketContent) → IsPacket (wire_options d.options) packet bytes → packet_in packet ≡ emission.packet)
+      → GoesToMaker emission → ((packet : PacketContent) → IsPacket (wire_options d.options) packet bytes → packet_of_content packet ≡ emission.packet)
       → AreNewTags options their_past past d turns → HandleInput d bytes turns
       → AreEnds never_resets (seen ++ events_of turns) options e queued past packets (after_all d turns) (after_effects (effects_of turns) their_past) (reading_through d turns reading)
   receivers_handle seen d their_past reading emission bytes turns h has go is new (unreadable ts unread taken) = two ts new taken

@@ -6,10 +6,10 @@ use Rattle.dcsctp_spec_lemmas.specs.types.declared.ends.AbortReason.{AbortReason
 use Rattle.dcsctp_spec_lemmas.specs.types.declared.ends.AbortReason.TheVariants.{CloseCalled, TooManyErrors}
 use Rattle.dcsctp_spec_lemmas.specs.types.declared.message.SendOptions.{SendOptions}
 use Rattle.dcsctp_spec_lemmas.specs.types.Schedule.{CallContent, connect_call, close_call, shutdown_call, advance_call, set_call, send_call, send_many_call, reset_call, take_call, hand_over_call}
-use Rattle.dcsctp_spec_lemmas.specs.spec.Admission.{Admission, all_chunks, shutdown_acks_alone, refused, shutdown_acks_in}
+use Rattle.dcsctp_spec_lemmas.specs.spec.Admission.{Admission, all_chunks, shutdown_acks_alone, refused, shutdown_acks_of}
 use Rattle.dcsctp_spec_lemmas.specs.spec.endpoint.Endpoint.{Endpoint, Core, closed, cookie_wait, cookie_echoed, open_in}
 use Rattle.dcsctp_spec_lemmas.specs.spec.endpoint.Following.{Following, next_chunk, packet_end, dropped_rest}
-use Rattle.dcsctp_spec_lemmas.specs.spec.Packet.{Content, Packet, packet_in}
+use Rattle.dcsctp_spec_lemmas.specs.spec.Packet.{Content, Packet, packet_of_content}
 use Rattle.dcsctp_spec_lemmas.specs.spec.association.Acts.{connect, t1_expires, shut_down, shutdown_repeats, abort_with, flushes}
 use Rattle.dcsctp_spec_lemmas.specs.spec.association.Acts as acts
 use Rattle.dcsctp_spec_lemmas.specs.types.queues.Messages.{MessageContent}
@@ -17,7 +17,7 @@ use Rattle.dcsctp_spec_lemmas.specs.spec.endpoint.HeartbeatOutcomes.{is_exhauste
 use Rattle.dcsctp_spec_lemmas.specs.spec.endpoint.MessageOutcomes.{awaits_opening, sending_of}
 use Rattle.dcsctp_spec_lemmas.specs.spec.endpoint.OwnTimers.{OwnTimer}
 use Rattle.dcsctp_spec_lemmas.specs.spec.endpoint.Turn.{Input, arrival, refusal, packet_begins, chunk_input, packet_ends, act_input, user_sets, user_sends, user_resets, user_takes, timer_expires, time_passes, unreadable_text}
-use Rattle.dcsctp_spec_lemmas.specs.spec.endpoint.TimeTurns.{Timer, t1_timer, own_timer, t2_timer, timers_in, deadline, has_come, has_restart, t2_input, expiry_input, inputs_behind, after_expiries, ExpiryThen, ExpiryTurns, MomentTurns, TimeTurns}
+use Rattle.dcsctp_spec_lemmas.specs.spec.endpoint.TimeTurns.{Timer, t1_timer, own_timer, t2_timer, handled_timers, deadline, has_come, has_restart, t2_input, expiry_input, inputs_behind, after_expiries, ExpiryThen, ExpiryTurns, MomentTurns, TimeTurns}
 use Rattle.dcsctp_spec_lemmas.specs.spec.endpoint.CallTurns.{packet_tail, asked_again, Transition, IsTurn, Turns, AfterChunk, ChunkTurns, AdmittedTurns, HandleInput, unreadable, readable}
 use Rattle.dcsctp_spec_lemmas.specs.spec.Handover.{readiness_of}
 use Rattle.dcsctp_spec_lemmas.specs.spec.HandoverInputs.{inputs_of_handover}
@@ -110,7 +110,7 @@ module _ (May : Input → Type 0) (may : MayCall May) where
   of_moment e moment [] taken = absurd taken
   of_moment e moment (t ∷ turns) taken = (
     of_input May e (time_passes moment) t taken.0 (may.passes moment),
-    of_expiries (timers_in t.outcome.after.core) false t.outcome.after turns taken.1,
+    of_expiries (handled_timers t.outcome.after.core) false t.outcome.after turns taken.1,
   )
 
   of_time : (later : Bool) (e : Endpoint) (moment : ℕ) (turns : List Transition) → TimeTurns later e moment turns → AllByRecursion (λ turn. May turn.input) turns
@@ -239,10 +239,10 @@ admitted_are : (e : Endpoint) (packet : Packet) (admission : Admission) (turns :
 admitted_are e packet all_chunks [] taken = absurd taken
 admitted_are e packet all_chunks (t ∷ turns) taken =
     (of_input IsCall e (packet_begins packet.contents) t taken.0 tt, chunks_are t.outcome.after packet.tag packet.contents (packet_tail t.outcome.after) turns (tail_is (awaits_opening t.outcome.after t.outcome.after.core)) taken.1)
-admitted_are e packet shutdown_acks_alone turns taken = chunks_are e packet.tag (shutdown_acks_in packet.contents) [] turns tt taken
+admitted_are e packet shutdown_acks_alone turns taken = chunks_are e packet.tag (shutdown_acks_of packet.contents) [] turns tt taken
 admitted_are e packet (refused text) turns taken = of_turns IsCall e (refusal text ∷ []) turns (tt, tt) taken
 
 pub input_is : (e : Endpoint) (bytes : List ℕ) (turns : List Transition) → HandleInput e bytes turns → AreCalls turns
 input_is e bytes _ (unreadable turns none taken) = of_turns IsCall e (arrival ∷ refusal unreadable_text ∷ []) turns (tt, (tt, tt)) taken
 input_is e bytes _ (readable packet counted turns found counting taken) =
-    (of_input IsCall e arrival counted counting tt, admitted_are counted.outcome.after (packet_in packet) _ turns taken)
+    (of_input IsCall e arrival counted counting tt, admitted_are counted.outcome.after (packet_of_content packet) _ turns taken)

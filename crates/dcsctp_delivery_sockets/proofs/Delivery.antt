@@ -13,36 +13,36 @@ use Rattle.dcsctp_spec_lemmas.specs.types.Schedule.{StepContent, call_step, deli
 use Rattle.dcsctp_spec_lemmas.specs.types.Settings.{FitsOptions, wire_options, ports_of}
 use Rattle.dcsctp_spec_lemmas.specs.spec.endpoint.CallTurns.{Transition, HandleInput, events_of, effects_of, AlongTurns}
 use Rattle.dcsctp_spec_lemmas.specs.spec.endpoint.Endpoint.{Endpoint, fresh_endpoint}
-use Rattle.dcsctp_spec_lemmas.specs.spec.endpoint.Event.{Event, sent, packets_in}
-use Rattle.dcsctp_spec_runs.specs.Fitting.{OfSent, AllSent, FitsEndpoint, IsSendable}
+use Rattle.dcsctp_spec_lemmas.specs.spec.endpoint.Event.{Event, sent, packets_of_events}
+use Rattle.dcsctp_spec_runs.specs.Fitting.{HoldsIfSent, AllSent, FitsEndpoint, IsSendable}
 use Rattle.dcsctp_spec_runs.specs.Laws.{AnswerKeepsAgreement}
-use Rattle.dcsctp_spec_lemmas.specs.spec.Packet.{packet_in, Emission, emission_bytes}
+use Rattle.dcsctp_spec_lemmas.specs.spec.Packet.{packet_of_content, Emission, emission_bytes}
 use Rattle.dcsctp_spec_runs.specs.Sockets.{PerformedAct, Both, of_side, of_other, side_of, side_turns_added, turns_after, endpoint_after, packets_shown, DeliveryTurns, StepTurns, SocketRun, side_of_act, NextTurns, acts_of}
 use Rattle.dcsctp_spec_runs.proofs.RunsAlong.{run_along}
-use Rattle.dcsctp_theorem_sockets.specs.Agreement.{AreUsable, AreFresh, noted_past}
+use Rattle.dcsctp_theorem_sockets.specs.Agreement.{AreUsable, AreFresh, recorded_past}
 use Rattle.dcsctp_theorem_sockets.proofs.Deliver.{IsSent, sent_at, reads_as_sent}
 use Rattle.dcsctp_theorem_sockets.proofs.Moves.{Below}
 use Rattle.dcsctp_theorem_sockets.proofs.Sent.{all_sent_map}
 use Rattle.dcsctp_theorem_sockets.proofs.SocketsAgree.{Joined, joined}
 use Rattle.dcsctp_theorem_sockets.proofs.SocketsAlone.{MoveLaws, of_moves}
 use Rattle.dcsctp_delivery_sending.specs.Places as places
-use Rattle.dcsctp_delivery_directions.specs.Directions.{Delivered}
+use Rattle.dcsctp_delivery_directions.specs.Directions.{AreDelivered}
 use Rattle.dcsctp_delivery_associations.specs.Reads.{nothing_read, messages_of, with_key}
 use Rattle.dcsctp_delivery_sockets.specs.Echoes.{GoesToMaker}
 use Rattle.dcsctp_delivery_sockets.specs.Ordered.{HasOneTag, AllowsOrder, IsDeliveredInOrder, read_under, AllowsNoGaps, IsDeliveredWithoutGaps, IsReliable, IsDeliveredByStream, AllowsDataOrder}
-use Rattle.dcsctp_delivery_sockets.specs.UserMessages.{messages_sent_in, sendings_in, read_of, IsDelivered}
+use Rattle.dcsctp_delivery_sockets.specs.UserMessages.{messages_of_turns, sendings_of_turns, read_of, IsDelivered}
 use Rattle.dcsctp_delivery_sockets.specs.Delivery.{FitsStep, AreInMemory, MatchOrUnmatched, SendsLittle, SendsLittleTogether, TurnsAllowDelivery, Delivers, SocketsDeliver, IsOfNewTagsBut}
 use Rattle.dcsctp_delivery_associations.proofs.Delivers.{ends_begin, ends_deliver}
-use Rattle.dcsctp_delivery_sockets.specs.Acts.{ResetsIn}
+use Rattle.dcsctp_delivery_sockets.specs.Acts.{ResetsAsAllowed}
 use Rattle.dcsctp_delivery_turns.specs.Actions.{resets_streams, resets_stream}
 use Rattle.std.specs.List.{AllByRecursion}
 use Rattle.std.specs.Prelude.{not, ◌&&◌}
-use Rattle.dcsctp_delivery_order.specs.Delivered.{DeliveredInOrder, DeliveredWithoutGaps}
+use Rattle.dcsctp_delivery_order.specs.Delivered.{AreDeliveredInOrder, AreDeliveredWithoutGaps}
 use Rattle.dcsctp_delivery_associations.specs.InOrder.{Interleaves, InterleavesUnder, AreThrough}
 use Rattle.dcsctp_delivery_associations.specs.InOrder.{IsReliableKept}
 use Rattle.dcsctp_delivery_order.proofs.StreamDirections.{are_unlimited_on as unlimited_test, unlimited_so, so_unlimited}
 use Rattle.dcsctp_delivery_receiving.proofs.Joining.{both}
-use Rattle.dcsctp_delivery_associations.specs.Ends.{BeginsAnew, HadBoth, chunks_before, IsOnlyOwn}
+use Rattle.dcsctp_delivery_associations.specs.Ends.{NumbersFromZero, HadBoth, chunks_before, IsOnlyOwn}
 use Rattle.dcsctp_spec_lemmas.specs.spec.endpoint.MessageOutcomes.{Sending}
 use Rattle.dcsctp_spec_lemmas.specs.spec.endpoint.Turn.{Input, arrival, refusal, packet_begins, chunk_input, packet_ends, act_input, user_sets, user_sends, user_resets, user_takes, timer_expires, time_passes, restores}
 use Rattle.dcsctp_delivery_order.specs.PlainDirections.{FewOnEachStream}
@@ -51,7 +51,7 @@ use Rattle.dcsctp_delivery_sockets.specs.Ordered.{SetsNoLimits, SendsFew, IsDeli
 use Rattle.dcsctp_delivery_sockets.proofs.FewSent.{few_queued_on}
 use Rattle.dcsctp_delivery_associations.proofs.InOrder.{ends_deliver_in_order, ends_deliver_data_in_order, ends_deliver_by_stream, ends_deliver_on_streams, ends_arrive, ends_deliver_without_gaps, nothing_in_order, nothing_before, nothing_by_stream, nothing_on}
 use Rattle.dcsctp_delivery_associations.proofs.Heard.{one_heard, silent_or_free}
-use Rattle.dcsctp_theorem_sockets.specs.Telling.{SocketsTellEffects}
+use Rattle.dcsctp_theorem_sockets.specs.Telling.{SocketsReportEffects}
 use Rattle.dcsctp_delivery_sockets.proofs.Resets.{AllSeen, seen_both, seen_more, resets_shared}
 use Rattle.dcsctp_delivery_sockets.proofs.PacketBack.{turns_back, packet_back}
 use Rattle.dcsctp_delivery_sockets.proofs.Calls.{AreCalls, call_without, call_is, input_is}
@@ -69,8 +69,8 @@ use Rattle.dcsctp_spec_runs.specs.Past.{HasEffect, Each}
 use Rattle.dcsctp_delivery_associations.proofs.Tagged.{ReadUnder, nothing_under, under_key, read_under_key, read_of_both}
 use Rattle.dcsctp_delivery_sending.specs.ChunkCounts.{chunks_to}
 use Rattle.dcsctp_delivery_directions.specs.Requests.{requests_to}
-use Rattle.dcsctp_delivery_order.specs.Complete.{DeliveredAllOn}
-use Rattle.dcsctp_delivery_order.specs.Streams.{DeliveredByStream, DeliveredOn}
+use Rattle.dcsctp_delivery_order.specs.Complete.{AreAllDelivered}
+use Rattle.dcsctp_delivery_order.specs.Streams.{AreDeliveredByStream, AreDeliveredOnStreams}
 use Rattle.dcsctp_spec_lemmas.specs.types.queues.Messages.{MessageContent}
 use Rattle.dcsctp_spec_lemmas.proofs.TurnLists.{after_all-append, events_of-append}
 use Rattle.dcsctp_spec_runs.specs.World.{after_effects}
@@ -82,7 +82,7 @@ record WasGood (packets : List Emission) (emission : Emission) : Type 0 where
   good : GoodPacket emission
   has : places.HasEntry emission packets
 
-good_among : (all : List Emission) (events : List (Event Emission)) → ((emission : Emission) → places.HasEntry emission (packets_in events) → places.HasEntry emission all) → AllSent GoodPacket events
+good_among : (all : List Emission) (events : List (Event Emission)) → ((emission : Emission) → places.HasEntry emission (packets_of_events events) → places.HasEntry emission all) → AllSent GoodPacket events
     → AllSent (WasGood all) events
 good_among all [] within each = tt
 good_among all (sent emission ∷ events) within each =
@@ -95,13 +95,13 @@ good_among all (event ∷ events) within each = (tt, good_among all events withi
 record ActedSide (never_resets their_never : ℕ → Bool) (mine theirs : Options) (turns others more : List Transition) : Type 0 where
   sends : Stand never_resets mine theirs (turns ++ more) others
   receives : Stand their_never theirs mine others (turns ++ more)
-  side_stands : StandsSo (endpoint_after mine (turns ++ more)) (noted_past (turns ++ more))
+  side_stands : StandsSo (endpoint_after mine (turns ++ more)) (recorded_past (turns ++ more))
   resets : AllSeen (events_of others) more
 
 module _ (law : Below) (never_resets their_never : ℕ → Bool) (mine theirs : Options) (turns others more : List Transition) (fits : FitsEndpoint (endpoint_after mine turns)) (their_fits : FitsOptions theirs)
-    (known : SideKnown never_resets mine (noted_past others) (turns ++ more)) (their_known : SideKnown their_never theirs (noted_past (turns ++ more)) others)
-    (matched : MatchOrUnmatched mine theirs (noted_past (turns ++ more)) (noted_past others))
-    (side : SidePerformed (noted_past (turns ++ more)) (noted_past others)) (stands : StandsSo (endpoint_after mine turns) (noted_past turns)) (sends : Stand never_resets mine theirs turns others)
+    (known : SideKnown never_resets mine (recorded_past others) (turns ++ more)) (their_known : SideKnown their_never theirs (recorded_past (turns ++ more)) others)
+    (matched : MatchOrUnmatched mine theirs (recorded_past (turns ++ more)) (recorded_past others))
+    (side : SidePerformed (recorded_past (turns ++ more)) (recorded_past others)) (stands : StandsSo (endpoint_after mine turns) (recorded_past turns)) (sends : Stand never_resets mine theirs turns others)
     (receives : Stand their_never theirs mine others turns) where
   nothing_done : more ≡ [] → ActedSide never_resets their_never mine theirs turns others more
   nothing_done none =
@@ -109,26 +109,26 @@ module _ (law : Below) (never_resets their_never : ℕ → Bool) (mine theirs : 
       record {
         sends = subst (λ (ts : List Transition). Stand never_resets mine theirs ts others) same sends;
         receives = subst (λ (ts : List Transition). Stand their_never theirs mine others ts) same receives;
-        side_stands = subst (λ (ts : List Transition). StandsSo (endpoint_after mine ts) (noted_past ts)) same stands;
+        side_stands = subst (λ (ts : List Transition). StandsSo (endpoint_after mine ts) (recorded_past ts)) same stands;
         resets = subst (AllSeen (events_of others)) (sym none) tt;
       }
 
-  stand_so : AreCalls more → AllOpenFitting more → StandsSo (endpoint_after mine (turns ++ more)) (noted_past (turns ++ more))
+  stand_so : AreCalls more → AllOpenFitting more → StandsSo (endpoint_after mine (turns ++ more)) (recorded_past (turns ++ more))
   stand_so calls opens =
       subst (λ (past : List Effect). StandsSo (endpoint_after mine (turns ++ more)) past) (sym (past_more turns more))
-      (subst (λ (e : Endpoint). StandsSo e (after_effects (effects_of more) (noted_past turns))) (sym (after_all-append (fresh_endpoint mine) turns more))
-      (all_stand more (noted_past turns) (endpoint_after mine turns) stands (rest_turns never_resets mine turns more known) calls (rest_moves never_resets mine turns more known) opens
+      (subst (λ (e : Endpoint). StandsSo e (after_effects (effects_of more) (recorded_past turns))) (sym (after_all-append (fresh_endpoint mine) turns more))
+      (all_stand more (recorded_past turns) (endpoint_after mine turns) stands (rest_turns never_resets mine turns more known) calls (rest_moves never_resets mine turns more known) opens
       (subst NoneRestored (past_more turns more) side.restored)))
 
   handled : (bytes : List ℕ) → IsSent (WasGood (packets_of others)) (emission_bytes (ports_of theirs)) bytes → HandleInput (endpoint_after mine turns) bytes more → ActedSide never_resets their_never mine theirs turns others more
   handled bytes out taken =
       let e : Endpoint = endpoint_after mine turns in
-      let is : (packet : PacketContent) → IsPacket (wire_options e.options) packet bytes → packet_in packet ≡ out.emission.packet =
+      let is : (packet : PacketContent) → IsPacket (wire_options e.options) packet bytes → packet_of_content packet ≡ out.emission.packet =
       λ packet found. reads_as_sent law.built e.options theirs out.emission packet their_fits out.good.good.sendable (subst (λ (bs : List ℕ). IsPacket (wire_options e.options) packet bs) out.is found) in
       let opens : AllOpenFitting more = packet_opens law.offers e bytes out.emission more fits out.good.good.sendable is taken in
       let calls : AreCalls more = input_is e bytes more taken in
       let done = sender_more never_resets mine theirs turns others more sends known matched stands side.performed side.found side.restored calls opens (packet_echoes e bytes out.emission more out.good.good.goes is taken)
-      (packet_back (packets_of others) out.emission out.good.has e bytes more out.good.good.goes (silent_or_free sends.ends.gets (noted_past others) out.emission (one_heard sends.ends.gets (noted_past others) (packets_of others) out.emission sends.reported.heard out.good.has)) is taken) in
+      (packet_back (packets_of others) out.emission out.good.has e bytes more out.good.good.goes (silent_or_free sends.ends.gets (recorded_past others) out.emission (one_heard sends.ends.gets (recorded_past others) (packets_of others) out.emission sends.reported.heard out.good.has)) is taken) in
       record {
         sends = done.0;
         resets = done.1;
@@ -162,8 +162,8 @@ module _ (law : Below) (never_resets their_never : ℕ → Bool) (mine theirs : 
 record BothStand (never_resets : Both (ℕ → Bool)) (options : Both Options) (turns : Both (List Transition)) : Type 0 where
   to_b : Stand never_resets.a options.a options.b turns.a turns.b
   to_a : Stand never_resets.b options.b options.a turns.b turns.a
-  a_stands : StandsSo (endpoint_after options.a turns.a) (noted_past turns.a)
-  b_stands : StandsSo (endpoint_after options.b turns.b) (noted_past turns.b)
+  a_stands : StandsSo (endpoint_after options.a turns.a) (recorded_past turns.a)
+  b_stands : StandsSo (endpoint_after options.b turns.b) (recorded_past turns.b)
   a_resets : AllSeen (events_of turns.b) turns.a
   b_resets : AllSeen (events_of turns.a) turns.b
 
@@ -182,7 +182,7 @@ stepped law never_resets options turns step more sides.A are j known performed i
     }
 stepped law never_resets options turns step more sides.B are j known performed in_memory h taken =
     let done = side_acts law never_resets.b never_resets.a options.b options.a turns.b turns.a more j.b.fits (are sides.A).fits known.b known.a
-    (match_swapped options.a options.b (noted_past turns.a) (noted_past (turns.b ++ more)) known.matched) performed.b h.b_stands h.to_a h.to_b step in_memory taken in
+    (match_swapped options.a options.b (recorded_past turns.a) (recorded_past (turns.b ++ more)) known.matched) performed.b h.b_stands h.to_a h.to_b step in_memory taken in
     record {
       to_b = done.receives;
       to_a = done.sends;
@@ -215,7 +215,7 @@ pub record DeliveryLaws : Type 0 where
   pub answers : AnswerKeepsAgreement
   pub moves : MoveLaws
 
-good_one : (event : Event Emission) → OfSent IsSendable event → OfSent GoesToMaker event → OfSent GoodPacket event
+good_one : (event : Event Emission) → HoldsIfSent IsSendable event → HoldsIfSent GoesToMaker event → HoldsIfSent GoodPacket event
 good_one (sent emission) sendable goes = record { sendable = sendable; goes = goes }
 good_one event sendable goes = tt
 
@@ -232,7 +232,7 @@ not_false : (b c : Bool) → (not b && c) ≡ true → (b ≡ false) × (c ≡ t
 not_false true c is = absurd (cc)
 not_false false c is = (refl, is)
 
-resets_so : (e : Endpoint) (never : ℕ → Bool) (turns : List Transition) → ((stream : ℕ) → never stream ≡ true → resets_none turns stream ≡ true) → AlongTurns (ResetsIn never) e turns
+resets_so : (e : Endpoint) (never : ℕ → Bool) (turns : List Transition) → ((stream : ℕ) → never stream ≡ true → resets_none turns stream ≡ true) → AlongTurns (ResetsAsAllowed never) e turns
 resets_so e never [] is = tt
 resets_so e never (turn ∷ turns) is =
     let each : ((stream : ℕ) → never stream ≡ true → (resets_stream stream turn.input ≡ false) × (resets_none turns stream ≡ true)) =
@@ -299,7 +299,7 @@ both_known law options run are runs honest fresh allows =
 -- ---- what was read
 
 module _ (never_resets : ℕ → Bool) (mine theirs : Options) (turns others : List Transition) (little : SendsLittle mine turns) (together : SendsLittleTogether turns) (h : Stand never_resets mine theirs turns others)
-    (window : theirs.max_receiver_window_buffer_size < 2 ^ 32) (each : Each (IsOfNewTagsBut mine (noted_past others)) (noted_past turns)) (their_each : Each (IsOfNewTagsBut theirs (noted_past turns)) (noted_past others)) where
+    (window : theirs.max_receiver_window_buffer_size < 2 ^ 32) (each : Each (IsOfNewTagsBut mine (recorded_past others)) (recorded_past turns)) (their_each : Each (IsOfNewTagsBut theirs (recorded_past turns)) (recorded_past others)) where
   few_went : (tag : ℕ) → chunks_before (h.ends.former tag) (packets_of turns) + chunks_to (h.ends.latest tag) (packets_of turns) < 2 ^ 30
   few_went tag = go (h.ends.former tag) refl
     where
@@ -310,25 +310,25 @@ module _ (never_resets : ℕ → Bool) (mine theirs : Options) (turns others : L
           omega (arith, nothing, few)
       go (Some former) is =
           let was = h.between.sender.replaced tag former is in
-          let held = before_held was.old was.link (noted_past turns) was.before in
+          let held = before_held was.old was.link (recorded_past turns) was.before in
           let few = together was.old was.link held.0 held.1 (was.old_is ∙ sym was.link_is) (λ same. was.other (sym was.former_is ∙ same ∙ was.latest_is)) in
           let one : chunks_before (h.ends.former tag) (packets_of turns) ≡ chunks_to was.old.peer.tag (packets_of turns) =
           ap (λ (f : Option ℕ). chunks_before f (packets_of turns)) is ∙ ap (λ (n : ℕ). chunks_to n (packets_of turns)) (sym was.former_is) in
           let two : chunks_to (h.ends.latest tag) (packets_of turns) ≡ chunks_to was.link.peer.tag (packets_of turns) = ap (λ (n : ℕ). chunks_to n (packets_of turns)) (sym was.latest_is) in
           omega (arith, few, one, two)
 
-  one_way : IsDelivered (messages_sent_in (fresh_endpoint mine) turns) (read_of (fresh_endpoint theirs) others)
+  one_way : IsDelivered (messages_of_turns (fresh_endpoint mine) turns) (read_of (fresh_endpoint theirs) others)
   one_way =
       let same = queued_same mine turns in
-      let all : Delivered (queued_of mine turns) (messages_of (reading_of theirs others).reads) =
-      ends_deliver theirs h.ends (endpoint_after mine turns) (queued_of mine turns) (noted_past turns) (packets_of turns) (endpoint_after theirs others) (noted_past others) (reading_of theirs others) h.between
+      let all : AreDelivered (queued_of mine turns) (messages_of (reading_of theirs others).reads) =
+      ends_deliver theirs h.ends (endpoint_after mine turns) (queued_of mine turns) (recorded_past turns) (packets_of turns) (endpoint_after theirs others) (recorded_past others) (reading_of theirs others) h.between
       (few_queued mine turns little) few_went in
-      subst (IsDelivered (messages_sent_in (fresh_endpoint mine) turns)) (turns_read (fresh_endpoint theirs) others nothing_read)
-      (is_delivered (queued_of mine turns) (messages_sent_in (fresh_endpoint mine) turns) (messages_of (reading_of theirs others).reads) same all)
+      subst (IsDelivered (messages_of_turns (fresh_endpoint mine) turns)) (turns_read (fresh_endpoint theirs) others nothing_read)
+      (is_delivered (queued_of mine turns) (messages_of_turns (fresh_endpoint mine) turns) (messages_of (reading_of theirs others).reads) same all)
 
   -- what was sent, with its options
   abbrev sent_all : List Sending
-  sent_all = sendings_in (fresh_endpoint mine) turns
+  sent_all = sendings_of_turns (fresh_endpoint mine) turns
 
   sent_same : SaysSame (λ sending. sending) (queued_of mine turns) sent_all
   sent_same = turns_same (λ sending. sending) (fresh_endpoint mine) turns [] [] (nothing_same (λ sending. sending))
@@ -339,12 +339,12 @@ module _ (never_resets : ℕ → Bool) (mine theirs : Options) (turns others : L
 
   -- ---- in one association
 
-  module _ (tag key : ℕ) (both : HadBoth (noted_past turns) key tag) (their_link : AssociationIdentity) (their_held : HasEffect (holds their_link) (noted_past others)) (their_own : their_link.my.tag ≡ tag) where
+  module _ (tag key : ℕ) (both : HadBoth (recorded_past turns) key tag) (their_link : AssociationIdentity) (their_held : HasEffect (holds their_link) (recorded_past others)) (their_own : their_link.my.tag ≡ tag) where
     -- Where the sender had no other own tag, it is this key.
-    only_own : HasOneTag (noted_past turns) → IsOnlyOwn (noted_past turns) key
+    only_own : HasOneTag (recorded_past turns) → IsOnlyOwn (recorded_past turns) key
     only_own one link has = one link both.link has both.held ∙ both.tag_is
 
-    interleaves_so : Interleaves (noted_past turns) tag → InterleavesUnder (noted_past turns) key
+    interleaves_so : Interleaves (recorded_past turns) tag → InterleavesUnder (recorded_past turns) key
     interleaves_so interleaves = (both.link, both.held, both.tag_is, interleaves both.link both.held both.peer_is)
 
     -- Data goes to it.
@@ -352,59 +352,59 @@ module _ (never_resets : ℕ → Bool) (mine theirs : Options) (turns others : L
     latest_is =
         elim (h.between.sender.known both.link both.held).1 [
           | inl is ↦ ap h.ends.latest (sym both.tag_is) ∙ sym is ∙ both.peer_is
-          | inr is ↦ absurd (replaced_unmatched mine (noted_past others) (noted_past turns) each both.link.my.tag both.link.peer.tag (h.ends.latest both.link.my.tag)
+          | inr is ↦ absurd (replaced_unmatched mine (recorded_past others) (recorded_past turns) each both.link.my.tag both.link.peer.tag (h.ends.latest both.link.my.tag)
               (h.between.sender.replaced both.link.my.tag both.link.peer.tag is) their_link their_held (their_own ∙ sym both.peer_is))
         ]
 
-    by_order : BeginsAnew (endpoint_after mine turns) (noted_past turns) key → Interleaves (noted_past turns) tag ⊎ AllowsDataOrder mine turns tag
-        → DeliveredInOrder (queued_of mine turns) (with_key key (reading_of theirs others).reads)
+    by_order : NumbersFromZero (endpoint_after mine turns) (recorded_past turns) key → Interleaves (recorded_past turns) tag ⊎ AllowsDataOrder mine turns tag
+        → AreDeliveredInOrder (queued_of mine turns) (with_key key (reading_of theirs others).reads)
     by_order anew (inl interleaves) =
-        ends_deliver_in_order theirs h.ends (endpoint_after mine turns) (queued_of mine turns) (noted_past turns) (packets_of turns) (endpoint_after theirs others) (noted_past others) (reading_of theirs others) h.between
+        ends_deliver_in_order theirs h.ends (endpoint_after mine turns) (queued_of mine turns) (recorded_past turns) (packets_of turns) (endpoint_after theirs others) (recorded_past others) (reading_of theirs others) h.between
         (few_queued mine turns little) few_went key anew (interleaves_so interleaves)
     by_order anew (inr sends) =
-        ends_deliver_data_in_order theirs h.ends (endpoint_after mine turns) (queued_of mine turns) (noted_past turns) (packets_of turns) (endpoint_after theirs others) (noted_past others) (reading_of theirs others) h.between
+        ends_deliver_data_in_order theirs h.ends (endpoint_after mine turns) (queued_of mine turns) (recorded_past turns) (packets_of turns) (endpoint_after theirs others) (recorded_past others) (reading_of theirs others) h.between
         (few_queued mine turns little) few_went window (unambiguous_so sends.unambiguous) key anew (ap (λ (n : ℕ). requests_to n (packets_of turns)) latest_is ∙ sends.no_requests)
 
-    order_of : (endpoint_after mine turns).options.follow_rfc ≡ mine.follow_rfc → AllowsOrder mine turns tag → DeliveredInOrder (queued_of mine turns) (with_key key (reading_of theirs others).reads)
+    order_of : (endpoint_after mine turns).options.follow_rfc ≡ mine.follow_rfc → AllowsOrder mine turns tag → AreDeliveredInOrder (queued_of mine turns) (with_key key (reading_of theirs others).reads)
     order_of rules allows = by_order (elim allows.starts_at_zero [ inl follows ↦ inl (rules ∙ follows) | inr only ↦ inr (only_own only) ]) allows.numbering
 
-    gaps_of : ((stream : ℕ) → resets_none turns stream ≡ true → never_resets stream ≡ true) → AllowsNoGaps mine turns → DeliveredWithoutGaps (queued_of mine turns) (with_key key (reading_of theirs others).reads)
+    gaps_of : ((stream : ℕ) → resets_none turns stream ≡ true → never_resets stream ≡ true) → AllowsNoGaps mine turns → AreDeliveredWithoutGaps (queued_of mine turns) (with_key key (reading_of theirs others).reads)
     gaps_of never leaves =
-        ends_deliver_without_gaps theirs h.ends (endpoint_after mine turns) (queued_of mine turns) (noted_past turns) (packets_of turns) (endpoint_after theirs others) (noted_past others) (reading_of theirs others) h.between
+        ends_deliver_without_gaps theirs h.ends (endpoint_after mine turns) (queued_of mine turns) (recorded_past turns) (packets_of turns) (endpoint_after theirs others) (recorded_past others) (reading_of theirs others) h.between
         (few_queued mine turns little) few_went window (are_unlimited (queued_of mine turns) sent_all sent_same leaves.unlimited)
         (λ stream. ap (λ (n : ℕ → Bool). n stream) h.is ∙ never stream (none_reset stream turns (none_of_all stream turns leaves.never_resets))) key (only_own leaves.one_tag)
 
-    streams_of : HasOneTag (noted_past turns) → Interleaves (noted_past turns) tag → DeliveredByStream h.ends.never_resets (queued_of mine turns) (with_key key (reading_of theirs others).reads)
+    streams_of : HasOneTag (recorded_past turns) → Interleaves (recorded_past turns) tag → AreDeliveredByStream h.ends.never_resets (queued_of mine turns) (with_key key (reading_of theirs others).reads)
     streams_of only interleaves =
-        ends_deliver_by_stream theirs h.ends (endpoint_after mine turns) (queued_of mine turns) (noted_past turns) (packets_of turns) (endpoint_after theirs others) (noted_past others) (reading_of theirs others) h.between
+        ends_deliver_by_stream theirs h.ends (endpoint_after mine turns) (queued_of mine turns) (recorded_past turns) (packets_of turns) (endpoint_after theirs others) (recorded_past others) (reading_of theirs others) h.between
         (few_queued mine turns little) few_went key (only_own only) (interleaves_so interleaves)
 
-    these_of : (these : ℕ → Bool) → ((id : ℕ) → these id ≡ true → IsReliableKept h.ends.never_resets (queued_of mine turns) id) → HasOneTag (noted_past turns) → DeliveredOn these (queued_of mine turns) (with_key key (reading_of theirs others).reads)
+    these_of : (these : ℕ → Bool) → ((id : ℕ) → these id ≡ true → IsReliableKept h.ends.never_resets (queued_of mine turns) id) → HasOneTag (recorded_past turns) → AreDeliveredOnStreams these (queued_of mine turns) (with_key key (reading_of theirs others).reads)
     these_of these are only =
-        ends_deliver_on_streams theirs h.ends (endpoint_after mine turns) (queued_of mine turns) (noted_past turns) (packets_of turns) (endpoint_after theirs others) (noted_past others) (reading_of theirs others) h.between
+        ends_deliver_on_streams theirs h.ends (endpoint_after mine turns) (queued_of mine turns) (recorded_past turns) (packets_of turns) (endpoint_after theirs others) (recorded_past others) (reading_of theirs others) h.between
         (few_queued mine turns little) few_went window these are key (only_own only)
 
   -- What was read under a tag was read of one key of the sender, or nothing was.
-  by_key : (P : List MessageContent → Type 0) (tag : ℕ) → P [] → ((key : ℕ) → HadBoth (noted_past turns) key tag → (their_link : AssociationIdentity) → HasEffect (holds their_link) (noted_past others) → their_link.my.tag ≡ tag → P (with_key key (reading_of theirs others).reads)) → P (read_under tag theirs others)
+  by_key : (P : List MessageContent → Type 0) (tag : ℕ) → P [] → ((key : ℕ) → HadBoth (recorded_past turns) key tag → (their_link : AssociationIdentity) → HasEffect (holds their_link) (recorded_past others) → their_link.my.tag ≡ tag → P (with_key key (reading_of theirs others).reads)) → P (read_under tag theirs others)
   by_key P tag nothing under =
-      go (read_under_key theirs h.ends (endpoint_after mine turns) (queued_of mine turns) (noted_past turns) (packets_of turns) (endpoint_after theirs others) (noted_past others) (reading_of theirs others) h.between
-      (peers_differ mine (noted_past others) (noted_past turns) each) (peers_differ theirs (noted_past turns) (noted_past others) their_each) tag)
+      go (read_under_key theirs h.ends (endpoint_after mine turns) (queued_of mine turns) (recorded_past turns) (packets_of turns) (endpoint_after theirs others) (recorded_past others) (reading_of theirs others) h.between
+      (peers_differ mine (recorded_past others) (recorded_past turns) each) (peers_differ theirs (recorded_past turns) (recorded_past others) their_each) tag)
     where
-      go : ReadUnder (noted_past turns) (noted_past others) (reading_of theirs others) tag → P (read_under tag theirs others)
+      go : ReadUnder (recorded_past turns) (recorded_past others) (reading_of theirs others) tag → P (read_under tag theirs others)
       go (nothing_under none) = subst P (sym none) nothing
       go (under_key key same both their_link held own) = subst P (sym same) (under key both their_link held own)
 
   one_in_order : (endpoint_after mine turns).options.follow_rfc ≡ mine.follow_rfc → (tag : ℕ) → AllowsOrder mine turns tag → IsDeliveredInOrder sent_all (read_under tag theirs others)
   one_in_order rules tag allows =
       is_in_order (queued_of mine turns) sent_all (read_under tag theirs others) sent_same
-      (by_key (DeliveredInOrder (queued_of mine turns)) tag (nothing_in_order (queued_of mine turns) [] refl) (λ key both their_link held own. order_of tag key both their_link held own rules allows))
+      (by_key (AreDeliveredInOrder (queued_of mine turns)) tag (nothing_in_order (queued_of mine turns) [] refl) (λ key both their_link held own. order_of tag key both their_link held own rules allows))
 
   one_without_gaps : ((stream : ℕ) → resets_none turns stream ≡ true → never_resets stream ≡ true) → (tag : ℕ) → AllowsNoGaps mine turns → IsDeliveredWithoutGaps sent_all (read_under tag theirs others)
   one_without_gaps never tag leaves =
       is_without_gaps (queued_of mine turns) sent_all (read_under tag theirs others) sent_same
-      (by_key (DeliveredWithoutGaps (queued_of mine turns)) tag (nothing_before (queued_of mine turns) [] refl) (λ key both their_link held own. gaps_of tag key both their_link held own never leaves))
+      (by_key (AreDeliveredWithoutGaps (queued_of mine turns)) tag (nothing_before (queued_of mine turns) [] refl) (λ key both their_link held own. gaps_of tag key both their_link held own never leaves))
 
-  one_by_stream : ((stream : ℕ) → resets_none turns stream ≡ true → never_resets stream ≡ true) → (tag : ℕ) → HasOneTag (noted_past turns) → Interleaves (noted_past turns) tag
+  one_by_stream : ((stream : ℕ) → resets_none turns stream ≡ true → never_resets stream ≡ true) → (tag : ℕ) → HasOneTag (recorded_past turns) → Interleaves (recorded_past turns) tag
       → IsDeliveredByStream (IsReliable mine turns) sent_all (read_under tag theirs others)
   one_by_stream never tag only interleaves =
       is_by_stream h.ends.never_resets (IsReliable mine turns) (queued_of mine turns) sent_all (read_under tag theirs others) sent_same
@@ -412,7 +412,7 @@ module _ (never_resets : ℕ → Bool) (mine theirs : Options) (turns others : L
         ap (λ (n : ℕ → Bool). n stream) h.is ∙ never stream (none_reset stream turns reliable.never_resets),
         are_unlimited_on stream (queued_of mine turns) sent_all sent_same reliable.unlimited,
       ))
-      (by_key (DeliveredByStream h.ends.never_resets (queued_of mine turns)) tag (nothing_by_stream h.ends.never_resets (queued_of mine turns) [] refl) (λ key both their_link held own. streams_of tag key both their_link held own only interleaves))
+      (by_key (AreDeliveredByStream h.ends.never_resets (queued_of mine turns)) tag (nothing_by_stream h.ends.never_resets (queued_of mine turns) [] refl) (λ key both their_link held own. streams_of tag key both their_link held own only interleaves))
 
   -- the streams that are never reset, with no limits
   abbrev reliable_kept : ℕ → Bool
@@ -428,39 +428,39 @@ module _ (never_resets : ℕ → Bool) (mine theirs : Options) (turns others : L
       let never_is : h.ends.never_resets stream ≡ true = ap (λ (n : ℕ → Bool). n stream) h.is ∙ never stream (none_reset stream turns is.never_resets) in
       rw never_is (so_unlimited stream (queued_of mine turns) (are_unlimited_on stream (queued_of mine turns) sent_all sent_same is.unlimited))
 
-  one_on_streams : ((stream : ℕ) → resets_none turns stream ≡ true → never_resets stream ≡ true) → (tag : ℕ) → HasOneTag (noted_past turns) → IsDeliveredOn (IsReliable mine turns) sent_all (read_under tag theirs others)
+  one_on_streams : ((stream : ℕ) → resets_none turns stream ≡ true → never_resets stream ≡ true) → (tag : ℕ) → HasOneTag (recorded_past turns) → IsDeliveredOn (IsReliable mine turns) sent_all (read_under tag theirs others)
   one_on_streams never tag only =
       is_on reliable_kept (IsReliable mine turns) (queued_of mine turns) sent_all (read_under tag theirs others) sent_same (reliable_so never)
-      (by_key (DeliveredOn reliable_kept (queued_of mine turns)) tag (nothing_on reliable_kept (queued_of mine turns) [] refl) (λ key both' their_link held own. these_of tag key both' their_link held own reliable_kept kept_so only))
+      (by_key (AreDeliveredOnStreams reliable_kept (queued_of mine turns)) tag (nothing_on reliable_kept (queued_of mine turns) [] refl) (λ key both' their_link held own. these_of tag key both' their_link held own reliable_kept kept_so only))
 
-  one_complete : ((stream : ℕ) → resets_none turns stream ≡ true → never_resets stream ≡ true) → HasOneTag (noted_past turns) → (through : AreThrough (endpoint_after mine turns) (endpoint_after theirs others))
+  one_complete : ((stream : ℕ) → resets_none turns stream ≡ true → never_resets stream ≡ true) → HasOneTag (recorded_past turns) → (through : AreThrough (endpoint_after mine turns) (endpoint_after theirs others))
       → IsDeliveredAllOn (IsReliable mine turns) sent_all (read_under through.theirs.my.tag theirs others)
   one_complete never only through =
       is_all_on reliable_kept (IsReliable mine turns) (queued_of mine turns) sent_all (read_under through.theirs.my.tag theirs others) sent_same (reliable_so never)
-      (subst (DeliveredAllOn reliable_kept (queued_of mine turns)) (sym same) all)
+      (subst (AreAllDelivered reliable_kept (queued_of mine turns)) (sym same) all)
     where
-      link_held : HasEffect (holds through.link) (noted_past turns)
+      link_held : HasEffect (holds through.link) (recorded_past turns)
       link_held = h.between.mine through.link through.linked
 
-      their_held : HasEffect (holds through.theirs) (noted_past others)
+      their_held : HasEffect (holds through.theirs) (recorded_past others)
       their_held =
           let c = h.between.receiver.current through.transfer through.there in
           let both : Some c.link ≡ Some through.theirs = sym c.linked ∙ through.theirs_linked in
           let one : c.link ≡ through.theirs = cc in
-          subst (λ (l : AssociationIdentity). HasEffect (holds l) (noted_past others)) one c.held
+          subst (λ (l : AssociationIdentity). HasEffect (holds l) (recorded_past others)) one c.held
 
       same : read_under through.theirs.my.tag theirs others ≡ with_key through.link.my.tag (reading_of theirs others).reads
       same =
-          read_of_both theirs h.ends (endpoint_after mine turns) (queued_of mine turns) (noted_past turns) (packets_of turns) (endpoint_after theirs others) (noted_past others) (reading_of theirs others) h.between
-          (peers_differ mine (noted_past others) (noted_past turns) each) (peers_differ theirs (noted_past turns) (noted_past others) their_each) through.link.my.tag through.theirs.my.tag
+          read_of_both theirs h.ends (endpoint_after mine turns) (queued_of mine turns) (recorded_past turns) (packets_of turns) (endpoint_after theirs others) (recorded_past others) (reading_of theirs others) h.between
+          (peers_differ mine (recorded_past others) (recorded_past turns) each) (peers_differ theirs (recorded_past turns) (recorded_past others) their_each) through.link.my.tag through.theirs.my.tag
           (record { link = through.link; held = link_held; tag_is = refl; peer_is = sym through.crossing }) through.theirs their_held through.one refl
 
-      all : DeliveredAllOn reliable_kept (queued_of mine turns) (with_key through.link.my.tag (reading_of theirs others).reads)
+      all : AreAllDelivered reliable_kept (queued_of mine turns) (with_key through.link.my.tag (reading_of theirs others).reads)
       all =
-          ends_arrive theirs h.ends (endpoint_after mine turns) (queued_of mine turns) (noted_past turns) (packets_of turns) (endpoint_after theirs others) (noted_past others) (reading_of theirs others) h.between
+          ends_arrive theirs h.ends (endpoint_after mine turns) (queued_of mine turns) (recorded_past turns) (packets_of turns) (endpoint_after theirs others) (recorded_past others) (reading_of theirs others) h.between
           (few_queued mine turns little) few_went window reliable_kept kept_so through (λ link has. only link through.link has link_held)
 
-pub sockets_deliver : DeliveryLaws → SocketsTellEffects → SocketsDeliver
+pub sockets_deliver : DeliveryLaws → SocketsReportEffects → SocketsDeliver
 sockets_deliver law told options run are in_memory runs honest fresh allows side =
     both_deliver (both_stand law.below law.answers (both_resets_none turns) options run are runs honest fresh in_memory known) side
   where

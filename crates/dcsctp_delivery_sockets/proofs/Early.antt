@@ -7,9 +7,9 @@ use Rattle.dcsctp_spec_lemmas.specs.wire.Content.{PacketContent}
 use Rattle.dcsctp_spec_lemmas.specs.wire.Format.{IsPacket}
 use Rattle.dcsctp_spec_lemmas.specs.types.declared.options.Options.{Options}
 use Rattle.dcsctp_spec_lemmas.specs.types.Settings.{wire_options}
-use Rattle.dcsctp_spec_lemmas.specs.spec.Admission.{Admission, all_chunks, shutdown_acks_alone, refused, admits, shutdown_acks_in}
-use Rattle.dcsctp_spec_lemmas.specs.spec.Packet.{Packet, packet_in, Content, init, init_ack, cookie_echo, cookie_ack, re_config, abort, shutdown, shutdown_ack, shutdown_complete, plain, Emission}
-use Rattle.dcsctp_spec_lemmas.specs.spec.association.Effect.{AssociationIdentity, Effect, holds, connects, resumes, identity_of, identity_in}
+use Rattle.dcsctp_spec_lemmas.specs.spec.Admission.{Admission, all_chunks, shutdown_acks_alone, refused, admits, shutdown_acks_of}
+use Rattle.dcsctp_spec_lemmas.specs.spec.Packet.{Packet, packet_of_content, Content, init, init_ack, cookie_echo, cookie_ack, re_config, abort, shutdown, shutdown_ack, shutdown_complete, plain, Emission}
+use Rattle.dcsctp_spec_lemmas.specs.spec.association.Effect.{AssociationIdentity, Effect, holds, connects, resumes, identity_of, identity_of_core}
 use Rattle.dcsctp_spec_lemmas.specs.spec.endpoint.CallTurns.{packet_tail, asked_again, Transition, IsTurn, Turns, AfterChunk, ChunkTurns, AlongTurns, AdmittedTurns, HandleInput, unreadable, readable, after_all, effects_of}
 use Rattle.dcsctp_spec_lemmas.specs.spec.endpoint.Endpoint.{Endpoint, Core, closed, cookie_wait, cookie_echoed, open_in, fresh_endpoint, is_cookie_echoed}
 use Rattle.dcsctp_spec_lemmas.specs.spec.endpoint.Following.{Following, next_chunk, packet_end, dropped_rest}
@@ -23,7 +23,7 @@ use Rattle.dcsctp_theorem_sockets.proofs.Signs.{among_after}
 use Rattle.dcsctp_theorem_sockets.proofs.SocketsAlone.{Moves, it_rests, it_moves}
 use Rattle.dcsctp_delivery_turns.specs.Actions.{IsCall}
 use Rattle.dcsctp_delivery_turns.specs.Asking.{own_of, SomeFit}
-use Rattle.dcsctp_delivery_turns.specs.Untouched.{Untouched, EchoesMaker}
+use Rattle.dcsctp_delivery_turns.specs.Untouched.{IsTransferUntouched, EchoesMaker}
 use Rattle.dcsctp_delivery_turns.proofs.Beginnings.{unlinked_fits}
 use Rattle.dcsctp_delivery_turns.proofs.Connecting.{NoneBegun}
 use Rattle.dcsctp_delivery_turns.proofs.Keeping.{Leaves, link_stays, link_ends, link_begins, link_connects, turn_leaves}
@@ -58,8 +58,8 @@ ConnectedSo e past = e.options.follow_rfc ≡ true → HasConnected e past
 -- some that were begun.
 pub record EarlySo (e : Endpoint) (past : List Effect) : Type 0 where
   pub asks : SomeFit (own_of e)
-  pub untouched : e.options.follow_rfc ≡ true → (link : AssociationIdentity) → identity_in e.core ≡ Some link → (HasEffect (connects link) past → ⊥) → Untouched link.my.first_tsn link.capabilities e.queues.transfer
-  pub unasked : e.options.follow_rfc ≡ true → (link : AssociationIdentity) → identity_in e.core ≡ Some link → (HasEffect (connects link) past → ⊥) → NoneBegun link.my.first_tsn (own_of e)
+  pub untouched : e.options.follow_rfc ≡ true → (link : AssociationIdentity) → identity_of_core e.core ≡ Some link → (HasEffect (connects link) past → ⊥) → IsTransferUntouched link.my.first_tsn link.capabilities e.queues.transfer
+  pub unasked : e.options.follow_rfc ≡ true → (link : AssociationIdentity) → identity_of_core e.core ≡ Some link → (HasEffect (connects link) past → ⊥) → NoneBegun link.my.first_tsn (own_of e)
 
 -- Both.
 pub record StandsSo (e : Endpoint) (past : List Effect) : Type 0 where
@@ -75,12 +75,12 @@ fresh_stands options =
     }
 
 -- One that hasn't connected awaits its COOKIE ACK.
-pub awaits_ack : (e : Endpoint) (past : List Effect) (link : AssociationIdentity) → ConnectedSo e past → e.options.follow_rfc ≡ true → identity_in e.core ≡ Some link → (HasEffect (connects link) past → ⊥) → is_cookie_echoed e.core ≡ true
+pub awaits_ack : (e : Endpoint) (past : List Effect) (link : AssociationIdentity) → ConnectedSo e past → e.options.follow_rfc ≡ true → identity_of_core e.core ≡ Some link → (HasEffect (connects link) past → ⊥) → is_cookie_echoed e.core ≡ true
 awaits_ack e past link connected follows there never = go e.core refl
   where
     go : (core : Core) → e.core ≡ core → is_cookie_echoed core ≡ true
-    go closed at = (let clash : ◌≡◌ {A = Option AssociationIdentity} None (Some link) = ap identity_in (sym at) ∙ there in absurd (cc))
-    go (cookie_wait my) at = (let clash : ◌≡◌ {A = Option AssociationIdentity} None (Some link) = ap identity_in (sym at) ∙ there in absurd (cc))
+    go closed at = (let clash : ◌≡◌ {A = Option AssociationIdentity} None (Some link) = ap identity_of_core (sym at) ∙ there in absurd (cc))
+    go (cookie_wait my) at = (let clash : ◌≡◌ {A = Option AssociationIdentity} None (Some link) = ap identity_of_core (sym at) ∙ there in absurd (cc))
     go (cookie_echoed my held cookie) at = refl
     go (open_in phase my held) at = absurd (never (connected follows (ap is_open at) link there))
 
@@ -89,7 +89,7 @@ module _ (e : Endpoint) (past : List Effect) (t : Transition) (before : StandsSo
   abbrev later : List Effect
   later = after_effects t.outcome.effects past
 
-  same_link : (one other : AssociationIdentity) → identity_in t.outcome.after.core ≡ Some one → identity_in t.outcome.after.core ≡ Some other → one ≡ other
+  same_link : (one other : AssociationIdentity) → identity_of_core t.outcome.after.core ≡ Some one → identity_of_core t.outcome.after.core ≡ Some other → one ≡ other
   same_link one other first second = cc
 
   follows_before : t.outcome.after.options.follow_rfc ≡ true → e.options.follow_rfc ≡ true
@@ -98,10 +98,10 @@ module _ (e : Endpoint) (past : List Effect) (t : Transition) (before : StandsSo
   connected_next : ConnectedSo t.outcome.after later
   connected_next follows = still_connected e past t (follows_before follows) (before.connected (follows_before follows)) may turn.0 moves none
 
-  gone : {A : Type 0} → identity_in t.outcome.after.core ≡ None → (link : AssociationIdentity) → identity_in t.outcome.after.core ≡ Some link → A
+  gone : {A : Type 0} → identity_of_core t.outcome.after.core ≡ None → (link : AssociationIdentity) → identity_of_core t.outcome.after.core ≡ Some link → A
   gone nowhere link there = (let clash : ◌≡◌ {A = Option AssociationIdentity} None (Some link) = sym nowhere ∙ there in absurd (cc))
 
-  connected_here : (one link : AssociationIdentity) → identity_in t.outcome.after.core ≡ Some one → identity_in t.outcome.after.core ≡ Some link → HasEffect (connects one) t.outcome.effects → HasEffect (connects link) later
+  connected_here : (one link : AssociationIdentity) → identity_of_core t.outcome.after.core ≡ Some one → identity_of_core t.outcome.after.core ≡ Some link → HasEffect (connects one) t.outcome.effects → HasEffect (connects link) later
   connected_here one link linked there has = after_new (connects link) t.outcome.effects past (subst (λ (l : AssociationIdentity). HasEffect (connects l) t.outcome.effects) (same_link one link linked there) has)
 
   early_by : Leaves e t.outcome → EarlySo t.outcome.after later
@@ -110,12 +110,12 @@ module _ (e : Endpoint) (past : List Effect) (t : Transition) (before : StandsSo
         asks = fit;
         untouched = λ follows link there never.
             let follows' = follows_before follows in
-            let was : identity_in e.core ≡ Some link = sym linked ∙ there in
+            let was : identity_of_core e.core ≡ Some link = sym linked ∙ there in
             let never' : HasEffect (connects link) past → ⊥ = λ has. never (after_within t.outcome.effects past (connects link) has) in
             leads link.my.first_tsn link.capabilities follows' (awaits_ack e past link before.connected follows' was never') (before.early.untouched follows' link was never');
         unasked = λ follows link there never.
             let follows' = follows_before follows in
-            let was : identity_in e.core ≡ Some link = sym linked ∙ there in
+            let was : identity_of_core e.core ≡ Some link = sym linked ∙ there in
             let never' : HasEffect (connects link) past → ⊥ = λ has. never (after_within t.outcome.effects past (connects link) has) in
             asks link.my.first_tsn follows' (awaits_ack e past link before.connected follows' was never') (awaits_ack t.outcome.after later link connected_next follows there never) (before.early.unasked follows' link was never');
       }
@@ -123,7 +123,7 @@ module _ (e : Endpoint) (past : List Effect) (t : Transition) (before : StandsSo
   early_by (link_begins one linked fit left fresh) =
       record {
         asks = fit;
-        untouched = λ follows link there never. subst (λ (l : AssociationIdentity). Untouched l.my.first_tsn l.capabilities t.outcome.after.queues.transfer) (same_link one link linked there) left;
+        untouched = λ follows link there never. subst (λ (l : AssociationIdentity). IsTransferUntouched l.my.first_tsn l.capabilities t.outcome.after.queues.transfer) (same_link one link linked there) left;
         unasked = λ follows link there never. elim (fresh (follows_before follows)) [
           | inl unbegun ↦ subst (λ (l : AssociationIdentity). NoneBegun l.my.first_tsn (own_of t.outcome.after)) (same_link one link linked there) unbegun
           | inr has ↦ absurd (never (connected_here one link linked there has))
@@ -216,7 +216,7 @@ all_go tag (shutdown c ∷ contents) go = (tt, all_follow tag contents go.1)
 all_go tag (shutdown_ack ∷ contents) go = (tt, all_follow tag contents go.1)
 all_go tag (shutdown_complete r ∷ contents) go = (tt, all_follow tag contents go.1)
 
-acks_echo : (tag : ℕ) (contents : List Content) → Echo tag (shutdown_acks_in contents)
+acks_echo : (tag : ℕ) (contents : List Content) → Echo tag (shutdown_acks_of contents)
 acks_echo tag [] = tt
 acks_echo tag (shutdown_ack ∷ contents) = (tt, acks_echo tag contents)
 acks_echo tag (init i ∷ contents) = acks_echo tag contents
@@ -261,15 +261,15 @@ admitted_echo e packet all_chunks (t ∷ turns) go taken = (
   turn_echoes e (packet_begins packet.contents) t tt taken.0,
   chunks_echo packet.tag packet.contents t.outcome.after (packet_tail t.outcome.after) turns (all_go packet.tag packet.contents go) (tail_echoes (awaits_opening t.outcome.after t.outcome.after.core)) taken.1,
 )
-admitted_echo e packet shutdown_acks_alone turns go taken = chunks_echo packet.tag (shutdown_acks_in packet.contents) e [] turns (acks_echo packet.tag packet.contents) tt taken
+admitted_echo e packet shutdown_acks_alone turns go taken = chunks_echo packet.tag (shutdown_acks_of packet.contents) e [] turns (acks_echo packet.tag packet.contents) tt taken
 admitted_echo e packet (refused text) turns go taken = inputs_echo e (refusal text ∷ []) turns (tt, tt) taken
 
 -- This holds for the turns of a packet that goes so.
-pub packet_echoes : (e : Endpoint) (bytes : List ℕ) (emission : Emission) (turns : List Transition) → GoesToMaker emission → ((packet : PacketContent) → IsPacket (wire_options e.options) packet bytes → packet_in packet ≡ emission.packet)
+pub packet_echoes : (e : Endpoint) (bytes : List ℕ) (emission : Emission) (turns : List Transition) → GoesToMaker emission → ((packet : PacketContent) → IsPacket (wire_options e.options) packet bytes → packet_of_content packet ≡ emission.packet)
     → HandleInput e bytes turns → AllEcho turns
 packet_echoes e bytes emission _ go is (unreadable turns unread taken) = inputs_echo e (arrival ∷ refusal unreadable_text ∷ []) turns (tt, (tt, tt)) taken
 packet_echoes e bytes emission _ go is (readable packet counted turns found counting taken) =
-    let same : packet_in packet ≡ emission.packet = is packet found in (
+    let same : packet_of_content packet ≡ emission.packet = is packet found in (
       turn_echoes e arrival counted tt counting,
       admitted_echo counted.outcome.after emission.packet (admits e.core emission.packet) turns go (subst (λ (p : Packet). AdmittedTurns counted.outcome.after p (admits e.core p) turns) same taken),
     )

@@ -6,7 +6,7 @@ use Rattle.dcsctp_spec_lemmas.specs.types.declared.schedule.Side.TheVariants as 
 use Rattle.dcsctp_spec_lemmas.specs.spec.endpoint.CallTurns.{Transition, IsTurn, AlongTurns, after_all, effects_of, events_of}
 use Rattle.dcsctp_spec_lemmas.specs.spec.endpoint.Endpoint.{Endpoint, fresh_endpoint}
 use Rattle.std.proofs.lemmas.List.{length-append}
-use Rattle.dcsctp_spec_lemmas.specs.spec.endpoint.Event.{Event, packets_in}
+use Rattle.dcsctp_spec_lemmas.specs.spec.endpoint.Event.{Event, packets_of_events}
 use Rattle.dcsctp_spec_runs.specs.Fitting.{AllSent, IsSendable}
 use Rattle.dcsctp_spec_lemmas.specs.spec.Packet.{Emission}
 use Rattle.dcsctp_spec_runs.specs.Past.{Each, HasEffect}
@@ -17,14 +17,14 @@ use Rattle.dcsctp_spec_lemmas.specs.spec.association.Effect.{Effect, Association
 use Rattle.dcsctp_spec_lemmas.specs.types.queues.Messages.{MessageContent}
 use Rattle.dcsctp_spec_lemmas.proofs.TurnLists.{effects_of-append, events_of-append}
 use Rattle.dcsctp_theorem_association.proofs.Growth.{after_effects-append, after_within}
-use Rattle.dcsctp_theorem_sockets.specs.Agreement.{noted_past}
-use Rattle.dcsctp_theorem_sockets.proofs.Bursts.{packets_in-append}
+use Rattle.dcsctp_theorem_sockets.specs.Agreement.{recorded_past}
+use Rattle.dcsctp_theorem_sockets.proofs.Bursts.{packets_of_events-append}
 use Rattle.dcsctp_delivery_sending.specs.ChunkCounts.{chunks_to}
 use Rattle.dcsctp_delivery_directions.specs.Requests.{requests_to}
 use Rattle.dcsctp_delivery_directions.proofs.RequestCounts.{requests_more_to}
-use Rattle.dcsctp_delivery_sockets.specs.Acts.{AreTurns, ResetsIn}
+use Rattle.dcsctp_delivery_sockets.specs.Acts.{AreTurns, ResetsAsAllowed}
 use Rattle.dcsctp_delivery_sockets.specs.Echoes.{GoesToMaker}
-use Rattle.dcsctp_delivery_sockets.specs.UserMessages.{sent_in, messages_sent_in}
+use Rattle.dcsctp_delivery_sockets.specs.UserMessages.{messages_of_input, messages_of_turns}
 use Rattle.dcsctp_delivery_sockets.specs.Delivery.{IsOfNewTagsBut, MatchOrUnmatched, SendsLittle, SendsLittleTogether, IsUnrefused}
 use Rattle.dcsctp_delivery_associations.proofs.Counting.{more_to}
 use Rattle.dcsctp_delivery_sockets.proofs.KnownPeers.{each_earlier, IsMove, RanTo, run_starts, run_through}
@@ -55,13 +55,13 @@ are_turns : (e : Endpoint) (turns : List Transition) → AlongTurns IsOwn e turn
 are_turns e [] along = tt
 are_turns e (t ∷ turns) along = (along.0, are_turns t.outcome.after turns along.1)
 
-pub past_more : (turns more : List Transition) → noted_past (turns ++ more) ≡ after_effects (effects_of more) (noted_past turns)
+pub past_more : (turns more : List Transition) → recorded_past (turns ++ more) ≡ after_effects (effects_of more) (recorded_past turns)
 past_more turns more = ap (λ (effects : List Effect). after_effects effects []) (effects_of-append turns more) ∙ after_effects-append (effects_of turns) (effects_of more) []
 
-sent_more : (e : Endpoint) (turns more : List Transition) → messages_sent_in e (turns ++ more) ≡ messages_sent_in e turns ++ messages_sent_in (after_all e turns) more
+sent_more : (e : Endpoint) (turns more : List Transition) → messages_of_turns e (turns ++ more) ≡ messages_of_turns e turns ++ messages_of_turns (after_all e turns) more
 sent_more e [] more = refl
 sent_more e (t ∷ turns) more =
-    ap (λ (l : List MessageContent). sent_in e t.input ++ l) (sent_more t.outcome.after turns more) ∙ sym (append_assoc (sent_in e t.input) (messages_sent_in t.outcome.after turns) (messages_sent_in (after_all t.outcome.after turns) more))
+    ap (λ (l : List MessageContent). messages_of_input e t.input ++ l) (sent_more t.outcome.after turns more) ∙ sym (append_assoc (messages_of_input e t.input) (messages_of_turns t.outcome.after turns) (messages_of_turns (after_all t.outcome.after turns) more))
 
 -- ---- one side
 
@@ -74,9 +74,9 @@ pub record SideKnown (never_resets : ℕ → Bool) (options : Options) (theirs :
   pub own : AlongTurns IsOwn (fresh_endpoint options) turns
   pub moves : AlongTurns IsMove (fresh_endpoint options) turns
   pub refused : AlongTurns IsUnrefused (fresh_endpoint options) turns
-  pub resets : AlongTurns (ResetsIn never_resets) (fresh_endpoint options) turns
+  pub resets : AlongTurns (ResetsAsAllowed never_resets) (fresh_endpoint options) turns
   pub packets : AllSent GoodPacket (events_of turns)
-  pub tags : Each (IsOfNewTagsBut options theirs) (noted_past turns)
+  pub tags : Each (IsOfNewTagsBut options theirs) (recorded_past turns)
   pub little : SendsLittle options turns
   pub together : SendsLittleTogether turns
 
@@ -86,9 +86,9 @@ side_front never_resets options theirs turns more h =
       own = along_front IsOwn (fresh_endpoint options) turns more h.own;
       moves = along_front IsMove (fresh_endpoint options) turns more h.moves;
       refused = along_front IsUnrefused (fresh_endpoint options) turns more h.refused;
-      resets = along_front (ResetsIn never_resets) (fresh_endpoint options) turns more h.resets;
+      resets = along_front (ResetsAsAllowed never_resets) (fresh_endpoint options) turns more h.resets;
       packets = sent_front GoodPacket (events_of turns) (events_of more) (subst (AllSent GoodPacket) (events_of-append turns more) h.packets);
-      tags = each_earlier (IsOfNewTagsBut options theirs) (effects_of more) (noted_past turns) (subst (Each (IsOfNewTagsBut options theirs)) (past_more turns more) h.tags);
+      tags = each_earlier (IsOfNewTagsBut options theirs) (effects_of more) (recorded_past turns) (subst (Each (IsOfNewTagsBut options theirs)) (past_more turns more) h.tags);
       together = λ old link has has' same other.
           (let few = h.together old link (later old has) (later link has') same other in
           let one = went old.peer.tag in
@@ -98,32 +98,32 @@ side_front never_resets options theirs turns more h =
           record {
             messages =
                 (let both = ap (λ (l : List MessageContent). length l) (sent_more (fresh_endpoint options) turns more)
-                ∙ length-append (messages_sent_in (fresh_endpoint options) turns) (messages_sent_in (endpoint_after options turns) more) in
+                ∙ length-append (messages_of_turns (fresh_endpoint options) turns) (messages_of_turns (endpoint_after options turns) more) in
                 let few = h.little.messages in
                 omega (arith, both, few));
             chunks = λ tag.
-                (let both = ap (chunks_to tag) (ap packets_in (events_of-append turns more) ∙ packets_in-append (events_of turns) (events_of more))
-                ∙ more_to tag (packets_in (events_of turns)) (packets_in (events_of more)) in
+                (let both = ap (chunks_to tag) (ap packets_of_events (events_of-append turns more) ∙ packets_of_events-append (events_of turns) (events_of more))
+                ∙ more_to tag (packets_of_events (events_of turns)) (packets_of_events (events_of more)) in
                 let few = h.little.chunks tag in
                 omega (arith, both, few));
             requests = λ tag.
-                (let both = ap (requests_to tag) (ap packets_in (events_of-append turns more) ∙ packets_in-append (events_of turns) (events_of more))
-                ∙ requests_more_to tag (packets_in (events_of turns)) (packets_in (events_of more)) in
+                (let both = ap (requests_to tag) (ap packets_of_events (events_of-append turns more) ∙ packets_of_events-append (events_of turns) (events_of more))
+                ∙ requests_more_to tag (packets_of_events (events_of turns)) (packets_of_events (events_of more)) in
                 let few = h.little.requests tag in
                 omega (arith, both, few));
           };
     }
   where
-    later : (link : AssociationIdentity) → HasEffect (holds link) (noted_past turns) → HasEffect (holds link) (noted_past (turns ++ more))
-    later link has = subst (HasEffect (holds link)) (sym (past_more turns more)) (after_within (effects_of more) (noted_past turns) (holds link) has)
+    later : (link : AssociationIdentity) → HasEffect (holds link) (recorded_past turns) → HasEffect (holds link) (recorded_past (turns ++ more))
+    later link has = subst (HasEffect (holds link)) (sym (past_more turns more)) (after_within (effects_of more) (recorded_past turns) (holds link) has)
 
-    went : (tag : ℕ) → chunks_to tag (packets_in (events_of (turns ++ more))) ≡ chunks_to tag (packets_in (events_of turns)) + chunks_to tag (packets_in (events_of more))
-    went tag = ap (chunks_to tag) (ap packets_in (events_of-append turns more) ∙ packets_in-append (events_of turns) (events_of more)) ∙ more_to tag (packets_in (events_of turns)) (packets_in (events_of more))
+    went : (tag : ℕ) → chunks_to tag (packets_of_events (events_of (turns ++ more))) ≡ chunks_to tag (packets_of_events (events_of turns)) + chunks_to tag (packets_of_events (events_of more))
+    went tag = ap (chunks_to tag) (ap packets_of_events (events_of-append turns more) ∙ packets_of_events-append (events_of turns) (events_of more)) ∙ more_to tag (packets_of_events (events_of turns)) (packets_of_events (events_of more))
 
 -- So it is of less that the other side did.
 pub side_before : (never_resets : ℕ → Bool) (options : Options) (theirs more : List Effect) (turns : List Transition) → SideKnown never_resets options (after_effects more theirs) turns → SideKnown never_resets options theirs turns
 side_before never_resets options theirs more turns h =
-    record { own = h.own; moves = h.moves; refused = h.refused; resets = h.resets; packets = h.packets; tags = each_before options theirs more (noted_past turns) h.tags; little = h.little; together = h.together }
+    record { own = h.own; moves = h.moves; refused = h.refused; resets = h.resets; packets = h.packets; tags = each_before options theirs more (recorded_past turns) h.tags; little = h.little; together = h.together }
 
 -- what is known of the turns of an act
 pub rest_turns : (never_resets : ℕ → Bool) (options : Options) {theirs : List Effect} (turns more : List Transition) → SideKnown never_resets options theirs (turns ++ more) → AreTurns (endpoint_after options turns) more
@@ -135,11 +135,11 @@ rest_moves never_resets options turns more h = along_rest IsMove (fresh_endpoint
 pub rest_refused : (never_resets : ℕ → Bool) (options : Options) {theirs : List Effect} (turns more : List Transition) → SideKnown never_resets options theirs (turns ++ more) → AlongTurns IsUnrefused (endpoint_after options turns) more
 rest_refused never_resets options turns more h = along_rest IsUnrefused (fresh_endpoint options) turns more h.refused
 
-pub rest_resets : (never_resets : ℕ → Bool) (options : Options) {theirs : List Effect} (turns more : List Transition) → SideKnown never_resets options theirs (turns ++ more) → AlongTurns (ResetsIn never_resets) (endpoint_after options turns) more
-rest_resets never_resets options turns more h = along_rest (ResetsIn never_resets) (fresh_endpoint options) turns more h.resets
+pub rest_resets : (never_resets : ℕ → Bool) (options : Options) {theirs : List Effect} (turns more : List Transition) → SideKnown never_resets options theirs (turns ++ more) → AlongTurns (ResetsAsAllowed never_resets) (endpoint_after options turns) more
+rest_resets never_resets options turns more h = along_rest (ResetsAsAllowed never_resets) (fresh_endpoint options) turns more h.resets
 
 -- A side ran to where the act begins.
-pub ran_front : (never_resets : ℕ → Bool) (options : Options) {theirs : List Effect} (turns more : List Transition) → SideKnown never_resets options theirs (turns ++ more) → RanTo options (endpoint_after options turns) (noted_past turns)
+pub ran_front : (never_resets : ℕ → Bool) (options : Options) {theirs : List Effect} (turns more : List Transition) → SideKnown never_resets options theirs (turns ++ more) → RanTo options (endpoint_after options turns) (recorded_past turns)
 ran_front never_resets options turns more h = run_through options turns (fresh_endpoint options) [] (run_starts options) (along_front IsMove (fresh_endpoint options) turns more h.moves)
 
 -- It follows the RFC at the end if it did when it was made.
@@ -149,21 +149,21 @@ same_rules_after never_resets options turns h = ap (λ (p : Options). p.follow_r
 -- ---- both sides
 
 pub record BothKnown (never_resets : Both (ℕ → Bool)) (options : Both Options) (turns : Both (List Transition)) : Type 0 where
-  pub a : SideKnown never_resets.a options.a (noted_past turns.b) turns.a
-  pub b : SideKnown never_resets.b options.b (noted_past turns.a) turns.b
-  pub matched : MatchOrUnmatched options.a options.b (noted_past turns.a) (noted_past turns.b)
+  pub a : SideKnown never_resets.a options.a (recorded_past turns.b) turns.a
+  pub b : SideKnown never_resets.b options.b (recorded_past turns.a) turns.b
+  pub matched : MatchOrUnmatched options.a options.b (recorded_past turns.a) (recorded_past turns.b)
 
 pub both_front : (never_resets : Both (ℕ → Bool)) (options : Both Options) (turns : Both (List Transition)) (side : Side) (more : List Transition) → BothKnown never_resets options (side_turns_added side more turns)
     → BothKnown never_resets options turns
 both_front never_resets options turns sides.A more h =
     record {
-      a = side_front never_resets.a options.a (noted_past turns.b) turns.a more h.a;
-      b = side_before never_resets.b options.b (noted_past turns.a) (effects_of more) turns.b (subst (λ (p : List Effect). SideKnown never_resets.b options.b p turns.b) (past_more turns.a more) h.b);
-      matched = match_before options.a options.b (noted_past turns.a) (noted_past turns.b) (effects_of more) [] (subst (λ (p : List Effect). MatchOrUnmatched options.a options.b p (noted_past turns.b)) (past_more turns.a more) h.matched);
+      a = side_front never_resets.a options.a (recorded_past turns.b) turns.a more h.a;
+      b = side_before never_resets.b options.b (recorded_past turns.a) (effects_of more) turns.b (subst (λ (p : List Effect). SideKnown never_resets.b options.b p turns.b) (past_more turns.a more) h.b);
+      matched = match_before options.a options.b (recorded_past turns.a) (recorded_past turns.b) (effects_of more) [] (subst (λ (p : List Effect). MatchOrUnmatched options.a options.b p (recorded_past turns.b)) (past_more turns.a more) h.matched);
     }
 both_front never_resets options turns sides.B more h =
     record {
-      a = side_before never_resets.a options.a (noted_past turns.b) (effects_of more) turns.a (subst (λ (p : List Effect). SideKnown never_resets.a options.a p turns.a) (past_more turns.b more) h.a);
-      b = side_front never_resets.b options.b (noted_past turns.a) turns.b more h.b;
-      matched = match_before options.a options.b (noted_past turns.a) (noted_past turns.b) [] (effects_of more) (subst (λ (p : List Effect). MatchOrUnmatched options.a options.b (noted_past turns.a) p) (past_more turns.b more) h.matched);
+      a = side_before never_resets.a options.a (recorded_past turns.b) (effects_of more) turns.a (subst (λ (p : List Effect). SideKnown never_resets.a options.a p turns.a) (past_more turns.b more) h.a);
+      b = side_front never_resets.b options.b (recorded_past turns.a) turns.b more h.b;
+      matched = match_before options.a options.b (recorded_past turns.a) (recorded_past turns.b) [] (effects_of more) (subst (λ (p : List Effect). MatchOrUnmatched options.a options.b (recorded_past turns.a) p) (past_more turns.b more) h.matched);
     }

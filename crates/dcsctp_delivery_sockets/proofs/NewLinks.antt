@@ -10,11 +10,11 @@ use Rattle.dcsctp_spec_lemmas.specs.spec.endpoint.Outcome.{Outcome}
 use Rattle.dcsctp_spec_runs.specs.Past.{WasPerformed, HasEffect, Each, current}
 use Rattle.dcsctp_spec_lemmas.specs.spec.endpoint.Turn.{Input}
 use Rattle.dcsctp_spec_runs.specs.World.{after_effects}
-use Rattle.dcsctp_spec_lemmas.specs.spec.association.Effect.{AssociationIdentity, Effect, holds, completes, identity_of, identity_in, connects}
+use Rattle.dcsctp_spec_lemmas.specs.spec.association.Effect.{AssociationIdentity, Effect, holds, completes, identity_of, identity_of_core, connects}
 use Rattle.dcsctp_theorem_association.proofs.Growth.{after_effects-append, after_within}
 use Rattle.dcsctp_theorem_sockets.proofs.Signs.{among_after}
-use Rattle.dcsctp_delivery_turns.specs.Actions.{Begun}
-use Rattle.dcsctp_delivery_associations.specs.Answered.{request_number_at}
+use Rattle.dcsctp_delivery_turns.specs.Actions.{BeginsAssociation}
+use Rattle.dcsctp_delivery_associations.specs.Answered.{request_numbered}
 use Rattle.dcsctp_delivery_associations.specs.Ends.{NewPeer, NewTag, TakesOver}
 use Rattle.dcsctp_delivery_sockets.specs.Acts.{AreNewPeers, AreTurns}
 use Rattle.dcsctp_delivery_sockets.specs.Packets.{AreNewTags, IsCrossedByEach, IsNoneBefore, CrossesOrWaits}
@@ -40,18 +40,18 @@ new_noted options theirs (effect ∷ effects) past each link old (inr has) befor
 
 -- ---- the association that is there
 
-current_is : (past : List Effect) (core : Core) (old : AssociationIdentity) → LeavesCore past core → current past ≡ Some old → identity_in core ≡ Some old
+current_is : (past : List Effect) (core : Core) (old : AssociationIdentity) → LeavesCore past core → current past ≡ Some old → identity_of_core core ≡ Some old
 current_is past closed old leaves there = (let clash : ◌≡◌ {A = Option AssociationIdentity} None (Some old) = sym leaves ∙ there in absurd (cc))
 current_is past (cookie_wait my) old leaves there = (let clash : ◌≡◌ {A = Option AssociationIdentity} None (Some old) = sym leaves ∙ there in absurd (cc))
 current_is past (cookie_echoed my held cookie) old leaves there = sym leaves.link ∙ there
 current_is past (open_in phase my held) old leaves there = sym leaves.link ∙ there
 
 -- The association that a turn begins was recorded first in it.
-noted_first : (e : Endpoint) (o : Outcome) (begun : Begun e o) (rest past : List Effect)
+noted_first : (e : Endpoint) (o : Outcome) (begun : BeginsAssociation e o) (rest past : List Effect)
     → after_effects (o.effects ++ rest) past ≡ after_effects (begun.later ++ rest) (holds (identity_of begun.my begun.held) ∷ past)
 noted_first e o begun rest past = ap (λ (effects : List Effect). after_effects (effects ++ rest) past) begun.noted
 
-module _ (options their_options : Options) (e : Endpoint) (input : Input) (o : Outcome) (begun : Begun e o) (rest past their_past : List Effect) (opening : FitsCore o.after.core) (linked : identity_in o.after.core ≡ Some (identity_of begun.my begun.held))
+module _ (options their_options : Options) (e : Endpoint) (input : Input) (o : Outcome) (begun : BeginsAssociation e o) (rest past their_past : List Effect) (opening : FitsCore o.after.core) (linked : identity_of_core o.after.core ≡ Some (identity_of begun.my begun.held))
     (each : Each (IsOfNewTagsBut options their_past) (after_effects (o.effects ++ rest) past)) (matched : MatchOrUnmatched options their_options (after_effects (o.effects ++ rest) past) their_past) where
   begun_link : AssociationIdentity
   begun_link = identity_of begun.my begun.held
@@ -153,7 +153,7 @@ after_first first rest past = after_effects-append first rest past
 -- Each own request that was performed, as far as this past knows, the other side has performed; or it is the 2^32nd of its
 -- association.
 abbrev pub AllPerformed : List Effect → List Effect → Type 0
-AllPerformed past their_past = (my : Pair) (number : ℕ) → HasEffect (completes my number) past → WasPerformed my number their_past ⊎ (number ≡ request_number_at my.first_tsn (2 ^ 32 - 1))
+AllPerformed past their_past = (my : Pair) (number : ℕ) → HasEffect (completes my number) past → WasPerformed my number their_past ⊎ (number ≡ request_numbered my.first_tsn (2 ^ 32 - 1))
 
 pub new_peers : (options their_options : Options) (their_past : List Effect) (turns : List Transition) (past : List Effect) (e : Endpoint) → RanTo options e past → StandsSo e past → AreTurns e turns → AreCalls turns → AlongTurns IsUnrefused e turns
     → AlongTurns IsMove e turns → AllOpenFitting turns → AllEcho turns → Each (IsOfNewTagsBut options their_past) (after_effects (effects_of turns) past) → MatchOrUnmatched options their_options (after_effects (effects_of turns) past) their_past
@@ -194,8 +194,8 @@ module _ (options their_options : Options) (e : Endpoint) (their_past whole past
           ]
 
       open_so : (core : Core) → e.core ≡ core → is_cookie_echoed core ≡ false → is_open core ≡ true
-      open_so closed at none = (let clash : ◌≡◌ {A = Option AssociationIdentity} None (Some link) = ap identity_in (sym at) ∙ linked in absurd (cc))
-      open_so (cookie_wait my) at none = (let clash : ◌≡◌ {A = Option AssociationIdentity} None (Some link) = ap identity_in (sym at) ∙ linked in absurd (cc))
+      open_so closed at none = (let clash : ◌≡◌ {A = Option AssociationIdentity} None (Some link) = ap identity_of_core (sym at) ∙ linked in absurd (cc))
+      open_so (cookie_wait my) at none = (let clash : ◌≡◌ {A = Option AssociationIdentity} None (Some link) = ap identity_of_core (sym at) ∙ linked in absurd (cc))
       open_so (cookie_echoed my held' cookie) at none = absurd (cc)
       open_so (open_in phase my held') at none = refl
 

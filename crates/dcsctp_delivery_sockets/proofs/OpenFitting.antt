@@ -5,7 +5,7 @@ use Rattle.std.specs.List.{AllByRecursion}
 use Rattle.dcsctp_spec_lemmas.specs.wire.Content.{PacketContent}
 use Rattle.dcsctp_spec_lemmas.specs.wire.Format.{IsPacket}
 use Rattle.dcsctp_spec_lemmas.specs.types.Settings.{wire_options}
-use Rattle.dcsctp_spec_lemmas.specs.spec.Admission.{Admission, all_chunks, shutdown_acks_alone, refused, admits, shutdown_acks_in}
+use Rattle.dcsctp_spec_lemmas.specs.spec.Admission.{Admission, all_chunks, shutdown_acks_alone, refused, admits, shutdown_acks_of}
 use Rattle.dcsctp_spec_lemmas.specs.spec.endpoint.MessageOutcomes.{awaits_opening}
 use Rattle.dcsctp_spec_lemmas.specs.spec.endpoint.CallTurns.{packet_tail, Transition, IsTurn, Turns, AdmittedTurns, HandleInput, unreadable, readable}
 use Rattle.dcsctp_spec_lemmas.specs.spec.endpoint.Endpoint.{Endpoint, Core, closed, cookie_wait, cookie_echoed, open_in, established, shutdown_pending, shutdown_sent, shutdown_received, shutdown_ack_sent}
@@ -13,23 +13,23 @@ use Rattle.dcsctp_spec_runs.specs.Fitting.{FitsCore, FitsEndpoint, SendablePacke
 use Rattle.dcsctp_spec_lemmas.specs.spec.CookieFits.{FitsPair}
 use Rattle.dcsctp_spec_runs.specs.Laws.{OfferReadsBack}
 use Rattle.dcsctp_spec_lemmas.specs.spec.endpoint.Outcome.{Outcome}
-use Rattle.dcsctp_spec_lemmas.specs.spec.Packet.{Packet, packet_in, Emission}
+use Rattle.dcsctp_spec_lemmas.specs.spec.Packet.{Packet, packet_of_content, Emission}
 use Rattle.dcsctp_spec_lemmas.specs.spec.endpoint.Turn.{Input, arrival, refusal, packet_begins, chunk_input, packet_ends, act_input, user_sets, user_sends, user_resets, user_takes, timer_expires, time_passes, restores, has_data_chunk, BeginTurn, unreadable_text}
-use Rattle.dcsctp_spec_lemmas.specs.spec.association.Effect.{AssociationIdentity, identity_of, identity_in}
+use Rattle.dcsctp_spec_lemmas.specs.spec.association.Effect.{AssociationIdentity, identity_of, identity_of_core}
 use Rattle.dcsctp_theorem_sockets.proofs.Deliver.{tail_fits, Fits, chunk_turns_fit, nothing_ends, acks_sendable}
-use Rattle.dcsctp_delivery_turns.specs.Actions.{came_by, IsOpening}
+use Rattle.dcsctp_delivery_turns.specs.Actions.{content_of_input, IsOpening}
 use Rattle.dcsctp_delivery_sockets.proofs.Calls.{NoChunk, NoChunks}
 
 -- ---- where an association begins, its numbers fit
 
 abbrev pub OpensFitting : Transition → Type 0
-OpensFitting turn = IsOpening (came_by turn.input) → FitsCore turn.outcome.after.core
+OpensFitting turn = IsOpening (content_of_input turn.input) → FitsCore turn.outcome.after.core
 
 abbrev pub AllOpenFitting : List Transition → Type 0
 AllOpenFitting turns = AllByRecursion OpensFitting turns
 
 -- No association begins where no chunk is handled.
-pub opens_none : (input : Input) → NoChunk input → IsOpening (came_by input) → ⊥
+pub opens_none : (input : Input) → NoChunk input → IsOpening (content_of_input input) → ⊥
 opens_none (chunk_input tag content) none opening = none
 opens_none arrival none opening = opening
 opens_none (refusal text) none opening = opening
@@ -82,15 +82,15 @@ admitted_open law e packet all_chunks (t ∷ turns) h good taken = (
       (begun_fits e e.core (has_data_chunk e.options.follow_rfc packet.contents) t.outcome h taken.0.comes) good.tag good.contents (tail_fits (awaits_opening t.outcome.after t.outcome.after.core))).turns_fit,
 )
 admitted_open law e packet shutdown_acks_alone turns h good taken =
-    fit_open turns (chunk_turns_fit law e packet.tag (shutdown_acks_in packet.contents) [] turns taken h good.tag (acks_sendable packet.contents good.contents) nothing_ends).turns_fit
+    fit_open turns (chunk_turns_fit law e packet.tag (shutdown_acks_of packet.contents) [] turns taken h good.tag (acks_sendable packet.contents good.contents) nothing_ends).turns_fit
 admitted_open law e packet (refused text) turns h good taken = inputs_open e (refusal text ∷ []) turns (tt, tt) taken
 
 -- This holds for a packet that was sent.
 pub packet_opens : OfferReadsBack → (e : Endpoint) (bytes : List ℕ) (emission : Emission) (turns : List Transition) → FitsEndpoint e → IsSendable emission
-    → ((packet : PacketContent) → IsPacket (wire_options e.options) packet bytes → packet_in packet ≡ emission.packet) → HandleInput e bytes turns → AllOpenFitting turns
+    → ((packet : PacketContent) → IsPacket (wire_options e.options) packet bytes → packet_of_content packet ≡ emission.packet) → HandleInput e bytes turns → AllOpenFitting turns
 packet_opens law e bytes emission _ h good is (unreadable turns none taken) = inputs_open e (arrival ∷ refusal unreadable_text ∷ []) turns (tt, (tt, tt)) taken
 packet_opens law e bytes emission _ h good is (readable packet counted turns found counting taken) =
-    let same : packet_in packet ≡ emission.packet = is packet found in
+    let same : packet_of_content packet ≡ emission.packet = is packet found in
     let fits : FitsEndpoint counted.outcome.after =
     subst (λ (x : Outcome). FitsEndpoint x.after) (sym counting.comes) (record { valid = h.valid; options = h.options; core = h.core; t1 = h.t1 }) in (
       input_opens e arrival counted tt counting,
@@ -102,7 +102,7 @@ pub record LinkFits (link : AssociationIdentity) : Type 0 where
   pub my : FitsPair link.my
   pub peer : FitsPair link.peer
 
-pub link_fits : (core : Core) (link : AssociationIdentity) → FitsCore core → identity_in core ≡ Some link → LinkFits link
+pub link_fits : (core : Core) (link : AssociationIdentity) → FitsCore core → identity_of_core core ≡ Some link → LinkFits link
 link_fits closed link fits is = absurd (cc)
 link_fits (cookie_wait my) link fits is = absurd (cc)
 link_fits (cookie_echoed my held cookie) link fits is =

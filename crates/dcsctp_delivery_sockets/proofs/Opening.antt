@@ -4,7 +4,7 @@ use Rattle.std.specs.Prelude.{◌⊎◌, Option, Result, Ok, Err}
 use Rattle.dcsctp_spec_lemmas.specs.types.declared.association.Held.{Held}
 use Rattle.dcsctp_spec_lemmas.specs.types.declared.association.Pair.{Pair}
 use Rattle.dcsctp_spec_lemmas.specs.types.declared.options.Options.{Options}
-use Rattle.dcsctp_spec_lemmas.specs.spec.Cookie.{Cookie, cookie_at}
+use Rattle.dcsctp_spec_lemmas.specs.spec.Cookie.{Cookie, cookie_of_bytes}
 use Rattle.dcsctp_spec_lemmas.specs.spec.Packet.{Introduction, Content, init, init_ack, cookie_echo, cookie_ack, re_config, abort, shutdown, shutdown_ack, shutdown_complete, plain}
 use Rattle.dcsctp_spec_lemmas.specs.spec.Reconfiguration.{ResetParameter}
 use Rattle.dcsctp_spec_lemmas.specs.spec.endpoint.CallTurns.{Transition}
@@ -14,22 +14,22 @@ use Rattle.dcsctp_spec_lemmas.specs.spec.endpoint.Turn.{Input, chunk_input, Turn
 use Rattle.dcsctp_spec_lemmas.specs.spec.association.Acts.{Act, connect, t1_expires, shut_down, step_of_shutdown, shutdown_repeats, abort_with, hands_over, flushes, request_again, request_renewed, act_change, chunk_change, plain_change}
 use Rattle.dcsctp_spec_lemmas.specs.spec.association.Choices.{Choices, Filling}
 use Rattle.dcsctp_spec_lemmas.specs.spec.association.CookieEchoChanges as resolutions
-use Rattle.dcsctp_spec_lemmas.specs.spec.association.CookieEchoChanges.{Resolution, resolved_change, read_echo_change, aged, resolve}
-use Rattle.dcsctp_spec_lemmas.specs.spec.association.Effect.{AssociationIdentity, Effect, draws, sends, holds, connects, ends, begins, gives_up, completes, fails, accepts, performs, renews, resumes, noted, Change, identity_of, identity_in}
+use Rattle.dcsctp_spec_lemmas.specs.spec.association.CookieEchoChanges.{Resolution, resolved_change, read_echo_change, aged_resolution, resolve}
+use Rattle.dcsctp_spec_lemmas.specs.spec.association.Effect.{AssociationIdentity, Effect, draws, sends, holds, connects, ends, begins, gives_up, completes, fails, accepts, performs, renews, resumes, effects_without_packets, Change, identity_of, identity_of_core}
 use Rattle.dcsctp_spec_lemmas.specs.spec.association.HandshakeChanges.{answered_init_change, init_ack_change, echo_change}
 use Rattle.dcsctp_spec_lemmas.specs.spec.association.ResetChanges.{echoed_re_config_change}
 use Rattle.dcsctp_spec_lemmas.specs.spec.association.ShutdownChanges.{shutdown_call_change_echoed, abort_change}
 use Rattle.dcsctp_spec_runs.specs.Past.{HasEffect}
 use Rattle.dcsctp_spec_runs.specs.World.{ControlTurn, acted, worked, resumed, after_effects}
 use Rattle.dcsctp_spec_lemmas.specs.spec.endpoint.FlushOutcomes.{flush_answered}
-use Rattle.dcsctp_spec_lemmas.specs.spec.endpoint.HandshakeOutcomes.{init_ack_by}
+use Rattle.dcsctp_spec_lemmas.specs.spec.endpoint.HandshakeOutcomes.{init_ack_with_flush}
 use Rattle.dcsctp_spec_lemmas.proofs.AbortLemmas.{by_abort}
 use Rattle.dcsctp_theorem_association.proofs.MeaningTurns.{effects_mean}
 use Rattle.dcsctp_theorem_association.proofs.Growth.{after_within}
 use Rattle.dcsctp_theorem_sockets.proofs.SocketsAlone.{Moves, it_rests, it_moves}
 use Rattle.dcsctp_delivery_turns.specs.Actions as becomes
 use Rattle.dcsctp_spec_lemmas.specs.spec.endpoint.Turn as inputs
-use Rattle.dcsctp_delivery_turns.specs.Actions.{IsOpening, came_by, IsCall, Becomes}
+use Rattle.dcsctp_delivery_turns.specs.Actions.{IsOpening, content_of_input, IsCall, Becomes}
 use Rattle.dcsctp_delivery_turns.proofs.Connecting.{echo_connects}
 use Rattle.dcsctp_delivery_turns.proofs.Turns.{turns_are_actions}
 use Rattle.dcsctp_delivery_associations.proofs.AnsweringRests.{after_new}
@@ -137,7 +137,7 @@ resolved_opens options core cookie choices resolutions.stale shut opens = absurd
 
 read_opens : (options : Options) (core : Core) (header : ℕ) (found : Result Cookie (List ℕ)) (choices : Choices) → Shut core → Opens core (read_echo_change options core header found choices)
 read_opens options core header (Err text) choices shut opens = absurd (let clash : false ≡ true = sym shut ∙ opens in cc)
-read_opens options core header (Ok cookie) choices shut opens = resolved_opens options core cookie choices (aged choices.is_stale (resolve core choices.tie choices.secret header cookie)) shut opens
+read_opens options core header (Ok cookie) choices shut opens = resolved_opens options core cookie choices (aged_resolution choices.is_stale (resolve core choices.tie choices.secret header cookie)) shut opens
 
 re_config_opens : (core : Core) (follows : Bool) (my : Pair) (held : Held) (cookie : List ℕ) (parameters : List ResetParameter) (choices : Choices) → Opens core (echoed_re_config_change follows my held cookie parameters choices)
 re_config_opens core true my held cookie parameters choices opens = absurd (cc)
@@ -160,7 +160,7 @@ chunk_opens : (options : Options) (core : Core) (header : ℕ) (content : Conten
 chunk_opens options (open_in phase my held) header content choices opens = inl refl
 chunk_opens options closed header (init theirs) choices opens = init_opens choices.may_answer options closed theirs choices refl opens
 chunk_opens options closed header (init_ack theirs cookie) choices opens = init_ack_opens options closed theirs cookie choices refl opens
-chunk_opens options closed header (cookie_echo bytes) choices opens = read_opens options closed header (cookie_at bytes) choices refl opens
+chunk_opens options closed header (cookie_echo bytes) choices opens = read_opens options closed header (cookie_of_bytes bytes) choices refl opens
 chunk_opens options closed header cookie_ack choices opens = absurd (cc)
 chunk_opens options closed header (re_config parameters) choices opens = absurd (cc)
 chunk_opens options closed header (abort reflected causes) choices opens = abort_opens options closed refl opens
@@ -170,7 +170,7 @@ chunk_opens options closed header (shutdown_complete reflected) choices opens = 
 chunk_opens options closed header (plain chunk) choices opens = plain_opens choices.is_violation closed choices refl opens
 chunk_opens options (cookie_wait own) header (init theirs) choices opens = init_opens choices.may_answer options (cookie_wait own) theirs choices refl opens
 chunk_opens options (cookie_wait own) header (init_ack theirs cookie) choices opens = init_ack_opens options (cookie_wait own) theirs cookie choices refl opens
-chunk_opens options (cookie_wait own) header (cookie_echo bytes) choices opens = read_opens options (cookie_wait own) header (cookie_at bytes) choices refl opens
+chunk_opens options (cookie_wait own) header (cookie_echo bytes) choices opens = read_opens options (cookie_wait own) header (cookie_of_bytes bytes) choices refl opens
 chunk_opens options (cookie_wait own) header cookie_ack choices opens = absurd (cc)
 chunk_opens options (cookie_wait own) header (re_config parameters) choices opens = absurd (cc)
 chunk_opens options (cookie_wait own) header (abort reflected causes) choices opens = abort_opens options (cookie_wait own) refl opens
@@ -180,7 +180,7 @@ chunk_opens options (cookie_wait own) header (shutdown_complete reflected) choic
 chunk_opens options (cookie_wait own) header (plain chunk) choices opens = plain_opens choices.is_violation (cookie_wait own) choices refl opens
 chunk_opens options (cookie_echoed own peer echoed) header (init theirs) choices opens = init_opens choices.may_answer options (cookie_echoed own peer echoed) theirs choices refl opens
 chunk_opens options (cookie_echoed own peer echoed) header (init_ack theirs cookie) choices opens = init_ack_opens options (cookie_echoed own peer echoed) theirs cookie choices refl opens
-chunk_opens options (cookie_echoed own peer echoed) header (cookie_echo bytes) choices opens = read_opens options (cookie_echoed own peer echoed) header (cookie_at bytes) choices refl opens
+chunk_opens options (cookie_echoed own peer echoed) header (cookie_echo bytes) choices opens = read_opens options (cookie_echoed own peer echoed) header (cookie_of_bytes bytes) choices refl opens
 chunk_opens options (cookie_echoed own peer echoed) header cookie_ack choices opens = inr (_, inl refl)
 chunk_opens options (cookie_echoed own peer echoed) header (re_config parameters) choices opens =
     re_config_opens (cookie_echoed own peer echoed) options.follow_rfc own peer echoed parameters choices opens
@@ -208,9 +208,9 @@ content_connects e closed at opens tag content o link later opening turn so = ab
 content_connects e (cookie_wait my) at opens tag content o link later opening turn so = absurd (cc)
 content_connects e (cookie_echoed my held cookie) at opens tag content o link later opening turn so = absurd (cc)
 content_connects e (open_in phase my held) at opens tag (init_ack theirs cookie) o link later opening turn so =
-    absurd (let none : o.effects ≡ [] = ap (λ (x : Outcome). x.effects) (turn.3 ∙ ap (λ (c : Core). init_ack_by (flush_answered turn.1) e theirs cookie c turn.0) at) in cc)
+    absurd (let none : o.effects ≡ [] = ap (λ (x : Outcome). x.effects) (turn.3 ∙ ap (λ (c : Core). init_ack_with_flush (flush_answered turn.1) e theirs cookie c turn.0) at) in cc)
 content_connects e (open_in phase my held) at opens tag (cookie_echo bytes) o link later opening turn so =
-    subst (λ (x : Outcome). HasEffect (connects link) x.effects) (sym turn.3) (echo_connects e e.core tag (cookie_at bytes) turn.0 turn.1 link later turn.2 (ap (λ (x : Outcome). x.effects) (sym turn.3) ∙ so))
+    subst (λ (x : Outcome). HasEffect (connects link) x.effects) (sym turn.3) (echo_connects e e.core tag (cookie_of_bytes bytes) turn.0 turn.1 link later turn.2 (ap (λ (x : Outcome). x.effects) (sym turn.3) ∙ so))
 content_connects e (open_in phase my held) at opens tag (init introduction) o link later opening turn so = absurd opening
 content_connects e (open_in phase my held) at opens tag cookie_ack o link later opening turn so = absurd opening
 content_connects e (open_in phase my held) at opens tag (re_config parameters) o link later opening turn so = absurd opening
@@ -220,7 +220,7 @@ content_connects e (open_in phase my held) at opens tag shutdown_ack o link late
 content_connects e (open_in phase my held) at opens tag (shutdown_complete reflected) o link later opening turn so = absurd opening
 content_connects e (open_in phase my held) at opens tag (plain chunk) o link later opening turn so = absurd opening
 
-opening_connects : (e : Endpoint) → is_open e.core ≡ true → (input : Input) (o : Outcome) (link : AssociationIdentity) (later : List Effect) → IsOpening (came_by input) → Turn e input o → o.effects ≡ holds link ∷ later → HasEffect (connects link) o.effects
+opening_connects : (e : Endpoint) → is_open e.core ≡ true → (input : Input) (o : Outcome) (link : AssociationIdentity) (later : List Effect) → IsOpening (content_of_input input) → Turn e input o → o.effects ≡ holds link ∷ later → HasEffect (connects link) o.effects
 opening_connects e opens (chunk_input tag content) o link later opening turn so = content_connects e e.core refl opens tag content o link later opening turn so
 opening_connects e opens inputs.arrival o link later opening turn so = absurd opening
 opening_connects e opens (inputs.refusal text) o link later opening turn so = absurd opening
@@ -239,9 +239,9 @@ opening_connects e opens (inputs.restores state) o link later opening turn so = 
 
 -- The open association, if it is that, has connected.
 abbrev pub HasConnected : Endpoint → List Effect → Type 0
-HasConnected e past = is_open e.core ≡ true → (link : AssociationIdentity) → identity_in e.core ≡ Some link → HasEffect (connects link) past
+HasConnected e past = is_open e.core ≡ true → (link : AssociationIdentity) → identity_of_core e.core ≡ Some link → HasEffect (connects link) past
 
-connects_noted : (link : AssociationIdentity) (effects : List Effect) → HasEffect (connects link) effects → HasEffect (connects link) (noted effects)
+connects_noted : (link : AssociationIdentity) (effects : List Effect) → HasEffect (connects link) effects → HasEffect (connects link) (effects_without_packets effects)
 connects_noted link [] has = has
 connects_noted link (sends packet ∷ effects) (inl is) = absurd (cc)
 connects_noted link (sends packet ∷ effects) (inr has) = connects_noted link effects has
@@ -270,7 +270,7 @@ connects_noted link (renews peer number ∷ effects) (inr has) = inr (connects_n
 connects_noted link (resumes one own last ∷ effects) (inl is) = absurd (cc)
 connects_noted link (resumes one own last ∷ effects) (inr has) = inr (connects_noted link effects has)
 
-resumes_noted : (link : AssociationIdentity) (own last : ℕ) (effects : List Effect) → HasEffect (resumes link own last) effects → HasEffect (resumes link own last) (noted effects)
+resumes_noted : (link : AssociationIdentity) (own last : ℕ) (effects : List Effect) → HasEffect (resumes link own last) effects → HasEffect (resumes link own last) (effects_without_packets effects)
 resumes_noted link own last [] has = has
 resumes_noted link own last (sends packet ∷ effects) (inl is) = absurd (cc)
 resumes_noted link own last (sends packet ∷ effects) (inr has) = resumes_noted link own last effects has
@@ -308,7 +308,7 @@ module _ (e : Endpoint) (past : List Effect) (t : Transition) (follows : e.optio
   one_link first second = cc
 
   -- It was open, or this turn connects it.
-  opens_or_connects : is_open t.outcome.after.core ≡ true → (link : AssociationIdentity) → identity_in t.outcome.after.core ≡ Some link → (is_open e.core ≡ true) ⊎ HasEffect (connects link) t.outcome.effects
+  opens_or_connects : is_open t.outcome.after.core ≡ true → (link : AssociationIdentity) → identity_of_core t.outcome.after.core ≡ Some link → (is_open e.core ≡ true) ⊎ HasEffect (connects link) t.outcome.effects
   opens_or_connects opens link linked = go moves
     where
       go : Moves e t.outcome → (is_open e.core ≡ true) ⊎ HasEffect (connects link) t.outcome.effects
@@ -318,7 +318,7 @@ module _ (e : Endpoint) (past : List Effect) (t : Transition) (follows : e.optio
             | inl was ↦ inl was
             | inr some ↦
                 (let established = (effects_mean e.options e.core change control).connected some.0 some.1 in
-                let one : some.0 ≡ link = one_link (ap identity_in established.phase ∙ ap Some established.linked) (ap identity_in (sym is.core) ∙ linked) in
+                let one : some.0 ≡ link = one_link (ap identity_of_core established.phase ∙ ap Some established.linked) (ap identity_of_core (sym is.core) ∙ linked) in
                 inr (subst (λ (l : AssociationIdentity). HasEffect (connects l) t.outcome.effects) one (subst (HasEffect (connects some.0)) (sym is.effects) (connects_noted some.0 change.effects some.1))))
           ]
 
@@ -328,19 +328,19 @@ module _ (e : Endpoint) (past : List Effect) (t : Transition) (follows : e.optio
   now : (link : AssociationIdentity) → HasEffect (connects link) t.outcome.effects → Later link
   now link has = after_new (connects link) t.outcome.effects past has
 
-  stays : identity_in t.outcome.after.core ≡ identity_in e.core → After
+  stays : identity_of_core t.outcome.after.core ≡ identity_of_core e.core → After
   stays same opens link linked = elim (opens_or_connects opens link linked) [
     | inl was ↦ after_within t.outcome.effects past (connects link) (before was link (sym same ∙ linked))
     | inr has ↦ now link has
   ]
 
-  anew : (link : AssociationIdentity) (later : List Effect) → IsOpening (came_by t.input) → identity_in t.outcome.after.core ≡ Some link → t.outcome.effects ≡ holds link ∷ later → After
+  anew : (link : AssociationIdentity) (later : List Effect) → IsOpening (content_of_input t.input) → identity_of_core t.outcome.after.core ≡ Some link → t.outcome.effects ≡ holds link ∷ later → After
   anew link later opening linked so opens other there = elim (opens_or_connects opens other there) [
     | inl was ↦ now other (subst (λ (l : AssociationIdentity). HasEffect (connects l) t.outcome.effects) (one_link linked there) (opening_connects e was t.input t.outcome link later opening turn so))
     | inr has ↦ now other has
   ]
 
-  by_becomes : {resets : Option (List ℕ)} {to : ℕ} {adds : _} {taken : _} → Becomes resets (came_by t.input) to adds taken e t.outcome → After
+  by_becomes : {resets : Option (List ℕ)} {to : ℕ} {adds : _} {taken : _} → Becomes resets (content_of_input t.input) to adds taken e t.outcome → After
   by_becomes (becomes.goes_on calm linked makes) = stays linked
   by_becomes (becomes.pauses ids resets calm linked small makes) = stays linked
   by_becomes (becomes.works_resets linked between inside ended peer makes) = stays linked

@@ -6,9 +6,9 @@ use Rattle.std.specs.List.{AllByRecursion}
 use Rattle.dcsctp_spec_lemmas.specs.wire.Content.{PacketContent, data_chunk, init_chunk, init_ack_chunk, sack_chunk, heartbeat_chunk, heartbeat_ack_chunk, abort_chunk, shutdown_chunk, shutdown_ack_chunk, error_chunk, cookie_echo_chunk, cookie_ack_chunk, shutdown_complete_chunk, i_data_chunk, re_config_chunk, forward_tsn_chunk, i_forward_tsn_chunk, unknown_chunk}
 use Rattle.dcsctp_spec_lemmas.specs.wire.Format.{IsPacket}
 use Rattle.dcsctp_spec_lemmas.specs.types.Settings.{wire_options}
-use Rattle.dcsctp_spec_lemmas.specs.spec.Admission.{Admission, all_chunks, shutdown_acks_alone, refused, admits, is_echo_in_front, shutdown_acks_in}
-use Rattle.dcsctp_spec_lemmas.specs.spec.Packet.{Packet, packet_in, Content, init, init_ack, cookie_echo, cookie_ack, re_config, abort, shutdown, shutdown_ack, shutdown_complete, plain, unknown, heartbeat, heartbeat_ack, unworked, Emission}
-use Rattle.dcsctp_spec_lemmas.specs.spec.association.Effect.{AssociationIdentity, identity_in}
+use Rattle.dcsctp_spec_lemmas.specs.spec.Admission.{Admission, all_chunks, shutdown_acks_alone, refused, admits, is_echo_in_front, shutdown_acks_of}
+use Rattle.dcsctp_spec_lemmas.specs.spec.Packet.{Packet, packet_of_content, Content, init, init_ack, cookie_echo, cookie_ack, re_config, abort, shutdown, shutdown_ack, shutdown_complete, plain, unknown, heartbeat, heartbeat_ack, unworked, Emission}
+use Rattle.dcsctp_spec_lemmas.specs.spec.association.Effect.{AssociationIdentity, identity_of_core}
 use Rattle.dcsctp_spec_lemmas.specs.spec.endpoint.CallTurns.{Transition, AlongTurns, IsTurn, Turns, AfterChunk, ChunkTurns, WholeTurns, AdmittedTurns, HandleInput, unreadable, readable, asked_again, packet_tail}
 use Rattle.dcsctp_spec_lemmas.specs.spec.endpoint.Endpoint.{Endpoint, Core, own_tag}
 use Rattle.dcsctp_spec_lemmas.specs.spec.endpoint.Following.{Following, next_chunk, packet_end, dropped_rest}
@@ -16,7 +16,7 @@ use Rattle.dcsctp_spec_lemmas.specs.spec.endpoint.MessageOutcomes.{awaits_openin
 use Rattle.dcsctp_spec_lemmas.specs.spec.endpoint.Outcome.{Outcome}
 use Rattle.dcsctp_spec_lemmas.specs.spec.endpoint.Turn.{Input, arrival, refusal, packet_begins, chunk_input, packet_ends, act_input, user_sets, user_sends, user_resets, user_takes, timer_expires, time_passes, restores, has_data_chunk, unreadable_text}
 use Rattle.dcsctp_delivery_sending.specs.Places as places
-use Rattle.dcsctp_delivery_turns.specs.Actions.{NoEnd, came_by}
+use Rattle.dcsctp_delivery_turns.specs.Actions.{NoEnd, content_of_input}
 use Rattle.dcsctp_delivery_turns.specs.Reports.{ReportsSo, NoReports}
 use Rattle.dcsctp_delivery_turns.proofs.Addressed.{addressed_tags_are_own}
 use Rattle.dcsctp_delivery_associations.specs.Ends.{CameBack}
@@ -28,7 +28,7 @@ use Rattle.dcsctp_delivery_sockets.proofs.PacketTurns.{begin_core, front_tag}
 
 -- ---- turns without a chunk
 
-no_chunk_back : (heard : List Emission) (tag : ℕ) (input : Input) → NoChunk input → CameBack heard tag (came_by input)
+no_chunk_back : (heard : List Emission) (tag : ℕ) (input : Input) → NoChunk input → CameBack heard tag (content_of_input input)
 no_chunk_back heard tag (chunk_input t content) none = absurd none
 no_chunk_back heard tag arrival none = tt
 no_chunk_back heard tag (refusal text) none = tt
@@ -48,7 +48,7 @@ turns_back heard e [] none = tt
 turns_back heard e (t ∷ turns) none = ((λ link linked. no_chunk_back heard link.my.tag t.input none.0), turns_back heard t.outcome.after turns none.1)
 
 -- No SHUTDOWN ACK reports anything.
-acks_silent : (contents : List Content) → NoReports (shutdown_acks_in contents)
+acks_silent : (contents : List Content) → NoReports (shutdown_acks_of contents)
 acks_silent [] = tt
 acks_silent (shutdown_ack ∷ contents) = (tt, acks_silent contents)
 acks_silent (init i ∷ contents) = acks_silent contents
@@ -68,7 +68,7 @@ module _ (heard : List Emission) (emission : Emission) (was : places.HasEntry em
   abbrev MayHear : Endpoint → Content → Type 0
   MayHear d content = ReportsSo (λ tsn. ⊥) content ⊎ (places.HasEntry content emission.packet.contents × TagIs emission.packet.tag d)
 
-  chunk_back : (d : Endpoint) (content : Content) (link : AssociationIdentity) → MayHear d content → identity_in d.core ≡ Some link → CameBack heard link.my.tag (Some content)
+  chunk_back : (d : Endpoint) (content : Content) (link : AssociationIdentity) → MayHear d content → identity_of_core d.core ≡ Some link → CameBack heard link.my.tag (Some content)
   chunk_back d (plain (unworked (data_chunk c))) link may linked = tt
   chunk_back d (plain (unworked (init_chunk c))) link may linked = tt
   chunk_back d (plain (unworked (init_ack_chunk c))) link may linked = tt
@@ -103,7 +103,7 @@ module _ (heard : List Emission) (emission : Emission) (was : places.HasEntry em
   chunk_back d (shutdown_complete t) link may linked = tt
 
   chunk_turn_back : (d : Endpoint) (tag : ℕ) (content : Content) (t : Transition) → IsTurn d (chunk_input tag content) t → MayHear d content → HearsBack heard d t
-  chunk_turn_back d tag content t turn may link linked = subst (λ (i : Input). CameBack heard link.my.tag (came_by i)) (sym turn.is) (chunk_back d content link may linked)
+  chunk_turn_back d tag content t turn may link linked = subst (λ (i : Input). CameBack heard link.my.tag (content_of_input i)) (sym turn.is) (chunk_back d content link may linked)
 
   -- ---- those after the first
 
@@ -178,7 +178,7 @@ module _ (heard : List Emission) (emission : Emission) (was : places.HasEntry em
       → AlongTurns (HearsBack heard) d turns
   whole_back d [] go is admitted taken = absurd taken
   whole_back d (begun ∷ turns) go is admitted taken =
-      ((λ link linked. subst (λ (i : Input). CameBack heard link.my.tag (came_by i)) (sym taken.0.is) tt), by_reports is)
+      ((λ link linked. subst (λ (i : Input). CameBack heard link.my.tag (content_of_input i)) (sym taken.0.is) tt), by_reports is)
     where
       by_reports : NoReports emission.packet.contents ⊎ NoEnd emission.packet.contents → AlongTurns (HearsBack heard) begun.outcome.after turns
       by_reports (inl none) =
@@ -191,17 +191,17 @@ module _ (heard : List Emission) (emission : Emission) (was : places.HasEntry em
       → AdmittedTurns d emission.packet admission turns → AlongTurns (HearsBack heard) d turns
   admitted_back d turns go is all_chunks admitted taken = whole_back d turns go is admitted taken
   admitted_back d turns go is shutdown_acks_alone admitted taken =
-      chunks_back (shutdown_acks_in emission.packet.contents) d emission.packet.tag [] turns tt (inl (acks_silent emission.packet.contents)) taken
+      chunks_back (shutdown_acks_of emission.packet.contents) d emission.packet.tag [] turns tt (inl (acks_silent emission.packet.contents)) taken
   admitted_back d turns go is (refused text) admitted taken = tail_back d (refusal text ∷ []) turns (tt, tt) taken
 
   pub packet_back : (d : Endpoint) (bytes : List ℕ) (turns : List Transition) → GoesToMaker emission → NoReports emission.packet.contents ⊎ NoEnd emission.packet.contents
-      → ((packet : PacketContent) → IsPacket (wire_options d.options) packet bytes → packet_in packet ≡ emission.packet) → HandleInput d bytes turns → AlongTurns (HearsBack heard) d turns
+      → ((packet : PacketContent) → IsPacket (wire_options d.options) packet bytes → packet_of_content packet ≡ emission.packet) → HandleInput d bytes turns → AlongTurns (HearsBack heard) d turns
   packet_back d bytes turns go reports is (unreadable ts unread taken) = tail_back d (arrival ∷ refusal unreadable_text ∷ []) ts (tt, (tt, tt)) taken
   packet_back d bytes turns go reports is (readable packet counted ts is_packet counting admitted) =
       let core : counted.outcome.after.core ≡ d.core = ap (λ (x : Outcome). x.after.core) counting.comes in
       let same : AdmittedTurns counted.outcome.after emission.packet (admits counted.outcome.after.core emission.packet) ts =
       subst (λ (c : Core). AdmittedTurns counted.outcome.after emission.packet (admits c emission.packet) ts) (sym core)
       (subst (λ (p : Packet). AdmittedTurns counted.outcome.after p (admits d.core p) ts) (is packet is_packet) admitted) in (
-        (λ link linked. subst (λ (i : Input). CameBack heard link.my.tag (came_by i)) (sym counting.is) tt),
+        (λ link linked. subst (λ (i : Input). CameBack heard link.my.tag (content_of_input i)) (sym counting.is) tt),
         admitted_back counted.outcome.after ts go reports (admits counted.outcome.after.core emission.packet) refl same,
       )

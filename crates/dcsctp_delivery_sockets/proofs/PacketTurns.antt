@@ -3,25 +3,25 @@ use Rattle.std.proofs.Common.{◌≡◌, ℕ, Bool, true, false, ◌<◌, ◌^�
 use Rattle.std.proofs.lemmas.List.{append-nil}
 use Rattle.std.specs.Prelude.{◌⊎◌, Option, None, ◌&&◌}
 use Rattle.dcsctp_spec_lemmas.specs.types.declared.options.Options.{Options}
-use Rattle.dcsctp_spec_lemmas.specs.spec.Admission.{Admission, all_chunks, shutdown_acks_alone, refused, admits, is_echo_in_front, shutdown_acks_in}
+use Rattle.dcsctp_spec_lemmas.specs.spec.Admission.{Admission, all_chunks, shutdown_acks_alone, refused, admits, is_echo_in_front, shutdown_acks_of}
 use Rattle.dcsctp_spec_lemmas.specs.spec.endpoint.MessageOutcomes.{awaits_opening}
 use Rattle.dcsctp_spec_lemmas.specs.spec.association.Acts.{shut_down}
 use Rattle.dcsctp_spec_lemmas.specs.spec.endpoint.CallTurns.{packet_tail, asked_again, Transition, IsTurn, Turns, AfterChunk, ChunkTurns, WholeTurns, AdmittedTurns, after_all, effects_of, events_of}
 use Rattle.dcsctp_spec_lemmas.specs.spec.endpoint.Endpoint.{Endpoint, Core, closed, cookie_wait, cookie_echoed, open_in, established, shutdown_pending, shutdown_sent, shutdown_received, shutdown_ack_sent, own_tag, is_cookie_echoed}
-use Rattle.dcsctp_spec_lemmas.specs.spec.endpoint.Event.{Event, packets_in}
+use Rattle.dcsctp_spec_lemmas.specs.spec.endpoint.Event.{Event, packets_of_events}
 use Rattle.dcsctp_spec_lemmas.specs.spec.endpoint.Following.{Following, next_chunk, packet_end, dropped_rest}
 use Rattle.dcsctp_spec_lemmas.specs.spec.endpoint.Outcome.{Outcome, still}
 use Rattle.dcsctp_spec_lemmas.specs.spec.Packet.{Content, init, init_ack, cookie_echo, cookie_ack, re_config, abort, shutdown, shutdown_ack, shutdown_complete, plain, Emission}
 use Rattle.dcsctp_spec_lemmas.specs.spec.endpoint.Turn.{act_input, Input, refusal, packet_begins, chunk_input, packet_ends, has_data_chunk, BeginTurn, comes_early, needs_connection}
 use Rattle.dcsctp_spec_runs.specs.World.{after_effects}
-use Rattle.dcsctp_spec_lemmas.specs.spec.association.Effect.{AssociationIdentity, Effect, identity_in, holds}
+use Rattle.dcsctp_spec_lemmas.specs.spec.association.Effect.{AssociationIdentity, Effect, identity_of_core, holds}
 use Rattle.dcsctp_spec_lemmas.specs.spec.queues.Transfer.{Transfer}
 use Rattle.dcsctp_theorem_association.proofs.Growth.{after_effects-append}
-use Rattle.dcsctp_theorem_sockets.proofs.Bursts.{packets_in-append}
+use Rattle.dcsctp_theorem_sockets.proofs.Bursts.{packets_of_events-append}
 use Rattle.dcsctp_delivery_sending.specs.Log.{Message}
 use Rattle.dcsctp_delivery_sending.specs.Places as places
 use Rattle.dcsctp_delivery_sending.specs.Flushes.{NoData}
-use Rattle.dcsctp_delivery_turns.specs.Actions.{IsOpening, came_by, IsCall}
+use Rattle.dcsctp_delivery_turns.specs.Actions.{IsOpening, content_of_input, IsCall}
 use Rattle.dcsctp_delivery_turns.specs.Sides.{WasSent}
 use Rattle.dcsctp_delivery_associations.specs.Ends.{Ends, IsOfEnds, HadBoth}
 use Rattle.dcsctp_delivery_associations.specs.Laws.{AsksLittle, AreEnds}
@@ -47,7 +47,7 @@ begin_core e (open_in shutdown_received my held) has o turn = ap (λ (x : Outcom
 begin_core e (open_in shutdown_ack_sent my held) has o turn = ap (λ (x : Outcome). x.after.core) turn
 
 -- No SHUTDOWN ACK has data.
-acks_none : (contents : List Content) → NoData (shutdown_acks_in contents)
+acks_none : (contents : List Content) → NoData (shutdown_acks_of contents)
 acks_none [] = tt
 acks_none (shutdown_ack ∷ contents) = (tt, acks_none contents)
 acks_none (init i ∷ contents) = acks_none contents
@@ -76,8 +76,8 @@ front_tag tag d (shutdown_complete r) contents t turn go own next = tag_stays ta
 front_tag tag d (plain chunk) contents t turn go own next = tag_stays tag d (chunk_input tag (plain chunk)) t.outcome (λ opening. opening) tt (own_is d.core tag (own refl)) turn.comes
 
 -- the packets of a turn and of those after it
-pub packets_apart : (packets : List Emission) (t : Transition) (turns : List Transition) → (packets ++ packets_in t.outcome.events) ++ packets_in (events_of turns) ≡ packets ++ packets_in (events_of (t ∷ turns))
-packets_apart packets t turns = append_assoc packets (packets_in t.outcome.events) (packets_in (events_of turns)) ∙ ap (λ (l : List Emission). packets ++ l) (sym (packets_in-append t.outcome.events (events_of turns)))
+pub packets_apart : (packets : List Emission) (t : Transition) (turns : List Transition) → (packets ++ packets_of_events t.outcome.events) ++ packets_of_events (events_of turns) ≡ packets ++ packets_of_events (events_of (t ∷ turns))
+packets_apart packets t turns = append_assoc packets (packets_of_events t.outcome.events) (packets_of_events (events_of turns)) ∙ ap (λ (l : List Emission). packets ++ l) (sym (packets_of_events-append t.outcome.events (events_of turns)))
 
 module _ (never_resets : ℕ → Bool) (options : Options) (e : Endpoint) (queued : List Message) (past : List Effect) (packets : List Emission) (few : length queued < 2 ^ 64) (little : AsksLittle packets) (emission : Emission) (has : places.HasEntry emission packets) where
   abbrev Have : List (Event Emission) → Endpoint → List Effect → Reading → Type 0
@@ -100,16 +100,16 @@ module _ (never_resets : ℕ → Bool) (options : Options) (e : Endpoint) (queue
 
   one_turn : (seen : List (Event Emission)) (d : Endpoint) (their_past : List Effect) (reading : Reading) (input : Input) (t : Transition) → (h : Have seen d their_past reading) → IsTurn d input t
       → AreNewTags options their_past past d (t ∷ [])
-      → ((transfer : Transfer) (link : AssociationIdentity) → d.queues.transfer ≡ Some transfer → identity_in d.core ≡ Some link → WasSent (h.ends.sends link.peer.tag).sent (came_by input) × (HadBoth past link.peer.tag link.my.tag ⊎ WasSent [] (came_by input))) → IsCall input
+      → ((transfer : Transfer) (link : AssociationIdentity) → d.queues.transfer ≡ Some transfer → identity_of_core d.core ≡ Some link → WasSent (h.ends.sends link.peer.tag).sent (content_of_input input) × (HadBoth past link.peer.tag link.my.tag ⊎ WasSent [] (content_of_input input))) → IsCall input
       → Have (seen ++ t.outcome.events) t.outcome.after (after_effects t.outcome.effects their_past) (reading_after d t.input t.outcome.after reading)
   one_turn seen d their_past reading input t h turn new sent may =
       subst (λ (i : Input). Have (seen ++ t.outcome.events) t.outcome.after (after_effects t.outcome.effects their_past) (reading_after d i t.outcome.after reading)) (sym turn.is)
       (subst (λ (n : ℕ → Bool). AreEnds n (seen ++ t.outcome.events) options e queued past packets t.outcome.after (after_effects t.outcome.effects their_past) (reading_after d input t.outcome.after reading)) h.is
-      (receiver_turns options h.ends e queued past packets d their_past reading h.between few new.0 input t.outcome (λ begun opening linked. new.1 begun (subst (λ (i : Input). IsOpening (came_by i)) (sym turn.is) opening) linked)
+      (receiver_turns options h.ends e queued past packets d their_past reading h.between few new.0 input t.outcome (λ begun opening linked. new.1 begun (subst (λ (i : Input). IsOpening (content_of_input i)) (sym turn.is) opening) linked)
       h.answered little new.3.0 may turn.comes seen h.reported new.2 sent))
 
   -- A chunk that is dropped changes nothing.
-  drops : (seen : List (Event Emission)) (d : Endpoint) (their_past : List Effect) (reading : Reading) (tag : ℕ) (content : Content) (t : Transition) (link : AssociationIdentity) → Have seen d their_past reading → IsTurn d (chunk_input tag content) t → identity_in d.core ≡ Some link
+  drops : (seen : List (Event Emission)) (d : Endpoint) (their_past : List Effect) (reading : Reading) (tag : ℕ) (content : Content) (t : Transition) (link : AssociationIdentity) → Have seen d their_past reading → IsTurn d (chunk_input tag content) t → identity_of_core d.core ≡ Some link
       → reading.last ≡ tags_of link → t.outcome ≡ still d → Have (seen ++ t.outcome.events) t.outcome.after (after_effects t.outcome.effects their_past) (reading_after d t.input t.outcome.after reading)
   drops seen d their_past reading tag content t link h turn linked last dropped =
       subst (λ (i : Input). Have (seen ++ t.outcome.events) t.outcome.after (after_effects t.outcome.effects their_past) (reading_after d i t.outcome.after reading)) (sym turn.is)
@@ -121,18 +121,18 @@ module _ (never_resets : ℕ → Bool) (options : Options) (e : Endpoint) (queue
       → Have (seen ++ t.outcome.events) t.outcome.after (after_effects t.outcome.effects their_past) (reading_after d t.input t.outcome.after reading)
   chunk_turn seen d their_past reading tag content t h turn new may = by_transfer d.queues.transfer refl
     where
-      own_link : (one two : AssociationIdentity) → identity_in d.core ≡ Some one → identity_in d.core ≡ Some two → one ≡ two
+      own_link : (one two : AssociationIdentity) → identity_of_core d.core ≡ Some one → identity_of_core d.core ≡ Some two → one ≡ two
       own_link one two first second = cc
 
       same_transfer : (one two : Transfer) → d.queues.transfer ≡ Some one → d.queues.transfer ≡ Some two → one ≡ two
       same_transfer one two first second = cc
 
-      goes : ((transfer : Transfer) (link : AssociationIdentity) → d.queues.transfer ≡ Some transfer → identity_in d.core ≡ Some link
+      goes : ((transfer : Transfer) (link : AssociationIdentity) → d.queues.transfer ≡ Some transfer → identity_of_core d.core ≡ Some link
           → WasSent (h.ends.sends link.peer.tag).sent (Some content) × (HadBoth past link.peer.tag link.my.tag ⊎ WasSent [] (Some content)))
           → Have (seen ++ t.outcome.events) t.outcome.after (after_effects t.outcome.effects their_past) (reading_after d t.input t.outcome.after reading)
       goes sent = one_turn seen d their_past reading (chunk_input tag content) t h turn new sent tt
 
-      by_link : (transfer : Transfer) → d.queues.transfer ≡ Some transfer → (link : AssociationIdentity) → HasEffect (holds link) their_past → identity_in d.core ≡ Some link → link.my.tag ≢ 0
+      by_link : (transfer : Transfer) → d.queues.transfer ≡ Some transfer → (link : AssociationIdentity) → HasEffect (holds link) their_past → identity_of_core d.core ≡ Some link → link.my.tag ≢ 0
           → (IsCrossedByEach past link × IsNoneBefore past link) ⊎ ((d.options.follow_rfc ≡ true) × (is_cookie_echoed d.core ≡ true)) → Have (seen ++ t.outcome.events) t.outcome.after (after_effects t.outcome.effects their_past) (reading_after d t.input t.outcome.after reading)
       by_link transfer there link held linked some (inl crosses) =
           goes (λ other link' there' linked'. subst (λ (l : AssociationIdentity). WasSent (h.ends.sends l.peer.tag).sent (Some content) × (HadBoth past l.peer.tag l.my.tag ⊎ WasSent [] (Some content))) (own_link link link' linked linked')
@@ -284,5 +284,5 @@ module _ (never_resets : ℕ → Bool) (options : Options) (e : Endpoint) (queue
   unfolding IsTail
   packet_goes seen d their_past reading turns h new go all_chunks admitted taken = whole_goes seen d their_past reading turns h new go admitted taken
   packet_goes seen d their_past reading turns h new go shutdown_acks_alone admitted taken =
-      chunks_go (shutdown_acks_in emission.packet.contents) seen d their_past reading emission.packet.tag [] turns h new (inl refl) (inl (acks_none emission.packet.contents)) taken
+      chunks_go (shutdown_acks_of emission.packet.contents) seen d their_past reading emission.packet.tag [] turns h new (inl refl) (inl (acks_none emission.packet.contents)) taken
   packet_goes seen d their_past reading turns h new go (refused text) admitted taken = refused_go seen d their_past reading text turns h new taken

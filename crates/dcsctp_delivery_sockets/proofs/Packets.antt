@@ -8,14 +8,14 @@ use Rattle.dcsctp_spec_lemmas.specs.spec.endpoint.Endpoint.{Endpoint, Core, clos
 use Rattle.dcsctp_spec_lemmas.specs.spec.endpoint.Outcome.{Outcome, quiet, fits}
 use Rattle.dcsctp_spec_lemmas.specs.spec.Packet.{Introduction, Content, init, init_ack, cookie_echo, cookie_ack, re_config, abort, shutdown, shutdown_ack, shutdown_complete, unknown, heartbeat, heartbeat_ack, unworked, plain, Emission}
 use Rattle.dcsctp_spec_lemmas.specs.spec.Reconfiguration.{ResetParameter}
-use Rattle.dcsctp_spec_lemmas.specs.spec.association.Effect.{AssociationIdentity, identity_of, identity_in, Effect}
+use Rattle.dcsctp_spec_lemmas.specs.spec.association.Effect.{AssociationIdentity, identity_of, identity_of_core, Effect}
 use Rattle.dcsctp_spec_lemmas.specs.spec.endpoint.FlushOutcomes.{Answer, flush_answered}
-use Rattle.dcsctp_spec_lemmas.specs.spec.endpoint.HandshakeOutcomes.{echo_emission, EchoAnswers, awaits_cookie_ack, InitAckAnswers, init_ack_by, InitAckTurn}
+use Rattle.dcsctp_spec_lemmas.specs.spec.endpoint.HandshakeOutcomes.{echo_emission, EchoAnswers, awaits_cookie_ack, InitAckAnswers, init_ack_with_flush, InitAckTurn}
 use Rattle.dcsctp_spec_lemmas.specs.spec.endpoint.Turn.{Input, Turn, needs_connection}
 use Rattle.dcsctp_delivery_sending.specs.Places as places
 use Rattle.dcsctp_delivery_sending.specs.Flushes.{NoContent, NoData}
-use Rattle.dcsctp_delivery_turns.specs.Actions.{came_by, IsOpening, Becomes, goes_on, pauses, works_resets, renews, ends, begins, collides, IsCall}
-use Rattle.dcsctp_delivery_turns.specs.Sides.{WasIn, WasSent}
+use Rattle.dcsctp_delivery_turns.specs.Actions.{content_of_input, IsOpening, Becomes, goes_on, pauses, works_resets, renews, ends, begins, collides, IsCall}
+use Rattle.dcsctp_delivery_turns.specs.Sides.{WasInSentPacket, WasSent}
 use Rattle.dcsctp_delivery_associations.specs.Ends.{Ends, IsOfEnds, AreOfEnds, IsOfEnd, HadBoth, PlaceWasTaken, WentBefore}
 use Rattle.dcsctp_delivery_sockets.specs.Echoes.{MayFollow}
 use Rattle.dcsctp_delivery_turns.proofs.Tags.{flush_link}
@@ -36,7 +36,7 @@ no_content content (c ∷ contents) none (inr h) = no_content content contents n
 
 -- The association has this tag, if there is one.
 abbrev pub TagIs : ℕ → Endpoint → Type 0
-TagIs tag e = (link : AssociationIdentity) → identity_in e.core ≡ Some link → link.my.tag ≡ tag
+TagIs tag e = (link : AssociationIdentity) → identity_of_core e.core ≡ Some link → link.my.tag ≡ tag
 
 -- The chunk has no data and asks for no reset of streams; or it is of this packet, which has the tag of the association.
 abbrev pub MayHandle : Emission → Endpoint → Content → Type 0
@@ -75,7 +75,7 @@ unsent sent (shutdown c) none = tt
 unsent sent shutdown_ack none = tt
 unsent sent (shutdown_complete t) none = tt
 
-module _ (table : Ends) (past : List Effect) (emission : Emission) (is : IsOfEnds table past emission) (e : Endpoint) (link : AssociationIdentity) (linked : identity_in e.core ≡ Some link) (some : link.my.tag ≢ 0) (crosses : IsCrossedByEach past link)
+module _ (table : Ends) (past : List Effect) (emission : Emission) (is : IsOfEnds table past emission) (e : Endpoint) (link : AssociationIdentity) (linked : identity_of_core e.core ≡ Some link) (some : link.my.tag ≢ 0) (crosses : IsCrossedByEach past link)
     (none_before : IsNoneBefore past link) (replaced : (tag former : ℕ) → table.former tag ≡ Some former → PlaceWasTaken past tag former (table.latest tag)) where
   -- What was sent in the association that crosses it, or needs no sender.
   abbrev pub Sent : Option Content → Type 0
@@ -94,11 +94,11 @@ module _ (table : Ends) (past : List Effect) (emission : Emission) (is : IsOfEnd
   went_no : TagIs emission.packet.tag e → WentBefore table emission → ⊥
   went_no tag went = none_before went.tag emission.packet.tag (table.latest went.tag) (replaced went.tag emission.packet.tag went.former_is) (tag link linked)
 
-  was_in : (chunk : ChunkContent) → (NoContent (plain (unworked chunk)) → ⊥) → MayHandle emission e (plain (unworked chunk)) → WasIn (table.sends link.peer.tag).sent chunk × HadBoth past link.peer.tag link.my.tag
+  was_in : (chunk : ChunkContent) → (NoContent (plain (unworked chunk)) → ⊥) → MayHandle emission e (plain (unworked chunk)) → WasInSentPacket (table.sends link.peer.tag).sent chunk × HadBoth past link.peer.tag link.my.tag
   was_in chunk bears (inl none) = absurd (bears none)
   was_in chunk bears (inr (has, tag)) = go is
     where
-      go : IsOfEnds table past emission → WasIn (table.sends link.peer.tag).sent chunk × HadBoth past link.peer.tag link.my.tag
+      go : IsOfEnds table past emission → WasInSentPacket (table.sends link.peer.tag).sent chunk × HadBoth past link.peer.tag link.my.tag
       go (inl none) = absurd (bears (no_content (plain (unworked chunk)) emission.packet.contents none has))
       go (inr (free, inl zero)) = absurd (some (tag link linked ∙ zero))
       go (inr (free, inr (inl went))) = absurd (went_no tag went)
@@ -159,8 +159,8 @@ by_becomes tag e came o not is (begins begun opening linked alike unread again m
 by_becomes tag e came o not is (collides collision alike unread again makes) = absurd (not collision.opened.opening)
 
 -- A chunk that begins no association leaves its tag.
-pub tag_stays : (tag : ℕ) (e : Endpoint) (input : Input) (o : Outcome) → (IsOpening (came_by input) → ⊥) → IsCall input → TagIs tag e → Turn e input o → TagIs tag o.after
-tag_stays tag e input o not may is turn = by_becomes tag e (came_by input) o not is (turns_are_actions e input o may turn)
+pub tag_stays : (tag : ℕ) (e : Endpoint) (input : Input) (o : Outcome) → (IsOpening (content_of_input input) → ⊥) → IsCall input → TagIs tag e → Turn e input o → TagIs tag o.after
+tag_stays tag e input o not may is turn = by_becomes tag e (content_of_input input) o not is (turns_are_actions e input o may turn)
 
 pub not_opening : (content : Content) → MayFollow content → IsOpening (Some content) → ⊥
 not_opening (init introduction) may opening = opening
@@ -174,7 +174,7 @@ not_opening shutdown_ack may opening = opening
 not_opening (shutdown_complete reflected) may opening = opening
 not_opening (plain chunk) may opening = opening
 
-pub own_is : (core : Core) (tag : ℕ) → own_tag core ≡ tag → (link : AssociationIdentity) → identity_in core ≡ Some link → link.my.tag ≡ tag
+pub own_is : (core : Core) (tag : ℕ) → own_tag core ≡ tag → (link : AssociationIdentity) → identity_of_core core ≡ Some link → link.my.tag ≡ tag
 own_is closed tag own link is = absurd (cc)
 own_is (cookie_wait my) tag own link is = absurd (cc)
 own_is (cookie_echoed my held cookie) tag own link is = (let same : identity_of my held ≡ link = cc in ap (λ (l : AssociationIdentity). l.my.tag) (sym same) ∙ own)
@@ -182,12 +182,12 @@ own_is (open_in phase my held) tag own link is = (let same : identity_of my held
 
 -- So does an INIT ACK: the association that it begins has the tag that the handshake had.
 echoed_link : (b : Bool) (e : Endpoint) (words : List Word) (tag : ℕ) (cookie : List ℕ) (answers : List Answer) → EchoAnswers b e tag cookie answers
-    → identity_in (cond b (flush_answered answers e words [] true tag (cookie_echo cookie ∷ [])) (quiet e words [])).after.core ≡ identity_in e.core
+    → identity_of_core (cond b (flush_answered answers e words [] true tag (cookie_echo cookie ∷ [])) (quiet e words [])).after.core ≡ identity_of_core e.core
 echoed_link true e words tag cookie answers allowed = flush_link e (echo_emission tag cookie) answers allowed
 echoed_link false e words tag cookie answers allowed = refl
 
 init_ack_link : (tag : ℕ) (e : Endpoint) (theirs : Introduction) (cookie : Option (List ℕ)) (core : Core) (word : ℕ) (answers : List Answer) → e.core ≡ core → own_tag core ≡ tag
-    → InitAckAnswers e theirs cookie core word answers → (link : AssociationIdentity) → identity_in (init_ack_by (flush_answered answers) e theirs cookie core word).after.core ≡ Some link → link.my.tag ≡ tag
+    → InitAckAnswers e theirs cookie core word answers → (link : AssociationIdentity) → identity_of_core (init_ack_with_flush (flush_answered answers) e theirs cookie core word).after.core ≡ Some link → link.my.tag ≡ tag
 init_ack_link tag e theirs cookie closed word answers at own allowed link is = own_is e.core tag (ap own_tag at ∙ own) link is
 init_ack_link tag e theirs cookie (cookie_echoed my held echoed) word answers at own allowed link is = own_is e.core tag (ap own_tag at ∙ own) link is
 init_ack_link tag e theirs cookie (open_in phase my held) word answers at own allowed link is = own_is e.core tag (ap own_tag at ∙ own) link is
@@ -198,4 +198,4 @@ init_ack_link tag e theirs (Some cookie) (cookie_wait my) word answers at own al
 
 pub init_ack_tag : (tag : ℕ) (e : Endpoint) (theirs : Introduction) (cookie : Option (List ℕ)) (o : Outcome) → own_tag e.core ≡ tag → InitAckTurn e theirs cookie o → TagIs tag o.after
 init_ack_tag tag e theirs cookie o own (word, answers, allowed, is) =
-    λ link there. init_ack_link tag e theirs cookie e.core word answers refl own allowed link (sym (ap (λ (x : Outcome). identity_in x.after.core) is) ∙ there)
+    λ link there. init_ack_link tag e theirs cookie e.core word answers refl own allowed link (sym (ap (λ (x : Outcome). identity_of_core x.after.core) is) ∙ there)

@@ -13,12 +13,12 @@ use Rattle.dcsctp_spec_runs.specs.Laws.{AnswerKeepsAgreement}
 use Rattle.dcsctp_spec_runs.specs.Past.{HasEffect, WasPerformed}
 use Rattle.dcsctp_spec_runs.specs.Sockets.{PerformedAct, Both, side_turns_added, turns_after, SocketRun, acts_of}
 use Rattle.dcsctp_spec_runs.specs.World.{SideState, World, world_after}
-use Rattle.dcsctp_spec_lemmas.specs.spec.association.Effect.{AssociationIdentity, Effect, draws, sends, holds, connects, ends, begins, gives_up, completes, fails, accepts, performs, renews, resumes, noted}
+use Rattle.dcsctp_spec_lemmas.specs.spec.association.Effect.{AssociationIdentity, Effect, draws, sends, holds, connects, ends, begins, gives_up, completes, fails, accepts, performs, renews, resumes, effects_without_packets}
 use Rattle.dcsctp_spec_lemmas.proofs.TurnLists.{pairs_of-append}
 use Rattle.dcsctp_theorem_association.proofs.Agreement.{TrueWorld}
 use Rattle.dcsctp_theorem_association.proofs.Facts.{TruePast, Found, agreed_link}
 use Rattle.dcsctp_theorem_association.proofs.Growth.{true_of}
-use Rattle.dcsctp_theorem_sockets.specs.Agreement.{HasDistinctTags, AreUsable, AreFresh, noted_past}
+use Rattle.dcsctp_theorem_sockets.specs.Agreement.{HasDistinctTags, AreUsable, AreFresh, recorded_past}
 use Rattle.dcsctp_theorem_sockets.proofs.Follow.{Followed}
 use Rattle.dcsctp_theorem_sockets.proofs.Moves.{Below}
 use Rattle.dcsctp_theorem_sockets.proofs.NotedLemmas.{was_performed-noted}
@@ -32,7 +32,7 @@ use Rattle.dcsctp_spec_lemmas.specs.spec.Packet.{Packet}
 -- ---- one side
 
 all_performed : (mine theirs : Options) (my_offer their_offer : Offer) (turns others : List Transition) (one other : SideState) → Followed mine turns one → Followed theirs others other
-    → TruePast my_offer their_offer one.past other.past → AllPerformed (noted_past turns) (noted_past others)
+    → TruePast my_offer their_offer one.past other.past → AllPerformed (recorded_past turns) (recorded_past others)
 all_performed mine theirs my_offer their_offer turns others one other h k is my number has =
     let was : HasEffect (completes my number) one.past = noted_happened (completes my number) one.past (subst (HasEffect (completes my number)) (sym h.past) has) in
     elim (true_of my_offer their_offer one.past other.past (completes my number) is was) [
@@ -41,7 +41,7 @@ all_performed mine theirs my_offer their_offer turns others one other h k is my 
     ]
 
 -- What happened is recorded, except what was sent.
-noted_of : (effect : Effect) → ((packet : Packet) → effect ≡ sends packet → ⊥) → (effects : List Effect) → HasEffect effect effects → HasEffect effect (noted effects)
+noted_of : (effect : Effect) → ((packet : Packet) → effect ≡ sends packet → ⊥) → (effects : List Effect) → HasEffect effect effects → HasEffect effect (effects_without_packets effects)
 noted_of effect none [] has = has
 noted_of effect none (sends packet ∷ effects) (inl is) = absurd (none packet is)
 noted_of effect none (sends packet ∷ effects) (inr has) = noted_of effect none effects has
@@ -71,14 +71,14 @@ noted_of effect none (resumes link own last ∷ effects) (inl is) = inl is
 noted_of effect none (resumes link own last ∷ effects) (inr has) = inr (noted_of effect none effects has)
 
 all_found : (mine theirs : Options) (my_offer their_offer : Offer) (turns others : List Transition) (one other : SideState) → Followed mine turns one → Followed theirs others other
-    → TruePast my_offer their_offer one.past other.past → AllFound (noted_past turns) (noted_past others)
+    → TruePast my_offer their_offer one.past other.past → AllFound (recorded_past turns) (recorded_past others)
 all_found mine theirs my_offer their_offer turns others one other h k is link has =
     let was : HasEffect (connects link) one.past = noted_happened (connects link) one.past (subst (HasEffect (connects link)) (sym h.past) has) in
     let found : Found my_offer their_offer other.past link = true_of my_offer their_offer one.past other.past (connects link) is was in
     let crossed : AssociationIdentity = agreed_link their_offer my_offer link.peer link.my in
     (crossed, subst (HasEffect (holds crossed)) k.past (noted_of (holds crossed) (λ packet same. absurd (cc)) other.past found.held), refl)
 
-none_restored : (mine : Options) (my_offer their_offer : Offer) (turns : List Transition) (one other : SideState) → Followed mine turns one → TruePast my_offer their_offer one.past other.past → NoneRestored (noted_past turns)
+none_restored : (mine : Options) (my_offer their_offer : Offer) (turns : List Transition) (one other : SideState) → Followed mine turns one → TruePast my_offer their_offer one.past other.past → NoneRestored (recorded_past turns)
 none_restored mine my_offer their_offer turns one other h is link own last has =
     true_of my_offer their_offer one.past other.past (resumes link own last) is (noted_happened (resumes link own last) one.past (subst (HasEffect (resumes link own last)) (sym h.past) has))
 
@@ -91,8 +91,8 @@ pub record SidePerformed (past theirs : List Effect) : Type 0 where
   pub restored : NoneRestored past
 
 pub record BothPerformed (turns : Both (List Transition)) : Type 0 where
-  pub a : SidePerformed (noted_past turns.a) (noted_past turns.b)
-  pub b : SidePerformed (noted_past turns.b) (noted_past turns.a)
+  pub a : SidePerformed (recorded_past turns.a) (recorded_past turns.b)
+  pub b : SidePerformed (recorded_past turns.b) (recorded_past turns.a)
 
 pub both_performed : Below → AnswerKeepsAgreement → (options : Both Options) (run : List PerformedAct) → AreUsable options → SocketRun options run → AreHonest (acts_of run) → AreFresh (turns_after run)
     → BothPerformed (turns_after run)

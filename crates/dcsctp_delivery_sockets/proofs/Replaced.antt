@@ -8,7 +8,7 @@ use Rattle.dcsctp_spec_runs.specs.Past.{HasEffect, Each}
 use Rattle.dcsctp_spec_runs.specs.Sockets.{Both}
 use Rattle.dcsctp_spec_runs.specs.World.{after_effects}
 use Rattle.dcsctp_theorem_association.proofs.Growth.{after_within}
-use Rattle.dcsctp_theorem_sockets.specs.Agreement.{noted_past}
+use Rattle.dcsctp_theorem_sockets.specs.Agreement.{recorded_past}
 use Rattle.dcsctp_delivery_sending.proofs.Places.{decide}
 use Rattle.dcsctp_delivery_associations.specs.Ends.{IsBefore, PlaceWasTaken}
 use Rattle.dcsctp_delivery_associations.proofs.Tagged.{PeersDiffer}
@@ -45,9 +45,9 @@ match_wider my_options their_options mine theirs matched link other has has' sha
 pub tags_wider : (options : Both Options) (turns : Both (List Transition)) → TagsServeOnce turns → TagsServeOnceBut options turns
 tags_wider options turns once =
     record {
-      a = each_wider options.a (noted_past turns.b) (noted_past turns.a) once.a;
-      b = each_wider options.b (noted_past turns.a) (noted_past turns.b) once.b;
-      matched = match_wider options.a options.b (noted_past turns.a) (noted_past turns.b) once.matched;
+      a = each_wider options.a (recorded_past turns.b) (recorded_past turns.a) once.a;
+      b = each_wider options.b (recorded_past turns.a) (recorded_past turns.b) once.b;
+      matched = match_wider options.a options.b (recorded_past turns.a) (recorded_past turns.b) once.matched;
     }
 
 -- Where each tag serves one association, two of one own tag are one.
@@ -64,8 +64,8 @@ one_of_tag (effect ∷ earlier) each one two (inl is) (inr has') same = absurd (
 one_of_tag (effect ∷ earlier) each one two (inr has) (inl is') same = absurd (rule_apart effect earlier two one each.0 is' has same)
 one_of_tag (effect ∷ earlier) each one two (inr has) (inr has') same = one_of_tag earlier each.1 one two has has' same
 
-pub together_wider : (turns : List Transition) → Each IsOfNewTags (noted_past turns) → SendsLittleTogether turns
-together_wider turns each old link has has' same other = absurd (other (ap (λ (l : AssociationIdentity). l.peer.tag) (one_of_tag (noted_past turns) each old link has has' same)))
+pub together_wider : (turns : List Transition) → Each IsOfNewTags (recorded_past turns) → SendsLittleTogether turns
+together_wider turns each old link has has' same other = absurd (other (ap (λ (l : AssociationIdentity). l.peer.tag) (one_of_tag (recorded_past turns) each old link has has' same)))
 
 -- ---- each first part of a run meets it
 

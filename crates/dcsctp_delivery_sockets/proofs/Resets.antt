@@ -10,7 +10,7 @@ use Rattle.dcsctp_spec_lemmas.specs.spec.endpoint.BegunResets.{stream_field}
 use Rattle.dcsctp_spec_lemmas.specs.spec.endpoint.CallTurns.{Transition, events_of}
 use Rattle.dcsctp_spec_lemmas.specs.spec.endpoint.Event.{Event, connected, closed, aborted, streams_reset_failed, streams_reset_performed, incoming_stream_reset}
 use Rattle.dcsctp_spec_runs.specs.Past.{HasEffect}
-use Rattle.dcsctp_theorem_sockets.specs.Telling.{observations_of_ends, TellsNoted}
+use Rattle.dcsctp_theorem_sockets.specs.Telling.{observations_of_ends, ReportsRecorded}
 use Rattle.dcsctp_delivery_sending.specs.Places.{HasEntry}
 use Rattle.dcsctp_delivery_turns.proofs.Telling.{entry_either, entry_front}
 use Rattle.dcsctp_delivery_associations.specs.Laws.{ResetsWereSeen}
@@ -70,7 +70,7 @@ seen_more seen more [] each = tt
 seen_more seen more (turn ∷ turns) each =
     ((λ my number streams has told. entry_front (incoming_stream_reset (map stream_field streams)) seen more (each.0 my number streams has told)), seen_more seen more turns each.1)
 
-pub resets_shared : (seen : List (Event Emission)) (turns : List Transition) → AllByRecursion TellsNoted turns → AllSeen seen turns → (streams : List ℕ) → HasEntry (streams_reset_performed streams) (events_of turns)
+pub resets_shared : (seen : List (Event Emission)) (turns : List Transition) → AllByRecursion ReportsRecorded turns → AllSeen seen turns → (streams : List ℕ) → HasEntry (streams_reset_performed streams) (events_of turns)
     → HasEntry (incoming_stream_reset (map stream_field streams)) seen
 resets_shared seen [] tells each streams has = absurd has
 resets_shared seen (turn ∷ turns) tells each streams has =

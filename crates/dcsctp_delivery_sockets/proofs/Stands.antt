@@ -8,16 +8,16 @@ use Rattle.dcsctp_spec_lemmas.specs.types.Schedule.{CallContent}
 use Rattle.dcsctp_spec_lemmas.specs.types.Settings.{wire_options}
 use Rattle.dcsctp_spec_lemmas.specs.spec.endpoint.CallTurns.{Transition, AlongTurns, HandleInput, after_all, effects_of, events_of}
 use Rattle.dcsctp_spec_lemmas.specs.spec.endpoint.Endpoint.{Endpoint, fresh_endpoint}
-use Rattle.dcsctp_spec_lemmas.specs.spec.endpoint.Event.{Event, packets_in}
-use Rattle.dcsctp_spec_lemmas.specs.spec.Packet.{packet_in, Emission}
+use Rattle.dcsctp_spec_lemmas.specs.spec.endpoint.Event.{Event, packets_of_events}
+use Rattle.dcsctp_spec_lemmas.specs.spec.Packet.{packet_of_content, Emission}
 use Rattle.dcsctp_spec_runs.specs.Past.{Each}
 use Rattle.dcsctp_spec_lemmas.specs.spec.endpoint.UserTurns.{UserTurns}
 use Rattle.dcsctp_spec_runs.specs.Sockets.{endpoint_after}
 use Rattle.dcsctp_spec_runs.specs.World.{after_effects}
 use Rattle.dcsctp_spec_lemmas.specs.spec.association.Effect.{Effect}
 use Rattle.dcsctp_spec_lemmas.proofs.TurnLists.{after_all-append, events_of-append}
-use Rattle.dcsctp_theorem_sockets.specs.Agreement.{noted_past}
-use Rattle.dcsctp_theorem_sockets.proofs.Bursts.{packets_in-append}
+use Rattle.dcsctp_theorem_sockets.specs.Agreement.{recorded_past}
+use Rattle.dcsctp_theorem_sockets.proofs.Bursts.{packets_of_events-append}
 use Rattle.dcsctp_delivery_sending.specs.Log.{Message}
 use Rattle.dcsctp_delivery_sending.specs.Places as places
 use Rattle.dcsctp_delivery_turns.specs.Actions.{queued_after}
@@ -25,7 +25,7 @@ use Rattle.dcsctp_delivery_associations.specs.Laws.{AsksLittle, ResetsWereSeen, 
 use Rattle.dcsctp_delivery_associations.specs.Reads.{Reading, nothing_read, reading_after}
 use Rattle.dcsctp_delivery_sockets.specs.Acts.{queued_through, AreNewPeers, HearsBack}
 use Rattle.dcsctp_delivery_sockets.specs.Packets.{reading_through, AreNewTags}
-use Rattle.dcsctp_delivery_sockets.specs.UserMessages.{message_sent, messages_sent_in}
+use Rattle.dcsctp_delivery_sockets.specs.UserMessages.{message_sent, messages_of_turns}
 use Rattle.dcsctp_delivery_sockets.specs.Delivery.{IsOfNewTagsBut, MatchOrUnmatched, SendsLittle}
 use Rattle.dcsctp_delivery_sockets.proofs.Acts.{senders_act, senders_reset, receivers_act, receivers_handle}
 use Rattle.dcsctp_delivery_sockets.proofs.Calls.{NoChunks, AreCalls, call_without}
@@ -41,7 +41,7 @@ abbrev pub queued_of : Options → List Transition → List Message
 queued_of options turns = queued_through (fresh_endpoint options) turns []
 
 abbrev pub packets_of : List Transition → List Emission
-packets_of turns = packets_in (events_of turns)
+packets_of turns = packets_of_events (events_of turns)
 
 abbrev pub reading_of : Options → List Transition → Reading
 reading_of options turns = reading_through (fresh_endpoint options) turns nothing_read
@@ -49,7 +49,7 @@ reading_of options turns = reading_through (fresh_endpoint options) turns nothin
 -- the direction from the one to the other
 abbrev pub Stand : (ℕ → Bool) → Options → Options → List Transition → List Transition → Type 0
 Stand never_resets mine theirs turns others =
-    AreEnds never_resets (events_of others) theirs (endpoint_after mine turns) (queued_of mine turns) (noted_past turns) (packets_of turns) (endpoint_after theirs others) (noted_past others) (reading_of theirs others)
+    AreEnds never_resets (events_of others) theirs (endpoint_after mine turns) (queued_of mine turns) (recorded_past turns) (packets_of turns) (endpoint_after theirs others) (recorded_past others) (reading_of theirs others)
 
 queued_more : (e : Endpoint) (turns more : List Transition) (queued : List Message) → queued_through e (turns ++ more) queued ≡ queued_through (after_all e turns) more (queued_through e turns queued)
 queued_more e [] more queued = refl
@@ -60,11 +60,11 @@ reading_more e [] more reading = refl
 reading_more e (t ∷ turns) more reading = reading_more t.outcome.after turns more (reading_after e t.input t.outcome.after reading)
 
 packets_more : (turns more : List Transition) → packets_of (turns ++ more) ≡ packets_of turns ++ packets_of more
-packets_more turns more = ap packets_in (events_of-append turns more) ∙ packets_in-append (events_of turns) (events_of more)
+packets_more turns more = ap packets_of_events (events_of-append turns more) ∙ packets_of_events-append (events_of turns) (events_of more)
 
 -- ---- little is sent
 
-pub queued_same : (options : Options) (turns : List Transition) → SaysSame message_sent (queued_of options turns) (messages_sent_in (fresh_endpoint options) turns)
+pub queued_same : (options : Options) (turns : List Transition) → SaysSame message_sent (queued_of options turns) (messages_of_turns (fresh_endpoint options) turns)
 queued_same options turns = turns_same message_sent (fresh_endpoint options) turns [] [] (nothing_same message_sent)
 
 pub few_queued : (options : Options) (turns : List Transition) → SendsLittle options turns → length (queued_of options turns) < 2 ^ 64
@@ -81,28 +81,28 @@ module _ (never_resets : ℕ → Bool) (seen : List (Event Emission)) (theirs : 
       (subst (λ (x : List Effect). AreEnds never_resets seen theirs e queued x packets' d their_past reading) same_past
       (subst (λ (x : List Emission). AreEnds never_resets seen theirs e queued past x d their_past reading) same_packets h)))
 
-pub sender_more : (never_resets : ℕ → Bool) (mine theirs : Options) (turns others more : List Transition) → Stand never_resets mine theirs turns others → SideKnown never_resets mine (noted_past others) (turns ++ more)
-    → MatchOrUnmatched mine theirs (noted_past (turns ++ more)) (noted_past others) → StandsSo (endpoint_after mine turns) (noted_past turns) → AllPerformed (noted_past (turns ++ more)) (noted_past others)
-    → AllFound (noted_past (turns ++ more)) (noted_past others) → NoneRestored (noted_past (turns ++ more)) → AreCalls more → AllOpenFitting more → AllEcho more
+pub sender_more : (never_resets : ℕ → Bool) (mine theirs : Options) (turns others more : List Transition) → Stand never_resets mine theirs turns others → SideKnown never_resets mine (recorded_past others) (turns ++ more)
+    → MatchOrUnmatched mine theirs (recorded_past (turns ++ more)) (recorded_past others) → StandsSo (endpoint_after mine turns) (recorded_past turns) → AllPerformed (recorded_past (turns ++ more)) (recorded_past others)
+    → AllFound (recorded_past (turns ++ more)) (recorded_past others) → NoneRestored (recorded_past (turns ++ more)) → AreCalls more → AllOpenFitting more → AllEcho more
     → AlongTurns (HearsBack (packets_of others)) (endpoint_after mine turns) more → Stand never_resets mine theirs (turns ++ more) others × AllByRecursion (λ turn. ResetsWereSeen (events_of others) turn.outcome) more
 sender_more never_resets mine theirs turns others more h known matched stands performed found restored calls opens makers back =
     let e : Endpoint = endpoint_after mine turns in
-    let past : List Effect = noted_past turns in
-    let new : AreNewPeers past (noted_past others) e more =
-    new_peers mine theirs (noted_past others) more past e (ran_front never_resets mine turns more known) stands (rest_turns never_resets mine turns more known) calls (rest_refused never_resets mine turns more known) (rest_moves never_resets mine turns more known) opens makers
-    (subst (Each (IsOfNewTagsBut mine (noted_past others))) (past_more turns more) known.tags)
-    (subst (λ (p : List Effect). MatchOrUnmatched mine theirs p (noted_past others)) (past_more turns more) matched)
-    (subst (λ (p : List Effect). AllPerformed p (noted_past others)) (past_more turns more) performed)
-    (subst (λ (p : List Effect). AllFound p (noted_past others)) (past_more turns more) found) (subst NoneRestored (past_more turns more) restored) in
+    let past : List Effect = recorded_past turns in
+    let new : AreNewPeers past (recorded_past others) e more =
+    new_peers mine theirs (recorded_past others) more past e (ran_front never_resets mine turns more known) stands (rest_turns never_resets mine turns more known) calls (rest_refused never_resets mine turns more known) (rest_moves never_resets mine turns more known) opens makers
+    (subst (Each (IsOfNewTagsBut mine (recorded_past others))) (past_more turns more) known.tags)
+    (subst (λ (p : List Effect). MatchOrUnmatched mine theirs p (recorded_past others)) (past_more turns more) matched)
+    (subst (λ (p : List Effect). AllPerformed p (recorded_past others)) (past_more turns more) performed)
+    (subst (λ (p : List Effect). AllFound p (recorded_past others)) (past_more turns more) found) (subst NoneRestored (past_more turns more) restored) in
     let few : length (queued_through e more (queued_of mine turns)) < 2 ^ 64 =
     subst (λ (q : List Message). length q < 2 ^ 64) (queued_more (fresh_endpoint mine) turns more []) (few_queued mine (turns ++ more) known.little) in
     let asks : AsksLittle (packets_of turns ++ packets_of more) = subst AsksLittle (packets_more turns more) known.little.requests in (
-      same_sender never_resets (events_of others) theirs (endpoint_after theirs others) (noted_past others) (reading_of theirs others) (after_all e more) (endpoint_after mine (turns ++ more)) (queued_through e more (queued_of mine turns)) (queued_of mine (turns ++ more))
-          (after_effects (effects_of more) past) (noted_past (turns ++ more)) (packets_of turns ++ packets_of more) (packets_of (turns ++ more)) (sym (after_all-append (fresh_endpoint mine) turns more))
+      same_sender never_resets (events_of others) theirs (endpoint_after theirs others) (recorded_past others) (reading_of theirs others) (after_all e more) (endpoint_after mine (turns ++ more)) (queued_through e more (queued_of mine turns)) (queued_of mine (turns ++ more))
+          (after_effects (effects_of more) past) (recorded_past (turns ++ more)) (packets_of turns ++ packets_of more) (packets_of (turns ++ more)) (sym (after_all-append (fresh_endpoint mine) turns more))
           (sym (queued_more (fresh_endpoint mine) turns more [])) (sym (past_more turns more)) (sym (packets_more turns more))
-          (senders_act never_resets (events_of others) theirs (endpoint_after theirs others) (noted_past others) (reading_of theirs others) more e (queued_of mine turns) past (packets_of turns) h (rest_turns never_resets mine turns more known) (rest_resets never_resets mine turns more known) back new few
+          (senders_act never_resets (events_of others) theirs (endpoint_after theirs others) (recorded_past others) (reading_of theirs others) more e (queued_of mine turns) past (packets_of turns) h (rest_turns never_resets mine turns more known) (rest_resets never_resets mine turns more known) back new few
           asks),
-      senders_reset never_resets (events_of others) theirs (endpoint_after theirs others) (noted_past others) (reading_of theirs others) more e (queued_of mine turns) past (packets_of turns) h (rest_turns never_resets mine turns more known) (rest_resets never_resets mine turns more known) back new few
+      senders_reset never_resets (events_of others) theirs (endpoint_after theirs others) (recorded_past others) (reading_of theirs others) more e (queued_of mine turns) past (packets_of turns) h (rest_turns never_resets mine turns more known) (rest_resets never_resets mine turns more known) back new few
           asks,
     )
 
@@ -117,34 +117,34 @@ module _ (never_resets : ℕ → Bool) (theirs : Options) (e : Endpoint) (queued
       (subst (λ (x : List Effect). AreEnds never_resets seen theirs e queued past packets d x reading') same_past
       (subst (λ (x : Reading). AreEnds never_resets seen theirs e queued past packets d their_past x) same_reading h)))
 
-module _ (never_resets their_never : ℕ → Bool) (mine theirs : Options) (turns others more : List Transition) (h : Stand never_resets mine theirs turns others) (known : SideKnown their_never theirs (noted_past turns) (others ++ more))
-    (each : Each (IsOfNewTagsBut mine (noted_past (others ++ more))) (noted_past turns)) (matched : MatchOrUnmatched theirs mine (noted_past (others ++ more)) (noted_past turns)) (stands : StandsSo (endpoint_after theirs others) (noted_past others))
-    (found : AllFound (noted_past (others ++ more)) (noted_past turns)) (restored : NoneRestored (noted_past (others ++ more))) (little : SendsLittle mine turns) where
-  their_tags : AreCalls more → AllOpenFitting more → AreNewTags theirs (noted_past others) (noted_past turns) (endpoint_after theirs others) more
+module _ (never_resets their_never : ℕ → Bool) (mine theirs : Options) (turns others more : List Transition) (h : Stand never_resets mine theirs turns others) (known : SideKnown their_never theirs (recorded_past turns) (others ++ more))
+    (each : Each (IsOfNewTagsBut mine (recorded_past (others ++ more))) (recorded_past turns)) (matched : MatchOrUnmatched theirs mine (recorded_past (others ++ more)) (recorded_past turns)) (stands : StandsSo (endpoint_after theirs others) (recorded_past others))
+    (found : AllFound (recorded_past (others ++ more)) (recorded_past turns)) (restored : NoneRestored (recorded_past (others ++ more))) (little : SendsLittle mine turns) where
+  their_tags : AreCalls more → AllOpenFitting more → AreNewTags theirs (recorded_past others) (recorded_past turns) (endpoint_after theirs others) more
   their_tags calls opens =
-      let same : noted_past (others ++ more) ≡ after_effects (effects_of more) (noted_past others) = past_more others more in
-      new_tags theirs mine (noted_past turns) more (noted_past others) (endpoint_after theirs others) (ran_front their_never theirs others more known) stands (rest_turns their_never theirs others more known) calls
-      (rest_moves their_never theirs others more known) opens (subst (Each (IsOfNewTagsBut theirs (noted_past turns))) same known.tags)
-      (subst (λ (p : List Effect). Each (IsOfNewTagsBut mine p) (noted_past turns)) same each)
-      (subst (λ (p : List Effect). MatchOrUnmatched theirs mine p (noted_past turns)) same matched)
-      (subst (λ (p : List Effect). AllFound p (noted_past turns)) same found) (subst NoneRestored same restored)
+      let same : recorded_past (others ++ more) ≡ after_effects (effects_of more) (recorded_past others) = past_more others more in
+      new_tags theirs mine (recorded_past turns) more (recorded_past others) (endpoint_after theirs others) (ran_front their_never theirs others more known) stands (rest_turns their_never theirs others more known) calls
+      (rest_moves their_never theirs others more known) opens (subst (Each (IsOfNewTagsBut theirs (recorded_past turns))) same known.tags)
+      (subst (λ (p : List Effect). Each (IsOfNewTagsBut mine p) (recorded_past turns)) same each)
+      (subst (λ (p : List Effect). MatchOrUnmatched theirs mine p (recorded_past turns)) same matched)
+      (subst (λ (p : List Effect). AllFound p (recorded_past turns)) same found) (subst NoneRestored same restored)
 
-  now_stands : AreEnds never_resets (events_of others ++ events_of more) theirs (endpoint_after mine turns) (queued_of mine turns) (noted_past turns) (packets_of turns) (after_all (endpoint_after theirs others) more) (after_effects (effects_of more) (noted_past others))
+  now_stands : AreEnds never_resets (events_of others ++ events_of more) theirs (endpoint_after mine turns) (queued_of mine turns) (recorded_past turns) (packets_of turns) (after_all (endpoint_after theirs others) more) (after_effects (effects_of more) (recorded_past others))
       (reading_through (endpoint_after theirs others) more (reading_of theirs others)) → Stand never_resets mine theirs turns (others ++ more)
   now_stands after =
-      same_receiver never_resets theirs (endpoint_after mine turns) (queued_of mine turns) (noted_past turns) (packets_of turns) (events_of others ++ events_of more) (events_of (others ++ more)) (after_all (endpoint_after theirs others) more) (endpoint_after theirs (others ++ more))
-      (after_effects (effects_of more) (noted_past others)) (noted_past (others ++ more)) (reading_through (endpoint_after theirs others) more (reading_of theirs others)) (reading_of theirs (others ++ more))
+      same_receiver never_resets theirs (endpoint_after mine turns) (queued_of mine turns) (recorded_past turns) (packets_of turns) (events_of others ++ events_of more) (events_of (others ++ more)) (after_all (endpoint_after theirs others) more) (endpoint_after theirs (others ++ more))
+      (after_effects (effects_of more) (recorded_past others)) (recorded_past (others ++ more)) (reading_through (endpoint_after theirs others) more (reading_of theirs others)) (reading_of theirs (others ++ more))
       (sym (events_of-append others more)) (sym (after_all-append (fresh_endpoint theirs) others more)) (sym (past_more others more)) (sym (reading_more (fresh_endpoint theirs) others more nothing_read)) after
 
   pub receiver_calls : (call : CallContent) → UserTurns (endpoint_after theirs others) call more → AreCalls more → Stand never_resets mine theirs turns (others ++ more)
   receiver_calls call taken calls =
       let none : NoChunks more = call_without (endpoint_after theirs others) call more taken in
-      now_stands (receivers_act never_resets theirs (endpoint_after mine turns) (queued_of mine turns) (noted_past turns) (packets_of turns) (few_queued mine turns little) little.requests more (events_of others) (endpoint_after theirs others) (noted_past others)
+      now_stands (receivers_act never_resets theirs (endpoint_after mine turns) (queued_of mine turns) (recorded_past turns) (packets_of turns) (few_queued mine turns little) little.requests more (events_of others) (endpoint_after theirs others) (recorded_past others)
       (reading_of theirs others) h none (rest_turns their_never theirs others more known) calls (their_tags calls (none_open more none)))
 
   pub receiver_handles : (bytes : List ℕ) (emission : Emission) → places.HasEntry emission (packets_of turns) → GoodPacket emission
-      → ((packet : PacketContent) → IsPacket (wire_options (endpoint_after theirs others).options) packet bytes → packet_in packet ≡ emission.packet) → HandleInput (endpoint_after theirs others) bytes more → AreCalls more → AllOpenFitting more
+      → ((packet : PacketContent) → IsPacket (wire_options (endpoint_after theirs others).options) packet bytes → packet_of_content packet ≡ emission.packet) → HandleInput (endpoint_after theirs others) bytes more → AreCalls more → AllOpenFitting more
       → Stand never_resets mine theirs turns (others ++ more)
   receiver_handles bytes emission has good is taken calls opens =
-      now_stands (receivers_handle never_resets theirs (endpoint_after mine turns) (queued_of mine turns) (noted_past turns) (packets_of turns) (few_queued mine turns little) little.requests (events_of others) (endpoint_after theirs others) (noted_past others)
+      now_stands (receivers_handle never_resets theirs (endpoint_after mine turns) (queued_of mine turns) (recorded_past turns) (packets_of turns) (few_queued mine turns little) little.requests (events_of others) (endpoint_after theirs others) (recorded_past others)
       (reading_of theirs others) emission bytes more h has good.goes is (their_tags calls opens) taken)

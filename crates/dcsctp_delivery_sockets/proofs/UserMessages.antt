@@ -3,7 +3,7 @@ use Rattle.std.proofs.Common.{◌≡◌, ℕ, Bool, true, zero, suc, ◌<◌, fa
 use Rattle.std.specs.Prelude.{Option, None, Some, map, slice_get}
 use Rattle.std.proofs.lemmas.List.{append-nil, length-append}
 use Rattle.dcsctp_spec_lemmas.specs.spec.endpoint.CallTurns.{Transition}
-use Rattle.dcsctp_spec_lemmas.specs.spec.endpoint.DataOutcomes.{ready_where}
+use Rattle.dcsctp_spec_lemmas.specs.spec.endpoint.DataOutcomes.{ready_or_left}
 use Rattle.dcsctp_spec_lemmas.specs.spec.endpoint.Endpoint.{Endpoint}
 use Rattle.dcsctp_spec_lemmas.specs.spec.endpoint.Turn.{Input, arrival, refusal, packet_begins, chunk_input, packet_ends, act_input, user_sets, user_sends, user_resets, user_takes, timer_expires, time_passes, restores}
 use Rattle.dcsctp_spec_lemmas.specs.types.queues.Messages.{MessageContent}
@@ -13,21 +13,21 @@ use Rattle.dcsctp_delivery_sending.specs.Places.{at_place}
 use Rattle.dcsctp_delivery_sending.specs.Queueing.{message_of}
 use Rattle.dcsctp_delivery_sending.proofs.Places.{at_cases}
 use Rattle.dcsctp_delivery_receiving.specs.Ready.{WereQueued}
-use Rattle.dcsctp_delivery_directions.specs.Directions.{Delivered}
-use Rattle.dcsctp_delivery_turns.specs.Actions.{queued_where, queued_together, queued_after}
-use Rattle.dcsctp_delivery_associations.specs.Reads.{Read, Reading, messages_of, and_first, tagged_after, reading_after, Tags}
+use Rattle.dcsctp_delivery_directions.specs.Directions.{AreDelivered}
+use Rattle.dcsctp_delivery_turns.specs.Actions.{queued_unless_refused, queued_together, queued_after}
+use Rattle.dcsctp_delivery_associations.specs.Reads.{ReadMessage, Reading, messages_of, and_first, tagged_after, reading_after, Tags}
 use Rattle.dcsctp_delivery_sockets.specs.Acts.{queued_through}
 use Rattle.dcsctp_delivery_sockets.specs.Packets.{reading_through}
-use Rattle.dcsctp_delivery_order.specs.Delivered.{DeliveredInOrder, DeliveredWithoutGaps}
+use Rattle.dcsctp_delivery_order.specs.Delivered.{AreDeliveredInOrder, AreDeliveredWithoutGaps}
 use Rattle.dcsctp_delivery_sending.specs.Losing.{AreUnlimited, AreUnlimitedOn}
 use Rattle.dcsctp_delivery_sending.specs.Queueing.{has_limits}
 use Rattle.dcsctp_delivery_associations.proofs.InOrder.{MarkAt, below_at, unlimited_of, unlimited_on_of}
 use Rattle.std.specs.List.{AllByRecursion}
 use Rattle.dcsctp_delivery_order.specs.Queue.{IsOrderedOn, ComeInOrder}
-use Rattle.dcsctp_delivery_order.specs.Complete.{DeliveredAllOn}
-use Rattle.dcsctp_delivery_order.specs.Streams.{DeliveredByStream, DeliveredOn}
-use Rattle.dcsctp_delivery_sockets.specs.Ordered.{IsOrderedAt, RiseOn, IsDeliveredInOrder, IsDeliveredWithoutGaps, IsDeliveredByStream, IsDeliveredOn, IsDeliveredAllOn}
-use Rattle.dcsctp_delivery_sockets.specs.UserMessages.{accepted_where, accepted_as, sent_as, all_sent_as, message_sent, first_readable, read_in, read_of, WereSent, IsDelivered}
+use Rattle.dcsctp_delivery_order.specs.Complete.{AreAllDelivered}
+use Rattle.dcsctp_delivery_order.specs.Streams.{AreDeliveredByStream, AreDeliveredOnStreams}
+use Rattle.dcsctp_delivery_sockets.specs.Ordered.{IsOrderedMessage, RiseOn, IsDeliveredInOrder, IsDeliveredWithoutGaps, IsDeliveredByStream, IsDeliveredOn, IsDeliveredAllOn}
+use Rattle.dcsctp_delivery_sockets.specs.UserMessages.{accepted_unless_refused, accepted_as, sent_as, all_sent_as, message_sent, first_readable, messages_read_of_input, read_of, WereSent, IsDelivered}
 
 -- ---- lists
 
@@ -73,11 +73,11 @@ one_more said sending queued sent h =
       ];
     }
 
-where_same : {A : Type 0} (said : Sending → A) (why : Option MessageRefusal) (sending : Sending) (queued : List Message) (sent : List A) → SaysSame said queued sent → SaysSame said (queued_where why sending queued) (sent ++ accepted_where why (said sending) [])
+where_same : {A : Type 0} (said : Sending → A) (why : Option MessageRefusal) (sending : Sending) (queued : List Message) (sent : List A) → SaysSame said queued sent → SaysSame said (queued_unless_refused why sending queued) (sent ++ accepted_unless_refused why (said sending) [])
 where_same said None sending queued sent h = one_more said sending queued sent h
 where_same said (Some why) sending queued sent h = subst (SaysSame said queued) (sym (append-nil sent)) h
 
-where_then : {A : Type 0} (why : Option MessageRefusal) (one : A) (rest : List A) → accepted_where why one [] ++ rest ≡ accepted_where why one rest
+where_then : {A : Type 0} (why : Option MessageRefusal) (one : A) (rest : List A) → accepted_unless_refused why one [] ++ rest ≡ accepted_unless_refused why one rest
 where_then None one rest = refl
 where_then (Some why) one rest = refl
 
@@ -86,11 +86,11 @@ together_same said e [] queued sent h = subst (SaysSame said queued) (sym (appen
 together_same said e (sending ∷ sendings) queued sent h =
     let why : Option MessageRefusal = sending_refusal e sending in
     let next : Endpoint = (queue_one e sending).after in
-    let one : List _ = accepted_where why (said sending) [] in
-    let first : SaysSame said (queued_where why sending queued) (sent ++ one) = where_same said why sending queued sent h in
-    subst (SaysSame said (queued_together next sendings (queued_where why sending queued)))
+    let one : List _ = accepted_unless_refused why (said sending) [] in
+    let first : SaysSame said (queued_unless_refused why sending queued) (sent ++ one) = where_same said why sending queued sent h in
+    subst (SaysSame said (queued_together next sendings (queued_unless_refused why sending queued)))
     (append_assoc sent one (accepted_as said next sendings) ∙ ap (λ (l : List _). sent ++ l) (where_then why (said sending) (accepted_as said next sendings)))
-    (together_same said next sendings (queued_where why sending queued) (sent ++ one) first)
+    (together_same said next sendings (queued_unless_refused why sending queued) (sent ++ one) first)
 
 none_same : {A : Type 0} (said : Sending → A) (queued : List Message) (sent : List A) → SaysSame said queued sent → SaysSame said queued (sent ++ [])
 none_same said queued sent h = subst (SaysSame said queued) (sym (append-nil sent)) h
@@ -118,16 +118,16 @@ turns_same said e (turn ∷ turns) queued sent h =
 
 -- ---- read
 
-messages_more : (reads : List Read) (read : Read) → messages_of (reads ++ read ∷ []) ≡ messages_of reads ++ read.message ∷ []
+messages_more : (reads : List ReadMessage) (read : ReadMessage) → messages_of (reads ++ read ∷ []) ≡ messages_of reads ++ read.message ∷ []
 messages_more [] read = refl
 messages_more (r ∷ reads) read = ap (λ (l : List MessageContent). r.message ∷ l) (messages_more reads read)
 
-first_messages : (tag : Tags) (ready : List MessageContent) (reads : List Read) → messages_of (and_first tag ready reads) ≡ messages_of reads ++ first_readable ready
+first_messages : (tag : Tags) (ready : List MessageContent) (reads : List ReadMessage) → messages_of (and_first tag ready reads) ≡ messages_of reads ++ first_readable ready
 first_messages tag [] reads = sym (append-nil (messages_of reads))
 first_messages tag (message ∷ ready) reads = messages_more reads (record { tags = tag; message = message })
 
-input_read : (tag : Tags) (e : Endpoint) (input : Input) (reads : List Read) → messages_of (tagged_after tag e input reads) ≡ messages_of reads ++ read_in e input
-input_read tag e user_takes reads = first_messages tag (ready_where e.left e.queues.transfer) reads
+input_read : (tag : Tags) (e : Endpoint) (input : Input) (reads : List ReadMessage) → messages_of (tagged_after tag e input reads) ≡ messages_of reads ++ messages_read_of_input e input
+input_read tag e user_takes reads = first_messages tag (ready_or_left e.left e.queues.transfer) reads
 input_read tag e (user_sends sendings) reads = sym (append-nil (messages_of reads))
 input_read tag e arrival reads = sym (append-nil (messages_of reads))
 input_read tag e (refusal text) reads = sym (append-nil (messages_of reads))
@@ -146,7 +146,7 @@ turns_read e [] reading = sym (append-nil (messages_of reading.reads))
 turns_read e (turn ∷ turns) reading =
     turns_read turn.outcome.after turns (reading_after e turn.input turn.outcome.after reading)
     ∙ ap (λ (l : List MessageContent). l ++ read_of turn.outcome.after turns) (input_read reading.last e turn.input reading.reads)
-    ∙ append_assoc (messages_of reading.reads) (read_in e turn.input) (read_of turn.outcome.after turns)
+    ∙ append_assoc (messages_of reading.reads) (messages_read_of_input e turn.input) (read_of turn.outcome.after turns)
 
 -- ---- both
 
@@ -166,7 +166,7 @@ were_sent queued sent h (place ∷ places) (content ∷ read) were = (
   were_sent queued sent h places read were.1,
 )
 
-pub is_delivered : (queued : List Message) (sent read : List MessageContent) → SaysSame message_sent queued sent → Delivered queued read → IsDelivered sent read
+pub is_delivered : (queued : List Message) (sent read : List MessageContent) → SaysSame message_sent queued sent → AreDelivered queued read → IsDelivered sent read
 is_delivered queued sent read h d = record { places = d.places; were_sent = were_sent queued sent h d.places read d.were_queued; once = d.once }
 
 -- ---- in order
@@ -181,7 +181,7 @@ module _ (queued : List Message) (sent : List Sending) (h : SaysSame (λ sending
   same_sending : {one two : Sending} → Some one ≡ Some two → one ≡ two
   same_sending is = cc
 
-  pub ordered_on : (p : ℕ) → IsOrderedAt sent stream p → IsOrderedOn queued stream p
+  pub ordered_on : (p : ℕ) → IsOrderedMessage sent stream p → IsOrderedOn queued stream p
   ordered_on p on =
       let m : MarkAt queued p = below_at p queued (let below = found_below sent p on.sending on.at in let size = h.size in omega (arith, below, size)) in
       let one = h.at p m.mark m.at in
@@ -212,7 +212,7 @@ were_sent_so queued sent h (place ∷ places) (content ∷ read) were = (
     found_mapped (s ∷ all) zero sending at = (let same : s ≡ sending = cc in ap (λ (x : Sending). Some x.message) same)
     found_mapped (s ∷ all) (suc k) sending at = found_mapped all k sending at
 
-abbrev pub is_in_order : (queued : List Message) (sent : List Sending) (read : List MessageContent) → SaysSame (λ sending. sending) queued sent → DeliveredInOrder queued read → IsDeliveredInOrder sent read
+abbrev pub is_in_order : (queued : List Message) (sent : List Sending) (read : List MessageContent) → SaysSame (λ sending. sending) queued sent → AreDeliveredInOrder queued read → IsDeliveredInOrder sent read
 is_in_order queued sent read same d =
     record {
       places = d.delivered.places;
@@ -221,7 +221,7 @@ is_in_order queued sent read same d =
       in_order = λ stream. rise_on queued sent same stream d.delivered.places (d.in_order stream);
     }
 
-pub is_without_gaps : (queued : List Message) (sent : List Sending) (read : List MessageContent) → SaysSame (λ sending. sending) queued sent → DeliveredWithoutGaps queued read → IsDeliveredWithoutGaps sent read
+pub is_without_gaps : (queued : List Message) (sent : List Sending) (read : List MessageContent) → SaysSame (λ sending. sending) queued sent → AreDeliveredWithoutGaps queued read → IsDeliveredWithoutGaps sent read
 is_without_gaps queued sent read same d =
     record {
       delivered = is_in_order queued sent read same d.ordered;
@@ -230,7 +230,7 @@ is_without_gaps queued sent read same d =
 
 -- On each of these streams.
 pub is_by_stream : (never_resets : ℕ → Bool) (reliable : ℕ → Type 0) (queued : List Message) (sent : List Sending) (read : List MessageContent) → SaysSame (λ sending. sending) queued sent
-    → ((stream : ℕ) → reliable stream → (never_resets stream ≡ true) × AreUnlimitedOn stream queued) → DeliveredByStream never_resets queued read → IsDeliveredByStream reliable sent read
+    → ((stream : ℕ) → reliable stream → (never_resets stream ≡ true) × AreUnlimitedOn stream queued) → AreDeliveredByStream never_resets queued read → IsDeliveredByStream reliable sent read
 is_by_stream never_resets reliable queued sent read same which d =
     record {
       delivered = is_in_order queued sent read same d.ordered;
@@ -241,7 +241,7 @@ is_by_stream never_resets reliable queued sent read same which d =
     }
 
 abbrev pub is_on : (never_resets : ℕ → Bool) (streams : ℕ → Type 0) (queued : List Message) (sent : List Sending) (read : List MessageContent) → SaysSame (λ sending. sending) queued sent
-    → ((stream : ℕ) → streams stream → never_resets stream ≡ true) → DeliveredOn never_resets queued read → IsDeliveredOn streams sent read
+    → ((stream : ℕ) → streams stream → never_resets stream ≡ true) → AreDeliveredOnStreams never_resets queued read → IsDeliveredOn streams sent read
 is_on never_resets streams queued sent read same which d =
     record {
       places = d.delivered.places;
@@ -252,7 +252,7 @@ is_on never_resets streams queued sent read same which d =
     }
 
 pub is_all_on : (never_resets : ℕ → Bool) (streams : ℕ → Type 0) (queued : List Message) (sent : List Sending) (read : List MessageContent) → SaysSame (λ sending. sending) queued sent
-    → ((stream : ℕ) → streams stream → never_resets stream ≡ true) → DeliveredAllOn never_resets queued read → IsDeliveredAllOn streams sent read
+    → ((stream : ℕ) → streams stream → never_resets stream ≡ true) → AreAllDelivered never_resets queued read → IsDeliveredAllOn streams sent read
 is_all_on never_resets streams queued sent read same which d =
     record {
       on = is_on never_resets streams queued sent read same which d.on;

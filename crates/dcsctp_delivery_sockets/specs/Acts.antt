@@ -8,15 +8,15 @@ use Rattle.dcsctp_spec_lemmas.specs.types.Schedule.{CallContent}
 use Rattle.dcsctp_spec_lemmas.specs.types.Settings.{wire_options}
 use Rattle.dcsctp_spec_lemmas.specs.spec.endpoint.CallTurns.{Transition, AlongTurns, HandleInput, after_all, effects_of, events_of}
 use Rattle.dcsctp_spec_lemmas.specs.spec.endpoint.Endpoint.{Endpoint}
-use Rattle.dcsctp_spec_lemmas.specs.spec.endpoint.Event.{Event, packets_in}
-use Rattle.dcsctp_spec_lemmas.specs.spec.Packet.{packet_in, Emission}
+use Rattle.dcsctp_spec_lemmas.specs.spec.endpoint.Event.{Event, packets_of_events}
+use Rattle.dcsctp_spec_lemmas.specs.spec.Packet.{packet_of_content, Emission}
 use Rattle.dcsctp_spec_lemmas.specs.spec.endpoint.UserTurns.{UserTurns}
 use Rattle.dcsctp_spec_lemmas.specs.spec.endpoint.Turn.{Turn}
 use Rattle.dcsctp_spec_runs.specs.World.{after_effects}
-use Rattle.dcsctp_spec_lemmas.specs.spec.association.Effect.{AssociationIdentity, Effect, identity_of, identity_in}
+use Rattle.dcsctp_spec_lemmas.specs.spec.association.Effect.{AssociationIdentity, Effect, identity_of, identity_of_core}
 use Rattle.dcsctp_delivery_sending.specs.Log.{Message}
 use Rattle.dcsctp_delivery_sending.specs.Places as places
-use Rattle.dcsctp_delivery_turns.specs.Actions.{came_by, queued_after, IsOpening, Begun, IsCall}
+use Rattle.dcsctp_delivery_turns.specs.Actions.{content_of_input, queued_after, IsOpening, BeginsAssociation, IsCall}
 use Rattle.dcsctp_delivery_associations.specs.Answered.{AreAnswered}
 use Rattle.dcsctp_delivery_associations.specs.Ends.{Ends, NewPeer, TakesOver, AreSeen, CameBack, Between}
 use Rattle.dcsctp_delivery_turns.specs.Runs.{RefusesNone}
@@ -42,28 +42,28 @@ abbrev pub AreNewPeers : List Effect → List Effect → Endpoint → List Trans
 AreNewPeers past their_past e [] = Unit {0}
 AreNewPeers past their_past e (turn ∷ turns) =
     IsCall turn.input
-    × ((begun : Begun e turn.outcome) → IsOpening (came_by turn.input) → identity_in turn.outcome.after.core ≡ Some (identity_of begun.my begun.held) → NewPeer past their_past (identity_of begun.my begun.held) ⊎ TakesOver past their_past e turn.input (identity_of begun.my begun.held))
+    × ((begun : BeginsAssociation e turn.outcome) → IsOpening (content_of_input turn.input) → identity_of_core turn.outcome.after.core ≡ Some (identity_of begun.my begun.held) → NewPeer past their_past (identity_of begun.my begun.held) ⊎ TakesOver past their_past e turn.input (identity_of begun.my begun.held))
     × RefusesNone e turn.outcome
     × CompletesPerformed their_past turn.outcome
     × (turn.outcome.after.options.follow_rfc ≡ e.options.follow_rfc)
     × AreNewPeers (after_effects turn.outcome.effects past) their_past turn.outcome.after turns
 
 -- The user resets no stream by this turn, if it never does.
-abbrev pub ResetsIn : (ℕ → Bool) → Endpoint → Transition → Type 0
-ResetsIn never_resets e turn = ResetsAs never_resets turn.input
+abbrev pub ResetsAsAllowed : (ℕ → Bool) → Endpoint → Transition → Type 0
+ResetsAsAllowed never_resets e turn = ResetsAs never_resets turn.input
 
 -- In an association what is handled by this turn and acknowledges was in one of these packets, to our own tag.
 abbrev pub HearsBack : List Emission → Endpoint → Transition → Type 0
-HearsBack heard e turn = (link : AssociationIdentity) → identity_in e.core ≡ Some link → CameBack heard link.my.tag (came_by turn.input)
+HearsBack heard e turn = (link : AssociationIdentity) → identity_of_core e.core ≡ Some link → CameBack heard link.my.tag (content_of_input turn.input)
 
 -- Turns of the sender leave what is known of all associations.
 abbrev pub SendersAct : Type 0
 SendersAct =
     (seen : List (Event Emission)) (options : Options) (ends : Ends) (e : Endpoint) (queued : List Message) (past : List Effect) (packets : List Emission) (other : Endpoint) (their_past : List Effect) (reading : Reading) (turns : List Transition)
     → Between options ends e queued past packets other their_past reading → AreAnswered ends e past other their_past → AreSeen ends other their_past seen → AreTurns e turns
-    → AlongTurns (ResetsIn ends.never_resets) e turns → AlongTurns (HearsBack (packets_in seen)) e turns → AreNewPeers past their_past e turns → length (queued_through e turns queued) < 2 ^ 64
-    → AsksLittle (packets ++ packets_in (events_of turns))
-    → AreEnds ends.never_resets seen options (after_all e turns) (queued_through e turns queued) (after_effects (effects_of turns) past) (packets ++ packets_in (events_of turns)) other their_past reading
+    → AlongTurns (ResetsAsAllowed ends.never_resets) e turns → AlongTurns (HearsBack (packets_of_events seen)) e turns → AreNewPeers past their_past e turns → length (queued_through e turns queued) < 2 ^ 64
+    → AsksLittle (packets ++ packets_of_events (events_of turns))
+    → AreEnds ends.never_resets seen options (after_all e turns) (queued_through e turns queued) (after_effects (effects_of turns) past) (packets ++ packets_of_events (events_of turns)) other their_past reading
 
 -- So does a call at the receiver,
 abbrev pub ReceiversCall : Type 0
@@ -78,6 +78,6 @@ abbrev pub ReceiversHandle : Type 0
 ReceiversHandle =
     (seen : List (Event Emission)) (options : Options) (ends : Ends) (e : Endpoint) (queued : List Message) (past : List Effect) (packets : List Emission) (other : Endpoint) (their_past : List Effect) (reading : Reading) (emission : Emission)
     (bytes : List ℕ) (turns : List Transition) → Between options ends e queued past packets other their_past reading → AreAnswered ends e past other their_past → AreSeen ends other their_past seen → length queued < 2 ^ 64 → AsksLittle packets
-    → places.HasEntry emission packets → GoesToMaker emission → ((packet : PacketContent) → IsPacket (wire_options other.options) packet bytes → packet_in packet ≡ emission.packet)
+    → places.HasEntry emission packets → GoesToMaker emission → ((packet : PacketContent) → IsPacket (wire_options other.options) packet bytes → packet_of_content packet ≡ emission.packet)
     → AreNewTags options their_past past other turns → HandleInput other bytes turns
     → AreEnds ends.never_resets (seen ++ events_of turns) options e queued past packets (after_all other turns) (after_effects (effects_of turns) their_past) (reading_through other turns reading)

@@ -7,21 +7,21 @@ use Rattle.dcsctp_spec_lemmas.specs.types.declared.schedule.Side.{Side}
 use Rattle.dcsctp_spec_lemmas.specs.types.Schedule.{CallContent, set_call, send_call, send_many_call, reset_call, StepContent, call_step, ActContent, step_act, AreHonest}
 use Rattle.dcsctp_spec_lemmas.specs.spec.endpoint.CallTurns.{Transition, AlongTurns, events_of}
 use Rattle.dcsctp_spec_lemmas.specs.spec.endpoint.Endpoint.{Endpoint, fresh_endpoint}
-use Rattle.dcsctp_spec_lemmas.specs.spec.endpoint.Event.{streams_reset_performed, incoming_stream_reset, packets_in}
+use Rattle.dcsctp_spec_lemmas.specs.spec.endpoint.Event.{streams_reset_performed, incoming_stream_reset, packets_of_events}
 use Rattle.dcsctp_spec_lemmas.specs.spec.endpoint.BegunResets.{stream_field}
 use Rattle.dcsctp_delivery_sending.specs.Places.{HasEntry}
 use Rattle.dcsctp_spec_runs.specs.Past.{HasEffect, Each, current}
 use Rattle.dcsctp_spec_runs.specs.Sockets.{PerformedAct, Both, of_side, of_other, turns_after, endpoint_after, SocketRun, acts_of}
 use Rattle.dcsctp_spec_lemmas.specs.spec.association.Effect.{AssociationIdentity, Effect, holds}
 use Rattle.dcsctp_spec_lemmas.specs.types.queues.Messages.{MessageContent}
-use Rattle.dcsctp_theorem_sockets.specs.Agreement.{AreUsable, AreFresh, noted_past}
+use Rattle.dcsctp_theorem_sockets.specs.Agreement.{AreUsable, AreFresh, recorded_past}
 use Rattle.dcsctp_delivery_sending.specs.ChunkCounts.{chunks_to}
 use Rattle.dcsctp_delivery_sending.specs.Queueing.{SettingFits}
 use Rattle.dcsctp_delivery_directions.specs.Requests.{requests_to}
 use Rattle.dcsctp_delivery_turns.specs.Runs.{RefusesNone}
 use Rattle.dcsctp_delivery_associations.specs.InOrder.{Interleaves, AreThrough}
 use Rattle.dcsctp_delivery_sockets.specs.Ordered.{HasOneTag, IsDeliveredOn, AllowsOrder, AllowsNoGaps, IsDeliveredInOrder, IsDeliveredWithoutGaps, IsReliable, IsDeliveredByStream, IsDeliveredAllOn, read_under}
-use Rattle.dcsctp_delivery_sockets.specs.UserMessages.{messages_sent_in, sendings_in, read_of, IsDelivered}
+use Rattle.dcsctp_delivery_sockets.specs.UserMessages.{messages_of_turns, sendings_of_turns, read_of, IsDelivered}
 
 -- ---- messages and streams in memory
 
@@ -64,9 +64,9 @@ MatchByTags mine theirs =
     → (link.my ≡ other.peer) × (link.peer ≡ other.my)
 
 pub record TagsServeOnce (turns : Both (List Transition)) : Type 0 where
-  pub a : Each IsOfNewTags (noted_past turns.a)
-  pub b : Each IsOfNewTags (noted_past turns.b)
-  pub matched : MatchByTags (noted_past turns.a) (noted_past turns.b)
+  pub a : Each IsOfNewTags (recorded_past turns.a)
+  pub b : Each IsOfNewTags (recorded_past turns.b)
+  pub matched : MatchByTags (recorded_past turns.a) (recorded_past turns.b)
 
 -- ---- or two, where both sides connect
 
@@ -107,9 +107,9 @@ MatchOrUnmatched my_options their_options mine theirs =
     → ShareThePair link other × (((link.my ≡ other.peer) × (link.peer ≡ other.my)) ⊎ (MayBeReplaced my_options link theirs ⊎ MayBeReplaced their_options other mine))
 
 pub record TagsServeOnceBut (options : Both Options) (turns : Both (List Transition)) : Type 0 where
-  pub a : Each (IsOfNewTagsBut options.a (noted_past turns.b)) (noted_past turns.a)
-  pub b : Each (IsOfNewTagsBut options.b (noted_past turns.a)) (noted_past turns.b)
-  pub matched : MatchOrUnmatched options.a options.b (noted_past turns.a) (noted_past turns.b)
+  pub a : Each (IsOfNewTagsBut options.a (recorded_past turns.b)) (recorded_past turns.a)
+  pub b : Each (IsOfNewTagsBut options.b (recorded_past turns.a)) (recorded_past turns.b)
+  pub matched : MatchOrUnmatched options.a options.b (recorded_past turns.a) (recorded_past turns.b)
 
 -- ---- how much is sent
 
@@ -117,16 +117,16 @@ pub record TagsServeOnceBut (options : Both Options) (turns : Both (List Transit
 -- TSNs, which can be distinguished (RFC 9260, section 1.6). Fewer than 2^32 - 1 requests to reset streams went to each, new or
 -- sent again. And fewer than 2^64 messages were sent.
 pub record SendsLittle (options : Options) (turns : List Transition) : Type 0 where
-  pub messages : length (messages_sent_in (fresh_endpoint options) turns) < 2 ^ 64
-  pub chunks : (tag : ℕ) → chunks_to tag (packets_in (events_of turns)) < 2 ^ 30
-  pub requests : (tag : ℕ) → requests_to tag (packets_in (events_of turns)) < 2 ^ 32 - 1
+  pub messages : length (messages_of_turns (fresh_endpoint options) turns) < 2 ^ 64
+  pub chunks : (tag : ℕ) → chunks_to tag (packets_of_events (events_of turns)) < 2 ^ 30
+  pub requests : (tag : ℕ) → requests_to tag (packets_of_events (events_of turns)) < 2 ^ 32 - 1
 
 -- So few went to the two tags of a peer whose association was replaced and of the one that took its place: what was in flight goes
 -- on under the same TSNs.
 abbrev pub SendsLittleTogether : List Transition → Type 0
 SendsLittleTogether turns =
-    (old link : AssociationIdentity) → HasEffect (holds old) (noted_past turns) → HasEffect (holds link) (noted_past turns) → old.my.tag ≡ link.my.tag → old.peer.tag ≢ link.peer.tag
-    → chunks_to old.peer.tag (packets_in (events_of turns)) + chunks_to link.peer.tag (packets_in (events_of turns)) < 2 ^ 30
+    (old link : AssociationIdentity) → HasEffect (holds old) (recorded_past turns) → HasEffect (holds link) (recorded_past turns) → old.my.tag ≡ link.my.tag → old.peer.tag ≢ link.peer.tag
+    → chunks_to old.peer.tag (packets_of_events (events_of turns)) + chunks_to link.peer.tag (packets_of_events (events_of turns)) < 2 ^ 30
 
 -- ---- with interleaving
 
@@ -161,19 +161,19 @@ pub record TurnsAllowDelivery (options : Both Options) (turns : Both (List Trans
 -- that waits or isn't acknowledged, and this side no message ready. Where messages interleave, other streams come in order besides. And each
 -- reset of streams that the other side's user was told is performed, this side's user was told of.
 pub record Delivers (options : Both Options) (turns : Both (List Transition)) (side : Side) : Type 0 where
-  pub once : IsDelivered (messages_sent_in (fresh_endpoint (of_other side options)) (of_other side turns)) (read_of (fresh_endpoint (of_side side options)) (of_side side turns))
+  pub once : IsDelivered (messages_of_turns (fresh_endpoint (of_other side options)) (of_other side turns)) (read_of (fresh_endpoint (of_side side options)) (of_side side turns))
   pub in_order : (tag : ℕ) → AllowsOrder (of_other side options) (of_other side turns) tag
-      → IsDeliveredInOrder (sendings_in (fresh_endpoint (of_other side options)) (of_other side turns)) (read_under tag (of_side side options) (of_side side turns))
+      → IsDeliveredInOrder (sendings_of_turns (fresh_endpoint (of_other side options)) (of_other side turns)) (read_under tag (of_side side options) (of_side side turns))
   pub no_gaps : (tag : ℕ) → AllowsNoGaps (of_other side options) (of_other side turns)
-      → IsDeliveredWithoutGaps (sendings_in (fresh_endpoint (of_other side options)) (of_other side turns)) (read_under tag (of_side side options) (of_side side turns))
-  pub by_stream : (tag : ℕ) → HasOneTag (noted_past (of_other side turns)) → Interleaves (noted_past (of_other side turns)) tag
-      → IsDeliveredByStream (IsReliable (of_other side options) (of_other side turns)) (sendings_in (fresh_endpoint (of_other side options)) (of_other side turns))
+      → IsDeliveredWithoutGaps (sendings_of_turns (fresh_endpoint (of_other side options)) (of_other side turns)) (read_under tag (of_side side options) (of_side side turns))
+  pub by_stream : (tag : ℕ) → HasOneTag (recorded_past (of_other side turns)) → Interleaves (recorded_past (of_other side turns)) tag
+      → IsDeliveredByStream (IsReliable (of_other side options) (of_other side turns)) (sendings_of_turns (fresh_endpoint (of_other side options)) (of_other side turns))
       (read_under tag (of_side side options) (of_side side turns))
-  pub on_streams : (tag : ℕ) → HasOneTag (noted_past (of_other side turns))
-      → IsDeliveredOn (IsReliable (of_other side options) (of_other side turns)) (sendings_in (fresh_endpoint (of_other side options)) (of_other side turns)) (read_under tag (of_side side options) (of_side side turns))
-  pub complete : HasOneTag (noted_past (of_other side turns))
+  pub on_streams : (tag : ℕ) → HasOneTag (recorded_past (of_other side turns))
+      → IsDeliveredOn (IsReliable (of_other side options) (of_other side turns)) (sendings_of_turns (fresh_endpoint (of_other side options)) (of_other side turns)) (read_under tag (of_side side options) (of_side side turns))
+  pub complete : HasOneTag (recorded_past (of_other side turns))
       → (through : AreThrough (endpoint_after (of_other side options) (of_other side turns)) (endpoint_after (of_side side options) (of_side side turns)))
-      → IsDeliveredAllOn (IsReliable (of_other side options) (of_other side turns)) (sendings_in (fresh_endpoint (of_other side options)) (of_other side turns)) (read_under through.theirs.my.tag (of_side side options) (of_side side turns))
+      → IsDeliveredAllOn (IsReliable (of_other side options) (of_other side turns)) (sendings_of_turns (fresh_endpoint (of_other side options)) (of_other side turns)) (read_under through.theirs.my.tag (of_side side options) (of_side side turns))
   pub shared_resets : SharesResets (of_other side turns) (of_side side turns)
 
 -- So it is at the end of a run that is honest, in which no tag was drawn twice, each served one association or two of which the one

@@ -10,11 +10,11 @@ use Rattle.dcsctp_spec_lemmas.specs.spec.endpoint.Event.{Event}
 use Rattle.dcsctp_spec_runs.specs.Past.{HasEffect}
 use Rattle.dcsctp_spec_lemmas.specs.spec.Packet.{Emission}
 use Rattle.dcsctp_spec_runs.specs.World.{after_effects}
-use Rattle.dcsctp_spec_lemmas.specs.spec.association.Effect.{AssociationIdentity, Effect, holds, identity_of, identity_in}
+use Rattle.dcsctp_spec_lemmas.specs.spec.association.Effect.{AssociationIdentity, Effect, holds, identity_of, identity_of_core}
 use Rattle.dcsctp_delivery_sending.specs.Log.{Message}
 use Rattle.dcsctp_delivery_sending.specs.Places as places
-use Rattle.dcsctp_delivery_turns.specs.Actions.{came_by, IsOpening, Begun}
-use Rattle.dcsctp_delivery_turns.specs.PeerRequests.{KnowsPeerIn}
+use Rattle.dcsctp_delivery_turns.specs.Actions.{content_of_input, IsOpening, BeginsAssociation}
+use Rattle.dcsctp_delivery_turns.specs.PeerRequests.{KnowsPeerOfCore}
 use Rattle.dcsctp_delivery_associations.specs.Answered.{AreAnswered}
 use Rattle.dcsctp_delivery_associations.specs.Ends.{Ends, NewTag, AreSeen, Between, PlaceWasTaken}
 use Rattle.dcsctp_delivery_associations.specs.Laws.{NewPeerTags, AsksLittle, AreEnds}
@@ -37,15 +37,15 @@ IsNoneBefore past link = (tag former latest : ℕ) → PlaceWasTaken past tag fo
 -- The association that is there is crossed so, or its COOKIE ACK is awaited as by the RFC.
 abbrev pub CrossesOrWaits : List Effect → List Effect → Endpoint → Type 0
 CrossesOrWaits their_past past e =
-    (link : AssociationIdentity) → HasEffect (holds link) their_past → identity_in e.core ≡ Some link → (IsCrossedByEach past link × IsNoneBefore past link) ⊎ ((e.options.follow_rfc ≡ true) × (is_cookie_echoed e.core ≡ true))
+    (link : AssociationIdentity) → HasEffect (holds link) their_past → identity_of_core e.core ≡ Some link → (IsCrossedByEach past link × IsNoneBefore past link) ⊎ ((e.options.follow_rfc ≡ true) × (is_cookie_echoed e.core ≡ true))
 
 -- Each turn starts with these options, and an association that begins in it has a peer of a new tag, and the one that is there is
 -- crossed, or waits. The past knows the peer's requests, and each association that is recorded has a peer of a new tag.
 abbrev pub AreNewTags : Options → List Effect → List Effect → Endpoint → List Transition → Type 0
 AreNewTags options their_past past e [] = Unit {0}
 AreNewTags options their_past past e (turn ∷ turns) =
-    SameOptions options e.options × ((begun : Begun e turn.outcome) → IsOpening (came_by turn.input) → identity_in turn.outcome.after.core ≡ Some (identity_of begun.my begun.held) → NewTag their_past past (identity_of begun.my begun.held))
-    × KnowsPeerIn their_past e.core × (NewPeerTags their_past turn.outcome × CrossesOrWaits their_past past e)
+    SameOptions options e.options × ((begun : BeginsAssociation e turn.outcome) → IsOpening (content_of_input turn.input) → identity_of_core turn.outcome.after.core ≡ Some (identity_of begun.my begun.held) → NewTag their_past past (identity_of begun.my begun.held))
+    × KnowsPeerOfCore their_past e.core × (NewPeerTags their_past turn.outcome × CrossesOrWaits their_past past e)
     × AreNewTags options (after_effects turn.outcome.effects their_past) past turn.outcome.after turns
 
 -- The chunks of a packet that the sender sent leave what is known of all associations.

@@ -2,7 +2,7 @@
 -- other sent.
 use Rattle.std.specs.Prelude.{◌≡◌, ℕ, Option, None, Some, List, [], ◌∷◌, ◌++◌, slice_get}
 use Rattle.dcsctp_spec_lemmas.specs.spec.endpoint.CallTurns.{Transition}
-use Rattle.dcsctp_spec_lemmas.specs.spec.endpoint.DataOutcomes.{ready_where}
+use Rattle.dcsctp_spec_lemmas.specs.spec.endpoint.DataOutcomes.{ready_or_left}
 use Rattle.dcsctp_spec_lemmas.specs.spec.endpoint.Endpoint.{Endpoint}
 use Rattle.dcsctp_spec_lemmas.specs.spec.endpoint.Turn.{Input, user_sends, user_takes}
 use Rattle.dcsctp_spec_lemmas.specs.types.queues.Messages.{MessageContent}
@@ -12,13 +12,13 @@ use Rattle.dcsctp_delivery_receiving.specs.Ready.{AreDistinct}
 -- ---- sent
 
 -- those of a call that aren't refused, in order, each as `said` says it
-abbrev pub accepted_where : {A : Type 0} → Option MessageRefusal → A → List A → List A
-accepted_where None one others = one ∷ others
-accepted_where (Some refusal) one others = others
+abbrev pub accepted_unless_refused : {A : Type 0} → Option MessageRefusal → A → List A → List A
+accepted_unless_refused None one others = one ∷ others
+accepted_unless_refused (Some refusal) one others = others
 
 abbrev pub accepted_as : {A : Type 0} → (Sending → A) → Endpoint → List Sending → List A
 accepted_as said e [] = []
-accepted_as said e (sending ∷ sendings) = accepted_where (sending_refusal e sending) (said sending) (accepted_as said (queue_one e sending).after sendings)
+accepted_as said e (sending ∷ sendings) = accepted_unless_refused (sending_refusal e sending) (said sending) (accepted_as said (queue_one e sending).after sendings)
 
 abbrev pub sent_as : {A : Type 0} → (Sending → A) → Endpoint → Input → List A
 sent_as said e (user_sends sendings) = accepted_as said e sendings
@@ -36,15 +36,15 @@ message_sent sending = sending.message
 abbrev pub accepted_messages : Endpoint → List Sending → List MessageContent
 accepted_messages e sendings = accepted_as message_sent e sendings
 
-abbrev pub sent_in : Endpoint → Input → List MessageContent
-sent_in e input = sent_as message_sent e input
+abbrev pub messages_of_input : Endpoint → Input → List MessageContent
+messages_of_input e input = sent_as message_sent e input
 
-abbrev pub messages_sent_in : Endpoint → List Transition → List MessageContent
-messages_sent_in e turns = all_sent_as message_sent e turns
+abbrev pub messages_of_turns : Endpoint → List Transition → List MessageContent
+messages_of_turns e turns = all_sent_as message_sent e turns
 
 -- each message with its options
-abbrev pub sendings_in : Endpoint → List Transition → List Sending
-sendings_in e turns = all_sent_as (λ sending. sending) e turns
+abbrev pub sendings_of_turns : Endpoint → List Transition → List Sending
+sendings_of_turns e turns = all_sent_as (λ sending. sending) e turns
 
 -- ---- read
 
@@ -53,14 +53,14 @@ abbrev pub first_readable : List MessageContent → List MessageContent
 first_readable [] = []
 first_readable (message ∷ messages) = message ∷ []
 
-abbrev pub read_in : Endpoint → Input → List MessageContent
-read_in e user_takes = first_readable (ready_where e.left e.queues.transfer)
-read_in e input = []
+abbrev pub messages_read_of_input : Endpoint → Input → List MessageContent
+messages_read_of_input e user_takes = first_readable (ready_or_left e.left e.queues.transfer)
+messages_read_of_input e input = []
 
 -- all messages that the user of this socket read in these turns, in order
 abbrev pub read_of : Endpoint → List Transition → List MessageContent
 read_of e [] = []
-read_of e (turn ∷ turns) = read_in e turn.input ++ read_of turn.outcome.after turns
+read_of e (turn ∷ turns) = messages_read_of_input e turn.input ++ read_of turn.outcome.after turns
 
 -- ---- both
 

@@ -5,20 +5,20 @@ use Rattle.std.proofs.lemmas.List.{append-nil}
 use Rattle.dcsctp_spec_lemmas.specs.types.declared.ends.AbortReason.{AbortReason}
 use Rattle.dcsctp_spec_lemmas.specs.types.declared.word.Word.{Word}
 use Rattle.dcsctp_spec_lemmas.specs.spec.endpoint.Endpoint.{Endpoint}
-use Rattle.dcsctp_spec_lemmas.specs.spec.endpoint.Event.{Event, packets_in}
+use Rattle.dcsctp_spec_lemmas.specs.spec.endpoint.Event.{Event, packets_of_events}
 use Rattle.dcsctp_spec_lemmas.specs.spec.endpoint.Outcome.{Outcome, quiet, sends, emits, fits, behind}
 use Rattle.dcsctp_spec_lemmas.specs.spec.Packet.{Content, Emission}
 use Rattle.dcsctp_spec_lemmas.specs.types.queues.Messages.{MessageContent}
 use Rattle.dcsctp_spec_lemmas.specs.spec.queues.Transfer.{EndpointQueues}
 use Rattle.dcsctp_spec_lemmas.specs.spec.endpoint.EndOutcomes.{ended_outcome, end_of}
 use Rattle.dcsctp_spec_lemmas.specs.spec.endpoint.FlushOutcomes.{Answer, FlushAnswers, flush_of}
-use Rattle.dcsctp_theorem_sockets.proofs.Bursts.{packets_in-append, emits_core}
+use Rattle.dcsctp_theorem_sockets.proofs.Bursts.{packets_of_events-append, emits_core}
 use Rattle.dcsctp_delivery_sending.specs.Log.{Message}
-use Rattle.dcsctp_delivery_sending.specs.Flushes.{NoData, reset_begun_by}
+use Rattle.dcsctp_delivery_sending.specs.Flushes.{NoData, begun_reset_of}
 use Rattle.dcsctp_delivery_directions.specs.Directions.{Asking, asking_with}
 use Rattle.dcsctp_delivery_turns.specs.Asking.{own_of, AsksFit}
-use Rattle.dcsctp_delivery_turns.specs.Actions.{Ledger, ledger_of, Action, flushes, speaks, Actions, nothing, further, IsStaleFirst, NoneStale, NoEnd, ReportsTo, AreReports, Inside, inside, Made, MakesPackets, Becomes, ends}
-use Rattle.dcsctp_spec_lemmas.specs.spec.association.Effect.{identity_in}
+use Rattle.dcsctp_delivery_turns.specs.Actions.{Ledger, ledger_of, Action, flushes, speaks, Actions, nothing, further, IsStaleFirst, NoneStale, NoEnd, ReportsTo, AreReports, Inside, inside, LeadsToLedger, MakesPackets, Becomes, ends}
+use Rattle.dcsctp_spec_lemmas.specs.spec.association.Effect.{identity_of_core}
 use Rattle.dcsctp_delivery_turns.specs.Reports.{AllReportSo, NoReports, IsCumulative}
 use Rattle.dcsctp_delivery_turns.specs.Tags.{IsPeerTag}
 use Rattle.dcsctp_delivery_turns.proofs.Begun.{grows_then, grows_not, grows_by, flush_fits}
@@ -29,15 +29,15 @@ Goes came to e o = Becomes None came to (λ queued. queued) (λ read. read) e o
 
 -- the outcome that follows from what is inside, by actions
 abbrev pub MakesTo : Option Content → ℕ → Inside → Outcome → Type 0
-MakesTo came to old o = MakesPackets came to old (packets_in o.events) (inside o.after)
+MakesTo came to old o = MakesPackets came to old (packets_of_events o.events) (inside o.after)
 
 -- the same, with this below it
 abbrev pub with_inside : EndpointQueues → Inside → Inside
 with_inside below old = record old { queues = below }
 
 -- a packet leaves the association
-pub emits_link : (e : Endpoint) (words : List Word) (emission : Emission) → identity_in (emits e words emission).after.core ≡ identity_in e.core
-emits_link e words emission = ap identity_in (emits_core e words emission)
+pub emits_link : (e : Endpoint) (words : List Word) (emission : Emission) → identity_of_core (emits e words emission).after.core ≡ identity_of_core e.core
+emits_link e words emission = ap identity_of_core (emits_core e words emission)
 
 -- and leaves what the socket keeps of its own requests
 emits_own_by : (b : Bool) (e : Endpoint) (words : List Word) (emission : Emission) → own_of (cond b (sends e words [] emission) (quiet e words [])).after ≡ own_of e
@@ -54,9 +54,9 @@ module _ (came : Option Content) (to : ℕ) where
 
   pub both : (old between new : Inside) (packets later : List Emission) → MakesPackets came to old packets between → MakesPackets came to between later new → MakesPackets came to old (packets ++ later) new
   both old between new packets later first second = λ queued sent read tsn asking fit.
-      let one : Made came to (ledger_of queued old.queues sent read asking) tsn between queued (sent ++ packets) read = first queued sent read tsn asking fit in
-      let two : Made came to (ledger_of queued between.queues (sent ++ packets) read one.asking) tsn new queued ((sent ++ packets) ++ later) read = second queued (sent ++ packets) read tsn one.asking one.fits in
-      subst (λ (s : List Emission). Made came to (ledger_of queued old.queues sent read asking) tsn new queued s read) (append_assoc sent packets later)
+      let one : LeadsToLedger came to (ledger_of queued old.queues sent read asking) tsn between queued (sent ++ packets) read = first queued sent read tsn asking fit in
+      let two : LeadsToLedger came to (ledger_of queued between.queues (sent ++ packets) read one.asking) tsn new queued ((sent ++ packets) ++ later) read = second queued (sent ++ packets) read tsn one.asking one.fits in
+      subst (λ (s : List Emission). LeadsToLedger came to (ledger_of queued old.queues sent read asking) tsn new queued s read) (append_assoc sent packets later)
       (record {
         asking = two.asking;
         grows = grows_then asking one.asking two.asking one.grows two.grows;
@@ -67,9 +67,9 @@ module _ (came : Option Content) (to : ℕ) where
   -- actions without a packet that begin no request
   pub made_of : (old : Inside) (new : EndpointQueues) (queued later : List Message) (sent : List Emission) (read taken : List MessageContent) (tsn : ℕ) (asking : Asking) → AsksFit tsn old.own asking
       → Actions came to (ledger_of queued old.queues sent read asking) (ledger_of later new sent taken asking)
-      → Made came to (ledger_of queued old.queues sent read asking) tsn (with_inside new old) later (sent ++ []) taken
+      → LeadsToLedger came to (ledger_of queued old.queues sent read asking) tsn (with_inside new old) later (sent ++ []) taken
   made_of old new queued later sent read taken tsn asking fit does =
-      subst (λ (s : List Emission). Made came to (ledger_of queued old.queues sent read asking) tsn (with_inside new old) later s taken) (sym (append-nil sent))
+      subst (λ (s : List Emission). LeadsToLedger came to (ledger_of queued old.queues sent read asking) tsn (with_inside new old) later s taken) (sym (append-nil sent))
       (record { asking = asking; grows = grows_not asking; fits = fit; actions = does })
 
   -- one action without a packet
@@ -106,12 +106,12 @@ module _ (came : Option Content) (to : ℕ) where
       → AllReportSo (IsCumulative e.queues.transfer) draft.packet.contents → FlushAnswers e draft answers → MakesTo came to (inside e) (flush_of e draft answers)
   flushed e draft answers at same no_data no_end stale says allowed = λ queued sent read tsn asking fit.
       record {
-        asking = asking_with (reset_begun_by answers) asking;
-        grows = grows_by (reset_begun_by answers) asking;
+        asking = asking_with (begun_reset_of answers) asking;
+        grows = grows_by (begun_reset_of answers) asking;
         fits = flush_fits tsn e draft answers asking allowed fit;
         actions =
             further (ledger_of queued e.queues sent read asking)
-            (ledger_of queued (flush_of e draft answers).after.queues (sent ++ packets_in (flush_of e draft answers).events) read (asking_with (reset_begun_by answers) asking)) nothing
+            (ledger_of queued (flush_of e draft answers).after.queues (sent ++ packets_of_events (flush_of e draft answers).events) read (asking_with (begun_reset_of answers) asking)) nothing
             (flushes e draft answers refl at same no_data no_end stale says allowed);
       }
 
@@ -125,24 +125,24 @@ module _ (came : Option Content) (to : ℕ) where
 
   -- a packet that reports nothing, if it fits
   pub silent_if : (b : Bool) (e : Endpoint) (words : List Word) (emission : Emission) → NoReports emission.packet.contents
-      → AreReports to (λ tsn. ⊥) (packets_in (cond b (sends e words [] emission) (quiet e words [])).events)
+      → AreReports to (λ tsn. ⊥) (packets_of_events (cond b (sends e words [] emission) (quiet e words [])).events)
   silent_if true e words emission silent = (inl silent, tt)
   silent_if false e words emission silent = tt
 
   -- after events without a packet
-  pub makes_behind : (old : Inside) (words : List Word) (events : List (Event Emission)) (o : Outcome) → packets_in events ≡ [] → MakesTo came to old o → MakesTo came to old (behind words events o)
+  pub makes_behind : (old : Inside) (words : List Word) (events : List (Event Emission)) (o : Outcome) → packets_of_events events ≡ [] → MakesTo came to old o → MakesTo came to old (behind words events o)
   makes_behind old words events o none makes =
-      subst (λ (l : List Emission). MakesPackets came to old l (inside o.after)) (sym (packets_in-append events o.events ∙ ap (λ (l : List Emission). l ++ packets_in o.events) none)) makes
+      subst (λ (l : List Emission). MakesPackets came to old l (inside o.after)) (sym (packets_of_events-append events o.events ∙ ap (λ (l : List Emission). l ++ packets_of_events o.events) none)) makes
 
   -- an end after this, which keeps our requests
-  pub ended : (e : Endpoint) (before : Outcome) (event : Event Emission) → packets_in (event ∷ []) ≡ [] → own_of before.after ≡ own_of e → AreReports to (λ tsn. ⊥) (packets_in before.events) → MakesTo came to (inside e) before → Goes came to e (ended_outcome before event)
+  pub ended : (e : Endpoint) (before : Outcome) (event : Event Emission) → packets_of_events (event ∷ []) ≡ [] → own_of before.after ≡ own_of e → AreReports to (λ tsn. ⊥) (packets_of_events before.events) → MakesTo came to (inside e) before → Goes came to e (ended_outcome before event)
   ended e before event none kept silent makes =
-      let same : packets_in before.events ≡ packets_in (before.events ++ event ∷ []) =
-      sym (packets_in-append before.events (event ∷ []) ∙ ap (λ (l : List Emission). packets_in before.events ++ l) none ∙ append-nil (packets_in before.events)) in
+      let same : packets_of_events before.events ≡ packets_of_events (before.events ++ event ∷ []) =
+      sym (packets_of_events-append before.events (event ∷ []) ∙ ap (λ (l : List Emission). packets_of_events before.events ++ l) none ∙ append-nil (packets_of_events before.events)) in
       ends refl (λ read. refl) (subst (AreReports to (λ tsn. ⊥)) same silent) (inside before.after) kept
       (subst (λ (l : List Emission). MakesPackets came to (inside e) l (inside before.after)) same makes) refl
 
-  pub end_silent : (reason : AbortReason) → packets_in (end_of reason ∷ []) ≡ []
+  pub end_silent : (reason : AbortReason) → packets_of_events (end_of reason ∷ []) ≡ []
   end_silent reasons.CloseCalled = refl
   end_silent (reasons.Violation violation) = refl
   end_silent reasons.TooManyErrors = refl

@@ -3,12 +3,12 @@ use Rattle.std.proofs.Common.{◌≡◌, ℕ, Bool, false, Option, None, Some, L
 use Rattle.std.proofs.lemmas.List.{append-nil}
 use Rattle.dcsctp_spec_lemmas.specs.spec.Admission.{all_chunks, admits, first_abort, first_shutdown_complete, is_echo_in_front, is_single_init}
 use Rattle.dcsctp_spec_lemmas.specs.spec.endpoint.Endpoint.{Endpoint, Core, closed, cookie_wait, cookie_echoed, open_in, own_tag}
-use Rattle.dcsctp_spec_lemmas.specs.spec.endpoint.Event.{Event, sent, packets_in}
+use Rattle.dcsctp_spec_lemmas.specs.spec.endpoint.Event.{Event, sent, packets_of_events}
 use Rattle.dcsctp_spec_lemmas.specs.spec.Packet.{Content, init, init_ack, cookie_echo, cookie_ack, re_config, abort, shutdown, shutdown_ack, shutdown_complete, plain, Plain, Packet, Emission}
 use Rattle.dcsctp_spec_lemmas.specs.spec.association.Choices.{plain_contents}
 use Rattle.dcsctp_spec_lemmas.specs.spec.endpoint.BegunResets.{BegunReset, request_contents}
-use Rattle.dcsctp_spec_lemmas.specs.spec.endpoint.FlushOutcomes.{FillingEvent, filling_event, Answer, answer_contents, filled, goes_out, asked, next_draft, flush_of, Ask, first_ask, later_ask, AreFlushAnswers, at_limit, at_empty, after_packet, packets_allowed}
-use Rattle.dcsctp_theorem_sockets.proofs.Bursts.{packets_in-append, told_none}
+use Rattle.dcsctp_spec_lemmas.specs.spec.endpoint.FlushOutcomes.{FillingEvent, filling_event, Answer, answer_contents, filled_draft, goes_out, asked_outcome, next_draft, flush_of, Ask, first_ask, later_ask, AreFlushAnswers, at_limit, at_empty, after_packet, packets_allowed}
+use Rattle.dcsctp_theorem_sockets.proofs.Bursts.{packets_of_events-append, told_none}
 use Rattle.dcsctp_delivery_turns.specs.Actions.{Ledger, NoEnd, Action, queues, sets, flushes, resends, resends_nothing, speaks, asks_again, acknowledges, loses, receives, receives_interleaved, forwards, forwards_interleaved, tracks, times, takes, Actions, nothing, further}
 use Rattle.dcsctp_delivery_turns.specs.Addressed.{AreAddressed}
 use Rattle.dcsctp_delivery_turns.specs.Tags.{AllTo, IsPeerTag}
@@ -53,15 +53,15 @@ both_none [] other free free' = free'
 both_none (emission ∷ one) other free free' = (free.0, both_none one other free.1 free')
 
 out_none : (e : Endpoint) (told : List FillingEvent) (with_checksum : Bool) (tag : ℕ) (contents : List Content) → NoEnd contents
-    → NoneEnds (packets_in (goes_out e (map filling_event told) with_checksum tag contents).events)
+    → NoneEnds (packets_of_events (goes_out e (map filling_event told) with_checksum tag contents).events)
 out_none e told with_checksum tag [] free =
-    subst NoneEnds (sym (ap (λ (l : List (Event Emission)). packets_in l) (sym (append-nil (map filling_event told))) ∙ told_none told [])) tt
+    subst NoneEnds (sym (ap (λ (l : List (Event Emission)). packets_of_events l) (sym (append-nil (map filling_event told))) ∙ told_none told [])) tt
 out_none e told with_checksum tag (content ∷ contents) free =
     subst NoneEnds (sym (told_none told (sent (record { with_checksum = with_checksum; packet = record { tag = tag; contents = content ∷ contents } }) ∷ []))) (free, tt)
 
-asked_none : (e : Endpoint) (draft : Emission) (answer : Answer) → NoEnd draft.packet.contents → NoneEnds (packets_in (asked e draft answer).events)
+asked_none : (e : Endpoint) (draft : Emission) (answer : Answer) → NoEnd draft.packet.contents → NoneEnds (packets_of_events (asked_outcome e draft answer).events)
 asked_none e draft answer free =
-    out_none answer.after answer.told draft.with_checksum draft.packet.tag (filled draft (answer_contents answer)).packet.contents
+    out_none answer.after answer.told draft.with_checksum draft.packet.tag (filled_draft draft (answer_contents answer)).packet.contents
     (no_end_append draft.packet.contents (answer_contents answer) free (answer_no_end answer))
 
 next_none : (core : Core) (draft : Emission) → NoEnd (next_draft core draft).packet.contents
@@ -70,15 +70,15 @@ next_none (cookie_wait my) draft = tt
 next_none (cookie_echoed my held cookie) draft = tt
 next_none (open_in phase my held) draft = tt
 
-events_none : (events others : List (Event Emission)) → NoneEnds (packets_in events) → NoneEnds (packets_in others) → NoneEnds (packets_in (events ++ others))
-events_none events others free free' = subst NoneEnds (sym (packets_in-append events others)) (both_none (packets_in events) (packets_in others) free free')
+events_none : (events others : List (Event Emission)) → NoneEnds (packets_of_events events) → NoneEnds (packets_of_events others) → NoneEnds (packets_of_events (events ++ others))
+events_none events others free free' = subst NoneEnds (sym (packets_of_events-append events others)) (both_none (packets_of_events events) (packets_of_events others) free free')
 
-pub flush_none : (ask : Ask) (n : ℕ) (e : Endpoint) (draft : Emission) (answers : List Answer) → NoEnd draft.packet.contents → AreFlushAnswers ask n e draft answers → NoneEnds (packets_in (flush_of e draft answers).events)
+pub flush_none : (ask : Ask) (n : ℕ) (e : Endpoint) (draft : Emission) (answers : List Answer) → NoEnd draft.packet.contents → AreFlushAnswers ask n e draft answers → NoneEnds (packets_of_events (flush_of e draft answers).events)
 flush_none _ _ _ _ _ free (at_limit ask e draft) = tt
-flush_none _ _ _ _ _ free (at_empty ask more e draft answer is empty) = events_none (asked e draft answer).events [] (asked_none e draft answer free) tt
+flush_none _ _ _ _ _ free (at_empty ask more e draft answer is empty) = events_none (asked_outcome e draft answer).events [] (asked_none e draft answer free) tt
 flush_none _ _ _ _ _ free (after_packet ask more e draft answer answers is some rest) =
-    events_none (asked e draft answer).events (flush_of (asked e draft answer).after (next_draft e.core draft) answers).events (asked_none e draft answer free)
-    (flush_none later_ask more (asked e draft answer).after (next_draft e.core draft) answers (next_none e.core draft) rest)
+    events_none (asked_outcome e draft answer).events (flush_of (asked_outcome e draft answer).after (next_draft e.core draft) answers).events (asked_none e draft answer free)
+    (flush_none later_ask more (asked_outcome e draft answer).after (next_draft e.core draft) answers (next_none e.core draft) rest)
 
 -- ---- what is sent
 
@@ -94,9 +94,9 @@ action_addressed : (came : Option Content) (to : ℕ) (old new : Ledger) → Are
 action_addressed came to old _ addressed (queues now sending fits some) = addressed
 action_addressed came to old _ addressed (sets setting small) = addressed
 action_addressed came to old _ addressed (flushes e draft answers same at tag no_data no_end stale says allowed) =
-    both_addressed to old.sent (packets_in (flush_of e draft answers).events) addressed
-    (flushed_addressed to (packets_in (flush_of e draft answers).events)
-    (subst (λ (t : ℕ). AllTo t (packets_in (flush_of e draft answers).events)) tag (flushes_to e draft answers (subst (λ (t : ℕ). IsPeerTag e.core t) (sym tag) at) allowed))
+    both_addressed to old.sent (packets_of_events (flush_of e draft answers).events) addressed
+    (flushed_addressed to (packets_of_events (flush_of e draft answers).events)
+    (subst (λ (t : ℕ). AllTo t (packets_of_events (flush_of e draft answers).events)) tag (flushes_to e draft answers (subst (λ (t : ℕ). IsPeerTag e.core t) (sym tag) at) allowed))
     (flush_none first_ask (packets_allowed e.options.max_burst e.core) e draft answers no_end allowed))
 action_addressed came to old _ addressed (resends now room transfer left tsns chunks emission tag known sends are contents) =
     both_addressed to old.sent (emission ∷ []) addressed (inr (tag, subst NoEnd (sym contents) (plain_no_end chunks)), tt)

@@ -15,12 +15,12 @@ use Rattle.dcsctp_spec_lemmas.specs.spec.endpoint.Turn.{Input}
 use Rattle.dcsctp_spec_runs.specs.World.{after_effects}
 use Rattle.dcsctp_spec_lemmas.specs.spec.association.Effect.{Effect, identity_of}
 use Rattle.dcsctp_spec_lemmas.specs.spec.association.FlushChanges.{next_number, reset_request}
-use Rattle.dcsctp_spec_lemmas.specs.spec.association.ResetChanges.{RequestPlace, again, next, astray, request_place, RequestOutcome, performed_request, repeated, is_due, outgoing_by, HandledParameters}
-use Rattle.dcsctp_spec_lemmas.specs.spec.queues.Reassembly.{DeferralModel, entered}
+use Rattle.dcsctp_spec_lemmas.specs.spec.association.ResetChanges.{RequestPlace, again, next, astray, request_place, RequestOutcome, performed_request, repeated_request_outcome, is_due, outgoing_by_place, HandledParameters}
+use Rattle.dcsctp_spec_lemmas.specs.spec.queues.Reassembly.{DeferralModel, begun_deferral}
 use Rattle.dcsctp_spec_lemmas.specs.spec.queues.Transfer.{Transfer}
 use Rattle.dcsctp_spec_lemmas.specs.spec.endpoint.BegunResets.{BegunReset, begun_effects}
-use Rattle.dcsctp_spec_lemmas.specs.spec.endpoint.ResetOutcomes.{request_state, has_reset, answers_in_progress, ResetsInQueues, defers_reset, WorksResets}
-use Rattle.dcsctp_delivery_turns.specs.Actions.{came_by}
+use Rattle.dcsctp_spec_lemmas.specs.spec.endpoint.ResetOutcomes.{request_state, has_reset, answers_in_progress, ResetsInQueues, defers_reset, HandlesResets}
+use Rattle.dcsctp_delivery_turns.specs.Actions.{content_of_input}
 use Rattle.dcsctp_delivery_turns.specs.PeerRequests.{NoneAsked, SameWaits, WaitsFor, KnowsPeer, IsDue, PeerTurns, asks_nothing, performs_it, defers_it}
 use Rattle.dcsctp_delivery_turns.proofs.PeerRequests.{works_of}
 use Rattle.dcsctp_delivery_turns.proofs.Waiting.{begun_unasked, StillWaits}
@@ -133,7 +133,7 @@ next_defers past begun number =
 
 -- ---- what waits after it
 
-entered_waits : (reset : RequestedReset) (old new : Option DeferralModel) → SameWaits (entered reset.last_tsn reset.streams old) new → (left : DeferralModel) × (new ≡ Some left) × WaitsFor reset old left
+entered_waits : (reset : RequestedReset) (old new : Option DeferralModel) → SameWaits (begun_deferral reset.last_tsn reset.streams old) new → (left : DeferralModel) × (new ≡ Some left) × WaitsFor reset old left
 entered_waits reset None new waits = (waits.0, waits.1, inl waits.2)
 entered_waits reset (Some before) new waits = (waits.0, waits.1, inr (before, refl, waits.2))
 
@@ -143,7 +143,7 @@ entered_waits reset (Some before) new waits = (waits.0, waits.1, inr (before, re
 abbrev worked_one : ℕ → RequestOutcome → HandledParameters
 worked_one number first = record { held = first.held; effects = first.effects ++ []; answers = reconfiguration_response number first.result ∷ []; is_refused = false }
 
-module _ (past : List Effect) (my : Pair) (held : Held) (knows : KnowsPeer past held) (number : ℕ) (reset : RequestedReset) (transfer : Transfer) (e : Endpoint) (input : Input) (came : came_by input ≡ Some (reset_request number reset)) (o : Outcome) where
+module _ (past : List Effect) (my : Pair) (held : Held) (knows : KnowsPeer past held) (number : ℕ) (reset : RequestedReset) (transfer : Transfer) (e : Endpoint) (input : Input) (came : content_of_input input ≡ Some (reset_request number reset)) (o : Outcome) where
   -- whatever is left
   abbrev Turns : Type 0
   Turns = (left : Transfer) → o.after.queues.transfer ≡ Some left → PeerTurns (identity_of my held) past e input o transfer.reassembly.deferral left.reassembly.deferral
@@ -186,7 +186,7 @@ module _ (past : List Effect) (my : Pair) (held : Held) (knows : KnowsPeer past 
       let performs : number_to_perform past ≡ Some number = knows.performs result ∙ ap (λ (n : ℕ). Some n) (sym same) in
       deferred (begun_effects begun) left (inr performs) (again_defers past begun number (same_number (sym same)) performs) is below waits
 
-  repeated_works : (result : ReconfigurationResponseResult) (reached : Bool) → number ≡ held.peer_last → held.peer_result ≡ result → Made (repeated held result reached)
+  repeated_works : (result : ReconfigurationResponseResult) (reached : Bool) → number ≡ held.peer_last → held.peer_result ≡ result → Made (repeated_request_outcome held result reached)
   repeated_works InProgress reached same was left begun below is waits = again_works reached same was left begun below is waits
   repeated_works SuccessNothingToDo reached same was left begun below is waits = quiet left begun below is waits
   repeated_works SuccessPerformed reached same was left begun below is waits = quiet left begun below is waits
@@ -198,7 +198,7 @@ module _ (past : List Effect) (my : Pair) (held : Held) (knows : KnowsPeer past 
   next_due : number ≡ next_number held.peer_last → IsDue past number
   next_due same = inl (knows.accepts ∙ ap (λ (n : ℕ). Some n) (sym same))
 
-  outgoing_works : (place : RequestPlace) (state : RequestState) → Placed place held.peer_last number → Made (outgoing_by held number state place)
+  outgoing_works : (place : RequestPlace) (state : RequestState) → Placed place held.peer_last number → Made (outgoing_by_place held number state place)
   outgoing_works again state same left begun below is waits = repeated_works held.peer_result (is_due state) same refl left begun below is waits
   outgoing_works next due same left begun below is waits =
       performed (effects.accepts number ∷ effects.performs held.peer number ∷ begun_effects begun) left (next_due same) (next_performs past begun held.peer number) is below waits
@@ -207,11 +207,11 @@ module _ (past : List Effect) (my : Pair) (held : Held) (knows : KnowsPeer past 
   outgoing_works next early same left begun below is waits = deferred (effects.accepts number ∷ begun_effects begun) left (next_due same) (next_defers past begun number) is below waits
   outgoing_works astray state same left begun below is waits = quiet left begun below is waits
 
-  pub request_turns : e.queues.transfer ≡ Some transfer → WorksResets e my held (outgoing_reset_request number (number_answered number reset.is_new) reset ∷ []) o → Turns
+  pub request_turns : e.queues.transfer ≡ Some transfer → HandlesResets e my held (outgoing_reset_request number (number_answered number reset.is_new) reset ∷ []) o → Turns
   request_turns known turn =
       let works = works_of e my held (outgoing_reset_request number (number_answered number reset.is_new) reset ∷ []) o turn in
       let state : RequestState = request_state e held (outgoing_reset_request number (number_answered number reset.is_new) reset ∷ []) in
       let place : RequestPlace = request_place held.peer_last number in
-      let w : HandledParameters = worked_one number (outgoing_by held number state place) in
+      let w : HandledParameters = worked_one number (outgoing_by_place held number state place) in
       outgoing_works place state (placed held.peer_last number) works.left works.begun
       (subst (λ (t : Option Transfer). ResetsInQueues (has_reset w.effects) (answers_in_progress w.answers) (Some reset) t works.left) known works.below) works.is works.waits

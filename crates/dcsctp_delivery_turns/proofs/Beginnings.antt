@@ -6,15 +6,15 @@ use Rattle.std.specs.List.{AllByRecursion}
 use Rattle.dcsctp_spec_lemmas.specs.types.declared.options.Options.{Options}
 use Rattle.dcsctp_spec_lemmas.specs.spec.endpoint.Endpoint.{Endpoint, Core, closed, cookie_wait, cookie_echoed, open_in, OutstandingRequest}
 use Rattle.dcsctp_spec_lemmas.specs.spec.endpoint.Outcome.{Outcome}
-use Rattle.dcsctp_spec_lemmas.specs.spec.association.Effect.{identity_in}
+use Rattle.dcsctp_spec_lemmas.specs.spec.association.Effect.{identity_of_core}
 use Rattle.dcsctp_spec_lemmas.specs.spec.Packet.{Content}
 use Rattle.dcsctp_spec_lemmas.specs.spec.endpoint.Turn.{Input, arrival, refusal, packet_begins, chunk_input, packet_ends, act_input, user_sets, user_sends, user_resets, user_takes, timer_expires, time_passes, restores}
-use Rattle.dcsctp_spec_lemmas.specs.spec.queues.SendQueue.{SendQueueState, queue_restarted, put_back, numbered_for, numbered_where, is_other, empty_queue}
+use Rattle.dcsctp_spec_lemmas.specs.spec.queues.SendQueue.{SendQueueState, queue_restarted, put_back, numbered_for, numbered_if_new, is_other, empty_queue}
 use Rattle.dcsctp_spec_lemmas.specs.spec.queues.Transfer.{EndpointQueues}
 use Rattle.dcsctp_spec_lemmas.specs.spec.endpoint.MessageOutcomes.{MessageRefusal, Sending, sending_refusal, queue_one}
 use Rattle.dcsctp_delivery_sending.specs.Log.{Fits, Message, new_history}
-use Rattle.dcsctp_delivery_turns.specs.Actions.{Inside, OwnEnds, PeerResets, queued_where, queued_together, queued_after, Begun}
-use Rattle.dcsctp_spec_lemmas.specs.types.queues.SendStreams.{Stream, next_numbers, begun_anew, stream_at}
+use Rattle.dcsctp_delivery_turns.specs.Actions.{Inside, OwnEnds, PeerResets, queued_unless_refused, queued_together, queued_after, BeginsAssociation}
+use Rattle.dcsctp_spec_lemmas.specs.types.queues.SendStreams.{Stream, next_numbers, renumbered_stream, stream_at}
 use Rattle.dcsctp_spec_lemmas.specs.types.declared.sending.UnderWay.{UnderWay}
 use Rattle.dcsctp_delivery_directions.specs.Directions.{Beginning, BeginsAs, BeginsAtZero}
 use Rattle.dcsctp_delivery_sending.specs.Numbers.{stream_named}
@@ -25,12 +25,12 @@ use Rattle.dcsctp_delivery_sending.proofs.Renumbered.{numbered_hold, numbered_ki
 use Rattle.dcsctp_delivery_turns.specs.Runs.{new_direction}
 use Rattle.dcsctp_delivery_directions.specs.Directions.{Asking, nothing_asked, DirectionRun}
 use Rattle.dcsctp_spec_lemmas.specs.spec.Reconfiguration.{RequestedReset}
-use Rattle.dcsctp_delivery_turns.specs.Asking.{Own, own_in, AsksFit, SomeFit}
+use Rattle.dcsctp_delivery_turns.specs.Asking.{Own, own_of_core, AsksFit, SomeFit}
 use Rattle.dcsctp_delivery_turns.proofs.Fronts.{own_ends_fit, own_resets}
 
 -- ---- more is queued
 
-where_more : (why : Option MessageRefusal) (sending : Sending) (queued : List Message) → length queued ≤ length (queued_where why sending queued)
+where_more : (why : Option MessageRefusal) (sending : Sending) (queued : List Message) → length queued ≤ length (queued_unless_refused why sending queued)
 where_more None sending queued = omega arith
 where_more (Some why) sending queued = omega arith
 
@@ -38,7 +38,7 @@ together_more : (e : Endpoint) (sendings : List Sending) (queued : List Message)
 together_more e [] queued = omega arith
 together_more e (sending ∷ sendings) queued =
     let first = where_more (sending_refusal e sending) sending queued in
-    let rest = together_more (queue_one e sending).after sendings (queued_where (sending_refusal e sending) sending queued) in
+    let rest = together_more (queue_one e sending).after sendings (queued_unless_refused (sending_refusal e sending) sending queued) in
     omega (arith, first, rest)
 
 pub input_more : (e : Endpoint) (input : Input) (queued : List Message) → length queued ≤ length (queued_after e input queued)
@@ -63,7 +63,7 @@ pub nothing_fits : (first : ℕ) (again : RequestedReset) → first < 2 ^ 32 →
 nothing_fits first again small = record { numbers = tt; next = omega arith; out = refl }
 
 -- So it is where there is no association.
-pub unlinked_fits : (core : Core) (request : Option OutstandingRequest) → identity_in core ≡ None → SomeFit (own_in core request)
+pub unlinked_fits : (core : Core) (request : Option OutstandingRequest) → identity_of_core core ≡ None → SomeFit (own_of_core core request)
 unlinked_fits closed request none = record { first = 0; asking = nothing_asked; fits = tt }
 unlinked_fits (cookie_wait my) request none = record { first = 0; asking = nothing_asked; fits = tt }
 unlinked_fits (cookie_echoed my held cookie) request none = absurd (cc)
@@ -125,7 +125,7 @@ fresh_waits mine =
     none_ascend (suc q) = tt
 
 -- the queue of an association that begins
-pub begun_queues : (e : Endpoint) (o : Outcome) (begun : Begun e o) (queued : List Message) → QueueWaits queued e.queues.queue → QueueWaits queued begun.queue
+pub begun_queues : (e : Endpoint) (o : Outcome) (begun : BeginsAssociation e o) (queued : List Message) → QueueWaits queued e.queues.queue → QueueWaits queued begun.queue
 begun_queues e o begun queued queues =
     elim begun.keeps [
       | inl is ↦ subst (λ (q : SendQueueState). QueueWaits queued q) (sym is.0) (numbered_hold queued begun.held.capabilities.message_interleaving e.queues.queue queues)
@@ -135,7 +135,7 @@ begun_queues e o begun queued queues =
     ]
 
 -- it numbers messages as what is in flight will be sent
-pub begun_kind : (e : Endpoint) (o : Outcome) (begun : Begun e o) → begun.queue.is_interleaved ≡ begun.held.capabilities.message_interleaving
+pub begun_kind : (e : Endpoint) (o : Outcome) (begun : BeginsAssociation e o) → begun.queue.is_interleaved ≡ begun.held.capabilities.message_interleaving
 begun_kind e o begun =
     elim begun.keeps [
       | inl is ↦ ap (λ (q : SendQueueState). q.is_interleaved) is.0 ∙ numbered_kind begun.held.capabilities.message_interleaving e.queues.queue
@@ -148,11 +148,11 @@ begun_kind e o begun =
 pub fresh_at_zero : (mine : Options) → BeginsAtZero (empty_queue mine)
 fresh_at_zero mine = record { rest = λ u waiting is. absurd (cc); zero = λ id. refl; ssn = λ id. refl }
 
-renamed_zero : (id : ℕ) (streams : List Stream) → next_numbers false (stream_named id (map begun_anew streams)) ≡ (0, 0)
+renamed_zero : (id : ℕ) (streams : List Stream) → next_numbers false (stream_named id (map renumbered_stream streams)) ≡ (0, 0)
 renamed_zero id [] = refl
 renamed_zero id (stream ∷ streams) = go (stream.id == id) (renamed_zero id streams)
   where
-    go : (b : Bool) → next_numbers false (stream_named id (map begun_anew streams)) ≡ (0, 0) → next_numbers false (if b then begun_anew stream else stream_named id (map begun_anew streams)) ≡ (0, 0)
+    go : (b : Bool) → next_numbers false (stream_named id (map renumbered_stream streams)) ≡ (0, 0) → next_numbers false (if b then renumbered_stream stream else stream_named id (map renumbered_stream streams)) ≡ (0, 0)
     go true rest = refl
     go false rest = rest
 
@@ -161,7 +161,7 @@ put_back_idle None queue is = is
 put_back_idle (Some under_way) queue is = refl
 
 numbered_idle : (enabled : Bool) (queue : SendQueueState) → queue.under_way ≡ None → numbered_for enabled queue ≡ record queue { is_interleaved = enabled }
-numbered_idle enabled queue idle = ap (λ (u : Option UnderWay). numbered_where u (is_other queue.is_interleaved enabled) (record queue { is_interleaved = enabled })) idle
+numbered_idle enabled queue idle = ap (λ (u : Option UnderWay). numbered_if_new u (is_other queue.is_interleaved enabled) (record queue { is_interleaved = enabled })) idle
 
 -- A queue whose numbers start again begins so.
 restarted_at_zero : (enabled : Bool) (queue : SendQueueState) → BeginsAtZero (numbered_for enabled (queue_restarted queue))
@@ -175,7 +175,7 @@ restarted_at_zero enabled queue =
     })
 
 -- With `follow_rfc` each association begins so (RFC 9260, section 6.5).
-pub begun_at_zero : (e : Endpoint) (o : Outcome) (begun : Begun e o) → e.options.follow_rfc ≡ true → BeginsAtZero begun.queue
+pub begun_at_zero : (e : Endpoint) (o : Outcome) (begun : BeginsAssociation e o) → e.options.follow_rfc ≡ true → BeginsAtZero begun.queue
 begun_at_zero e o begun follows =
     elim begun.keeps [
       | inl is ↦ absurd (let clash : true ≡ false = sym follows ∙ is.1 in cc)

@@ -3,7 +3,7 @@ use Rattle.std.proofs.Common.{◌≡◌, ℕ, ◌+◌, ◌%◌, ◌^◌, suc, Bo
 use Rattle.std.specs.Prelude.{take}
 use Rattle.dcsctp_spec_lemmas.specs.types.declared.association.Held.{Held}
 use Rattle.dcsctp_spec_lemmas.specs.spec.Reconfiguration.{RequestedReset}
-use Rattle.dcsctp_spec_lemmas.specs.spec.endpoint.Endpoint.{Endpoint, Core, closed, cookie_wait, cookie_echoed, open_in, OutstandingRequest, held_in}
+use Rattle.dcsctp_spec_lemmas.specs.spec.endpoint.Endpoint.{Endpoint, Core, closed, cookie_wait, cookie_echoed, open_in, OutstandingRequest, held_by_core}
 use Rattle.dcsctp_spec_lemmas.specs.spec.Packet.{Content, Emission}
 use Rattle.dcsctp_spec_lemmas.specs.spec.endpoint.Event.{Event}
 use Rattle.dcsctp_spec_lemmas.specs.spec.queues.OwnResets.{ready_streams}
@@ -11,13 +11,13 @@ use Rattle.dcsctp_spec_lemmas.specs.spec.queues.Retransmission.{RetransmissionSt
 use Rattle.dcsctp_spec_lemmas.specs.spec.queues.SendQueue.{SendQueueState}
 use Rattle.dcsctp_spec_lemmas.specs.spec.queues.Transfer.{Transfer, is_idle}
 use Rattle.dcsctp_spec_lemmas.specs.spec.association.FlushChanges.{held_asking}
-use Rattle.dcsctp_spec_lemmas.specs.spec.endpoint.BegunResets.{BegunReset, streams_within, last_assigned_tsn, stream_field, begun_where, begun_in, core_asking, after_begun}
-use Rattle.dcsctp_spec_lemmas.specs.spec.endpoint.FlushOutcomes.{may_be_asked, filling_event, Answer, answer_contents, filled, goes_out, asked, next_draft, flush_of, Ask, first_ask, later_ask, begun_at, GivesWhere, IsAnswerOfQueues, IsFlushAnswer, AreFlushAnswers, at_limit, at_empty, after_packet, FlushAnswers, packets_allowed}
+use Rattle.dcsctp_spec_lemmas.specs.spec.endpoint.BegunResets.{BegunReset, streams_within, last_assigned_tsn, stream_field, begun_if_ready, begun_if_connected, core_asking, after_begun}
+use Rattle.dcsctp_spec_lemmas.specs.spec.endpoint.FlushOutcomes.{may_be_asked, filling_event, Answer, answer_contents, filled_draft, goes_out, asked_outcome, next_draft, flush_of, Ask, first_ask, later_ask, begun_by_ask, GivesUnlessIdle, IsAnswerOfQueues, IsFlushAnswer, AreFlushAnswers, at_limit, at_empty, after_packet, FlushAnswers, packets_allowed}
 use Rattle.dcsctp_spec_lemmas.specs.spec.endpoint.ReconfigurationOutcomes.{reset_again}
 use Rattle.dcsctp_spec_lemmas.proofs.FlushKeeps.{later_begins}
-use Rattle.dcsctp_delivery_sending.specs.Flushes.{reset_begun_by}
+use Rattle.dcsctp_delivery_sending.specs.Flushes.{begun_reset_of}
 use Rattle.dcsctp_delivery_directions.specs.Directions.{Asking, asking_with}
-use Rattle.dcsctp_delivery_turns.specs.Asking.{Own, own_with, own_in, own_of, OutIs, IsAsking, AsksFit, AskingGrows}
+use Rattle.dcsctp_delivery_turns.specs.Asking.{Own, own_with, own_of_core, own_of, OutIs, IsAsking, AsksFit, AskingGrows}
 
 -- ---- more requests
 
@@ -82,7 +82,7 @@ MayBegin None (Some begun) = ⊥
 MayBegin (Some held) (Some begun) = BeginsFrom held begun
 
 where_may : (follows : Bool) (held : Held) (own : Option ℕ) (last : ℕ) (streams : List ℕ) → held.own_outstanding ≡ own → last % 2 ^ 32 ≡ last → map stream_field streams ≡ streams
-    → MayBegin (Some held) (begun_where follows own held.own_next last streams)
+    → MayBegin (Some held) (begun_if_ready follows own held.own_next last streams)
 where_may follows held (Some number) last streams is low same = tt
 where_may follows held None last [] is low same = tt
 where_may follows held None last (stream ∷ streams) is low same =
@@ -92,18 +92,18 @@ where_may follows held None last (stream ∷ streams) is low same =
       again = ap (λ (n : ℕ). record { last_tsn = n; streams = map stream_field (stream ∷ streams); is_new = follows }) low ∙ ap (λ (l : List ℕ). record { last_tsn = last; streams = l; is_new = follows }) same;
     }
 
-in_may : (follows : Bool) (peer : Option Held) (room : ℕ) (state : RetransmissionState) (queue : SendQueueState) → MayBegin peer (begun_in follows peer room (last_assigned_tsn state) queue)
+in_may : (follows : Bool) (peer : Option Held) (room : ℕ) (state : RetransmissionState) (queue : SendQueueState) → MayBegin peer (begun_if_connected follows peer room (last_assigned_tsn state) queue)
 in_may follows None room state queue = tt
 in_may follows (Some held) room state queue =
     where_may follows held held.own_outstanding (last_assigned_tsn state) (map stream_field (take (streams_within room) (ready_streams queue))) refl (assigned_twice state)
     (fields_twice (take (streams_within room) (ready_streams queue)))
 
-at_may : (ask : Ask) (follows : Bool) (peer : Option Held) (room : ℕ) (state : RetransmissionState) (queue : SendQueueState) → MayBegin peer (begun_at ask follows peer room (last_assigned_tsn state) queue)
+at_may : (ask : Ask) (follows : Bool) (peer : Option Held) (room : ℕ) (state : RetransmissionState) (queue : SendQueueState) → MayBegin peer (begun_by_ask ask follows peer room (last_assigned_tsn state) queue)
 at_may first_ask follows peer room state queue = in_may follows peer room state queue
 at_may later_ask follows peer room state queue = tt
 
 -- Who may be asked is the peer.
-asked_may : (core : Core) (follows : Bool) (begun : Option BegunReset) → MayBegin (may_be_asked core follows) begun → MayBegin (held_in core) begun
+asked_may : (core : Core) (follows : Bool) (begun : Option BegunReset) → MayBegin (may_be_asked core follows) begun → MayBegin (held_by_core core) begun
 asked_may closed follows begun may = may
 asked_may (cookie_wait my) follows begun may = may
 asked_may (cookie_echoed my held cookie) true None may = tt
@@ -111,14 +111,14 @@ asked_may (cookie_echoed my held cookie) true (Some begun) may = absurd may
 asked_may (cookie_echoed my held cookie) false begun may = may
 asked_may (open_in phase my held) follows begun may = may
 
-where_gives : (b : Bool) (ask : Ask) (e : Endpoint) (draft : Emission) (transfer : Transfer) (answer : Answer) → GivesWhere b ask e draft transfer answer → MayBegin (held_in e.core) answer.begun
-where_gives true ask e draft transfer answer gives = subst (λ (a : Answer). MayBegin (held_in e.core) a.begun) (sym gives) tt
+where_gives : (b : Bool) (ask : Ask) (e : Endpoint) (draft : Emission) (transfer : Transfer) (answer : Answer) → GivesUnlessIdle b ask e draft transfer answer → MayBegin (held_by_core e.core) answer.begun
+where_gives true ask e draft transfer answer gives = subst (λ (a : Answer). MayBegin (held_by_core e.core) a.begun) (sym gives) tt
 where_gives false ask e draft transfer answer gives =
-    subst (MayBegin (held_in e.core)) (sym gives.begins)
+    subst (MayBegin (held_by_core e.core)) (sym gives.begins)
     (asked_may e.core e.options.follow_rfc _ (at_may ask e.options.follow_rfc (may_be_asked e.core e.options.follow_rfc) _ gives.gave_up.queue gives.gave_up.waiting))
 
-below_gives : (ask : Ask) (e : Endpoint) (draft : Emission) (transfer : Option Transfer) (answer : Answer) → IsAnswerOfQueues ask e draft answer transfer → MayBegin (held_in e.core) answer.begun
-below_gives ask e draft None answer gives = subst (λ (a : Answer). MayBegin (held_in e.core) a.begun) (sym gives) tt
+below_gives : (ask : Ask) (e : Endpoint) (draft : Emission) (transfer : Option Transfer) (answer : Answer) → IsAnswerOfQueues ask e draft answer transfer → MayBegin (held_by_core e.core) answer.begun
+below_gives ask e draft None answer gives = subst (λ (a : Answer). MayBegin (held_by_core e.core) a.begun) (sym gives) tt
 below_gives ask e draft (Some transfer) answer gives = where_gives (is_idle e.queues.queue transfer) ask e draft transfer answer gives
 
 -- ---- what is kept then
@@ -139,14 +139,14 @@ held_fits first held request begun asking from is =
       };
     }
 
-core_fits : (first : ℕ) (core : Core) (request : Option OutstandingRequest) (begun : BegunReset) (asking : Asking) → MayBegin (held_in core) (Some begun) → AsksFit first (own_in core request) asking
-    → AsksFit first (own_in (core_asking core) (kept_of begun)) (asking_with (Some begun) asking)
+core_fits : (first : ℕ) (core : Core) (request : Option OutstandingRequest) (begun : BegunReset) (asking : Asking) → MayBegin (held_by_core core) (Some begun) → AsksFit first (own_of_core core request) asking
+    → AsksFit first (own_of_core (core_asking core) (kept_of begun)) (asking_with (Some begun) asking)
 core_fits first closed request begun asking may fit = absurd may
 core_fits first (cookie_wait my) request begun asking may fit = absurd may
 core_fits first (cookie_echoed my held cookie) request begun asking may fit = held_fits first held request begun asking may fit
 core_fits first (open_in phase my held) request begun asking may fit = held_fits first held request begun asking may fit
 
-begun_fits : (first : ℕ) (e : Endpoint) (begun : Option BegunReset) (asking : Asking) → MayBegin (held_in e.core) begun → AsksFit first (own_of e) asking
+begun_fits : (first : ℕ) (e : Endpoint) (begun : Option BegunReset) (asking : Asking) → MayBegin (held_by_core e.core) begun → AsksFit first (own_of e) asking
     → AsksFit first (own_of (after_begun begun e)) (asking_with begun asking)
 begun_fits first e None asking may fit = fit
 begun_fits first e (Some begun) asking may fit = core_fits first e.core e.outstanding begun asking may fit
@@ -155,17 +155,17 @@ out_own : (e : Endpoint) (told : List (Event Emission)) (with_checksum : Bool) (
 out_own e told with_checksum tag [] = refl
 out_own e told with_checksum tag (content ∷ contents) = refl
 
-asked_own : (ask : Ask) (e : Endpoint) (draft : Emission) (answer : Answer) → IsFlushAnswer ask e draft answer → own_of (asked e draft answer).after ≡ own_of (after_begun answer.begun e)
+asked_own : (ask : Ask) (e : Endpoint) (draft : Emission) (answer : Answer) → IsFlushAnswer ask e draft answer → own_of (asked_outcome e draft answer).after ≡ own_of (after_begun answer.begun e)
 asked_own ask e draft answer answered =
-    out_own answer.after (map filling_event answer.told) draft.with_checksum draft.packet.tag (filled draft (answer_contents answer)).packet.contents ∙ ap own_of answered.kept
+    out_own answer.after (map filling_event answer.told) draft.with_checksum draft.packet.tag (filled_draft draft (answer_contents answer)).packet.contents ∙ ap own_of answered.kept
 
-later_asked : (ask : Ask) (e : Endpoint) (draft : Emission) (answer : Answer) → ask ≡ later_ask → IsFlushAnswer ask e draft answer → own_of (asked e draft answer).after ≡ own_of e
+later_asked : (ask : Ask) (e : Endpoint) (draft : Emission) (answer : Answer) → ask ≡ later_ask → IsFlushAnswer ask e draft answer → own_of (asked_outcome e draft answer).after ≡ own_of e
 later_asked ask e draft answer is answered =
     asked_own ask e draft answer answered
     ∙ ap (λ (b : Option BegunReset). own_of (after_begun b e)) (later_begins e draft answer (subst (λ (a : Ask). IsFlushAnswer a e draft answer) is answered))
 
 asked_fits : (first : ℕ) (ask : Ask) (e : Endpoint) (draft : Emission) (answer : Answer) (asking : Asking) → IsFlushAnswer ask e draft answer → AsksFit first (own_of e) asking
-    → AsksFit first (own_of (asked e draft answer).after) (asking_with answer.begun asking)
+    → AsksFit first (own_of (asked_outcome e draft answer).after) (asking_with answer.begun asking)
 asked_fits first ask e draft answer asking answered fit =
     subst (λ (o : Option Own). AsksFit first o (asking_with answer.begun asking)) (sym (asked_own ask e draft answer answered))
     (begun_fits first e answer.begun asking (below_gives ask e draft e.queues.transfer answer answered.by_transfer) fit)
@@ -174,16 +174,16 @@ later_own : (ask : Ask) (n : ℕ) (e : Endpoint) (draft : Emission) (answers : L
 later_own _ _ _ _ _ is (at_limit ask e draft) = refl
 later_own _ _ _ _ _ is (at_empty ask more e draft answer answered empty) = later_asked ask e draft answer is answered
 later_own _ _ _ _ _ is (after_packet ask more e draft answer answers answered some rest) =
-    later_own later_ask more (asked e draft answer).after (next_draft e.core draft) answers refl rest ∙ later_asked ask e draft answer is answered
+    later_own later_ask more (asked_outcome e draft answer).after (next_draft e.core draft) answers refl rest ∙ later_asked ask e draft answer is answered
 
 answers_fit : (first : ℕ) (ask : Ask) (n : ℕ) (e : Endpoint) (draft : Emission) (answers : List Answer) (asking : Asking) → AreFlushAnswers ask n e draft answers → AsksFit first (own_of e) asking
-    → AsksFit first (own_of (flush_of e draft answers).after) (asking_with (reset_begun_by answers) asking)
+    → AsksFit first (own_of (flush_of e draft answers).after) (asking_with (begun_reset_of answers) asking)
 answers_fit first _ _ _ _ _ asking (at_limit ask e draft) fit = fit
 answers_fit first _ _ _ _ _ asking (at_empty ask more e draft answer answered empty) fit = asked_fits first ask e draft answer asking answered fit
 answers_fit first _ _ _ _ _ asking (after_packet ask more e draft answer answers answered some rest) fit =
-    subst (λ (o : Option Own). AsksFit first o (asking_with answer.begun asking)) (sym (later_own later_ask more (asked e draft answer).after (next_draft e.core draft) answers refl rest))
+    subst (λ (o : Option Own). AsksFit first o (asking_with answer.begun asking)) (sym (later_own later_ask more (asked_outcome e draft answer).after (next_draft e.core draft) answers refl rest))
     (asked_fits first ask e draft answer asking answered fit)
 
 pub flush_fits : (first : ℕ) (e : Endpoint) (draft : Emission) (answers : List Answer) (asking : Asking) → FlushAnswers e draft answers → AsksFit first (own_of e) asking
-    → AsksFit first (own_of (flush_of e draft answers).after) (asking_with (reset_begun_by answers) asking)
+    → AsksFit first (own_of (flush_of e draft answers).after) (asking_with (begun_reset_of answers) asking)
 flush_fits first e draft answers asking allowed fit = answers_fit first first_ask (packets_allowed e.options.max_burst e.core) e draft answers asking allowed fit

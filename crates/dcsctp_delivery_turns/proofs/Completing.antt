@@ -14,17 +14,17 @@ use Rattle.dcsctp_spec_lemmas.specs.spec.endpoint.Endpoint.{Endpoint, Core, Outs
 use Rattle.dcsctp_spec_lemmas.specs.spec.endpoint.Event.{Event}
 use Rattle.dcsctp_spec_lemmas.specs.spec.endpoint.Outcome.{Outcome, quiet, sends, fits, emits, to_peer}
 use Rattle.dcsctp_spec_runs.specs.Past.{HasEffect}
-use Rattle.dcsctp_spec_lemmas.specs.spec.association.Controlled.{ControlledChunk, ControlledAct}
+use Rattle.dcsctp_spec_lemmas.specs.spec.association.Controlled.{IsControlledChunk, IsControlledAct}
 use Rattle.dcsctp_spec_lemmas.specs.spec.endpoint.Turn.{Input, arrival, refusal, packet_begins, chunk_input, packet_ends, act_input, user_sets, user_sends, user_resets, user_takes, timer_expires, time_passes, restores, has_data_chunk, ContentTurn, Turn}
 use Rattle.dcsctp_spec_lemmas.specs.spec.association.Acts.{Act, shutdown_repeats, flushes}
-use Rattle.dcsctp_spec_lemmas.specs.spec.association.Effect.{Effect, Change, identity_of, identity_in}
-use Rattle.dcsctp_spec_lemmas.specs.spec.association.ResetChanges.{RequestPlace, again, next, astray, request_place, performed_request, repeated, next_request, is_due, outgoing_by, incoming_by, informed_where, is_outstanding, HandledParameters, work_parameters, work_chunk}
+use Rattle.dcsctp_spec_lemmas.specs.spec.association.Effect.{Effect, Change, identity_of, identity_of_core}
+use Rattle.dcsctp_spec_lemmas.specs.spec.association.ResetChanges.{RequestPlace, again, next, astray, request_place, performed_request, repeated_request_outcome, next_request, is_due, outgoing_by_place, incoming_by_place, result_if_outstanding, is_outstanding, HandledParameters, parameters_outcome, reset_chunk_outcome}
 use Rattle.dcsctp_spec_lemmas.specs.spec.endpoint.BegunResets.{BegunReset, begun_effects, stream_field}
 use Rattle.dcsctp_spec_lemmas.specs.spec.endpoint.FlushOutcomes.{Answer, draft_to, first_ask, packets_allowed}
 use Rattle.dcsctp_spec_lemmas.specs.spec.endpoint.HandshakeOutcomes.{pair_from, renewed_pair, renewed_pair_outcome, init_ack_emission, init_outcome}
 use Rattle.dcsctp_spec_lemmas.specs.spec.endpoint.OwnTimers.{timer_act}
 use Rattle.dcsctp_spec_lemmas.specs.spec.endpoint.ReconfigurationOutcomes.{reset_again}
-use Rattle.dcsctp_spec_lemmas.specs.spec.endpoint.ResetOutcomes.{requested_in, their_streams, own_streams, request_state, renewable_left, parameters_handled_in, answered_in, reset_events_of, resets_handled, responses_outcome, responses_by, ResponseAnswers, WorksResets, ResetTurn}
+use Rattle.dcsctp_spec_lemmas.specs.spec.endpoint.ResetOutcomes.{first_reset_request, their_streams, own_streams, request_state, renewable_left, handled_parameters_of, answer_to_own, reset_events_of, resets_handled, responses_outcome, responses_unless_refused, ResponseAnswers, HandlesResets, ResetTurn}
 use Rattle.dcsctp_spec_lemmas.proofs.ControlEcho.{cookie_echo_controlled}
 use Rattle.dcsctp_spec_lemmas.proofs.ControlHandshake.{init_ack_controlled, cookie_ack_controlled, abort_controlled}
 use Rattle.dcsctp_spec_laws.proofs.ControlLemmas.{begin_stands, acts_are_controlled}
@@ -36,10 +36,10 @@ use Rattle.dcsctp_spec_laws.proofs.PlainLemmas.{plain_controlled}
 use Rattle.dcsctp_spec_laws.proofs.HeardShutdownLemmas.{shutdown_controlled}
 use Rattle.dcsctp_spec_laws.proofs.ShutdownLemmas.{shutdown_ack_controlled, shutdown_complete_controlled}
 use Rattle.dcsctp_theorem_association.proofs.AnswerEndsTurns.{answers_end_requests}
-use Rattle.dcsctp_theorem_association.specs.OneSide.{parameters_in, IsSuccess, HasResponse}
+use Rattle.dcsctp_theorem_association.specs.OneSide.{parameters_of_content, IsSuccess, HasResponse}
 use Rattle.dcsctp_theorem_sockets.proofs.OneSocket.{noted_happened}
 use Rattle.dcsctp_delivery_turns.specs.Actions.{IsCall}
-use Rattle.dcsctp_delivery_turns.specs.Asking.{own_with, own_of, own_in}
+use Rattle.dcsctp_delivery_turns.specs.Asking.{own_with, own_of, own_of_core}
 use Rattle.dcsctp_delivery_turns.specs.Completing.{EndsOwn, CompletesOwn}
 use Rattle.dcsctp_delivery_turns.proofs.Telling.{Told, own_told, sent_tell}
 use Rattle.dcsctp_delivery_turns.proofs.Performed.{outgoing_out, incoming_out}
@@ -74,7 +74,7 @@ module _ (my : Pair) (number : ℕ) where
   worked_none held asked true has = one_none (effects.performs held.peer asked) (λ is. absurd (cc)) has
   worked_none held asked false has = has
 
-  repeated_none : (held : Held) (result : ReconfigurationResponseResult) (reached : Bool) → Completed (repeated held result reached).effects → ⊥
+  repeated_none : (held : Held) (result : ReconfigurationResponseResult) (reached : Bool) → Completed (repeated_request_outcome held result reached).effects → ⊥
   repeated_none held SuccessNothingToDo reached has = has
   repeated_none held SuccessPerformed reached has = has
   repeated_none held Denied reached has = has
@@ -88,13 +88,13 @@ module _ (my : Pair) (number : ℕ) where
   next_none held asked due has = worked_none held asked true has
   next_none held asked renewed has = one_none (effects.renews held.peer asked) (λ is. absurd (cc)) has
 
-  outgoing_none : (held : Held) (asked : ℕ) (state : RequestState) (place : RequestPlace) → Completed (outgoing_by held asked state place).effects → ⊥
+  outgoing_none : (held : Held) (asked : ℕ) (state : RequestState) (place : RequestPlace) → Completed (outgoing_by_place held asked state place).effects → ⊥
   outgoing_none held asked state again has = repeated_none held held.peer_result (is_due state) has
   outgoing_none held asked state next (inl is) = absurd (cc)
   outgoing_none held asked state next (inr has) = next_none held asked state has
   outgoing_none held asked state astray has = has
 
-  incoming_none : (held : Held) (asked : ℕ) (place : RequestPlace) → Completed (incoming_by held asked place).effects → ⊥
+  incoming_none : (held : Held) (asked : ℕ) (place : RequestPlace) → Completed (incoming_by_place held asked place).effects → ⊥
   incoming_none held asked again has = has
   incoming_none held asked next has = one_none (effects.accepts asked) (λ is. absurd (cc)) has
   incoming_none held asked astray has = has
@@ -117,7 +117,7 @@ module _ (my : Pair) (number : ℕ) where
   said_ends own answered out is (inr has) = absurd has
 
   informed_ends : (own : Pair) (held : Held) (answered : ℕ) (result : ReconfigurationResponseResult) (b : Bool) → is_outstanding answered held.own_outstanding ≡ b
-      → Completed (informed_where own held answered result b).effects → Ends own held.own_outstanding
+      → Completed (result_if_outstanding own held answered result b).effects → Ends own held.own_outstanding
   informed_ends own held answered result false is has = absurd has
   informed_ends own held answered SuccessNothingToDo true is has = said_ends own answered held.own_outstanding (out_is answered held.own_outstanding is) has
   informed_ends own held answered SuccessPerformed true is has = said_ends own answered held.own_outstanding (out_is answered held.own_outstanding is) has
@@ -128,7 +128,7 @@ module _ (my : Pair) (number : ℕ) where
   informed_ends own held answered InProgress true is has = absurd has
 
   -- What has no end after an answer had none before it.
-  informed_out : (own : Pair) (held : Held) (answered : ℕ) (result : ReconfigurationResponseResult) (b : Bool) → (informed_where own held answered result b).held.own_outstanding ≡ Some number
+  informed_out : (own : Pair) (held : Held) (answered : ℕ) (result : ReconfigurationResponseResult) (b : Bool) → (result_if_outstanding own held answered result b).held.own_outstanding ≡ Some number
       → held.own_outstanding ≡ Some number
   informed_out own held answered result false is = is
   informed_out own held answered SuccessNothingToDo true is = absurd (cc)
@@ -139,29 +139,29 @@ module _ (my : Pair) (number : ℕ) where
   informed_out own held answered ErrorBadSequenceNumber true is = absurd (cc)
   informed_out own held answered InProgress true is = is
 
-  parameters_end : (own : Pair) (state : RequestState) (has_worked : Bool) (held : Held) (parameters : List ResetParameter) → Completed (work_parameters own state has_worked held parameters).effects
+  parameters_end : (own : Pair) (state : RequestState) (has_worked : Bool) (held : Held) (parameters : List ResetParameter) → Completed (parameters_outcome own state has_worked held parameters).effects
       → Ends own held.own_outstanding
   parameters_end own state has_worked held [] has = absurd has
   parameters_end own state true held (outgoing_reset_request asked answered reset ∷ parameters) has = absurd has
   parameters_end own state false held (outgoing_reset_request asked answered reset ∷ parameters) has =
-      let first = outgoing_by held asked state (request_place held.peer_last asked) in
-      elim (has_either (effects.completes my number) first.effects (work_parameters own state true first.held parameters).effects has) [
+      let first = outgoing_by_place held asked state (request_place held.peer_last asked) in
+      elim (has_either (effects.completes my number) first.effects (parameters_outcome own state true first.held parameters).effects has) [
         | inl front ↦ absurd (outgoing_none held asked state (request_place held.peer_last asked) front)
         | inr behind ↦
             (let later : Ends own first.held.own_outstanding = parameters_end own state true first.held parameters behind in
             (later.0, sym (outgoing_out held asked state (request_place held.peer_last asked)) ∙ later.1))
       ]
   parameters_end own state has_worked held (incoming_reset_request asked streams ∷ parameters) has =
-      let first = incoming_by held asked (request_place held.peer_last asked) in
-      elim (has_either (effects.completes my number) first.effects (work_parameters own state has_worked first.held parameters).effects has) [
+      let first = incoming_by_place held asked (request_place held.peer_last asked) in
+      elim (has_either (effects.completes my number) first.effects (parameters_outcome own state has_worked first.held parameters).effects has) [
         | inl front ↦ absurd (incoming_none held asked (request_place held.peer_last asked) front)
         | inr behind ↦
             (let later : Ends own first.held.own_outstanding = parameters_end own state has_worked first.held parameters behind in
             (later.0, sym (incoming_out held asked (request_place held.peer_last asked)) ∙ later.1))
       ]
   parameters_end own state has_worked held (reconfiguration_response answered result ∷ parameters) has =
-      let first = informed_where own held answered result (is_outstanding answered held.own_outstanding) in
-      elim (has_either (effects.completes my number) first.effects (work_parameters own state has_worked first.held parameters).effects has) [
+      let first = result_if_outstanding own held answered result (is_outstanding answered held.own_outstanding) in
+      elim (has_either (effects.completes my number) first.effects (parameters_outcome own state has_worked first.held parameters).effects has) [
         | inl front ↦ informed_ends own held answered result (is_outstanding answered held.own_outstanding) refl front
         | inr behind ↦
             (let later : Ends own first.held.own_outstanding = parameters_end own state has_worked first.held parameters behind in
@@ -169,7 +169,7 @@ module _ (my : Pair) (number : ℕ) where
       ]
   parameters_end own state has_worked held (other_reset_parameter parameter ∷ parameters) has = parameters_end own state has_worked held parameters has
 
-  chunk_ends : (own : Pair) (state : RequestState) (held : Held) (parameters : List ResetParameter) → Completed (work_chunk own state held parameters).effects → Ends own held.own_outstanding
+  chunk_ends : (own : Pair) (state : RequestState) (held : Held) (parameters : List ResetParameter) → Completed (reset_chunk_outcome own state held parameters).effects → Ends own held.own_outstanding
   chunk_ends own state held [] has = absurd has
   chunk_ends own state held (parameter ∷ parameters) has = parameters_end own state false held (parameter ∷ parameters) has
 
@@ -177,7 +177,7 @@ module _ (my : Pair) (number : ℕ) where
 
   -- The flush after it ends none.
   sent_none : (refused : Bool) (e : Endpoint) (told : List (Event Emission)) (held : Held) (parameters responses : List ResetParameter) (answers : List Answer) → ResponseAnswers refused e held responses answers
-      → Completed (responses_by refused e told held parameters responses answers).effects → ⊥
+      → Completed (responses_unless_refused refused e told held parameters responses answers).effects → ⊥
   sent_none true e told held parameters responses answers allowed has = has
   sent_none false e told held parameters responses answers allowed has =
       let base : Endpoint = (responses_outcome e held responses).after in
@@ -188,13 +188,13 @@ module _ (my : Pair) (number : ℕ) where
   told_are None streams is = ap (map stream_field) (sym is)
   told_are (Some request) streams is = ap (map stream_field) (sym is)
 
-  works_ends : (e : Endpoint) (own : Pair) (held : Held) (parameters : List ResetParameter) (o : Outcome) → identity_in e.core ≡ Some (identity_of own held) → own_of e ≡ Some (own_with held e.outstanding)
-      → WorksResets e own held parameters o → Completed o.effects → EndsOwn e o my number
+  works_ends : (e : Endpoint) (own : Pair) (held : Held) (parameters : List ResetParameter) (o : Outcome) → identity_of_core e.core ≡ Some (identity_of own held) → own_of e ≡ Some (own_with held e.outstanding)
+      → HandlesResets e own held parameters o → Completed o.effects → EndsOwn e o my number
   works_ends e own held parameters o linked kept turn has =
-      let w : HandledParameters = parameters_handled_in e own held parameters in
+      let w : HandledParameters = handled_parameters_of e own held parameters in
       let state : RequestState = request_state e held parameters in
-      let base : Endpoint = resets_handled e (answered_in held w parameters) w.held turn.left (renewable_left e held w parameters) in
-      let last : Outcome = responses_by w.is_refused base (reset_events_of e parameters w.effects) w.held parameters w.answers turn.answers in
+      let base : Endpoint = resets_handled e (answer_to_own held w parameters) w.held turn.left (renewable_left e held w parameters) in
+      let last : Outcome = responses_unless_refused w.is_refused base (reset_events_of e parameters w.effects) w.held parameters w.answers turn.answers in
       let happened : Completed (w.effects ++ last.effects) = subst (λ (x : Outcome). Completed x.effects) turn.is has in
       let ends : Ends own held.own_outstanding =
       elim (has_either (effects.completes my number) w.effects last.effects happened) [
@@ -209,7 +209,7 @@ module _ (my : Pair) (number : ℕ) where
         kept = kept;
         outstanding = ends.1;
         told = λ streams shown. told_are e.outstanding streams
-            (own_told streams (their_streams (requested_in parameters)) (own_streams e.outstanding) w.effects
+            (own_told streams (their_streams (first_reset_request parameters)) (own_streams e.outstanding) w.effects
             (sent_tell streams w.is_refused base (reset_events_of e parameters w.effects) w.held parameters w.answers turn.answers (subst (λ (x : Outcome). Told streams x.events) turn.is shown)));
       }
 
@@ -217,18 +217,18 @@ module _ (my : Pair) (number : ℕ) where
   reset_ends e closed parameters o same turn has = absurd (subst (λ (x : Outcome). Completed x.effects) turn has)
   reset_ends e (cookie_wait own) parameters o same turn has = absurd (subst (λ (x : Outcome). Completed x.effects) turn has)
   reset_ends e (cookie_echoed own held cookie) parameters o same turn has =
-      works_ends e own held parameters o (ap identity_in same) (ap (λ (c : Core). own_in c e.outstanding) same) turn has
+      works_ends e own held parameters o (ap identity_of_core same) (ap (λ (c : Core). own_of_core c e.outstanding) same) turn has
   reset_ends e (open_in phase own held) parameters o same turn has =
-      works_ends e own held parameters o (ap identity_in same) (ap (λ (c : Core). own_in c e.outstanding) same) turn has
+      works_ends e own held parameters o (ap identity_of_core same) (ap (λ (c : Core). own_of_core c e.outstanding) same) turn has
 
   -- ---- the other turns
 
-  by_chunk : (e : Endpoint) (tag : ℕ) (content : Content) (o : Outcome) → ControlledChunk e tag content o → Completed o.effects → HasResponse IsSuccess number (parameters_in content)
+  by_chunk : (e : Endpoint) (tag : ℕ) (content : Content) (o : Outcome) → IsControlledChunk e tag content o → Completed o.effects → HasResponse IsSuccess number (parameters_of_content content)
   by_chunk e tag content o turn has =
       answers_end_requests.completed e.options e.core tag content turn.1.0 my number
       (subst (λ (c : Change). Completed c.effects) turn.1.2 (noted_happened (effects.completes my number) turn.0.effects (subst Completed turn.2.effects has)))
 
-  by_act : (e : Endpoint) (act : Act) (o : Outcome) → ControlledAct e act o → Completed o.effects → ⊥
+  by_act : (e : Endpoint) (act : Act) (o : Outcome) → IsControlledAct e act o → Completed o.effects → ⊥
   by_act e act o turn has = answers_end_requests.none_completed e.options e.core act turn.0 my number (noted_happened (effects.completes my number) _ (subst Completed turn.1.effects has))
 
   same_none : (o other : Outcome) → o ≡ other → (Completed other.effects → ⊥) → Completed o.effects → ⊥

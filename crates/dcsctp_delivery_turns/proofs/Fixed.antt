@@ -5,12 +5,12 @@ use Rattle.dcsctp_spec_lemmas.specs.wire.Content.{SackContent, sack_chunk}
 use Rattle.dcsctp_spec_lemmas.specs.types.declared.association.Held.{Held}
 use Rattle.dcsctp_spec_lemmas.specs.types.declared.tracking.AckState.{AckState}
 use Rattle.dcsctp_spec_lemmas.specs.types.declared.tracking.AckState.TheVariants.{Idle, BecomingDelayed, Delayed, Immediate}
-use Rattle.dcsctp_spec_lemmas.specs.spec.endpoint.Event.{Event, packets_in}
+use Rattle.dcsctp_spec_lemmas.specs.spec.endpoint.Event.{Event, packets_of_events}
 use Rattle.dcsctp_spec_lemmas.specs.spec.Packet.{Content, unworked, Emission}
-use Rattle.dcsctp_spec_lemmas.specs.spec.endpoint.Endpoint.{Endpoint, Core, closed, cookie_wait, cookie_echoed, open_in, held_in}
+use Rattle.dcsctp_spec_lemmas.specs.spec.endpoint.Endpoint.{Endpoint, Core, closed, cookie_wait, cookie_echoed, open_in, held_by_core}
 use Rattle.dcsctp_spec_lemmas.specs.spec.endpoint.Outcome.{Outcome}
 use Rattle.dcsctp_spec_lemmas.specs.spec.association.Choices.{plain_contents}
-use Rattle.dcsctp_spec_lemmas.specs.spec.queues.Acknowledging.{ends_delivery, lifecycle_events_by, delivered_events}
+use Rattle.dcsctp_spec_lemmas.specs.spec.queues.Acknowledging.{ends_delivery, lifecycle_events_of, delivered_events}
 use Rattle.dcsctp_spec_lemmas.specs.spec.queues.Items.{Item}
 use Rattle.dcsctp_spec_lemmas.specs.spec.queues.OwnResets.{prepare_all_events}
 use Rattle.dcsctp_spec_lemmas.specs.spec.queues.SendQueue.{SendQueueState}
@@ -18,9 +18,9 @@ use Rattle.dcsctp_spec_lemmas.specs.spec.queues.Tracker.{TrackerState, delayed_f
 use Rattle.dcsctp_spec_lemmas.specs.spec.queues.Transfer.{Transfer}
 use Rattle.dcsctp_spec_lemmas.specs.spec.endpoint.DataOutcomes.{with_transfer, FastRetransmits}
 use Rattle.dcsctp_spec_lemmas.specs.spec.endpoint.FlushOutcomes.{goes_out, draft_to, filling_event}
-use Rattle.dcsctp_spec_lemmas.specs.spec.endpoint.MessageOutcomes.{MessageRefusal, refusal_events, sending_refusal, Sending, queue_by, queue_one, queue_all}
+use Rattle.dcsctp_spec_lemmas.specs.spec.endpoint.MessageOutcomes.{MessageRefusal, refusal_events, sending_refusal, Sending, queue_unless_refused, queue_one, queue_all}
 use Rattle.dcsctp_spec_lemmas.proofs.SendEventLemmas.{told_prepared}
-use Rattle.dcsctp_theorem_sockets.proofs.Bursts.{packets_in-append, told_none}
+use Rattle.dcsctp_theorem_sockets.proofs.Bursts.{packets_of_events-append, told_none}
 use Rattle.dcsctp_delivery_turns.specs.Actions.{NoEnd, NoneStale}
 use Rattle.dcsctp_delivery_turns.specs.Asking.{own_of}
 use Rattle.dcsctp_delivery_turns.specs.Reports.{AllReportSo}
@@ -29,23 +29,23 @@ use Rattle.dcsctp_delivery_sending.specs.Flushes.{NoData}
 
 -- ---- events that are no packets
 
-told_by_none : (name : Option ℕ) (over : Bool) → packets_in {P = Emission} (lifecycle_events_by name over) ≡ []
+told_by_none : (name : Option ℕ) (over : Bool) → packets_of_events {P = Emission} (lifecycle_events_of name over) ≡ []
 told_by_none None over = refl
 told_by_none (Some id) true = refl
 told_by_none (Some id) false = refl
 
-pub delivered_none : (items : List Item) → packets_in {P = Emission} (delivered_events items) ≡ []
+pub delivered_none : (items : List Item) → packets_of_events {P = Emission} (delivered_events items) ≡ []
 delivered_none [] = refl
 delivered_none (item ∷ items) =
-    packets_in-append (lifecycle_events_by item.fragment.lifecycle (ends_delivery item)) (delivered_events items)
-    ∙ ap (λ (l : List Emission). l ++ packets_in (delivered_events items)) (told_by_none item.fragment.lifecycle (ends_delivery item)) ∙ delivered_none items
+    packets_of_events-append (lifecycle_events_of item.fragment.lifecycle (ends_delivery item)) (delivered_events items)
+    ∙ ap (λ (l : List Emission). l ++ packets_of_events (delivered_events items)) (told_by_none item.fragment.lifecycle (ends_delivery item)) ∙ delivered_none items
 
-pub prepared_none : (ids : List ℕ) (queue : SendQueueState) → packets_in {P = Emission} (prepare_all_events ids queue) ≡ []
+pub prepared_none : (ids : List ℕ) (queue : SendQueueState) → packets_of_events {P = Emission} (prepare_all_events ids queue) ≡ []
 prepared_none ids queue =
     let told = told_prepared ids queue in
-    ap (λ (l : List (Event Emission)). packets_in l) told.is ∙ ap (λ (l : List (Event Emission)). packets_in l) (sym (append-nil (map filling_event told.told))) ∙ told_none told.told []
+    ap (λ (l : List (Event Emission)). packets_of_events l) told.is ∙ ap (λ (l : List (Event Emission)). packets_of_events l) (sym (append-nil (map filling_event told.told))) ∙ told_none told.told []
 
-pub refusal_none : (why : MessageRefusal) (name : Option ℕ) → packets_in (refusal_events why name) ≡ []
+pub refusal_none : (why : MessageRefusal) (name : Option ℕ) → packets_of_events (refusal_events why name) ≡ []
 refusal_none why None = refl
 refusal_none why (Some id) = refl
 
@@ -66,7 +66,7 @@ delayed_alike moment tracker Delayed = record { cumulative = refl; ranges = refl
 delayed_alike moment tracker Immediate = record { cumulative = refl; ranges = refl }
 
 -- the peer, where one is held
-pub held_tag : (core : Core) (held : Held) (to : ℕ) → held_in core ≡ Some held → IsPeerTag core to → held.peer.tag ≡ to
+pub held_tag : (core : Core) (held : Held) (to : ℕ) → held_by_core core ≡ Some held → IsPeerTag core to → held.peer.tag ≡ to
 held_tag closed held to holds is = absurd (cc)
 held_tag (cookie_wait my) held to holds is = absurd (cc)
 held_tag (cookie_echoed my own cookie) held to holds is = (let same : own ≡ held = cc in ap (λ (h : Held). h.peer.tag) (sym same) ∙ is)
@@ -82,7 +82,7 @@ fast_core true e held transfer o turn =
     ap (λ (x : Outcome). x.after.core) turn.is
     ∙ out_core (with_transfer e (record transfer { retransmission = turn.left })) (draft_to held).with_checksum (draft_to held).packet.tag (plain_contents turn.chunks)
 
-queue_one_core : (e : Endpoint) (sending : Sending) (refusal : Option MessageRefusal) → (queue_by e sending refusal).after.core ≡ e.core
+queue_one_core : (e : Endpoint) (sending : Sending) (refusal : Option MessageRefusal) → (queue_unless_refused e sending refusal).after.core ≡ e.core
 queue_one_core e sending None = refl
 queue_one_core e sending (Some refusal) = refl
 
@@ -91,7 +91,7 @@ queue_all_core e [] = refl
 queue_all_core e (sending ∷ sendings) = queue_all_core (queue_one e sending).after sendings ∙ queue_one_core e sending (sending_refusal e sending)
 
 -- What is kept of our requests stays.
-queue_one_own : (e : Endpoint) (sending : Sending) (refusal : Option MessageRefusal) → own_of (queue_by e sending refusal).after ≡ own_of e
+queue_one_own : (e : Endpoint) (sending : Sending) (refusal : Option MessageRefusal) → own_of (queue_unless_refused e sending refusal).after ≡ own_of e
 queue_one_own e sending None = refl
 queue_one_own e sending (Some refusal) = refl
 

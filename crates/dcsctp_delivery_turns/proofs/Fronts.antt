@@ -9,11 +9,11 @@ use Rattle.dcsctp_spec_lemmas.specs.spec.association.FlushChanges.{next_number}
 use Rattle.dcsctp_spec_lemmas.specs.spec.endpoint.BegunResets.{BegunReset}
 use Rattle.dcsctp_spec_lemmas.specs.spec.queues.Reassembly.{ReassemblyState, EndsDeferral}
 use Rattle.dcsctp_spec_lemmas.specs.spec.queues.Transfer.{Transfer}
-use Rattle.dcsctp_spec_lemmas.specs.spec.endpoint.ResetOutcomes.{requested_in, has_completed, has_reset}
+use Rattle.dcsctp_spec_lemmas.specs.spec.endpoint.ResetOutcomes.{first_reset_request, has_completed, has_reset}
 use Rattle.dcsctp_delivery_directions.specs.Directions.{Asking, HasAsked, asking_renewed, all_ended, is_reset_reached, Direction}
 use Rattle.dcsctp_delivery_turns.specs.Asking.{Own, renewed_own, AreNumbered, IsOut, OutIs, IsAsking, AsksFit, SomeFit}
 use Rattle.dcsctp_delivery_turns.specs.Actions.{has_refused, Inside, ended_own, OwnEnds, unended, committed, rolled_back, PeerResets, unreset, absent, deferred, reset_now}
-use Rattle.dcsctp_delivery_turns.specs.Runs.{IsBetween, as_it_was, once_performed, once_refused, KnowsRequest, performed_where}
+use Rattle.dcsctp_delivery_turns.specs.Runs.{IsBetween, as_it_was, once_performed, once_refused, KnowsRequest, performed_if_reset}
 use Rattle.dcsctp_delivery_turns.specs.Sides.{DirectionSteps, stays, receiving}
 use Rattle.dcsctp_delivery_turns.proofs.Begun.{next_again}
 use Rattle.dcsctp_delivery_turns.proofs.Sides.{one_step, all_steps}
@@ -167,7 +167,7 @@ front_none came happened old between _ own (reset_now some parameters reset is w
 
 -- the direction, once a request was performed in this turn or not
 abbrev pub resetting : Bool → Direction → Transfer → Bool → Direction
-resetting is_known direction transfer is_reset = record (receiving direction transfer direction.read) { asking = performed_where is_known is_reset direction.asking }
+resetting is_known direction transfer is_reset = record (receiving direction transfer direction.read) { asking = performed_if_reset is_known is_reset direction.asking }
 
 pub record ReceivingFront (is_known : Bool) (direction : Direction) (transfer : Transfer) (happened : List Effect) (new : Inside) : Type 0 where
   pub left : Transfer
@@ -177,7 +177,7 @@ pub record ReceivingFront (is_known : Bool) (direction : Direction) (transfer : 
   pub some : is_reset ≡ true → has_reset happened ≡ true
   pub steps : DirectionSteps (receiving direction transfer direction.read) (resetting is_known direction left is_reset)
 
-pub unperformed : (is_known : Bool) (asking : Asking) → performed_where is_known false asking ≡ asking
+pub unperformed : (is_known : Bool) (asking : Asking) → performed_if_reset is_known false asking ≡ asking
 unperformed true asking = refl
 unperformed false asking = refl
 
@@ -197,13 +197,13 @@ front_by is_known direction transfer left happened new is none steps =
 
 -- Where a request is handled, one of the same streams was begun.
 abbrev pub AsksSome : Direction → Option Content → Type 0
-AsksSome direction came = (parameters : List ResetParameter) (reset : RequestedReset) → came ≡ Some (re_config parameters) → requested_in parameters ≡ Some reset → HasAsked direction.asking.requests reset.streams
+AsksSome direction came = (parameters : List ResetParameter) (reset : RequestedReset) → came ≡ Some (re_config parameters) → first_reset_request parameters ≡ Some reset → HasAsked direction.asking.requests reset.streams
 
 -- where one is performed: it may be known to be the newest, or to want what that wants
 performs_by : (is_known : Bool) (came : Option Content) (happened : List Effect) (direction : Direction) (transfer : Transfer) (parameters : List ResetParameter) (reset : RequestedReset) (reassembly : ReassemblyState) → KnowsRequest is_known direction transfer came happened
-    → has_reset happened ≡ true → came ≡ Some (re_config parameters) → requested_in parameters ≡ Some reset → HasAsked direction.asking.requests reset.streams → is_reset_reached reset transfer.tracker ≡ true → EndsDeferral reset.streams transfer.reassembly reassembly
+    → has_reset happened ≡ true → came ≡ Some (re_config parameters) → first_reset_request parameters ≡ Some reset → HasAsked direction.asking.requests reset.streams → is_reset_reached reset transfer.tracker ≡ true → EndsDeferral reset.streams transfer.reassembly reassembly
     → DirectionSteps (receiving direction transfer direction.read)
-    (record (receiving direction (record transfer { reassembly = reassembly }) direction.read) { asking = performed_where is_known true direction.asking })
+    (record (receiving direction (record transfer { reassembly = reassembly }) direction.read) { asking = performed_if_reset is_known true direction.asking })
 performs_by true came happened direction transfer parameters reset reassembly newest done came_is wants some reached leaves =
     let found = newest done parameters reset came_is wants in
     one_step (receiving direction transfer direction.read) _

@@ -10,7 +10,7 @@ use Rattle.dcsctp_spec_lemmas.specs.types.declared.word.Word.TheVariants.{U32, U
 use Rattle.dcsctp_spec_lemmas.specs.types.declared.ends.AbortReason.{AbortReason}
 use Rattle.dcsctp_spec_lemmas.specs.spec.endpoint.Cause.{Cause}
 use Rattle.dcsctp_spec_lemmas.specs.spec.Cookie.{Cookie}
-use Rattle.dcsctp_spec_lemmas.specs.spec.endpoint.Event.{Event, packets_in, connected, connection_restarted, aborted}
+use Rattle.dcsctp_spec_lemmas.specs.spec.endpoint.Event.{Event, packets_of_events, connected, connection_restarted, aborted}
 use Rattle.dcsctp_spec_lemmas.specs.spec.queues.SendQueue.{queue_restarted, numbered_for}
 use Rattle.dcsctp_spec_lemmas.specs.spec.Packet.{Introduction, Content, cookie_echo, shutdown_ack, Emission}
 use Rattle.dcsctp_spec_lemmas.specs.spec.endpoint.Endpoint.{Endpoint, Core, closed, cookie_wait, cookie_echoed, open_in, established, shutdown_pending, shutdown_sent, shutdown_received, shutdown_ack_sent, may_answer, with_secret, secret_with, OutstandingRequest}
@@ -18,17 +18,17 @@ use Rattle.dcsctp_spec_lemmas.specs.spec.endpoint.Outcome.{Outcome, quiet, emits
 use Rattle.dcsctp_spec_lemmas.specs.spec.endpoint.FlushOutcomes.{Answer, draft_to, flush_of, flush_answered}
 use Rattle.dcsctp_spec_lemmas.specs.spec.endpoint.EndOutcomes.{abort_outcome, aborting_outcome, abort_to, end_of}
 use Rattle.dcsctp_spec_lemmas.specs.spec.endpoint.HandoverOutcomes.{hand_over_outcome}
-use Rattle.dcsctp_spec_lemmas.specs.spec.endpoint.HandshakeOutcomes.{pair_from, renewed_pair, init_ack_emission, init_outcome, init_answered, init_emission, awaits_init_ack, connect_outcome, awaits_cookie_ack, echo_emission, EchoAnswers, InitAckAnswers, accepted_init_ack_by, init_ack_by, connected_after, CookieAckAnswers, cookie_ack_by, abort_emission, no_cookie_text}
-use Rattle.dcsctp_spec_lemmas.specs.spec.endpoint.TimerOutcomes.{AgainAnswers, again_by, t1_gives_up_outcome}
-use Rattle.dcsctp_spec_lemmas.specs.spec.endpoint.CookieEchoOutcomes.{is_spent, established_by, cookie_ack_emission, EstablishAnswers, establish_by, interleaves, queue_where, queues_kept, queues_begun, queues_by, queues_for_other, queues_collided, outlasts, collide_by, stale_emission, RestartAnswers, restart_by_where, MaintainAnswers, maintain_by, ResolvedAnswers, resolved_by, EchoedAnswers, cookie_echo_by, resolved_now, shutting_down_emission, window_by_cookie}
-use Rattle.dcsctp_spec_lemmas.specs.spec.association.CookieEchoChanges.{held_by_cookie, Resolution, establish_new, restart, simultaneous_init, discard, maintain_existing, invalid_tag, stale, aged, resolve, case_by}
+use Rattle.dcsctp_spec_lemmas.specs.spec.endpoint.HandshakeOutcomes.{pair_from, renewed_pair, init_ack_emission, init_outcome, init_answered, init_emission, awaits_init_ack, connect_outcome, awaits_cookie_ack, echo_emission, EchoAnswers, InitAckAnswers, accept_init_ack_with_flush, init_ack_with_flush, connected_after, CookieAckAnswers, cookie_ack_with_flush, abort_emission, no_cookie_text}
+use Rattle.dcsctp_spec_lemmas.specs.spec.endpoint.TimerOutcomes.{AgainAnswers, send_again_with_flush, t1_gives_up_outcome}
+use Rattle.dcsctp_spec_lemmas.specs.spec.endpoint.CookieEchoOutcomes.{is_spent, endpoint_established, cookie_ack_emission, EstablishAnswers, establish_with_flush, interleaves, queue_if_kept, queues_kept, queues_begun, queues_if_kept, queues_for_other, queues_collided, outlasts, collide_with_flush, stale_emission, RestartAnswers, restart_with_flush_by_core, MaintainAnswers, maintain_with_flush, ResolvedAnswers, resolve_with_flush, EchoedAnswers, cookie_echo_with_flush, resolved_now, shutting_down_emission, window_by_cookie}
+use Rattle.dcsctp_spec_lemmas.specs.spec.association.CookieEchoChanges.{held_by_cookie, Resolution, establish_new, restart, simultaneous_init, discard, maintain_existing, invalid_tag, stale, aged_resolution, resolve, case_by_answers}
 use Rattle.dcsctp_spec_lemmas.specs.spec.association.HandshakeChanges.{held_by_init_ack}
 use Rattle.std.proofs.lemmas.Bool.{eqb-true}
 use Rattle.dcsctp_delivery_turns.specs.Tags.{IsPeerTag}
-use Rattle.dcsctp_spec_lemmas.specs.spec.association.Effect.{identity_of, identity_in}
+use Rattle.dcsctp_spec_lemmas.specs.spec.association.Effect.{identity_of, identity_of_core}
 use Rattle.dcsctp_delivery_turns.specs.Actions.{IsOpening, IsCalm, Inside, inside, kept_inside, MakesPackets, Collides, goes_on, ends, begins, collides}
 use Rattle.dcsctp_spec_lemmas.specs.spec.Reconfiguration.{RequestedReset}
-use Rattle.dcsctp_delivery_turns.specs.Asking.{Own, own_with, own_in, own_of}
+use Rattle.dcsctp_delivery_turns.specs.Asking.{Own, own_with, own_of_core, own_of}
 use Rattle.dcsctp_spec_lemmas.specs.spec.queues.Transfer.{Transfer, EndpointQueues, transfer_kept}
 use Rattle.dcsctp_spec_lemmas.specs.spec.endpoint.ReconfigurationOutcomes.{reset_again}
 use Rattle.dcsctp_spec_lemmas.proofs.OneAnswerLemmas.{init_by}
@@ -36,7 +36,7 @@ use Rattle.dcsctp_delivery_turns.proofs.Tags.{flush_link}
 use Rattle.dcsctp_delivery_turns.proofs.Actions.{Goes, MakesTo, emits_link, emits_own, rests, spoken, emitted, flushed, silent_if, makes_behind, ended, end_silent}
 
 -- A cookie of the existing association has the peer's tag.
-is_the_peer : (own peer tie zero : Bool) → case_by own peer tie zero ≡ maintain_existing → peer ≡ true
+is_the_peer : (own peer tie zero : Bool) → case_by_answers own peer tie zero ≡ maintain_existing → peer ≡ true
 is_the_peer true true tie zero e = refl
 is_the_peer true false tie zero e = absurd (cc)
 is_the_peer false true tie true e = absurd (cc)
@@ -55,9 +55,9 @@ third_holds true true false d f is = absurd (cc)
 third_holds true false c d f is = absurd (cc)
 third_holds false b c d f is = absurd (cc)
 
-own_next_is : (core : Core) (request : Option OutstandingRequest) (mine : Pair) (held : Held) (echoed : List ℕ) (own : Own) → core ≡ cookie_echoed mine held echoed → own_in core request ≡ Some own → own.next ≡ held.own_next
+own_next_is : (core : Core) (request : Option OutstandingRequest) (mine : Pair) (held : Held) (echoed : List ℕ) (own : Own) → core ≡ cookie_echoed mine held echoed → own_of_core core request ≡ Some own → own.next ≡ held.own_next
 own_next_is core request mine held echoed own is there =
-    let same : Some (own_with held request) ≡ Some own = sym (ap (λ (c : Core). own_in c request) is) ∙ there in
+    let same : Some (own_with held request) ≡ Some own = sym (ap (λ (c : Core). own_of_core c request) is) ∙ there in
     ap (λ (o : Option Own). next_in o) (sym same)
   where
     next_in : Option Own → ℕ
@@ -72,7 +72,7 @@ unasked_by e mine held echoed cookie transfer is lasts own there =
 
 -- What waits to be sent is kept, or starts again.
 pub kept_or_anew : (b : Bool) (e : Endpoint) (cookie : Cookie)
-    → ((queue_where b e cookie ≡ numbered_for (interleaves e cookie) e.queues.queue) × (b ≡ false)) ⊎ (queue_where b e cookie ≡ numbered_for (interleaves e cookie) (queue_restarted e.queues.queue))
+    → ((queue_if_kept b e cookie ≡ numbered_for (interleaves e cookie) e.queues.queue) × (b ≡ false)) ⊎ (queue_if_kept b e cookie ≡ numbered_for (interleaves e cookie) (queue_restarted e.queues.queue))
 kept_or_anew true e cookie = inr refl
 kept_or_anew false e cookie = inl (refl, refl)
 
@@ -80,7 +80,7 @@ kept_or_anew false e cookie = inl (refl, refl)
 pub record GoesThere (came : Option Content) (e : Endpoint) (o : Outcome) : Type 0 where
   pub collision : Collides came e o
   pub again : RequestedReset
-  pub makes : MakesPackets came collision.opened.link.peer.tag (kept_inside collision again) (packets_in o.events) (inside o.after)
+  pub makes : MakesPackets came collision.opened.link.peer.tag (kept_inside collision again) (packets_of_events o.events) (inside o.after)
 
 module _ (came : Option Content) (calm : IsCalm came) (to : ℕ) where
   -- ---- the handshake
@@ -91,7 +91,7 @@ module _ (came : Option Content) (calm : IsCalm came) (to : ℕ) where
       subst (λ (i : Inside). MakesTo came to i o)
       (ap (λ (b : EndpointQueues). record { queues = b; own = own_of base }) same ∙ ap (λ (own : Option Own). record { queues = e.queues; own = own }) (sym is)) makes
 
-  init_link : (e : Endpoint) (theirs : Introduction) (core : Core) (word next : ℕ) → identity_in (init_outcome e theirs core word next).after.core ≡ identity_in e.core
+  init_link : (e : Endpoint) (theirs : Introduction) (core : Core) (word next : ℕ) → identity_of_core (init_outcome e theirs core word next).after.core ≡ identity_of_core e.core
   init_link e theirs closed word next = emits_link (with_secret e (pair_from word next)) (U32 word ∷ U32 next ∷ []) (init_ack_emission (with_secret e (pair_from word next)) theirs (pair_from word next) (secret_with e (pair_from word next)))
   init_link e theirs (cookie_wait my) word next = emits_link e [] (init_ack_emission e theirs my e.secret)
   init_link e theirs (cookie_echoed my held cookie) word next = emits_link e [] (init_ack_emission e theirs my e.secret)
@@ -119,8 +119,8 @@ module _ (came : Option Content) (calm : IsCalm came) (to : ℕ) where
   pub connect_goes : (e : Endpoint) (core : Core) (word next : ℕ) → e.core ≡ core → Goes came to e (connect_outcome e core word next)
   connect_goes e closed word next at =
       let awaiting : Endpoint = awaits_init_ack e (pair_from word next) in
-      goes_on calm (emits_link awaiting (U32 word ∷ U32 next ∷ []) (init_emission e (pair_from word next)) ∙ sym (ap identity_in at))
-      (from_own e awaiting (emits awaiting (U32 word ∷ U32 next ∷ []) (init_emission e (pair_from word next))) refl (ap (λ (c : Core). own_in c e.outstanding) at)
+      goes_on calm (emits_link awaiting (U32 word ∷ U32 next ∷ []) (init_emission e (pair_from word next)) ∙ sym (ap identity_of_core at))
+      (from_own e awaiting (emits awaiting (U32 word ∷ U32 next ∷ []) (init_emission e (pair_from word next))) refl (ap (λ (c : Core). own_of_core c e.outstanding) at)
       (emitted came to awaiting (U32 word ∷ U32 next ∷ []) (init_emission e (pair_from word next)) (tt, tt) tt (tt, tt)))
   connect_goes e (cookie_wait my) word next at = goes_on calm refl (rests came to (inside e))
   connect_goes e (cookie_echoed my held cookie) word next at = goes_on calm refl (rests came to (inside e))
@@ -132,12 +132,12 @@ module _ (came : Option Content) (calm : IsCalm came) (to : ℕ) where
   echoed_makes false e words tag cookie answers at allowed = rests came tag (inside e)
 
   echoed_link : (b : Bool) (e : Endpoint) (words : List Word) (tag : ℕ) (cookie : List ℕ) (answers : List Answer) → EchoAnswers b e tag cookie answers
-      → identity_in (cond b (flush_answered answers e words [] true tag (cookie_echo cookie ∷ [])) (quiet e words [])).after.core ≡ identity_in e.core
+      → identity_of_core (cond b (flush_answered answers e words [] true tag (cookie_echo cookie ∷ [])) (quiet e words [])).after.core ≡ identity_of_core e.core
   echoed_link true e words tag cookie answers allowed = flush_link e (echo_emission tag cookie) answers allowed
   echoed_link false e words tag cookie answers allowed = refl
 
   accepted_goes : IsOpening came → (e : Endpoint) (my : Pair) (theirs : Introduction) (cookie : Option (List ℕ)) (word : ℕ) (answers : List Answer) → InitAckAnswers e theirs cookie (cookie_wait my) word answers
-      → Goes came to e (accepted_init_ack_by (flush_answered answers) e my theirs cookie word)
+      → Goes came to e (accept_init_ack_with_flush (flush_answered answers) e my theirs cookie word)
   accepted_goes opening e my theirs None word answers allowed = ended came to e (emits e [] (abort_emission theirs.pair.tag)) (aborted _ no_cookie_text) refl (emits_own e [] (abort_emission theirs.pair.tag))
       (silent_if came to (fits e (abort_emission theirs.pair.tag)) e [] (abort_emission theirs.pair.tag) (tt, tt)) (emitted came to e [] (abort_emission theirs.pair.tag) (tt, tt) tt (tt, tt))
   accepted_goes opening e my theirs (Some cookie) word answers allowed =
@@ -153,24 +153,24 @@ module _ (came : Option Content) (calm : IsCalm came) (to : ℕ) where
       }) opening (echoed_link (fits awaiting (echo_emission theirs.pair.tag cookie)) awaiting (U64 word ∷ []) theirs.pair.tag cookie answers allowed) (λ queued. refl) (λ read. refl) (reset_again None) (echoed_makes (fits awaiting (echo_emission theirs.pair.tag cookie)) awaiting (U64 word ∷ []) theirs.pair.tag cookie answers refl allowed)
 
   pub init_ack_goes : IsOpening came → (e : Endpoint) (theirs : Introduction) (cookie : Option (List ℕ)) (core : Core) (word : ℕ) (answers : List Answer) → InitAckAnswers e theirs cookie core word answers
-      → Goes came to e (init_ack_by (flush_answered answers) e theirs cookie core word)
+      → Goes came to e (init_ack_with_flush (flush_answered answers) e theirs cookie core word)
   init_ack_goes opening e theirs cookie closed word answers allowed = goes_on calm refl (rests came to (inside e))
   init_ack_goes opening e theirs cookie (cookie_wait my) word answers allowed = accepted_goes opening e my theirs cookie word answers allowed
   init_ack_goes opening e theirs cookie (cookie_echoed my held echoed) word answers allowed = goes_on calm refl (rests came to (inside e))
   init_ack_goes opening e theirs cookie (open_in phase my held) word answers allowed = goes_on calm refl (rests came to (inside e))
 
-  pub cookie_ack_goes : (e : Endpoint) (core : Core) (answers : List Answer) → e.core ≡ core → IsPeerTag core to → CookieAckAnswers e core answers → Goes came to e (cookie_ack_by (flush_answered answers) e core)
+  pub cookie_ack_goes : (e : Endpoint) (core : Core) (answers : List Answer) → e.core ≡ core → IsPeerTag core to → CookieAckAnswers e core answers → Goes came to e (cookie_ack_with_flush (flush_answered answers) e core)
   cookie_ack_goes e closed answers same is allowed = goes_on calm refl (rests came to (inside e))
   cookie_ack_goes e (cookie_wait my) answers same is allowed = goes_on calm refl (rests came to (inside e))
-  cookie_ack_goes e (cookie_echoed my held cookie) answers same is allowed = goes_on calm (flush_link (connected_after e my held) (draft_to held) answers allowed ∙ sym (ap identity_in same))
-      (from_own e (connected_after e my held) (flush_of (connected_after e my held) (draft_to held) answers) refl (ap (λ (c : Core). own_in c e.outstanding) same)
+  cookie_ack_goes e (cookie_echoed my held cookie) answers same is allowed = goes_on calm (flush_link (connected_after e my held) (draft_to held) answers allowed ∙ sym (ap identity_of_core same))
+      (from_own e (connected_after e my held) (flush_of (connected_after e my held) (draft_to held) answers) refl (ap (λ (c : Core). own_of_core c e.outstanding) same)
       (flushed came to (connected_after e my held) (draft_to held) answers is is tt tt tt tt allowed))
   cookie_ack_goes e (open_in phase my held) answers same is allowed = goes_on calm refl (rests came to (inside e))
 
   -- ---- COOKIE ECHO
 
   kept_goes : IsOpening came → (e : Endpoint) (cookie : Cookie) (tie : ℕ) (answers : List Answer) → EstablishAnswers e cookie (queues_kept e cookie) tie answers
-      → Goes came to e (establish_by (flush_answered answers) e cookie (queues_kept e cookie) tie (connected ∷ []))
+      → Goes came to e (establish_with_flush (flush_answered answers) e cookie (queues_kept e cookie) tie (connected ∷ []))
   kept_goes opening e cookie tie answers allowed =
       begins (record {
         my = cookie.maker;
@@ -178,12 +178,12 @@ module _ (came : Option Content) (calm : IsCalm came) (to : ℕ) where
         window = window_by_cookie e.options cookie;
         later = _;
         noted = refl;
-        queue = queue_where e.options.follow_rfc e cookie;
+        queue = queue_if_kept e.options.follow_rfc e cookie;
         keeps = kept_or_anew e.options.follow_rfc e cookie;
-      }) opening (flush_link (established_by e cookie (queues_kept e cookie) tie) (cookie_ack_emission (held_by_cookie e.options cookie) cookie) answers allowed) (λ queued. refl) (λ read. refl) (reset_again None) (flushed came cookie.addressee.tag (established_by e cookie (queues_kept e cookie) tie) (cookie_ack_emission (held_by_cookie e.options cookie) cookie) answers refl refl (tt, tt) tt (tt, tt) (tt, tt) allowed)
+      }) opening (flush_link (endpoint_established e cookie (queues_kept e cookie) tie) (cookie_ack_emission (held_by_cookie e.options cookie) cookie) answers allowed) (λ queued. refl) (λ read. refl) (reset_again None) (flushed came cookie.addressee.tag (endpoint_established e cookie (queues_kept e cookie) tie) (cookie_ack_emission (held_by_cookie e.options cookie) cookie) answers refl refl (tt, tt) tt (tt, tt) (tt, tt) allowed)
 
-  anew_goes : IsOpening came → (e : Endpoint) (cookie : Cookie) (tie : ℕ) (told : List (Event Emission)) (answers : List Answer) → packets_in told ≡ [] → EstablishAnswers e cookie (queues_begun e cookie) tie answers
-      → Goes came to e (establish_by (flush_answered answers) e cookie (queues_begun e cookie) tie told)
+  anew_goes : IsOpening came → (e : Endpoint) (cookie : Cookie) (tie : ℕ) (told : List (Event Emission)) (answers : List Answer) → packets_of_events told ≡ [] → EstablishAnswers e cookie (queues_begun e cookie) tie answers
+      → Goes came to e (establish_with_flush (flush_answered answers) e cookie (queues_begun e cookie) tie told)
   anew_goes opening e cookie tie told answers none allowed =
       begins (record {
         my = cookie.maker;
@@ -193,15 +193,15 @@ module _ (came : Option Content) (calm : IsCalm came) (to : ℕ) where
         noted = refl;
         queue = numbered_for (interleaves e cookie) (queue_restarted e.queues.queue);
         keeps = inr refl;
-      }) opening (flush_link (established_by e cookie (queues_begun e cookie) tie) (cookie_ack_emission (held_by_cookie e.options cookie) cookie) answers allowed) (λ queued. refl) (λ read. refl) (reset_again None) (makes_behind came cookie.addressee.tag (inside (established_by e cookie (queues_begun e cookie) tie)) (U64 tie ∷ []) told (flush_of (established_by e cookie (queues_begun e cookie) tie) (cookie_ack_emission (held_by_cookie e.options cookie) cookie) answers) none
-      (flushed came cookie.addressee.tag (established_by e cookie (queues_begun e cookie) tie) (cookie_ack_emission (held_by_cookie e.options cookie) cookie) answers refl refl (tt, tt) tt (tt, tt) (tt, tt) allowed))
+      }) opening (flush_link (endpoint_established e cookie (queues_begun e cookie) tie) (cookie_ack_emission (held_by_cookie e.options cookie) cookie) answers allowed) (λ queued. refl) (λ read. refl) (reset_again None) (makes_behind came cookie.addressee.tag (inside (endpoint_established e cookie (queues_begun e cookie) tie)) (U64 tie ∷ []) told (flush_of (endpoint_established e cookie (queues_begun e cookie) tie) (cookie_ack_emission (held_by_cookie e.options cookie) cookie) answers) none
+      (flushed came cookie.addressee.tag (endpoint_established e cookie (queues_begun e cookie) tie) (cookie_ack_emission (held_by_cookie e.options cookie) cookie) answers refl refl (tt, tt) tt (tt, tt) (tt, tt) allowed))
 
   -- What was sent in the one association goes on in the other.
   pub other_there : IsOpening came → (e : Endpoint) (mine : Pair) (held : Held) (echoed : List ℕ) (cookie : Cookie) (tie : ℕ) (transfer : Transfer) (answers : List Answer) → e.core ≡ cookie_echoed mine held echoed → e.queues.transfer ≡ Some transfer
-      → outlasts e mine held cookie transfer ≡ true → EstablishAnswers e cookie (queues_by true e cookie transfer) tie answers
-      → GoesThere came e (establish_by (flush_answered answers) e cookie (queues_by true e cookie transfer) tie (connected ∷ []))
+      → outlasts e mine held cookie transfer ≡ true → EstablishAnswers e cookie (queues_if_kept true e cookie transfer) tie answers
+      → GoesThere came e (establish_with_flush (flush_answered answers) e cookie (queues_if_kept true e cookie transfer) tie (connected ∷ []))
   other_there opening e mine held echoed cookie tie transfer answers same there lasts allowed =
-      let queues : EndpointQueues = queues_by true e cookie transfer in
+      let queues : EndpointQueues = queues_if_kept true e cookie transfer in
       let after : Held = held_by_cookie e.options cookie in
       let window : ℕ = window_by_cookie e.options cookie in
       record {
@@ -209,13 +209,13 @@ module _ (came : Option Content) (calm : IsCalm came) (to : ℕ) where
           opened = record {
             opening = opening;
             link = identity_of cookie.maker after;
-            linked = flush_link (established_by e cookie queues tie) (cookie_ack_emission after cookie) answers allowed;
+            linked = flush_link (endpoint_established e cookie queues tie) (cookie_ack_emission after cookie) answers allowed;
             later = _;
             noted = refl;
           };
           connected = inr (inl refl);
           old = identity_of mine held;
-          was = ap identity_in same;
+          was = ap identity_of_core same;
           tag = sym (eqb-true mine.tag cookie.maker.tag (second_holds e.options.follow_rfc _ _ lasts));
           unasked = unasked_by e mine held echoed cookie transfer same lasts;
           transfer = transfer;
@@ -224,35 +224,35 @@ module _ (came : Option Content) (calm : IsCalm came) (to : ℕ) where
           kept_is = (e.moment, window, refl);
         };
         again = reset_again None;
-        makes = flushed came cookie.addressee.tag (established_by e cookie queues tie) (cookie_ack_emission after cookie) answers refl refl (tt, tt) tt (tt, tt) (tt, tt) allowed;
+        makes = flushed came cookie.addressee.tag (endpoint_established e cookie queues tie) (cookie_ack_emission after cookie) answers refl refl (tt, tt) tt (tt, tt) (tt, tt) allowed;
       }
 
   there_goes : (e : Endpoint) (o : Outcome) → GoesThere came e o → Goes came to e o
   there_goes e o there = collides there.collision (λ queued. refl) (λ read. refl) there.again there.makes
 
   by_goes : IsOpening came → (b : Bool) (e : Endpoint) (mine : Pair) (held : Held) (echoed : List ℕ) (cookie : Cookie) (tie : ℕ) (transfer : Transfer) (answers : List Answer) → e.core ≡ cookie_echoed mine held echoed → e.queues.transfer ≡ Some transfer
-      → outlasts e mine held cookie transfer ≡ b → EstablishAnswers e cookie (queues_by b e cookie transfer) tie answers
-      → Goes came to e (establish_by (flush_answered answers) e cookie (queues_by b e cookie transfer) tie (connected ∷ []))
+      → outlasts e mine held cookie transfer ≡ b → EstablishAnswers e cookie (queues_if_kept b e cookie transfer) tie answers
+      → Goes came to e (establish_with_flush (flush_answered answers) e cookie (queues_if_kept b e cookie transfer) tie (connected ∷ []))
   by_goes opening true e mine held echoed cookie tie transfer answers same there is allowed =
       there_goes e _ (other_there opening e mine held echoed cookie tie transfer answers same there is allowed)
   by_goes opening false e mine held echoed cookie tie transfer answers same there is allowed = anew_goes opening e cookie tie (connected ∷ []) answers refl allowed
 
   by_transfer_goes : IsOpening came → (e : Endpoint) (mine : Pair) (held : Held) (echoed : List ℕ) (cookie : Cookie) (tie : ℕ) (transfer : Option Transfer) (answers : List Answer) → e.core ≡ cookie_echoed mine held echoed → e.queues.transfer ≡ transfer
       → EstablishAnswers e cookie (queues_for_other e mine held cookie transfer) tie answers
-      → Goes came to e (establish_by (flush_answered answers) e cookie (queues_for_other e mine held cookie transfer) tie (connected ∷ []))
+      → Goes came to e (establish_with_flush (flush_answered answers) e cookie (queues_for_other e mine held cookie transfer) tie (connected ∷ []))
   by_transfer_goes opening e mine held echoed cookie tie None answers same there allowed = anew_goes opening e cookie tie (connected ∷ []) answers refl allowed
   by_transfer_goes opening e mine held echoed cookie tie (Some transfer) answers same there allowed =
       by_goes opening (outlasts e mine held cookie transfer) e mine held echoed cookie tie transfer answers same there refl allowed
 
   collided_goes : IsOpening came → (e : Endpoint) (core : Core) (cookie : Cookie) (tie : ℕ) (answers : List Answer) → e.core ≡ core → EstablishAnswers e cookie (queues_collided e core cookie) tie answers
-      → Goes came to e (collide_by (flush_answered answers) e core cookie tie)
+      → Goes came to e (collide_with_flush (flush_answered answers) e core cookie tie)
   collided_goes opening e closed cookie tie answers same allowed = anew_goes opening e cookie tie (connected ∷ []) answers refl allowed
   collided_goes opening e (cookie_wait my) cookie tie answers same allowed = anew_goes opening e cookie tie (connected ∷ []) answers refl allowed
   collided_goes opening e (cookie_echoed mine held echoed) cookie tie answers same allowed = by_transfer_goes opening e mine held echoed cookie tie e.queues.transfer answers same refl allowed
   collided_goes opening e (open_in phase my held) cookie tie answers same allowed = anew_goes opening e cookie tie (connected ∷ []) answers refl allowed
 
   restarted_goes : IsOpening came → (e : Endpoint) (cookie : Cookie) (tie : ℕ) (core : Core) (answers : List Answer) → RestartAnswers e cookie tie core answers
-      → Goes came to e (restart_by_where (flush_answered answers) e cookie tie core)
+      → Goes came to e (restart_with_flush_by_core (flush_answered answers) e cookie tie core)
   restarted_goes opening e cookie tie closed answers allowed = anew_goes opening e cookie tie (connection_restarted ∷ connected ∷ []) answers refl allowed
   restarted_goes opening e cookie tie (cookie_wait my) answers allowed = anew_goes opening e cookie tie (connection_restarted ∷ connected ∷ []) answers refl allowed
   restarted_goes opening e cookie tie (cookie_echoed my held echoed) answers allowed = anew_goes opening e cookie tie (connection_restarted ∷ connected ∷ []) answers refl allowed
@@ -262,16 +262,16 @@ module _ (came : Option Content) (calm : IsCalm came) (to : ℕ) where
   restarted_goes opening e cookie tie (open_in shutdown_received my held) answers allowed = anew_goes opening e cookie tie (connection_restarted ∷ connected ∷ []) answers refl allowed
   restarted_goes opening e cookie tie (open_in shutdown_ack_sent my held) answers allowed = goes_on calm refl (spoken came to (inside e) (shutting_down_emission held) (tt, (tt, tt)) (refl, tt) (inl (tt, (tt, tt))))
 
-  maintained_goes : (e : Endpoint) (cookie : Cookie) (header : ℕ) (core : Core) (answers : List Answer) → e.core ≡ core → IsPeerTag e.core to → IsPeerTag core to → resolve core e.tie e.secret header cookie ≡ maintain_existing → MaintainAnswers e cookie core answers → Goes came to e (maintain_by (flush_answered answers) e cookie core)
+  maintained_goes : (e : Endpoint) (cookie : Cookie) (header : ℕ) (core : Core) (answers : List Answer) → e.core ≡ core → IsPeerTag e.core to → IsPeerTag core to → resolve core e.tie e.secret header cookie ≡ maintain_existing → MaintainAnswers e cookie core answers → Goes came to e (maintain_with_flush (flush_answered answers) e cookie core)
   maintained_goes e cookie header closed answers same at is resolved allowed = goes_on calm refl (rests came to (inside e))
   maintained_goes e cookie header (cookie_wait my) answers same at is resolved allowed = goes_on calm refl (rests came to (inside e))
-  maintained_goes e cookie header (cookie_echoed my held echoed) answers same at is resolved allowed = goes_on calm (flush_link (connected_after e my held) (cookie_ack_emission held cookie) answers allowed ∙ sym (ap identity_in same))
-      (from_own e (connected_after e my held) (flush_of (connected_after e my held) (cookie_ack_emission held cookie) answers) refl (ap (λ (c : Core). own_in c e.outstanding) same)
+  maintained_goes e cookie header (cookie_echoed my held echoed) answers same at is resolved allowed = goes_on calm (flush_link (connected_after e my held) (cookie_ack_emission held cookie) answers allowed ∙ sym (ap identity_of_core same))
+      (from_own e (connected_after e my held) (flush_of (connected_after e my held) (cookie_ack_emission held cookie) answers) refl (ap (λ (c : Core). own_of_core c e.outstanding) same)
       (flushed came to (connected_after e my held) (cookie_ack_emission held cookie) answers is (eqb-true cookie.addressee.tag held.peer.tag (is_the_peer (header == my.tag) (cookie.addressee.tag == held.peer.tag) (cookie.tie == e.tie) (cookie.tie == e.secret) resolved) ∙ is) (tt, tt) tt (tt, tt) (tt, tt) allowed))
   maintained_goes e cookie header (open_in phase my held) answers same at is resolved allowed = goes_on calm (flush_link e (cookie_ack_emission held cookie) answers allowed) (flushed came to e (cookie_ack_emission held cookie) answers at (eqb-true cookie.addressee.tag held.peer.tag (is_the_peer (header == my.tag) (cookie.addressee.tag == held.peer.tag) (cookie.tie == e.tie) (cookie.tie == e.secret) resolved) ∙ is) (tt, tt) tt (tt, tt) (tt, tt) allowed)
 
-  resolved_goes : IsOpening came → (e : Endpoint) (cookie : Cookie) (header : ℕ) (core : Core) (word : ℕ) (old : Bool) (resolution : Resolution) (answers : List Answer) → e.core ≡ core → IsPeerTag e.core to → IsPeerTag core to → aged old (resolve core e.tie e.secret header cookie) ≡ resolution → ResolvedAnswers e cookie core word resolution answers
-      → Goes came to e (resolved_by (flush_answered answers) e cookie core word resolution)
+  resolved_goes : IsOpening came → (e : Endpoint) (cookie : Cookie) (header : ℕ) (core : Core) (word : ℕ) (old : Bool) (resolution : Resolution) (answers : List Answer) → e.core ≡ core → IsPeerTag e.core to → IsPeerTag core to → aged_resolution old (resolve core e.tie e.secret header cookie) ≡ resolution → ResolvedAnswers e cookie core word resolution answers
+      → Goes came to e (resolve_with_flush (flush_answered answers) e cookie core word resolution)
   resolved_goes opening e cookie header core word old establish_new answers same at is resolved allowed = kept_goes opening e cookie word answers allowed
   resolved_goes opening e cookie header core word old restart answers same at is resolved allowed = restarted_goes opening e cookie word core answers allowed
   resolved_goes opening e cookie header core word old simultaneous_init answers same at is resolved allowed = collided_goes opening e core cookie word answers same allowed
@@ -282,7 +282,7 @@ module _ (came : Option Content) (calm : IsCalm came) (to : ℕ) where
       by_stale_outcome (Goes came to e) e cookie (goes_on calm refl (spoken came to (inside e) (stale_emission cookie) (tt, tt) tt (inl (tt, tt)))) (goes_on calm refl (rests came to (inside e)))
 
   pub echo_goes : IsOpening came → (e : Endpoint) (core : Core) (header : ℕ) (found : Result Cookie (List ℕ)) (word : ℕ) (answers : List Answer) → e.core ≡ core → IsPeerTag e.core to → IsPeerTag core to → EchoedAnswers e core header found word answers
-      → Goes came to e (cookie_echo_by (flush_answered answers) e core header found word)
+      → Goes came to e (cookie_echo_with_flush (flush_answered answers) e core header found word)
   echo_goes opening e core header (Err text) word answers same at is allowed = goes_on calm refl (rests came to (inside e))
   echo_goes opening e core header (Ok cookie) word answers same at is allowed = resolved_goes opening e cookie header core word (is_spent e core header cookie) (resolved_now e core header cookie) answers same at is refl allowed
 
@@ -301,15 +301,15 @@ module _ (came : Option Content) (calm : IsCalm came) (to : ℕ) where
   aborting_goes e (open_in phase my held) reason = ended came to e (emits e [] (abort_to held reason)) (end_of reason) (end_silent came to reason) (emits_own e [] (abort_to held reason))
       (silent_if came to (fits e (abort_to held reason)) e [] (abort_to held reason) (tt, tt)) (emitted came to e [] (abort_to held reason) (tt, tt) tt (tt, tt))
 
-  pub again_goes : (e : Endpoint) (core : Core) (answers : List Answer) → IsPeerTag e.core to → IsPeerTag core to → AgainAnswers e core answers → MakesTo came to (inside e) (again_by (flush_answered answers) e core)
+  pub again_goes : (e : Endpoint) (core : Core) (answers : List Answer) → IsPeerTag e.core to → IsPeerTag core to → AgainAnswers e core answers → MakesTo came to (inside e) (send_again_with_flush (flush_answered answers) e core)
   again_goes e closed answers at is allowed = rests came to (inside e)
   again_goes e (cookie_wait my) answers at is allowed = emitted came to e [] (init_emission e my) (tt, tt) tt (tt, tt)
   again_goes e (cookie_echoed my held cookie) answers at is allowed =
-      subst (λ (t : ℕ). MakesTo came t (inside e) (again_by (flush_answered answers) e (cookie_echoed my held cookie))) is
+      subst (λ (t : ℕ). MakesTo came t (inside e) (send_again_with_flush (flush_answered answers) e (cookie_echoed my held cookie))) is
       (echoed_makes (fits e (echo_emission held.peer.tag cookie)) e [] held.peer.tag cookie answers (subst (λ (t : ℕ). IsPeerTag e.core t) (sym is) at) allowed)
   again_goes e (open_in phase my held) answers at is allowed = rests came to (inside e)
 
-  pub again_link : (e : Endpoint) (core : Core) (answers : List Answer) → AgainAnswers e core answers → identity_in (again_by (flush_answered answers) e core).after.core ≡ identity_in e.core
+  pub again_link : (e : Endpoint) (core : Core) (answers : List Answer) → AgainAnswers e core answers → identity_of_core (send_again_with_flush (flush_answered answers) e core).after.core ≡ identity_of_core e.core
   again_link e closed answers allowed = refl
   again_link e (cookie_wait my) answers allowed = emits_link e [] (init_emission e my)
   again_link e (cookie_echoed my held cookie) answers allowed = echoed_link (fits e (echo_emission held.peer.tag cookie)) e [] held.peer.tag cookie answers allowed

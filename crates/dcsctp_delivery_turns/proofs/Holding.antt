@@ -7,11 +7,11 @@ use Rattle.dcsctp_spec_lemmas.specs.spec.Packet.{Introduction, Content, init, in
 use Rattle.dcsctp_spec_lemmas.specs.spec.endpoint.Endpoint.{Endpoint, Core, closed, cookie_wait, cookie_echoed, open_in, established, shutdown_pending, shutdown_sent, shutdown_received, shutdown_ack_sent, with_secret, secret_with}
 use Rattle.dcsctp_spec_lemmas.specs.spec.endpoint.Outcome.{Outcome, quiet, sends, fits, emits, to_peer}
 use Rattle.dcsctp_spec_runs.specs.Past.{HasEffect}
-use Rattle.dcsctp_spec_lemmas.specs.spec.association.Controlled.{IsControlled, ControlledChunk, ControlledAct}
+use Rattle.dcsctp_spec_lemmas.specs.spec.association.Controlled.{IsControlled, IsControlledChunk, IsControlledAct}
 use Rattle.dcsctp_spec_lemmas.specs.spec.endpoint.Turn.{Input, arrival, refusal, packet_begins, chunk_input, packet_ends, act_input, user_sets, user_sends, user_resets, user_takes, timer_expires, time_passes, restores, has_data_chunk, ContentTurn, Turn}
 use Rattle.dcsctp_spec_runs.specs.World.{ControlTurn, acted, worked}
 use Rattle.dcsctp_spec_lemmas.specs.spec.association.Acts.{Act, shutdown_repeats, flushes}
-use Rattle.dcsctp_spec_lemmas.specs.spec.association.Effect.{Effect, draws, holds, ends, Change, identity_in}
+use Rattle.dcsctp_spec_lemmas.specs.spec.association.Effect.{Effect, draws, holds, ends, Change, identity_of_core}
 use Rattle.dcsctp_spec_lemmas.specs.spec.endpoint.HandshakeOutcomes.{pair_from, renewed_pair, renewed_pair_outcome, init_ack_emission, init_outcome}
 use Rattle.dcsctp_spec_lemmas.specs.spec.endpoint.OwnTimers.{timer_act}
 use Rattle.dcsctp_spec_lemmas.proofs.ControlEcho.{cookie_echo_controlled}
@@ -47,10 +47,10 @@ module _ (noted : Effect) (Is : Core → Type 0) (undrawn : (pair : Pair) → no
       let means : Means e.core change = effects_mean e.options e.core change turn in
       subst Is (sym is.core) (meant e.core change means (noted_happened noted change.effects (subst Holds is.effects has)))
 
-  by_chunk : (e : Endpoint) (tag : ℕ) (content : Content) (o : Outcome) → ControlledChunk e tag content o → Stays o
+  by_chunk : (e : Endpoint) (tag : ℕ) (content : Content) (o : Outcome) → IsControlledChunk e tag content o → Stays o
   by_chunk e tag content o turn has = by_turn e turn.0 o (worked tag content turn.1.0 turn.1.2) turn.2 has
 
-  by_act : (e : Endpoint) (act : Act) (o : Outcome) → ControlledAct e act o → Stays o
+  by_act : (e : Endpoint) (act : Act) (o : Outcome) → IsControlledAct e act o → Stays o
   by_act e act o turn has = by_turn e _ o (acted act turn.0 refl) turn.1 has
 
   -- ---- turns that record no association
@@ -119,7 +119,7 @@ module _ (noted : Effect) (Is : Core → Type 0) (undrawn : (pair : Pair) → no
 
 pub holds_mean : HoldsMean
 holds_mean e input o link may turn has =
-    turn_stays (holds link) (λ core. identity_in core ≡ Some link) (λ pair is. absurd (cc)) (λ core change means there. means.held link there) e input o may turn has
+    turn_stays (holds link) (λ core. identity_of_core core ≡ Some link) (λ pair is. absurd (cc)) (λ core change means there. means.held link there) e input o may turn has
 
 pub ends_mean : EndsMean
 ends_mean e input o may turn has = turn_stays ends (λ core. core ≡ closed) (λ pair is. absurd (cc)) (λ core change means there. means.ended there) e input o may turn has

@@ -4,11 +4,11 @@ use Rattle.dcsctp_spec_lemmas.specs.spec.endpoint.Endpoint.{Endpoint}
 use Rattle.dcsctp_spec_lemmas.specs.spec.Packet.{Content, init, init_ack, cookie_echo, cookie_ack, re_config, abort, shutdown, shutdown_ack, shutdown_complete, plain, Emission}
 use Rattle.dcsctp_spec_lemmas.specs.spec.endpoint.Turn.{Input, arrival, refusal, packet_begins, chunk_input, packet_ends, act_input, user_sets, user_sends, user_resets, user_takes, timer_expires, time_passes, restores}
 use Rattle.dcsctp_spec_lemmas.specs.spec.queues.Transfer.{Transfer, EndpointQueues}
-use Rattle.dcsctp_delivery_turns.specs.Actions.{Ledger, IsOpening, read_where, Action, queues, sets, flushes, resends, resends_nothing, speaks, asks_again, acknowledges, loses, receives, receives_interleaved, forwards, forwards_interleaved, tracks, times, takes, Actions, nothing, further, read_after}
+use Rattle.dcsctp_delivery_turns.specs.Actions.{Ledger, IsOpening, read_if_connected, Action, queues, sets, flushes, resends, resends_nothing, speaks, asks_again, acknowledges, loses, receives, receives_interleaved, forwards, forwards_interleaved, tracks, times, takes, Actions, nothing, further, read_after}
 use Rattle.dcsctp_delivery_turns.specs.Reports.{ComesReported}
 use Rattle.dcsctp_delivery_turns.specs.Sides.{WasSent}
 use Rattle.dcsctp_spec_lemmas.specs.types.queues.Messages.{MessageContent}
-use Rattle.dcsctp_spec_lemmas.specs.spec.endpoint.FlushOutcomes.{Answer, answer_contents, filled, asked, next_draft, Ask, first_ask, later_ask, IsFlushAnswer, IsAnswerOfQueues, AreFlushAnswers, at_limit, at_empty, after_packet, flush_of, packets_allowed}
+use Rattle.dcsctp_spec_lemmas.specs.spec.endpoint.FlushOutcomes.{Answer, answer_contents, filled_draft, asked_outcome, next_draft, Ask, first_ask, later_ask, IsFlushAnswer, IsAnswerOfQueues, AreFlushAnswers, at_limit, at_empty, after_packet, flush_of, packets_allowed}
 use Rattle.dcsctp_delivery_sending.proofs.Packets.{out_below}
 
 -- A flush without an association leaves none.
@@ -16,16 +16,16 @@ answered_none : (ask : Ask) (e : Endpoint) (draft : Emission) (found : Option Tr
 answered_none ask e draft None answer none is does = ap (λ (a : Answer). a.after.queues.transfer) does ∙ none
 answered_none ask e draft (Some transfer) answer none is does = absurd (cc)
 
-asked_none : (ask : Ask) (e : Endpoint) (draft : Emission) (answer : Answer) → e.queues.transfer ≡ None → IsFlushAnswer ask e draft answer → (asked e draft answer).after.queues.transfer ≡ None
+asked_none : (ask : Ask) (e : Endpoint) (draft : Emission) (answer : Answer) → e.queues.transfer ≡ None → IsFlushAnswer ask e draft answer → (asked_outcome e draft answer).after.queues.transfer ≡ None
 asked_none ask e draft answer none does =
-    ap (λ (b : EndpointQueues). b.transfer) (out_below answer.after _ draft.with_checksum draft.packet.tag (filled draft (answer_contents answer)).packet.contents)
+    ap (λ (b : EndpointQueues). b.transfer) (out_below answer.after _ draft.with_checksum draft.packet.tag (filled_draft draft (answer_contents answer)).packet.contents)
     ∙ answered_none ask e draft e.queues.transfer answer none none does.by_transfer
 
 flush_none : (ask : Ask) (n : ℕ) (e : Endpoint) (draft : Emission) (answers : List Answer) → e.queues.transfer ≡ None → AreFlushAnswers ask n e draft answers → (flush_of e draft answers).after.queues.transfer ≡ None
 flush_none _ _ _ _ _ none (at_limit ask e draft) = none
 flush_none _ _ _ _ _ none (at_empty ask more e draft answer does empty) = asked_none ask e draft answer none does
 flush_none _ _ _ _ _ none (after_packet ask more e draft answer answers does some rest) =
-    flush_none later_ask more (asked e draft answer).after (next_draft e.core draft) answers (asked_none ask e draft answer none does) rest
+    flush_none later_ask more (asked_outcome e draft answer).after (next_draft e.core draft) answers (asked_none ask e draft answer none does) rest
 
 -- Nothing is received where there is no association.
 action_none : (came : Option Content) (to : ℕ) (old new : Ledger) → Action came to old new → old.queues.transfer ≡ None → new.queues.transfer ≡ None
@@ -51,7 +51,7 @@ actions_none came to old _ nothing none = none
 actions_none came to old _ (further between new first last) none = action_none came to between new last (actions_none came to old between first none)
 
 pub read_none : (e : Endpoint) (input : Input) (read : List MessageContent) → e.queues.transfer ≡ None → read_after e input read ≡ read
-read_none e user_takes read none = ap (λ (t : Option Transfer). read_where t read) none
+read_none e user_takes read none = ap (λ (t : Option Transfer). read_if_connected t read) none
 read_none e arrival read none = refl
 read_none e (refusal text) read none = refl
 read_none e (packet_begins contents) read none = refl

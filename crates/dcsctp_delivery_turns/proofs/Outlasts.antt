@@ -8,7 +8,7 @@ use Rattle.dcsctp_spec_lemmas.specs.types.declared.options.Options.{Options}
 use Rattle.dcsctp_spec_lemmas.specs.spec.Packet.{Content}
 use Rattle.dcsctp_spec_lemmas.specs.spec.Reconfiguration.{RequestedReset}
 use Rattle.dcsctp_spec_lemmas.specs.spec.endpoint.Endpoint.{Endpoint}
-use Rattle.dcsctp_spec_lemmas.specs.spec.endpoint.Event.{packets_in}
+use Rattle.dcsctp_spec_lemmas.specs.spec.endpoint.Event.{packets_of_events}
 use Rattle.dcsctp_spec_lemmas.specs.spec.endpoint.Outcome.{Outcome}
 use Rattle.dcsctp_spec_lemmas.specs.spec.endpoint.Turn.{Input}
 use Rattle.dcsctp_spec_lemmas.specs.types.queues.Messages.{MessageContent}
@@ -18,10 +18,10 @@ use Rattle.dcsctp_spec_lemmas.specs.spec.queues.Tracker.{TrackerState, new_track
 use Rattle.dcsctp_spec_lemmas.specs.spec.queues.Transfer.{Transfer, EndpointQueues, part_overhead}
 use Rattle.dcsctp_delivery_directions.specs.Directions.{Asking, nothing_asked, Direction, HasReached, DirectionRun}
 use Rattle.dcsctp_delivery_directions.proofs.Awaited.{kept_goes}
-use Rattle.dcsctp_delivery_turns.specs.Actions.{ledger_of, inside, Made, MakesPackets, came_by, read_after, Begun, Collides, kept_inside}
+use Rattle.dcsctp_delivery_turns.specs.Actions.{ledger_of, inside, LeadsToLedger, MakesPackets, content_of_input, read_after, BeginsAssociation, Collides, kept_inside}
 use Rattle.dcsctp_delivery_turns.specs.Asking.{SomeFit, own_of, AsksFit}
 use Rattle.dcsctp_delivery_turns.specs.PeerRequests.{SameWaits}
-use Rattle.dcsctp_delivery_turns.specs.Runs.{sender_at, new_direction, OpensSmall, OpensAssociation, Outlasts}
+use Rattle.dcsctp_delivery_turns.specs.Runs.{direction_with_sender, new_direction, OpensSmall, OpensAssociation, Outlasts}
 use Rattle.dcsctp_delivery_turns.specs.Sides.{receiving, ReceivingSteps}
 use Rattle.dcsctp_delivery_turns.proofs.Addressed.{data_goes_to_peer}
 use Rattle.dcsctp_delivery_turns.proofs.Beginnings.{nothing_fits}
@@ -31,8 +31,8 @@ use Rattle.dcsctp_delivery_turns.proofs.Idle.{opening_sent, opening_reports}
 use Rattle.dcsctp_delivery_turns.proofs.Sides.{steps_go_on, actions_send, actions_receive}
 
 module _ (options : Options) (first size : ℕ) (direction : Direction) (e : Endpoint) (input : Input) (o : Outcome) (run : DirectionRun options first size direction) (small : first < 2 ^ 32) (same : direction.queues ≡ e.queues)
-    (collision : Collides (came_by input) e o) (first_is : first ≡ collision.opened.link.my.first_tsn) (asked : direction.asking ≡ nothing_asked) (again : RequestedReset)
-    (makes : MakesPackets (came_by input) collision.opened.link.peer.tag (kept_inside collision again) (packets_in o.events) (inside o.after)) where
+    (collision : Collides (content_of_input input) e o) (first_is : first ≡ collision.opened.link.my.first_tsn) (asked : direction.asking ≡ nothing_asked) (again : RequestedReset)
+    (makes : MakesPackets (content_of_input input) collision.opened.link.peer.tag (kept_inside collision again) (packets_of_events o.events) (inside o.after)) where
   to : ℕ
   to = collision.opened.link.peer.tag
 
@@ -54,24 +54,24 @@ module _ (options : Options) (first size : ℕ) (direction : Direction) (e : End
   outlasts_goes =
       let made = makes direction.queued direction.sent [] first nothing_asked fits_kept in
       let alone = makes direction.queued [] [] first nothing_asked fits_kept in
-      let sends = actions_send (came_by input) to (ledger_of direction.queued (kept_inside collision again).queues direction.sent [] nothing_asked)
-      (ledger_of direction.queued o.after.queues (direction.sent ++ packets_in o.events) [] made.asking) direction.acknowledged direction.first_tsn direction.tracker direction.reassembly direction.read direction.beginning
-      (λ transfer there. opening_reports (HasReached direction.first_tsn direction.tracker) (came_by input) collision.opened.opening) made.actions in
+      let sends = actions_send (content_of_input input) to (ledger_of direction.queued (kept_inside collision again).queues direction.sent [] nothing_asked)
+      (ledger_of direction.queued o.after.queues (direction.sent ++ packets_of_events o.events) [] made.asking) direction.acknowledged direction.first_tsn direction.tracker direction.reassembly direction.read direction.beginning
+      (λ transfer there. opening_reports (HasReached direction.first_tsn direction.tracker) (content_of_input input) collision.opened.opening) made.actions in
       record {
         acknowledged = sends.later;
         asking = made.asking;
         grows = made.grows;
         fits = made.fits;
-        addressed = data_goes_to_peer (came_by input) to _ _ tt alone.actions;
-        kind = actions_kind (came_by input) to _ _ made.actions;
+        addressed = data_goes_to_peer (content_of_input input) to _ _ tt alone.actions;
+        kind = actions_kind (content_of_input input) to _ _ made.actions;
         run = steps_go_on options first size (sending_by direction (kept_inside collision again) nothing_asked)
-            (sender_at direction direction.queued o.after.queues sends.later (direction.sent ++ packets_in o.events) made.asking) kept sends.steps;
+            (direction_with_sender direction direction.queued o.after.queues sends.later (direction.sent ++ packets_of_events o.events) made.asking) kept sends.steps;
       }
 
 -- ---- what its receiver does in the same turn
 
 -- Nothing was received from the other peer yet, and the receiver goes on from there. It waits for no reset.
-pub record OpensKept (e : Endpoint) (input : Input) (o : Outcome) (collision : Collides (came_by input) e o) : Type 0 where
+pub record OpensKept (e : Endpoint) (input : Input) (o : Outcome) (collision : Collides (content_of_input input) e o) : Type 0 where
   pub left : Transfer
   pub is : o.after.queues.transfer ≡ Some left
   pub runs : (options : Options) (first size : ℕ) (direction : Direction) → DirectionRun options first size (receiving direction collision.kept direction.read) → DirectionRun options first size (receiving direction left direction.read)
@@ -80,20 +80,20 @@ pub record OpensKept (e : Endpoint) (input : Input) (o : Outcome) (collision : C
   pub tracker : collision.kept.tracker ≡ new_tracker e.options collision.opened.link.peer.first_tsn
   pub reassembly : collision.kept.reassembly ≡ new_reassembly e.options.max_receiver_window_buffer_size (part_overhead e.options)
 
-module _ (e : Endpoint) (input : Input) (o : Outcome) (collision : Collides (came_by input) e o) (small : collision.opened.link.my.first_tsn < 2 ^ 32) (again : RequestedReset)
-    (makes : MakesPackets (came_by input) collision.opened.link.peer.tag (kept_inside collision again) (packets_in o.events) (inside o.after)) where
+module _ (e : Endpoint) (input : Input) (o : Outcome) (collision : Collides (content_of_input input) e o) (small : collision.opened.link.my.first_tsn < 2 ^ 32) (again : RequestedReset)
+    (makes : MakesPackets (content_of_input input) collision.opened.link.peer.tag (kept_inside collision again) (packets_of_events o.events) (inside o.after)) where
   abbrev nothing_sent : Direction
   nothing_sent = new_direction e.options 0 0 [] (record { queue = empty_queue e.options; transfer = None }) 0 [] (record { from_zero = false; keeps = λ id. false })
 
-  made : (read : List MessageContent) → Made (came_by input) collision.opened.link.peer.tag (ledger_of [] (kept_inside collision again).queues [] read nothing_asked) collision.opened.link.my.first_tsn (inside o.after) [] ([] ++ packets_in o.events) read
+  made : (read : List MessageContent) → LeadsToLedger (content_of_input input) collision.opened.link.peer.tag (ledger_of [] (kept_inside collision again).queues [] read nothing_asked) collision.opened.link.my.first_tsn (inside o.after) [] ([] ++ packets_of_events o.events) read
   made read = makes [] [] read collision.opened.link.my.first_tsn nothing_asked (nothing_fits collision.opened.link.my.first_tsn again small)
 
   received : (direction : Direction) → ReceivingSteps direction collision.kept (ledger_of [] (kept_inside collision again).queues [] direction.read nothing_asked)
-      (ledger_of [] o.after.queues ([] ++ packets_in o.events) direction.read (made direction.read).asking)
+      (ledger_of [] o.after.queues ([] ++ packets_of_events o.events) direction.read (made direction.read).asking)
   received direction =
-      actions_receive (came_by input) collision.opened.link.peer.tag (ledger_of [] (kept_inside collision again).queues [] direction.read nothing_asked)
-      (ledger_of [] o.after.queues ([] ++ packets_in o.events) direction.read (made direction.read).asking) direction collision.kept
-      (opening_sent direction.sent (came_by input) collision.opened.opening) refl (made direction.read).actions
+      actions_receive (content_of_input input) collision.opened.link.peer.tag (ledger_of [] (kept_inside collision again).queues [] direction.read nothing_asked)
+      (ledger_of [] o.after.queues ([] ++ packets_of_events o.events) direction.read (made direction.read).asking) direction collision.kept
+      (opening_sent direction.sent (content_of_input input) collision.opened.opening) refl (made direction.read).actions
 
   same_left : (one other : Transfer) → o.after.queues.transfer ≡ Some one → o.after.queues.transfer ≡ Some other → one ≡ other
   same_left one other first second = cc
@@ -129,7 +129,7 @@ other_held collision =
       peer_result = InProgress;
     }
 
-abbrev pub other_begun : (e : Endpoint) (input : Input) (o : Outcome) → Collides (came_by input) e o → Begun e o
+abbrev pub other_begun : (e : Endpoint) (input : Input) (o : Outcome) → Collides (content_of_input input) e o → BeginsAssociation e o
 other_begun e input o collision =
     record {
       my = collision.opened.link.my;
@@ -141,11 +141,11 @@ other_begun e input o collision =
       keeps = inr refl;
     }
 
-module _ (e : Endpoint) (input : Input) (o : Outcome) (small : OpensSmall e input o) (collision : Collides (came_by input) e o) where
+module _ (e : Endpoint) (input : Input) (o : Outcome) (small : OpensSmall e input o) (collision : Collides (content_of_input input) e o) where
   pub collided_opens : ((read : List MessageContent) → read_after e input read ≡ read) → (again : RequestedReset)
-      → MakesPackets (came_by input) collision.opened.link.peer.tag (kept_inside collision again) (packets_in o.events) (inside o.after) → OpensAssociation e input o
+      → MakesPackets (content_of_input input) collision.opened.link.peer.tag (kept_inside collision again) (packets_of_events o.events) (inside o.after) → OpensAssociation e input o
   collided_opens unread again makes =
-      let begun : Begun e o = other_begun e input o collision in
+      let begun : BeginsAssociation e o = other_begun e input o collision in
       let opens = kept_opens e input o collision (small begun collision.opened.opening collision.opened.linked) again makes in
       record {
         begun = begun;

@@ -12,11 +12,11 @@ use Rattle.dcsctp_spec_lemmas.specs.spec.endpoint.Outcome.{Outcome, quiet, sends
 use Rattle.dcsctp_spec_lemmas.specs.spec.Packet.{Emission, re_config}
 use Rattle.dcsctp_spec_lemmas.specs.spec.Reconfiguration.{RequestState, RequestedReset, ResetParameter, outgoing_reset_request, incoming_reset_request, reconfiguration_response, other_reset_parameter}
 use Rattle.dcsctp_spec_lemmas.specs.spec.association.Effect.{Effect}
-use Rattle.dcsctp_spec_lemmas.specs.spec.association.ResetChanges.{informed_where, is_outstanding, HandledParameters, work_parameters, work_chunk}
+use Rattle.dcsctp_spec_lemmas.specs.spec.association.ResetChanges.{result_if_outstanding, is_outstanding, HandledParameters, parameters_outcome, reset_chunk_outcome}
 use Rattle.dcsctp_spec_lemmas.specs.spec.queues.Transfer.{Transfer}
 use Rattle.dcsctp_spec_lemmas.specs.spec.endpoint.BegunResets.{BegunReset, begun_effects}
 use Rattle.dcsctp_spec_lemmas.specs.spec.endpoint.FlushOutcomes.{Answer, draft_to, flush_of, first_ask, packets_allowed}
-use Rattle.dcsctp_spec_lemmas.specs.spec.endpoint.ResetOutcomes.{requested_in, request_state, renewable_after, renewable_left, parameters_handled_in, has_reset, answers_in_progress, ResetsInQueues, defers_reset, answered_in, resets_handled, reset_events_of, responses_outcome, responses_by, ResponseAnswers, WorksResets}
+use Rattle.dcsctp_spec_lemmas.specs.spec.endpoint.ResetOutcomes.{first_reset_request, request_state, renewable_after, renewable_left, handled_parameters_of, has_reset, answers_in_progress, ResetsInQueues, defers_reset, answer_to_own, resets_handled, reset_events_of, responses_outcome, responses_unless_refused, ResponseAnswers, HandlesResets}
 use Rattle.dcsctp_spec_lemmas.proofs.FlushKeeps.{begun_by, flush_keeps}
 use Rattle.dcsctp_spec_lemmas.proofs.OneAnswerLemmas.{answered_by}
 use Rattle.dcsctp_delivery_sending.specs.Flushes.{NoRequests}
@@ -28,7 +28,7 @@ use Rattle.dcsctp_delivery_turns.proofs.Waiting.{flush_renewable, unasked_append
 
 -- A flush may begin a request of ours.
 sent_behind : (refused : Bool) (e : Endpoint) (told : List (Event Emission)) (held : Held) (parameters responses : List ResetParameter) (answers : List Answer) → ResponseAnswers refused e held responses answers
-    → (begun : Option BegunReset) × ((responses_by refused e told held parameters responses answers).effects ≡ begun_effects begun)
+    → (begun : Option BegunReset) × ((responses_unless_refused refused e told held parameters responses answers).effects ≡ begun_effects begun)
 sent_behind true e told held parameters responses answers allowed = (None, refl)
 sent_behind false e told held parameters responses answers allowed =
     let base : Endpoint = (responses_outcome e held responses).after in
@@ -41,7 +41,7 @@ answered_waits e held (response ∷ responses) =
     answered_by (λ (o : Outcome). StillWaits e.queues.transfer o.after.queues.transfer) e emission (all_wait e.queues.transfer) (emitted e [] emission).waits
 
 sent_waits : (refused : Bool) (e : Endpoint) (told : List (Event Emission)) (held : Held) (parameters responses : List ResetParameter) (answers : List Answer) → ResponseAnswers refused e held responses answers
-    → StillWaits e.queues.transfer (responses_by refused e told held parameters responses answers).after.queues.transfer
+    → StillWaits e.queues.transfer (responses_unless_refused refused e told held parameters responses answers).after.queues.transfer
 sent_waits true e told held parameters responses answers allowed = all_wait e.queues.transfer
 sent_waits false e told held parameters responses answers allowed =
     let base : Endpoint = (responses_outcome e held responses).after in
@@ -49,7 +49,7 @@ sent_waits false e told held parameters responses answers allowed =
 
 -- Nothing of it changes what is renewable.
 sent_renewable : (refused : Bool) (e : Endpoint) (told : List (Event Emission)) (held : Held) (parameters responses : List ResetParameter) (answers : List Answer) → ResponseAnswers refused e held responses answers
-    → (responses_by refused e told held parameters responses answers).after.renewable ≡ e.renewable
+    → (responses_unless_refused refused e told held parameters responses answers).after.renewable ≡ e.renewable
 sent_renewable true e told held parameters responses answers allowed = refl
 sent_renewable false e told held parameters responses answers allowed =
     let base : Endpoint = (responses_outcome e held responses).after in
@@ -65,11 +65,11 @@ sent_renewable false e told held parameters responses answers allowed =
         let emission : Emission = to_peer held (re_config (response ∷ responses)) in
         answered_by (λ (o : Outcome). o.after.renewable ≡ x.renewable) x emission refl (packet_renewable (fits x emission) x emission)
 
-pub works_renewable : (e : Endpoint) (my : Pair) (held : Held) (parameters : List ResetParameter) (o : Outcome) → WorksResets e my held parameters o
-    → o.after.renewable ≡ renewable_left e held (parameters_handled_in e my held parameters) parameters
+pub works_renewable : (e : Endpoint) (my : Pair) (held : Held) (parameters : List ResetParameter) (o : Outcome) → HandlesResets e my held parameters o
+    → o.after.renewable ≡ renewable_left e held (handled_parameters_of e my held parameters) parameters
 works_renewable e my held parameters o turn =
-    let w : HandledParameters = parameters_handled_in e my held parameters in
-    let base : Endpoint = resets_handled e (answered_in held w parameters) w.held turn.left (renewable_left e held w parameters) in
+    let w : HandledParameters = handled_parameters_of e my held parameters in
+    let base : Endpoint = resets_handled e (answer_to_own held w parameters) w.held turn.left (renewable_left e held w parameters) in
     ap (λ (x : Outcome). x.after.renewable) turn.is ∙ sent_renewable w.is_refused base (reset_events_of e parameters w.effects) w.held parameters w.answers turn.answers turn.allowed
 
 -- What it leaves: effects with these in front, and what waits from here on.
@@ -80,13 +80,13 @@ pub record Works (e : Endpoint) (w : HandledParameters) (reset : Option Requeste
   pub is : o.effects ≡ w.effects ++ begun_effects begun
   pub waits : StillWaits left o.after.queues.transfer
 
-pub works_of : (e : Endpoint) (my : Pair) (held : Held) (parameters : List ResetParameter) (o : Outcome) → WorksResets e my held parameters o → Works e (parameters_handled_in e my held parameters) (requested_in parameters) o
+pub works_of : (e : Endpoint) (my : Pair) (held : Held) (parameters : List ResetParameter) (o : Outcome) → HandlesResets e my held parameters o → Works e (handled_parameters_of e my held parameters) (first_reset_request parameters) o
 works_of e my held parameters o turn =
-    let w : HandledParameters = parameters_handled_in e my held parameters in
-    let base : Endpoint = resets_handled e (answered_in held w parameters) w.held turn.left (renewable_left e held w parameters) in
+    let w : HandledParameters = handled_parameters_of e my held parameters in
+    let base : Endpoint = resets_handled e (answer_to_own held w parameters) w.held turn.left (renewable_left e held w parameters) in
     let told : List (Event Emission) = reset_events_of e parameters w.effects in
     let behind = sent_behind w.is_refused base told w.held parameters w.answers turn.answers turn.allowed in
-    subst (Works e w (requested_in parameters)) (sym turn.is)
+    subst (Works e w (first_reset_request parameters)) (sym turn.is)
     (record {
       left = turn.left;
       below = turn.below;
@@ -97,7 +97,7 @@ works_of e my held parameters o turn =
 
 -- ---- without a request
 
-informed_unasked : (my : Pair) (held : Held) (number : ℕ) (result : ReconfigurationResponseResult) (b : Bool) → NoneAsked (informed_where my held number result b).effects
+informed_unasked : (my : Pair) (held : Held) (number : ℕ) (result : ReconfigurationResponseResult) (b : Bool) → NoneAsked (result_if_outstanding my held number result b).effects
 informed_unasked my held number result false = tt
 informed_unasked my held number SuccessNothingToDo true = tt
 informed_unasked my held number SuccessPerformed true = tt
@@ -107,21 +107,21 @@ informed_unasked my held number ErrorRequestAlreadyInProgress true = tt
 informed_unasked my held number ErrorBadSequenceNumber true = tt
 informed_unasked my held number InProgress true = tt
 
-parameters_unasked : (my : Pair) (state : RequestState) (has_worked : Bool) (held : Held) (parameters : List ResetParameter) → NoRequests parameters → NoneAsked (work_parameters my state has_worked held parameters).effects
+parameters_unasked : (my : Pair) (state : RequestState) (has_worked : Bool) (held : Held) (parameters : List ResetParameter) → NoRequests parameters → NoneAsked (parameters_outcome my state has_worked held parameters).effects
 parameters_unasked my state has_worked held [] none = tt
 parameters_unasked my state has_worked held (outgoing_reset_request number answered reset ∷ parameters) none = absurd none
 parameters_unasked my state has_worked held (incoming_reset_request number streams ∷ parameters) none = absurd none
 parameters_unasked my state has_worked held (reconfiguration_response number result ∷ parameters) none =
-    let first = informed_where my held number result (is_outstanding number held.own_outstanding) in
-    unasked_append first.effects (work_parameters my state has_worked first.held parameters).effects (informed_unasked my held number result (is_outstanding number held.own_outstanding))
+    let first = result_if_outstanding my held number result (is_outstanding number held.own_outstanding) in
+    unasked_append first.effects (parameters_outcome my state has_worked first.held parameters).effects (informed_unasked my held number result (is_outstanding number held.own_outstanding))
     (parameters_unasked my state has_worked first.held parameters none)
 parameters_unasked my state has_worked held (other_reset_parameter parameter ∷ parameters) none = parameters_unasked my state has_worked held parameters none
 
-chunk_unasked : (my : Pair) (state : RequestState) (held : Held) (parameters : List ResetParameter) → NoRequests parameters → NoneAsked (work_chunk my state held parameters).effects
+chunk_unasked : (my : Pair) (state : RequestState) (held : Held) (parameters : List ResetParameter) → NoRequests parameters → NoneAsked (reset_chunk_outcome my state held parameters).effects
 chunk_unasked my state held [] none = tt
 chunk_unasked my state held (parameter ∷ parameters) none = parameters_unasked my state false held (parameter ∷ parameters) none
 
-pub none_requested : (parameters : List ResetParameter) → NoRequests parameters → requested_in parameters ≡ None
+pub none_requested : (parameters : List ResetParameter) → NoRequests parameters → first_reset_request parameters ≡ None
 none_requested [] none = refl
 none_requested (outgoing_reset_request number answered reset ∷ parameters) none = absurd none
 none_requested (incoming_reset_request number streams ∷ parameters) none = absurd none
@@ -142,9 +142,9 @@ unasked_reset (effects.accepts number ∷ happened) none = absurd none
 unasked_reset (effects.resumes link own last ∷ happened) none = absurd none
 unasked_reset (effect ∷ happened) none = unasked_reset happened none
 
-pub answers_ask : (e : Endpoint) (my : Pair) (held : Held) (parameters : List ResetParameter) (o : Outcome) → NoRequests parameters → WorksResets e my held parameters o → AsksNothing e.queues.transfer e.renewable o
+pub answers_ask : (e : Endpoint) (my : Pair) (held : Held) (parameters : List ResetParameter) (o : Outcome) → NoRequests parameters → HandlesResets e my held parameters o → AsksNothing e.queues.transfer e.renewable o
 answers_ask e my held parameters o none turn =
-    let w : HandledParameters = parameters_handled_in e my held parameters in
+    let w : HandledParameters = handled_parameters_of e my held parameters in
     let works = works_of e my held parameters o turn in
     let same : works.left ≡ e.queues.transfer =
     none_below (has_reset w.effects) (answers_in_progress w.answers) e.queues.transfer works.left
@@ -169,7 +169,7 @@ below_some false false None old new below = (old, below)
 
 -- What is sent leaves it.
 sent_left : (refused : Bool) (e : Endpoint) (told : List (Event Emission)) (held : Held) (parameters responses : List ResetParameter) (answers : List Answer) (transfer : Transfer) → e.queues.transfer ≡ Some transfer
-    → ResponseAnswers refused e held responses answers → Left transfer (responses_by refused e told held parameters responses answers).after.queues.transfer
+    → ResponseAnswers refused e held responses answers → Left transfer (responses_unless_refused refused e told held parameters responses answers).after.queues.transfer
 sent_left true e told held parameters responses answers transfer known allowed = record { left = transfer; is = known; same = alike transfer }
 sent_left false e told held parameters [] answers transfer known allowed = flush_left first_ask (packets_allowed e.options.max_burst e.core) e (draft_to held) answers transfer known allowed
 sent_left false e told held parameters (response ∷ responses) answers transfer known allowed =
@@ -188,13 +188,13 @@ sent_left false e told held parameters (response ∷ responses) answers transfer
         answered_by (λ (o : Outcome). o.after.queues.transfer ≡ e.queues.transfer) e emission refl (emits_transfer (fits e emission) e emission)
 
 -- So no association ends by a RE-CONFIG.
-pub none_ends : (e : Endpoint) (my : Pair) (held : Held) (parameters : List ResetParameter) (o : Outcome) (transfer : Transfer) → e.queues.transfer ≡ Some transfer → WorksResets e my held parameters o
+pub none_ends : (e : Endpoint) (my : Pair) (held : Held) (parameters : List ResetParameter) (o : Outcome) (transfer : Transfer) → e.queues.transfer ≡ Some transfer → HandlesResets e my held parameters o
     → o.after.queues.transfer ≡ None → ⊥
 none_ends e my held parameters o transfer known turn none =
-    let w : HandledParameters = parameters_handled_in e my held parameters in
-    let base : Endpoint = resets_handled e (answered_in held w parameters) w.held turn.left (renewable_left e held w parameters) in
-    let found = below_some (has_reset w.effects) (answers_in_progress w.answers) (requested_in parameters) transfer turn.left
-    (subst (λ (t : Option Transfer). ResetsInQueues (has_reset w.effects) (answers_in_progress w.answers) (requested_in parameters) t turn.left) known turn.below) in
+    let w : HandledParameters = handled_parameters_of e my held parameters in
+    let base : Endpoint = resets_handled e (answer_to_own held w parameters) w.held turn.left (renewable_left e held w parameters) in
+    let found = below_some (has_reset w.effects) (answers_in_progress w.answers) (first_reset_request parameters) transfer turn.left
+    (subst (λ (t : Option Transfer). ResetsInQueues (has_reset w.effects) (answers_in_progress w.answers) (first_reset_request parameters) t turn.left) known turn.below) in
     let kept = sent_left w.is_refused base (reset_events_of e parameters w.effects) w.held parameters w.answers turn.answers found.0 found.1 turn.allowed in
     let is : o.after.queues.transfer ≡ Some kept.left = ap (λ (x : Outcome). x.after.queues.transfer) turn.is ∙ kept.is in
     absurd (cc)

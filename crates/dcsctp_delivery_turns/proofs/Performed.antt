@@ -7,9 +7,9 @@ use Rattle.dcsctp_spec_lemmas.specs.types.declared.association.Pair.{Pair}
 use Rattle.dcsctp_spec_lemmas.specs.types.declared.association.Held.{Held}
 use Rattle.dcsctp_spec_lemmas.specs.spec.Reconfiguration.{RequestState, early, due, renewed, RequestedReset, ResetParameter, outgoing_reset_request, incoming_reset_request, reconfiguration_response, other_reset_parameter}
 use Rattle.dcsctp_spec_lemmas.specs.spec.association.Effect.{Effect}
-use Rattle.dcsctp_spec_lemmas.specs.spec.association.ResetChanges.{RequestPlace, again, next, astray, request_place, performed_request, repeated, next_request, is_due, outgoing_by, incoming_by, informed_where, is_outstanding, work_parameters, work_chunk}
+use Rattle.dcsctp_spec_lemmas.specs.spec.association.ResetChanges.{RequestPlace, again, next, astray, request_place, performed_request, repeated_request_outcome, next_request, is_due, outgoing_by_place, incoming_by_place, result_if_outstanding, is_outstanding, parameters_outcome, reset_chunk_outcome}
 use Rattle.dcsctp_spec_lemmas.specs.spec.endpoint.BegunResets.{BegunReset, begun_effects}
-use Rattle.dcsctp_spec_lemmas.specs.spec.endpoint.ResetOutcomes.{requested_in, OwnAnswer, unanswered, retried, was_performed, has_failed, own_answer, has_completed, has_reset}
+use Rattle.dcsctp_spec_lemmas.specs.spec.endpoint.ResetOutcomes.{first_reset_request, OwnAnswer, unanswered, retried, was_performed, has_failed, own_answer, has_completed, has_reset}
 use Rattle.dcsctp_delivery_sending.specs.Flushes.{NoRequests}
 use Rattle.dcsctp_delivery_turns.specs.Actions.{has_refused}
 
@@ -67,7 +67,7 @@ worked_none : (held : Held) (number : ℕ) (reached : Bool) → has_reset (perfo
 worked_none held number true is = refl
 worked_none held number false is = absurd (cc)
 
-repeated_reached : (held : Held) (result : ReconfigurationResponseResult) (reached : Bool) → has_reset (repeated held result reached).effects ≡ true → reached ≡ true
+repeated_reached : (held : Held) (result : ReconfigurationResponseResult) (reached : Bool) → has_reset (repeated_request_outcome held result reached).effects ≡ true → reached ≡ true
 repeated_reached held InProgress reached is = worked_none held held.peer_last reached is
 repeated_reached held SuccessNothingToDo reached is = absurd (cc)
 repeated_reached held SuccessPerformed reached is = absurd (cc)
@@ -81,17 +81,17 @@ next_reached held number early is = absurd (cc)
 next_reached held number due is = refl
 next_reached held number renewed is = refl
 
-outgoing_reached : (held : Held) (number : ℕ) (state : RequestState) (place : RequestPlace) → has_reset (outgoing_by held number state place).effects ≡ true → is_due state ≡ true
+outgoing_reached : (held : Held) (number : ℕ) (state : RequestState) (place : RequestPlace) → has_reset (outgoing_by_place held number state place).effects ≡ true → is_due state ≡ true
 outgoing_reached held number state again is = repeated_reached held held.peer_result (is_due state) is
 outgoing_reached held number state next is = next_reached held number state is
 outgoing_reached held number state astray is = absurd (cc)
 
-incoming_none : (held : Held) (number : ℕ) (place : RequestPlace) → has_reset (incoming_by held number place).effects ≡ false
+incoming_none : (held : Held) (number : ℕ) (place : RequestPlace) → has_reset (incoming_by_place held number place).effects ≡ false
 incoming_none held number again = refl
 incoming_none held number next = refl
 incoming_none held number astray = refl
 
-informed_none : (my : Pair) (held : Held) (number : ℕ) (result : ReconfigurationResponseResult) (b : Bool) → has_reset (informed_where my held number result b).effects ≡ false
+informed_none : (my : Pair) (held : Held) (number : ℕ) (result : ReconfigurationResponseResult) (b : Bool) → has_reset (result_if_outstanding my held number result b).effects ≡ false
 informed_none my held number result false = refl
 informed_none my held number SuccessNothingToDo true = refl
 informed_none my held number SuccessPerformed true = refl
@@ -106,27 +106,27 @@ pub record Performs (state : RequestState) (has_worked : Bool) (parameters : Lis
   first : has_worked ≡ false
   pub all : is_due state ≡ true
   pub reset : RequestedReset
-  pub asked : requested_in parameters ≡ Some reset
+  pub asked : first_reset_request parameters ≡ Some reset
 
-parameters_perform : (my : Pair) (state : RequestState) (has_worked : Bool) (held : Held) (parameters : List ResetParameter) → has_reset (work_parameters my state has_worked held parameters).effects ≡ true
+parameters_perform : (my : Pair) (state : RequestState) (has_worked : Bool) (held : Held) (parameters : List ResetParameter) → has_reset (parameters_outcome my state has_worked held parameters).effects ≡ true
     → Performs state has_worked parameters
 parameters_perform my state has_worked held [] is = absurd (cc)
 parameters_perform my state true held (outgoing_reset_request number answered reset ∷ parameters) is = absurd (cc)
 parameters_perform my state false held (outgoing_reset_request number answered reset ∷ parameters) is =
-    let first = outgoing_by held number state (request_place held.peer_last number) in
-    elim (reset_in first.effects (work_parameters my state true first.held parameters).effects is) [
+    let first = outgoing_by_place held number state (request_place held.peer_last number) in
+    elim (reset_in first.effects (parameters_outcome my state true first.held parameters).effects is) [
       | inl at ↦ record { first = refl; all = outgoing_reached held number state (request_place held.peer_last number) at; reset = reset; asked = refl }
       | inr later ↦ (let none : true ≡ false = (parameters_perform my state true first.held parameters later).first in absurd (cc))
     ]
 parameters_perform my state has_worked held (incoming_reset_request number streams ∷ parameters) is =
-    let first = incoming_by held number (request_place held.peer_last number) in
-    let rest = work_parameters my state has_worked first.held parameters in
+    let first = incoming_by_place held number (request_place held.peer_last number) in
+    let rest = parameters_outcome my state has_worked first.held parameters in
     let later : Performs state has_worked parameters =
     parameters_perform my state has_worked first.held parameters (sym (reset_behind first.effects rest.effects (incoming_none held number (request_place held.peer_last number))) ∙ is) in
     record { first = later.first; all = later.all; reset = later.reset; asked = later.asked }
 parameters_perform my state has_worked held (reconfiguration_response number result ∷ parameters) is =
-    let first = informed_where my held number result (is_outstanding number held.own_outstanding) in
-    let rest = work_parameters my state has_worked first.held parameters in
+    let first = result_if_outstanding my held number result (is_outstanding number held.own_outstanding) in
+    let rest = parameters_outcome my state has_worked first.held parameters in
     let later : Performs state has_worked parameters =
     parameters_perform my state has_worked first.held parameters
     (sym (reset_behind first.effects rest.effects (informed_none my held number result (is_outstanding number held.own_outstanding))) ∙ is) in
@@ -135,24 +135,24 @@ parameters_perform my state has_worked held (other_reset_parameter parameter ∷
     let later : Performs state has_worked parameters = parameters_perform my state has_worked held parameters is in
     record { first = later.first; all = later.all; reset = later.reset; asked = later.asked }
 
-pub chunk_performs : (my : Pair) (state : RequestState) (held : Held) (parameters : List ResetParameter) → has_reset (work_chunk my state held parameters).effects ≡ true → Performs state false parameters
+pub chunk_performs : (my : Pair) (state : RequestState) (held : Held) (parameters : List ResetParameter) → has_reset (reset_chunk_outcome my state held parameters).effects ≡ true → Performs state false parameters
 chunk_performs my state held [] is = absurd (cc)
 chunk_performs my state held (parameter ∷ parameters) is = parameters_perform my state false held (parameter ∷ parameters) is
 
 -- ---- how it is answered
 
-parameters_answer : (my : Pair) (state : RequestState) (has_worked : Bool) (held : Held) (parameters : List ResetParameter) → NoRequests (work_parameters my state has_worked held parameters).answers
+parameters_answer : (my : Pair) (state : RequestState) (has_worked : Bool) (held : Held) (parameters : List ResetParameter) → NoRequests (parameters_outcome my state has_worked held parameters).answers
 parameters_answer my state has_worked held [] = tt
 parameters_answer my state true held (outgoing_reset_request number answered reset ∷ parameters) = tt
 parameters_answer my state false held (outgoing_reset_request number answered reset ∷ parameters) =
-    parameters_answer my state true (outgoing_by held number state (request_place held.peer_last number)).held parameters
+    parameters_answer my state true (outgoing_by_place held number state (request_place held.peer_last number)).held parameters
 parameters_answer my state has_worked held (incoming_reset_request number streams ∷ parameters) =
-    parameters_answer my state has_worked (incoming_by held number (request_place held.peer_last number)).held parameters
+    parameters_answer my state has_worked (incoming_by_place held number (request_place held.peer_last number)).held parameters
 parameters_answer my state has_worked held (reconfiguration_response number result ∷ parameters) =
-    parameters_answer my state has_worked (informed_where my held number result (is_outstanding number held.own_outstanding)).held parameters
+    parameters_answer my state has_worked (result_if_outstanding my held number result (is_outstanding number held.own_outstanding)).held parameters
 parameters_answer my state has_worked held (other_reset_parameter parameter ∷ parameters) = parameters_answer my state has_worked held parameters
 
-pub chunk_answers : (my : Pair) (state : RequestState) (held : Held) (parameters : List ResetParameter) → NoRequests (work_chunk my state held parameters).answers
+pub chunk_answers : (my : Pair) (state : RequestState) (held : Held) (parameters : List ResetParameter) → NoRequests (reset_chunk_outcome my state held parameters).answers
 chunk_answers my state held [] = tt
 chunk_answers my state held (parameter ∷ parameters) = parameters_answer my state false held (parameter ∷ parameters)
 
@@ -173,7 +173,7 @@ worked_out : (held : Held) (number : ℕ) (reached : Bool) → (performed_reques
 worked_out held number true = refl
 worked_out held number false = refl
 
-repeated_out : (held : Held) (result : ReconfigurationResponseResult) (reached : Bool) → (repeated held result reached).held.own_outstanding ≡ held.own_outstanding
+repeated_out : (held : Held) (result : ReconfigurationResponseResult) (reached : Bool) → (repeated_request_outcome held result reached).held.own_outstanding ≡ held.own_outstanding
 repeated_out held SuccessNothingToDo reached = refl
 repeated_out held SuccessPerformed reached = refl
 repeated_out held Denied reached = refl
@@ -182,20 +182,20 @@ repeated_out held ErrorRequestAlreadyInProgress reached = refl
 repeated_out held ErrorBadSequenceNumber reached = refl
 repeated_out held InProgress reached = worked_out held held.peer_last reached
 
-pub outgoing_out : (held : Held) (number : ℕ) (state : RequestState) (place : RequestPlace) → (outgoing_by held number state place).held.own_outstanding ≡ held.own_outstanding
+pub outgoing_out : (held : Held) (number : ℕ) (state : RequestState) (place : RequestPlace) → (outgoing_by_place held number state place).held.own_outstanding ≡ held.own_outstanding
 outgoing_out held number state again = repeated_out held held.peer_result (is_due state)
 outgoing_out held number early next = refl
 outgoing_out held number due next = refl
 outgoing_out held number renewed next = refl
 outgoing_out held number state astray = refl
 
-pub incoming_out : (held : Held) (number : ℕ) (place : RequestPlace) → (incoming_by held number place).held.own_outstanding ≡ held.own_outstanding
+pub incoming_out : (held : Held) (number : ℕ) (place : RequestPlace) → (incoming_by_place held number place).held.own_outstanding ≡ held.own_outstanding
 incoming_out held number again = refl
 incoming_out held number next = refl
 incoming_out held number astray = refl
 
 informed_said : (my : Pair) (held : Held) (number : ℕ) (result : ReconfigurationResponseResult) (b : Bool)
-    → Said held.own_outstanding (informed_where my held number result b).held.own_outstanding (informed_where my held number result b).effects
+    → Said held.own_outstanding (result_if_outstanding my held number result b).held.own_outstanding (result_if_outstanding my held number result b).effects
 informed_said my held number result false = inl refl
 informed_said my held number SuccessNothingToDo true = inr (inl refl)
 informed_said my held number SuccessPerformed true = inr (inl refl)
@@ -206,25 +206,25 @@ informed_said my held number ErrorBadSequenceNumber true = inr (inr refl)
 informed_said my held number InProgress true = inl refl
 
 parameters_say : (my : Pair) (state : RequestState) (has_worked : Bool) (held : Held) (parameters : List ResetParameter)
-    → Said held.own_outstanding (work_parameters my state has_worked held parameters).held.own_outstanding (work_parameters my state has_worked held parameters).effects
+    → Said held.own_outstanding (parameters_outcome my state has_worked held parameters).held.own_outstanding (parameters_outcome my state has_worked held parameters).effects
 parameters_say my state has_worked held [] = inl refl
 parameters_say my state true held (outgoing_reset_request number answered reset ∷ parameters) = inl refl
 parameters_say my state false held (outgoing_reset_request number answered reset ∷ parameters) =
-    let first = outgoing_by held number state (request_place held.peer_last number) in
+    let first = outgoing_by_place held number state (request_place held.peer_last number) in
     said_then held.own_outstanding first.held.own_outstanding _ first.effects _ (inl (outgoing_out held number state (request_place held.peer_last number)))
     (parameters_say my state true first.held parameters)
 parameters_say my state has_worked held (incoming_reset_request number streams ∷ parameters) =
-    let first = incoming_by held number (request_place held.peer_last number) in
+    let first = incoming_by_place held number (request_place held.peer_last number) in
     said_then held.own_outstanding first.held.own_outstanding _ first.effects _ (inl (incoming_out held number (request_place held.peer_last number)))
     (parameters_say my state has_worked first.held parameters)
 parameters_say my state has_worked held (reconfiguration_response number result ∷ parameters) =
-    let first = informed_where my held number result (is_outstanding number held.own_outstanding) in
+    let first = result_if_outstanding my held number result (is_outstanding number held.own_outstanding) in
     said_then held.own_outstanding first.held.own_outstanding _ first.effects _ (informed_said my held number result (is_outstanding number held.own_outstanding))
     (parameters_say my state has_worked first.held parameters)
 parameters_say my state has_worked held (other_reset_parameter parameter ∷ parameters) = parameters_say my state has_worked held parameters
 
 pub chunk_says : (my : Pair) (state : RequestState) (held : Held) (parameters : List ResetParameter)
-    → Said held.own_outstanding (work_chunk my state held parameters).held.own_outstanding (work_chunk my state held parameters).effects
+    → Said held.own_outstanding (reset_chunk_outcome my state held parameters).held.own_outstanding (reset_chunk_outcome my state held parameters).effects
 chunk_says my state held [] = inl refl
 chunk_says my state held (parameter ∷ parameters) = parameters_say my state false held (parameter ∷ parameters)
 

@@ -5,8 +5,8 @@ use Rattle.dcsctp_spec_lemmas.specs.spec.endpoint.Endpoint.{Endpoint}
 use Rattle.dcsctp_spec_lemmas.specs.spec.Packet.{Plain, Emission}
 use Rattle.dcsctp_spec_lemmas.specs.spec.queues.Tracker.{TrackerState, is_valid_tsn}
 use Rattle.dcsctp_spec_lemmas.specs.spec.queues.Transfer.{Transfer, EndpointQueues, is_idle}
-use Rattle.dcsctp_spec_lemmas.specs.spec.endpoint.FlushOutcomes.{Answer, answer_contents, filled, asked, next_draft, flush_of, Ask, later_ask, room_in, wants_sack, Acknowledges, GivesWhere, IsAnswerOfQueues, IsFlushAnswer, AreFlushAnswers, at_limit, at_empty, after_packet}
-use Rattle.dcsctp_spec_lemmas.specs.spec.endpoint.TransferMoves.{dropping, ReceivesWhere, MovesWhere, timed_by}
+use Rattle.dcsctp_spec_lemmas.specs.spec.endpoint.FlushOutcomes.{Answer, answer_contents, filled_draft, asked_outcome, next_draft, flush_of, Ask, later_ask, room_of_draft, wants_sack, Acknowledges, GivesUnlessIdle, IsAnswerOfQueues, IsFlushAnswer, AreFlushAnswers, at_limit, at_empty, after_packet}
+use Rattle.dcsctp_spec_lemmas.specs.spec.endpoint.TransferMoves.{dropping, ReceivesIfRoom, MovesIfForward, timed_transfer}
 use Rattle.dcsctp_delivery_sending.proofs.Packets.{out_below}
 
 -- ---- what data and acknowledgements leave
@@ -16,11 +16,11 @@ pub dropped_is : (b : Bool) (transfer : Transfer) → dropping b transfer ≡ re
 dropped_is true transfer = refl
 dropped_is false transfer = refl
 
-pub data_where : (b : Bool) (arrival : _) (old new : Transfer) → ReceivesWhere b arrival old new → new.retransmission ≡ old.retransmission
+pub data_where : (b : Bool) (arrival : _) (old new : Transfer) → ReceivesIfRoom b arrival old new → new.retransmission ≡ old.retransmission
 data_where true arrival old new does = ap (λ (t : Transfer). t.retransmission) does.rest
 data_where false arrival old new does = ap (λ (t : Transfer). t.retransmission) (does ∙ dropped_is (old.tracker.follows_rfc && is_valid_tsn old.tracker.cumulative arrival.tsn) old)
 
-pub forward_where : (b : Bool) (tsn : ℕ) (entries : _) (old new : Transfer) → MovesWhere b tsn entries old new → new.retransmission ≡ old.retransmission
+pub forward_where : (b : Bool) (tsn : ℕ) (entries : _) (old new : Transfer) → MovesIfForward b tsn entries old new → new.retransmission ≡ old.retransmission
 forward_where true tsn entries old new does = ap (λ (t : Transfer). t.retransmission) does.rest
 forward_where false tsn entries old new does = ap (λ (t : Transfer). t.retransmission) does
 
@@ -37,7 +37,7 @@ pub alike_then : (old between new : Transfer) → Alike old between → Alike be
 alike_then old between new first second =
     record { cumulative = second.cumulative ∙ first.cumulative; ranges = second.ranges ∙ first.ranges; reassembly = second.reassembly ∙ first.reassembly }
 
-pub timed_alike : (round_trip : Option ℕ) (transfer : Transfer) → Alike transfer (timed_by round_trip transfer)
+pub timed_alike : (round_trip : Option ℕ) (transfer : Transfer) → Alike transfer (timed_transfer round_trip transfer)
 timed_alike None transfer = alike transfer
 timed_alike (Some round_trip) transfer = record { cumulative = refl; ranges = refl; reassembly = refl }
 
@@ -55,7 +55,7 @@ acknowledged_alike false room transfer tracker chunks retransmission does =
 acknowledged_alike true room transfer tracker chunks retransmission does =
     record { cumulative = ap (λ (t : TrackerState). t.cumulative) does.0; ranges = ap (λ (t : TrackerState). t.ranges) does.0; reassembly = refl }
 
-gives_left : (b : Bool) (ask : Ask) (e : Endpoint) (draft : Emission) (transfer : Transfer) (answer : Answer) → e.queues.transfer ≡ Some transfer → GivesWhere b ask e draft transfer answer
+gives_left : (b : Bool) (ask : Ask) (e : Endpoint) (draft : Emission) (transfer : Transfer) (answer : Answer) → e.queues.transfer ≡ Some transfer → GivesUnlessIdle b ask e draft transfer answer
     → Left transfer answer.after.queues.transfer
 gives_left true ask e draft transfer answer known does =
     record { left = transfer; is = ap (λ (a : Answer). a.after.queues.transfer) does ∙ known; same = alike transfer }
@@ -63,7 +63,7 @@ gives_left false ask e draft transfer answer known does =
     record {
       left = record transfer { retransmission = does.sent.queue; tracker = does.tracker };
       is = ap (λ (b : EndpointQueues). b.transfer) does.below;
-      same = acknowledged_alike (wants_sack ask e.queues.queue transfer) (room_in e draft) transfer does.tracker does.sacks does.sent.queue does.acknowledges;
+      same = acknowledged_alike (wants_sack ask e.queues.queue transfer) (room_of_draft e draft) transfer does.tracker does.sacks does.sent.queue does.acknowledges;
     }
 
 answered_left : (ask : Ask) (e : Endpoint) (draft : Emission) (found : Option Transfer) (transfer : Transfer) (answer : Answer) → e.queues.transfer ≡ found → found ≡ Some transfer → IsAnswerOfQueues ask e draft answer found
@@ -74,12 +74,12 @@ answered_left ask e draft (Some other) transfer answer known is does =
     subst (λ (t : Transfer). Left t answer.after.queues.transfer) same (gives_left (is_idle e.queues.queue other) ask e draft other answer known does)
 
 asked_left : (ask : Ask) (e : Endpoint) (draft : Emission) (transfer : Transfer) (answer : Answer) → e.queues.transfer ≡ Some transfer → IsFlushAnswer ask e draft answer
-    → Left transfer (asked e draft answer).after.queues.transfer
+    → Left transfer (asked_outcome e draft answer).after.queues.transfer
 asked_left ask e draft transfer answer known does =
     let left = answered_left ask e draft e.queues.transfer transfer answer refl known does.by_transfer in
     record {
       left = left.left;
-      is = ap (λ (b : EndpointQueues). b.transfer) (out_below answer.after _ draft.with_checksum draft.packet.tag (filled draft (answer_contents answer)).packet.contents) ∙ left.is;
+      is = ap (λ (b : EndpointQueues). b.transfer) (out_below answer.after _ draft.with_checksum draft.packet.tag (filled_draft draft (answer_contents answer)).packet.contents) ∙ left.is;
       same = left.same;
     }
 
@@ -89,5 +89,5 @@ flush_left _ _ _ _ _ transfer known (at_limit ask e draft) = record { left = tra
 flush_left _ _ _ _ _ transfer known (at_empty ask more e draft answer does empty) = asked_left ask e draft transfer answer known does
 flush_left _ _ _ _ _ transfer known (after_packet ask more e draft answer answers does some rest) =
     let first = asked_left ask e draft transfer answer known does in
-    let second = flush_left later_ask more (asked e draft answer).after (next_draft e.core draft) answers first.left first.is rest in
+    let second = flush_left later_ask more (asked_outcome e draft answer).after (next_draft e.core draft) answers first.left first.is rest in
     record { left = second.left; is = second.is; same = alike_then transfer first.left second.left first.same second.same }

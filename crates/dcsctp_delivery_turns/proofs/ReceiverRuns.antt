@@ -2,23 +2,23 @@
 use Rattle.std.proofs.Common.{◌≡◌, ℕ, Bool, true, false, None, Some, List, [], ◌∷◌, ◌++◌, refl, sym, ◌∙◌, ◌⊎◌, ap, subst, inl, inr}
 use Rattle.dcsctp_spec_lemmas.specs.types.declared.options.Options.{Options}
 use Rattle.dcsctp_spec_lemmas.specs.spec.endpoint.Endpoint.{Endpoint}
-use Rattle.dcsctp_spec_lemmas.specs.spec.endpoint.Event.{packets_in}
+use Rattle.dcsctp_spec_lemmas.specs.spec.endpoint.Event.{packets_of_events}
 use Rattle.dcsctp_spec_lemmas.specs.spec.endpoint.Outcome.{Outcome}
 use Rattle.dcsctp_spec_lemmas.specs.spec.endpoint.Turn.{Input}
 use Rattle.dcsctp_spec_lemmas.specs.spec.queues.SendQueue.{empty_queue}
 use Rattle.dcsctp_spec_lemmas.specs.spec.queues.Transfer.{Transfer, EndpointQueues}
-use Rattle.dcsctp_delivery_turns.specs.Actions.{ledger_of, Inside, inside, Made, MakesPackets, MakesAlso, IsOpening, begun_transfer, came_by, queued_after, read_after, peer_tag, Begun, opening_queues, Becomes, streams_reset_by, goes_on, pauses, prepared_inside, works_resets, renews, ends, begins, collides, IsCalm}
+use Rattle.dcsctp_delivery_turns.specs.Actions.{ledger_of, Inside, inside, LeadsToLedger, MakesPackets, MakesAlso, IsOpening, begun_transfer, content_of_input, queued_after, read_after, peer_tag, BeginsAssociation, opening_queues, Becomes, streams_user_resets, goes_on, pauses, prepared_inside, works_resets, renews, ends, begins, collides, IsCalm}
 use Rattle.dcsctp_delivery_turns.specs.Sides.{WasAsked, WasSent, receiving, ReceivingSteps}
-use Rattle.dcsctp_spec_lemmas.specs.spec.association.Effect.{identity_of, identity_in}
+use Rattle.dcsctp_spec_lemmas.specs.spec.association.Effect.{identity_of, identity_of_core}
 use Rattle.dcsctp_spec_lemmas.specs.types.queues.Messages.{MessageContent}
-use Rattle.dcsctp_delivery_turns.specs.Runs.{new_direction, OpensSmall, KnowsRequest, performed_where, ReceiverTurns, receiver_goes_on, receiver_ends, receiver_begins, OpensAssociation, IdleTurns, idle_stays, idle_begins}
+use Rattle.dcsctp_delivery_turns.specs.Runs.{new_direction, OpensSmall, KnowsRequest, performed_if_reset, ReceiverTurns, receiver_goes_on, receiver_ends, receiver_begins, OpensAssociation, IdleTurns, idle_stays, idle_begins}
 use Rattle.dcsctp_delivery_directions.specs.Directions.{Asking, HasAsked, nothing_asked, Direction, DirectionRun}
 use Rattle.dcsctp_spec_lemmas.specs.spec.association.FlushChanges.{reset_request}
 use Rattle.dcsctp_spec_lemmas.specs.spec.endpoint.BegunResets.{BegunReset}
 use Rattle.dcsctp_delivery_turns.proofs.Sides.{steps_go_on, actions_receive}
 use Rattle.dcsctp_delivery_turns.proofs.Idle.{actions_none, read_none, opening_sent}
 use Rattle.dcsctp_spec_lemmas.specs.spec.Reconfiguration.{RequestedReset, outgoing_reset_request, number_answered}
-use Rattle.dcsctp_spec_lemmas.specs.spec.endpoint.ResetOutcomes.{has_reset, requested_in}
+use Rattle.dcsctp_spec_lemmas.specs.spec.endpoint.ResetOutcomes.{has_reset, first_reset_request}
 use Rattle.dcsctp_delivery_turns.specs.Asking.{own_of, SomeFit}
 use Rattle.dcsctp_delivery_turns.proofs.Fronts.{AsksSome, renewed_fit, front_none, resetting, unperformed, front_receives}
 use Rattle.dcsctp_spec_lemmas.specs.spec.Packet.{re_config}
@@ -34,11 +34,11 @@ empty_direction options = new_direction options 0 0 [] (record { queue = empty_q
 
 module _ (e : Endpoint) (input : Input) (o : Outcome) (small : OpensSmall e input o) where
   -- An association that begins, with nothing begun to be reset.
-  abbrev started : Begun e o → RequestedReset → Inside
+  abbrev started : BeginsAssociation e o → RequestedReset → Inside
   started begun again = record { queues = opening_queues e o begun; own = Some (record { number = None; next = begun.my.first_tsn; again = again }) }
 
-  opens : (begun : Begun e o) → IsOpening (came_by input) → identity_in o.after.core ≡ Some (identity_of begun.my begun.held) → ((read : List MessageContent) → read_after e input read ≡ read)
-      → (again : RequestedReset) → MakesPackets (came_by input) begun.held.peer.tag (started begun again) (packets_in o.events) (inside o.after) → OpensAssociation e input o
+  opens : (begun : BeginsAssociation e o) → IsOpening (content_of_input input) → identity_of_core o.after.core ≡ Some (identity_of begun.my begun.held) → ((read : List MessageContent) → read_after e input read ≡ read)
+      → (again : RequestedReset) → MakesPackets (content_of_input input) begun.held.peer.tag (started begun again) (packets_of_events o.events) (inside o.after) → OpensAssociation e input o
   opens begun opening linked unread again makes =
       record {
         begun = begun;
@@ -53,33 +53,33 @@ module _ (e : Endpoint) (input : Input) (o : Outcome) (small : OpensSmall e inpu
         empty = got.waits;
       }
     where
-      made : (read : List MessageContent) → Made (came_by input) begun.held.peer.tag (ledger_of [] (opening_queues e o begun) [] read nothing_asked) begun.my.first_tsn (inside o.after) [] ([] ++ packets_in o.events) read
+      made : (read : List MessageContent) → LeadsToLedger (content_of_input input) begun.held.peer.tag (ledger_of [] (opening_queues e o begun) [] read nothing_asked) begun.my.first_tsn (inside o.after) [] ([] ++ packets_of_events o.events) read
       made read = makes [] [] read begun.my.first_tsn nothing_asked (nothing_fits begun.my.first_tsn again (small begun opening linked))
 
       received : (direction : Direction) → ReceivingSteps direction (begun_transfer e o begun) (ledger_of [] (opening_queues e o begun) [] direction.read nothing_asked)
-          (ledger_of [] o.after.queues ([] ++ packets_in o.events) direction.read (made direction.read).asking)
+          (ledger_of [] o.after.queues ([] ++ packets_of_events o.events) direction.read (made direction.read).asking)
       received direction =
-          actions_receive (came_by input) begun.held.peer.tag (ledger_of [] (opening_queues e o begun) [] direction.read nothing_asked)
-          (ledger_of [] o.after.queues ([] ++ packets_in o.events) direction.read (made direction.read).asking) direction (begun_transfer e o begun)
-          (opening_sent direction.sent (came_by input) opening) refl (made direction.read).actions
+          actions_receive (content_of_input input) begun.held.peer.tag (ledger_of [] (opening_queues e o begun) [] direction.read nothing_asked)
+          (ledger_of [] o.after.queues ([] ++ packets_of_events o.events) direction.read (made direction.read).asking) direction (begun_transfer e o begun)
+          (opening_sent direction.sent (content_of_input input) opening) refl (made direction.read).actions
 
-      got : ReceivingSteps (empty_direction e.options) (begun_transfer e o begun) (ledger_of [] (opening_queues e o begun) [] [] nothing_asked) (ledger_of [] o.after.queues ([] ++ packets_in o.events) [] (made []).asking)
+      got : ReceivingSteps (empty_direction e.options) (begun_transfer e o begun) (ledger_of [] (opening_queues e o begun) [] [] nothing_asked) (ledger_of [] o.after.queues ([] ++ packets_of_events o.events) [] (made []).asking)
       got = received (empty_direction e.options)
 
       same_left : (one other : Transfer) → o.after.queues.transfer ≡ Some one → o.after.queues.transfer ≡ Some other → one ≡ other
       same_left one other first second = cc
 
-  idle_goes : identity_in o.after.core ≡ identity_in e.core → (worked : Inside) → SomeFit worked.own → worked.queues.transfer ≡ None
-      → MakesAlso (came_by input) (peer_tag e.core) (queued_after e input) (read_after e input) worked (packets_in o.events) (inside o.after) → ((read : List MessageContent) → read_after e input read ≡ read) → IdleTurns e input o
+  idle_goes : identity_of_core o.after.core ≡ identity_of_core e.core → (worked : Inside) → SomeFit worked.own → worked.queues.transfer ≡ None
+      → MakesAlso (content_of_input input) (peer_tag e.core) (queued_after e input) (read_after e input) worked (packets_of_events o.events) (inside o.after) → ((read : List MessageContent) → read_after e input read ≡ read) → IdleTurns e input o
   idle_goes linked worked fits none makes unread =
       let made = makes [] [] [] fits.first fits.asking fits.fits in
-      idle_stays (inr linked) (actions_none (came_by input) (peer_tag e.core) _ _ made.actions none) (record { first = fits.first; asking = made.asking; fits = made.fits }) unread
+      idle_stays (inr linked) (actions_none (content_of_input input) (peer_tag e.core) _ _ made.actions none) (record { first = fits.first; asking = made.asking; fits = made.fits }) unread
 
-  pub idle_becomes : e.queues.transfer ≡ None → SomeFit (own_of e) → Becomes (streams_reset_by input) (came_by input) (peer_tag e.core) (queued_after e input) (read_after e input) e o → IdleTurns e input o
+  pub idle_becomes : e.queues.transfer ≡ None → SomeFit (own_of e) → Becomes (streams_user_resets input) (content_of_input input) (peer_tag e.core) (queued_after e input) (read_after e input) e o → IdleTurns e input o
   idle_becomes none fits (goes_on calm linked makes) = idle_goes linked (inside e) fits none makes (λ read. read_none e input read none)
   idle_becomes none fits (pauses ids resets calm linked small' makes) = idle_goes linked (prepared_inside ids (inside e)) fits none makes (λ read. read_none e input read none)
   idle_becomes none fits (works_resets linked between worked own peer makes) =
-      idle_goes linked worked (worked_fits (came_by input) o (inside e) between worked own peer fits) (front_none (came_by input) o.effects (inside e) between worked own peer none) makes
+      idle_goes linked worked (worked_fits (content_of_input input) o (inside e) between worked own peer fits) (front_none (content_of_input input) o.effects (inside e) between worked own peer none) makes
       (λ read. read_none e input read none)
   idle_becomes none fits (renews calm linked alike unread own number emission kept out is packets tag contents) =
       idle_stays (inr linked) (ap (λ (i : Inside). i.queues.transfer) is ∙ none) (renewed_fit (own_of e) (own_of o.after) own number kept out (ap (λ (i : Inside). i.own) is) fits) (λ read. read_none e input read none)
@@ -88,13 +88,13 @@ module _ (e : Endpoint) (input : Input) (o : Outcome) (small : OpensSmall e inpu
   idle_becomes none fits (collides collision alike unread again makes) = absurd (let both : Some collision.transfer ≡ None = sym collision.there ∙ none in cc)
 
 module _ (is_known : Bool) (options : Options) (first size : ℕ) (direction : Direction) (transfer : Transfer) (e : Endpoint) (input : Input) (o : Outcome) (run : DirectionRun options first size (receiving direction transfer direction.read))
-    (known : e.queues.transfer ≡ Some transfer) (was : WasSent direction.sent (came_by input)) (newest : KnowsRequest is_known direction transfer (came_by input) o.effects) (fits : SomeFit (own_of e)) (small : OpensSmall e input o) where
+    (known : e.queues.transfer ≡ Some transfer) (was : WasSent direction.sent (content_of_input input)) (newest : KnowsRequest is_known direction transfer (content_of_input input) o.effects) (fits : SomeFit (own_of e)) (small : OpensSmall e input o) where
   -- the direction, once a request was performed in this turn or not
   abbrev worked_direction : Bool → Direction
-  worked_direction is_reset = record direction { asking = performed_where is_known is_reset direction.asking }
+  worked_direction is_reset = record direction { asking = performed_if_reset is_known is_reset direction.asking }
 
   -- A request that is handled was sent, so it was begun.
-  asks_some : AsksSome direction (came_by input)
+  asks_some : AsksSome direction (content_of_input input)
   asks_some parameters reset is wants = go (subst (WasSent direction.sent) is was)
     where
       not_wanted : NoRequests parameters → ⊥
@@ -103,7 +103,7 @@ module _ (is_known : Bool) (options : Options) (first size : ℕ) (direction : D
       same_reset : (begun : BegunReset) → re_config parameters ≡ reset_request begun.number begun.reset → begun.reset ≡ reset
       same_reset begun same =
           let parts : outgoing_reset_request begun.number (number_answered begun.number begun.reset.is_new) begun.reset ∷ [] ≡ parameters = cc in
-          let both : Some begun.reset ≡ Some reset = ap requested_in parts ∙ wants in
+          let both : Some begun.reset ≡ Some reset = ap first_reset_request parts ∙ wants in
           cc
 
       of_begun : IsOfBegun direction.asking.requests (re_config parameters) → HasAsked direction.asking.requests reset.streams
@@ -114,17 +114,17 @@ module _ (is_known : Bool) (options : Options) (first size : ℕ) (direction : D
       go (inl unasked) = absurd (not_wanted unasked)
       go (inr asked) = of_begun (requests_were_begun options first size (receiving direction transfer direction.read) run asked.emission parameters asked.was asked.holds)
 
-  goes_further : identity_in o.after.core ≡ identity_in e.core → (is_reset : Bool) → (is_reset ≡ false → (has_reset o.effects ≡ false) ⊎ IsCalm (came_by input)) → (is_reset ≡ true → has_reset o.effects ≡ true) → (worked : Inside) (between : Transfer)
+  goes_further : identity_of_core o.after.core ≡ identity_of_core e.core → (is_reset : Bool) → (is_reset ≡ false → (has_reset o.effects ≡ false) ⊎ IsCalm (content_of_input input)) → (is_reset ≡ true → has_reset o.effects ≡ true) → (worked : Inside) (between : Transfer)
       → worked.queues.transfer ≡ Some between → (asked : SomeFit worked.own) → DirectionRun options first size (resetting is_known direction between is_reset)
-      → MakesAlso (came_by input) (peer_tag e.core) (queued_after e input) (read_after e input) worked (packets_in o.events) (inside o.after) → ReceiverTurns is_known options first size direction transfer e input o
+      → MakesAlso (content_of_input input) (peer_tag e.core) (queued_after e input) (read_after e input) worked (packets_of_events o.events) (inside o.after) → ReceiverTurns is_known options first size direction transfer e input o
   goes_further linked is_reset none some worked between there asked start makes =
       let made = makes [] [] direction.read asked.first asked.asking asked.fits in
-      let got = actions_receive (came_by input) (peer_tag e.core) (ledger_of [] worked.queues [] direction.read asked.asking)
-      (ledger_of (queued_after e input []) o.after.queues ([] ++ packets_in o.events) (read_after e input direction.read) made.asking) (worked_direction is_reset) between was there made.actions in
-      receiver_goes_on linked got.left got.is (record { first = asked.first; asking = made.asking; fits = made.fits }) (performed_where is_known is_reset direction.asking) (is_reset, none, some, refl)
+      let got = actions_receive (content_of_input input) (peer_tag e.core) (ledger_of [] worked.queues [] direction.read asked.asking)
+      (ledger_of (queued_after e input []) o.after.queues ([] ++ packets_of_events o.events) (read_after e input direction.read) made.asking) (worked_direction is_reset) between was there made.actions in
+      receiver_goes_on linked got.left got.is (record { first = asked.first; asking = made.asking; fits = made.fits }) (performed_if_reset is_known is_reset direction.asking) (is_reset, none, some, refl)
       (steps_go_on options first size (receiving (worked_direction is_reset) between direction.read) (receiving (worked_direction is_reset) got.left (read_after e input direction.read)) start got.steps)
 
-  pub receiver_becomes : Becomes (streams_reset_by input) (came_by input) (peer_tag e.core) (queued_after e input) (read_after e input) e o → ReceiverTurns is_known options first size direction transfer e input o
+  pub receiver_becomes : Becomes (streams_user_resets input) (content_of_input input) (peer_tag e.core) (queued_after e input) (read_after e input) e o → ReceiverTurns is_known options first size direction transfer e input o
   receiver_becomes (goes_on calm linked makes) =
       goes_further linked false (λ no. inr calm) (λ is. absurd (cc)) (inside e) transfer known fits
       (subst (λ (a : Asking). DirectionRun options first size (record (receiving direction transfer direction.read) { asking = a })) (sym (unperformed is_known direction.asking)) run) makes
@@ -132,11 +132,11 @@ module _ (is_known : Bool) (options : Options) (first size : ℕ) (direction : D
       goes_further linked false (λ no. inr calm) (λ is. absurd (cc)) (prepared_inside ids (inside e)) transfer known fits
       (subst (λ (a : Asking). DirectionRun options first size (record (receiving direction transfer direction.read) { asking = a })) (sym (unperformed is_known direction.asking)) run) makes
   receiver_becomes (works_resets linked between worked own peer makes) =
-      let front = front_receives is_known (came_by input) o.effects direction transfer (inside e) between worked newest asks_some known own peer in
-      goes_further linked front.is_reset (λ no. inl (front.none no)) front.some worked front.left front.is (worked_fits (came_by input) o (inside e) between worked own peer fits)
+      let front = front_receives is_known (content_of_input input) o.effects direction transfer (inside e) between worked newest asks_some known own peer in
+      goes_further linked front.is_reset (λ no. inl (front.none no)) front.some worked front.left front.is (worked_fits (content_of_input input) o (inside e) between worked own peer fits)
       (steps_go_on options first size (receiving direction transfer direction.read) (resetting is_known direction front.left front.is_reset) run front.steps) makes
   receiver_becomes (renews calm linked alike unread own number emission kept out is packets tag contents) =
-      let asking : Asking = performed_where is_known false direction.asking in
+      let asking : Asking = performed_if_reset is_known false direction.asking in
       let stays : DirectionRun options first size (record (receiving direction transfer direction.read) { asking = asking }) =
       subst (λ (a : Asking). DirectionRun options first size (record (receiving direction transfer direction.read) { asking = a })) (sym (unperformed is_known direction.asking)) run in
       receiver_goes_on linked transfer (ap (λ (i : Inside). i.queues.transfer) is ∙ known) (renewed_fit (own_of e) (own_of o.after) own number kept out (ap (λ (i : Inside). i.own) is) fits) asking

@@ -8,8 +8,8 @@ use Rattle.dcsctp_spec_lemmas.specs.spec.Packet.{Content, init, init_ack, cookie
 use Rattle.dcsctp_spec_lemmas.specs.spec.association.Choices.{plain_contents}
 use Rattle.dcsctp_spec_lemmas.specs.spec.endpoint.BegunResets.{BegunReset, request_contents}
 use Rattle.dcsctp_spec_lemmas.specs.spec.endpoint.Endpoint.{Endpoint, Core, closed, cookie_wait, cookie_echoed, open_in}
-use Rattle.dcsctp_spec_lemmas.specs.spec.endpoint.Event.{Event, sent, packets_in}
-use Rattle.dcsctp_spec_lemmas.specs.spec.endpoint.FlushOutcomes.{FillingEvent, filling_event, Answer, answer_contents, filled, goes_out, asked, next_draft, flush_of, FlushAnswers, Ask, first_ask, later_ask, AreFlushAnswers, at_limit, at_empty, after_packet, packets_allowed, IsFlushAnswer, IsAnswerOfQueues, Gives, GivesWhere, GivesUpWhere, ForwardsWhere, Acknowledges, wants_sack, room_in, own_sack, where_fits, may_forward}
+use Rattle.dcsctp_spec_lemmas.specs.spec.endpoint.Event.{Event, sent, packets_of_events}
+use Rattle.dcsctp_spec_lemmas.specs.spec.endpoint.FlushOutcomes.{FillingEvent, filling_event, Answer, answer_contents, filled_draft, goes_out, asked_outcome, next_draft, flush_of, FlushAnswers, Ask, first_ask, later_ask, AreFlushAnswers, at_limit, at_empty, after_packet, packets_allowed, IsFlushAnswer, IsAnswerOfQueues, Gives, GivesUnlessIdle, GivesUpThenForwards, ForwardsIfAbandoned, Acknowledges, wants_sack, room_of_draft, own_sack, where_fits, may_forward}
 use Rattle.dcsctp_spec_lemmas.specs.spec.queues.Chunks.{AreChunksOfTsns, chunk_said}
 use Rattle.dcsctp_spec_lemmas.specs.spec.queues.Filling.{Stage}
 use Rattle.dcsctp_spec_lemmas.specs.spec.queues.Items.{is_first_abandoned}
@@ -19,7 +19,7 @@ use Rattle.dcsctp_spec_lemmas.specs.spec.queues.Sending.{Fragment}
 use Rattle.dcsctp_spec_lemmas.specs.spec.queues.Skipping.{forward_chunk}
 use Rattle.dcsctp_spec_lemmas.specs.spec.queues.Tracker.{TrackerState, cumulative_tsn}
 use Rattle.dcsctp_spec_lemmas.specs.spec.queues.Transfer.{Transfer, is_idle}
-use Rattle.dcsctp_theorem_sockets.proofs.Bursts.{packets_in-append, told_none}
+use Rattle.dcsctp_theorem_sockets.proofs.Bursts.{packets_of_events-append, told_none}
 use Rattle.dcsctp_delivery_turns.specs.Actions.{NoEnd, AreReports}
 use Rattle.dcsctp_delivery_turns.specs.Reports.{ReportsSo, AllReportSo, ComesReported}
 use Rattle.dcsctp_delivery_turns.specs.Tags.{AllTo, IsPeerTag}
@@ -62,14 +62,14 @@ module _ (so : ℕ → Type 0) where
   forward_reports true tsn entries = tt
   forward_reports false tsn entries = tt
 
-  forwards_report : (made : Bool) (now : ℕ) (transfer : Transfer) (room : ℕ) (state : RetransmissionState) (next : Option ℕ) (chunks : List Plain) → ForwardsWhere made now transfer room state next chunks → AllReportSo so (plain_contents chunks)
+  forwards_report : (made : Bool) (now : ℕ) (transfer : Transfer) (room : ℕ) (state : RetransmissionState) (next : Option ℕ) (chunks : List Plain) → ForwardsIfAbandoned made now transfer room state next chunks → AllReportSo so (plain_contents chunks)
   forwards_report false now transfer room state next chunks forwards = subst (λ (l : List Plain). AllReportSo so (plain_contents l)) (sym forwards.1) tt
   forwards_report true now transfer room state next chunks forwards =
       let (chunk, says, is) = forwards.1 in
       subst (λ (l : List Plain). AllReportSo so (plain_contents l)) (sym is)
       (fitting_reports room (unworked chunk) (subst (λ (c : ChunkContent). ReportsSo so (plain (unworked c))) (sym says.is) (forward_reports state.outstanding.is_interleaved _ says.entries)))
 
-  gives_up_reports : (b : Bool) (now : ℕ) (transfer : Transfer) (room : ℕ) (old new : Stage) (next : Option ℕ) (chunks : List Plain) → GivesUpWhere b now transfer room old new next chunks → AllReportSo so (plain_contents chunks)
+  gives_up_reports : (b : Bool) (now : ℕ) (transfer : Transfer) (room : ℕ) (old new : Stage) (next : Option ℕ) (chunks : List Plain) → GivesUpThenForwards b now transfer room old new next chunks → AllReportSo so (plain_contents chunks)
   gives_up_reports false now transfer room old new next chunks gives = subst (λ (l : List Plain). AllReportSo so (plain_contents l)) (sym gives.2) tt
   gives_up_reports true now transfer room old new next chunks gives = forwards_report (is_first_abandoned new.queue.outstanding.items) now transfer room new.queue next chunks gives.1
 
@@ -93,11 +93,11 @@ module _ (so : ℕ → Type 0) where
   gives_report ask e draft transfer answer holds does =
       both_report (plain_contents answer.acknowledgements) (request_contents answer.begun ++ plain_contents answer.data_chunks)
       (subst (λ (l : List Plain). AllReportSo so (plain_contents l)) (sym does.parts)
-      (plain_append does.sacks does.forwards (sacks_report (wants_sack ask e.queues.queue transfer) (room_in e draft) transfer does.tracker does.sacks holds does.acknowledges)
-      (gives_up_reports (may_forward ask e transfer.retransmission) e.moment transfer (room_in e (filled draft (plain_contents does.sacks))) _ does.gave_up does.next does.forwards does.gives_up)))
+      (plain_append does.sacks does.forwards (sacks_report (wants_sack ask e.queues.queue transfer) (room_of_draft e draft) transfer does.tracker does.sacks holds does.acknowledges)
+      (gives_up_reports (may_forward ask e transfer.retransmission) e.moment transfer (room_of_draft e (filled_draft draft (plain_contents does.sacks))) _ does.gave_up does.next does.forwards does.gives_up)))
       (both_report (request_contents answer.begun) (plain_contents answer.data_chunks) (request_reports answer.begun) (chunks_report does.sent.queue.outstanding does.sent.tsns answer.data_chunks does.chunks))
 
-  where_report : (b : Bool) (ask : Ask) (e : Endpoint) (draft : Emission) (transfer : Transfer) (answer : Answer) → (wants_sack ask e.queues.queue transfer ≡ true → so (cumulative_tsn transfer.tracker)) → GivesWhere b ask e draft transfer answer → AllReportSo so (answer_contents answer)
+  where_report : (b : Bool) (ask : Ask) (e : Endpoint) (draft : Emission) (transfer : Transfer) (answer : Answer) → (wants_sack ask e.queues.queue transfer ≡ true → so (cumulative_tsn transfer.tracker)) → GivesUnlessIdle b ask e draft transfer answer → AllReportSo so (answer_contents answer)
   where_report true ask e draft transfer answer holds does = subst (λ (a : Answer). AllReportSo so (answer_contents a)) (sym does) tt
   where_report false ask e draft transfer answer holds does = gives_report ask e draft transfer answer holds does
 
@@ -120,18 +120,18 @@ module _ (so : ℕ → Type 0) where
   both_packets [] other says says' = says'
   both_packets (emission ∷ one) other says says' = (says.0, both_packets one other says.1 says')
 
-  events_report : (events others : List (Event Emission)) → PacketsReport so (packets_in events) → PacketsReport so (packets_in others) → PacketsReport so (packets_in (events ++ others))
-  events_report events others says says' = subst (PacketsReport so) (sym (packets_in-append events others)) (both_packets (packets_in events) (packets_in others) says says')
+  events_report : (events others : List (Event Emission)) → PacketsReport so (packets_of_events events) → PacketsReport so (packets_of_events others) → PacketsReport so (packets_of_events (events ++ others))
+  events_report events others says says' = subst (PacketsReport so) (sym (packets_of_events-append events others)) (both_packets (packets_of_events events) (packets_of_events others) says says')
 
-  out_reports : (e : Endpoint) (told : List FillingEvent) (with_checksum : Bool) (tag : ℕ) (contents : List Content) → AllReportSo so contents → PacketsReport so (packets_in (goes_out e (map filling_event told) with_checksum tag contents).events)
+  out_reports : (e : Endpoint) (told : List FillingEvent) (with_checksum : Bool) (tag : ℕ) (contents : List Content) → AllReportSo so contents → PacketsReport so (packets_of_events (goes_out e (map filling_event told) with_checksum tag contents).events)
   out_reports e told with_checksum tag [] says =
-      subst (PacketsReport so) (sym (ap (λ (l : List (Event Emission)). packets_in l) (sym (append-nil (map filling_event told))) ∙ told_none told [])) tt
+      subst (PacketsReport so) (sym (ap (λ (l : List (Event Emission)). packets_of_events l) (sym (append-nil (map filling_event told))) ∙ told_none told [])) tt
   out_reports e told with_checksum tag (content ∷ contents) says =
       subst (PacketsReport so) (sym (told_none told (sent (record { with_checksum = with_checksum; packet = record { tag = tag; contents = content ∷ contents } }) ∷ []))) (says, tt)
 
-  asked_reports : (ask : Ask) (e : Endpoint) (draft : Emission) (answer : Answer) → HoldsFor ask e.queues.transfer → AllReportSo so draft.packet.contents → IsFlushAnswer ask e draft answer → PacketsReport so (packets_in (asked e draft answer).events)
+  asked_reports : (ask : Ask) (e : Endpoint) (draft : Emission) (answer : Answer) → HoldsFor ask e.queues.transfer → AllReportSo so draft.packet.contents → IsFlushAnswer ask e draft answer → PacketsReport so (packets_of_events (asked_outcome e draft answer).events)
   asked_reports ask e draft answer holds says is =
-      out_reports answer.after answer.told draft.with_checksum draft.packet.tag (filled draft (answer_contents answer)).packet.contents
+      out_reports answer.after answer.told draft.with_checksum draft.packet.tag (filled_draft draft (answer_contents answer)).packet.contents
       (both_report draft.packet.contents (answer_contents answer) says (answer_reports ask e draft e.queues.transfer answer holds is.by_transfer))
 
   next_reports : (core : Core) (draft : Emission) → AllReportSo so (next_draft core draft).packet.contents
@@ -140,12 +140,12 @@ module _ (so : ℕ → Type 0) where
   next_reports (cookie_echoed my held cookie) draft = tt
   next_reports (open_in phase my held) draft = tt
 
-  answers_report : (ask : Ask) (n : ℕ) (e : Endpoint) (draft : Emission) (answers : List Answer) → HoldsFor ask e.queues.transfer → AllReportSo so draft.packet.contents → AreFlushAnswers ask n e draft answers → PacketsReport so (packets_in (flush_of e draft answers).events)
+  answers_report : (ask : Ask) (n : ℕ) (e : Endpoint) (draft : Emission) (answers : List Answer) → HoldsFor ask e.queues.transfer → AllReportSo so draft.packet.contents → AreFlushAnswers ask n e draft answers → PacketsReport so (packets_of_events (flush_of e draft answers).events)
   answers_report _ _ _ _ _ holds says (at_limit ask e draft) = tt
-  answers_report _ _ _ _ _ holds says (at_empty ask more e draft answer is empty) = events_report (asked e draft answer).events [] (asked_reports ask e draft answer holds says is) tt
+  answers_report _ _ _ _ _ holds says (at_empty ask more e draft answer is empty) = events_report (asked_outcome e draft answer).events [] (asked_reports ask e draft answer holds says is) tt
   answers_report _ _ _ _ _ holds says (after_packet ask more e draft answer answers is some rest) =
-      events_report (asked e draft answer).events (flush_of (asked e draft answer).after (next_draft e.core draft) answers).events (asked_reports ask e draft answer holds says is)
-      (answers_report later_ask more (asked e draft answer).after (next_draft e.core draft) answers tt (next_reports e.core draft) rest)
+      events_report (asked_outcome e draft answer).events (flush_of (asked_outcome e draft answer).after (next_draft e.core draft) answers).events (asked_reports ask e draft answer holds says is)
+      (answers_report later_ask more (asked_outcome e draft answer).after (next_draft e.core draft) answers tt (next_reports e.core draft) rest)
 
   -- ---- packets
 
@@ -154,10 +154,10 @@ module _ (so : ℕ → Type 0) where
   all_reports to (emission ∷ emissions) there free says = (inr (there.0, free.0, says.0), all_reports to emissions there.1 free.1 says.1)
 
   pub flush_reports : (to : ℕ) (e : Endpoint) (draft : Emission) (answers : List Answer) → ((transfer : Transfer) → e.queues.transfer ≡ Some transfer → so (cumulative_tsn transfer.tracker)) → IsPeerTag e.core to → draft.packet.tag ≡ to → NoEnd draft.packet.contents
-      → AllReportSo so draft.packet.contents → FlushAnswers e draft answers → AreReports to so (packets_in (flush_of e draft answers).events)
+      → AllReportSo so draft.packet.contents → FlushAnswers e draft answers → AreReports to so (packets_of_events (flush_of e draft answers).events)
   flush_reports to e draft answers holds at tag no_end says allowed =
-      all_reports to (packets_in (flush_of e draft answers).events)
-      (subst (λ (t : ℕ). AllTo t (packets_in (flush_of e draft answers).events)) tag (flushes_to e draft answers (subst (λ (t : ℕ). IsPeerTag e.core t) (sym tag) at) allowed))
+      all_reports to (packets_of_events (flush_of e draft answers).events)
+      (subst (λ (t : ℕ). AllTo t (packets_of_events (flush_of e draft answers).events)) tag (flushes_to e draft answers (subst (λ (t : ℕ). IsPeerTag e.core t) (sym tag) at) allowed))
       (flush_none first_ask (packets_allowed e.options.max_burst e.core) e draft answers no_end allowed)
       (answers_report first_ask (packets_allowed e.options.max_burst e.core) e draft answers holds says allowed)
 

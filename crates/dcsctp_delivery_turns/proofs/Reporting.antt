@@ -2,20 +2,20 @@
 use Rattle.dcsctp_delivery_turns.specs.Actions as actions
 use Rattle.std.proofs.Common.{◌≡◌, ◌≤◌, ℕ, Option, None, Some, List, [], ◌∷◌, ◌++◌, refl, sym, ◌∙◌, ap, subst, inl, arith}
 use Rattle.dcsctp_spec_lemmas.specs.spec.Packet.{Content, Emission}
-use Rattle.dcsctp_spec_lemmas.specs.spec.association.Effect.{Effect, identity_in}
+use Rattle.dcsctp_spec_lemmas.specs.spec.association.Effect.{Effect, identity_of_core}
 use Rattle.dcsctp_spec_lemmas.specs.spec.endpoint.Endpoint.{Endpoint}
-use Rattle.dcsctp_spec_lemmas.specs.spec.endpoint.Event.{packets_in}
+use Rattle.dcsctp_spec_lemmas.specs.spec.endpoint.Event.{packets_of_events}
 use Rattle.dcsctp_spec_lemmas.specs.spec.endpoint.FlushOutcomes.{flush_of, first_ask, packets_allowed}
 use Rattle.dcsctp_spec_lemmas.specs.spec.endpoint.Outcome.{Outcome}
 use Rattle.dcsctp_spec_lemmas.specs.spec.endpoint.Turn.{Input}
-use Rattle.dcsctp_spec_lemmas.specs.spec.queues.Arrivals.{data_arrival, i_data_arrival, skipped_in, messages_skipped_in}
+use Rattle.dcsctp_spec_lemmas.specs.spec.queues.Arrivals.{data_arrival, i_data_arrival, named_skips, skipped_messages}
 use Rattle.dcsctp_spec_lemmas.specs.spec.queues.Tracker.{TrackerState, cumulative_tsn}
 use Rattle.dcsctp_spec_lemmas.specs.spec.queues.Transfer.{Transfer, EndpointQueues}
 use Rattle.dcsctp_spec_lemmas.specs.types.queues.Messages.{MessageContent}
 use Rattle.dcsctp_delivery_sending.specs.Log.{Message}
 use Rattle.dcsctp_delivery_directions.specs.Directions.{nothing_asked}
 use Rattle.dcsctp_delivery_receiving.proofs.Upward.{received_grows, forward_grows}
-use Rattle.dcsctp_delivery_turns.specs.Actions.{Ledger, ledger_of, AreReports, Action, Actions, nothing, further, Inside, inside, Made, MakesAlso, Begun, begun_transfer, opening_queues, IsOpening, OwnEnds, PeerResets, unreset, absent, deferred, reset_now, prepared_inside, Collides, kept_inside, Becomes, goes_on, pauses, works_resets, renews, ends, begins, collides, came_by, queued_after, read_after, peer_tag, streams_reset_by, IsCall}
+use Rattle.dcsctp_delivery_turns.specs.Actions.{Ledger, ledger_of, AreReports, Action, Actions, nothing, further, Inside, inside, LeadsToLedger, MakesAlso, BeginsAssociation, begun_transfer, opening_queues, IsOpening, OwnEnds, PeerResets, unreset, absent, deferred, reset_now, prepared_inside, Collides, kept_inside, Becomes, goes_on, pauses, works_resets, renews, ends, begins, collides, content_of_input, queued_after, read_after, peer_tag, streams_user_resets, IsCall}
 use Rattle.dcsctp_delivery_turns.specs.Asking.{own_of, SomeFit}
 use Rattle.dcsctp_delivery_turns.specs.Reporting.{IsReachedBetween, TurnReports, reports_on, reports_anew, reports_nothing, reports_nowhere, TurnsReport}
 use Rattle.dcsctp_delivery_turns.specs.Reports.{AllReportSo, IsCumulative}
@@ -85,7 +85,7 @@ module _ (came : Option Content) (to : ℕ) where
   action_reports old _ transfer is (actions.flushes e draft answers same at tag no_data no_end stale says allowed) =
       let known : e.queues.transfer ≡ Some transfer = ap (λ (b : EndpointQueues). b.transfer) same ∙ is in
       let left = flush_left first_ask (packets_allowed e.options.max_burst e.core) e draft answers transfer known allowed in
-      sends_also old _ transfer left.left (packets_in (flush_of e draft answers).events) left.is left.same.cumulative refl
+      sends_also old _ transfer left.left (packets_of_events (flush_of e draft answers).events) left.is left.same.cumulative refl
       (flush_reports (IsCumulative (Some transfer)) to e draft answers (λ found here. ap (λ (t : Transfer). cumulative_tsn t.tracker) (same_transfer e.queues.transfer found transfer here known)) at tag no_end
       (subst (λ (t : Option Transfer). AllReportSo (IsCumulative t) draft.packet.contents) is says) allowed)
   action_reports old new transfer is (actions.resends now room found left tsns chunks emission tag known sends are contents) =
@@ -102,9 +102,9 @@ module _ (came : Option Content) (to : ℕ) where
   action_reports old new transfer is (actions.receives_interleaved chunk found next came_is some known does) =
       by_found old new found transfer known is (unsent old new found next refl (received_grows (i_data_arrival chunk) found next does) refl)
   action_reports old new transfer is (actions.forwards tsn streams found next came_is known does) =
-      by_found old new found transfer known is (unsent old new found next refl (forward_grows tsn (skipped_in streams) found next does) refl)
+      by_found old new found transfer known is (unsent old new found next refl (forward_grows tsn (named_skips streams) found next does) refl)
   action_reports old new transfer is (actions.forwards_interleaved tsn streams found next came_is known does) =
-      by_found old new found transfer known is (unsent old new found next refl (forward_grows tsn (messages_skipped_in streams) found next does) refl)
+      by_found old new found transfer known is (unsent old new found next refl (forward_grows tsn (skipped_messages streams) found next does) refl)
   action_reports old new transfer is (actions.tracks found tracked known cumulative ranges) = by_found old new found transfer known is (unsent old new found _ refl (not_less _ _ cumulative) refl)
   action_reports old new transfer is (actions.times round_trip found known) =
       by_found old new found transfer known is (unsent old new found _ refl (not_less _ _ (timed_alike round_trip found).cumulative) refl)
@@ -135,7 +135,7 @@ module _ (came : Option Content) (to : ℕ) where
   action_nowhere old _ none (actions.asks_again emission begun tag has contents) before =
       both_reports Anything to old.sent (emission ∷ []) before (inl (subst (AllReportSo (λ tsn. ⊥)) (sym contents) (tt, tt)), tt)
   action_nowhere old _ none (actions.flushes e draft answers same at tag no_data no_end stale says allowed) before =
-      both_reports Anything to old.sent (packets_in (flush_of e draft answers).events) before
+      both_reports Anything to old.sent (packets_of_events (flush_of e draft answers).events) before
       (flush_reports Anything to e draft answers (λ found here. tt) at tag no_end (all_more (IsCumulative old.queues.transfer) Anything (λ tsn is. tt) draft.packet.contents says) allowed)
   action_nowhere old _ none (actions.resends now room found left tsns chunks emission tag known sends are contents) before = absurd (cc)
   action_nowhere old _ none (actions.resends_nothing now room found left tsns known sends) before = before
@@ -172,32 +172,32 @@ asked_number came happened old _ transfer is (reset_now some parameters reset ca
 
 module _ (e : Endpoint) (input : Input) (o : Outcome) (fits : SomeFit (own_of e)) (small : OpensSmall e input o) where
   -- The association continues, by actions from here.
-  on_from : {adds : List Message → List Message} {taken : List MessageContent → List MessageContent} → identity_in o.after.core ≡ identity_in e.core → (worked : Inside) → SomeFit worked.own
+  on_from : {adds : List Message → List Message} {taken : List MessageContent → List MessageContent} → identity_of_core o.after.core ≡ identity_of_core e.core → (worked : Inside) → SomeFit worked.own
       → (found : Option Transfer) → e.queues.transfer ≡ found → ((transfer : Transfer) → found ≡ Some transfer → SameNumber transfer worked) → (found ≡ None → worked.queues.transfer ≡ None)
-      → MakesAlso (came_by input) (peer_tag e.core) adds taken worked (packets_in o.events) (inside o.after) → TurnReports e input o
+      → MakesAlso (content_of_input input) (peer_tag e.core) adds taken worked (packets_of_events o.events) (inside o.after) → TurnReports e input o
   on_from linked worked fit None none there nowhere makes =
       let made = makes [] [] [] fit.first fit.asking fit.fits in
-      reports_nowhere none linked (actions_nowhere (came_by input) (peer_tag e.core) _ _ (nowhere refl) made.actions tt)
+      reports_nowhere none linked (actions_nowhere (content_of_input input) (peer_tag e.core) _ _ (nowhere refl) made.actions tt)
   on_from linked worked fit (Some transfer) is there nowhere makes =
       let made = makes [] [] [] fit.first fit.asking fit.fits in
       let start = there transfer refl in
-      let reported = actions_report (came_by input) (peer_tag e.core) _ _ start.left start.is made.actions in
+      let reported = actions_report (content_of_input input) (peer_tag e.core) _ _ start.left start.is made.actions in
       let same : start.left.tracker.cumulative ≡ transfer.tracker.cumulative = ap (λ (t : TrackerState). t.cumulative) start.same in
       reports_on transfer reported.left linked is reported.is (let grows = reported.grows in omega (arith, same, grows))
       (reported.reports transfer.tracker.cumulative (omega (arith, same)) tt)
 
-  report_so : {to : Option (List ℕ)} {adds : List Message → List Message} {taken : List MessageContent → List MessageContent} → Becomes to (came_by input) (peer_tag e.core) adds taken e o → TurnReports e input o
+  report_so : {to : Option (List ℕ)} {adds : List Message → List Message} {taken : List MessageContent → List MessageContent} → Becomes to (content_of_input input) (peer_tag e.core) adds taken e o → TurnReports e input o
   report_so (goes_on calm linked makes) =
       on_from linked (inside e) fits e.queues.transfer refl (λ transfer is. record { left = transfer; is = is; same = refl }) (λ none. none) makes
   report_so (pauses ids resets calm linked small' makes) =
       on_from linked (prepared_inside ids (inside e)) fits e.queues.transfer refl (λ transfer is. record { left = transfer; is = is; same = refl }) (λ none. none) makes
   report_so (works_resets linked between worked own peer makes) =
-      on_from linked worked (worked_fits (came_by input) o (inside e) between worked own peer fits) e.queues.transfer refl
-      (λ transfer is. asked_number (came_by input) o.effects between worked transfer (own_ends_received o.effects (inside e) between own ∙ is) peer)
-      (λ none. front_none (came_by input) o.effects (inside e) between worked own peer none) makes
+      on_from linked worked (worked_fits (content_of_input input) o (inside e) between worked own peer fits) e.queues.transfer refl
+      (λ transfer is. asked_number (content_of_input input) o.effects between worked transfer (own_ends_received o.effects (inside e) between own ∙ is) peer)
+      (λ none. front_none (content_of_input input) o.effects (inside e) between worked own peer none) makes
   report_so (renews calm linked alike unread own number emission kept out is packets tag contents) = renewed e.queues.transfer refl
     where
-      none_reported : (so : ℕ → Type 0) → AreReports (peer_tag e.core) so (packets_in o.events)
+      none_reported : (so : ℕ → Type 0) → AreReports (peer_tag e.core) so (packets_of_events o.events)
       none_reported so = subst (AreReports (peer_tag e.core) so) (sym packets) (inl (subst (AllReportSo (λ tsn. ⊥)) (sym contents) (tt, tt)), tt)
 
       renewed : (found : Option Transfer) → e.queues.transfer ≡ found → TurnReports e input o
@@ -207,13 +207,13 @@ module _ (e : Endpoint) (input : Input) (o : Outcome) (fits : SomeFit (own_of e)
   report_so (ends none unread silent last kept makes is) = reports_nothing none silent
   report_so (begins begun opening linked alike unread again makes) =
       let made = makes [] [] [] begun.my.first_tsn nothing_asked (nothing_fits begun.my.first_tsn again (small begun opening linked)) in
-      let reported = actions_report (came_by input) begun.held.peer.tag _ _ (begun_transfer e o begun) refl made.actions in
+      let reported = actions_report (content_of_input input) begun.held.peer.tag _ _ (begun_transfer e o begun) refl made.actions in
       reports_anew begun reported.left opening linked reported.is reported.grows (reported.reports (begun_transfer e o begun).tracker.cumulative (omega arith) tt)
   report_so (collides collision alike unread again makes) =
-      let begun : Begun e o = other_begun e input o collision in
+      let begun : BeginsAssociation e o = other_begun e input o collision in
       let made = makes [] [] [] begun.my.first_tsn nothing_asked (nothing_fits begun.my.first_tsn again (small begun collision.opened.opening collision.opened.linked)) in
       let same : collision.kept.tracker ≡ (begun_transfer e o begun).tracker = ap (λ (t : Transfer). t.tracker) collision.kept_is.2 in
-      let reported = actions_report (came_by input) collision.opened.link.peer.tag _ _ collision.kept refl made.actions in
+      let reported = actions_report (content_of_input input) collision.opened.link.peer.tag _ _ collision.kept refl made.actions in
       let number : collision.kept.tracker.cumulative ≡ (begun_transfer e o begun).tracker.cumulative = ap (λ (t : TrackerState). t.cumulative) same in
       reports_anew begun reported.left collision.opened.opening collision.opened.linked reported.is (let grows = reported.grows in omega (arith, number, grows))
       (reported.reports (begun_transfer e o begun).tracker.cumulative (omega (arith, number)) tt)

@@ -2,12 +2,12 @@
 use Rattle.std.proofs.Common.{◌≡◌, ℕ, Some, List, ap}
 use Rattle.dcsctp_spec_lemmas.specs.spec.endpoint.Turn.{Input, arrival, refusal, packet_begins, chunk_input, packet_ends, act_input, user_sets, user_sends, user_resets, user_takes, timer_expires, time_passes, restores}
 use Rattle.dcsctp_spec_lemmas.specs.spec.queues.Incoming.{is_named}
-use Rattle.dcsctp_delivery_turns.specs.Actions.{streams_reset_by, resets_stream}
+use Rattle.dcsctp_delivery_turns.specs.Actions.{streams_user_resets, resets_stream}
 
 same_list : {one two : List ℕ} → Some one ≡ Some two → one ≡ two
 same_list is = cc
 
-pub named_by : (input : Input) (ids : List ℕ) (id : ℕ) → streams_reset_by input ≡ Some ids → resets_stream id input ≡ is_named ids id
+pub named_by : (input : Input) (ids : List ℕ) (id : ℕ) → streams_user_resets input ≡ Some ids → resets_stream id input ≡ is_named ids id
 named_by arrival ids id is = absurd (cc)
 named_by (refusal x0) ids id is = absurd (cc)
 named_by (packet_begins x0) ids id is = absurd (cc)

@@ -5,7 +5,7 @@ use Rattle.std.specs.Prelude.{◌&&◌}
 use Rattle.dcsctp_spec_lemmas.specs.types.declared.association.Pair.{Pair}
 use Rattle.dcsctp_spec_lemmas.specs.types.declared.association.Held.{Held}
 use Rattle.dcsctp_spec_lemmas.specs.types.declared.kinds.ErrorKind.TheVariants.{ProtocolViolation}
-use Rattle.dcsctp_spec_lemmas.specs.spec.endpoint.Event.{Event, error, packets_in}
+use Rattle.dcsctp_spec_lemmas.specs.spec.endpoint.Event.{Event, error, packets_of_events}
 use Rattle.dcsctp_spec_lemmas.specs.spec.Packet.{Content, re_config, Emission}
 use Rattle.dcsctp_spec_lemmas.specs.spec.Reconfiguration.{RequestState, early, RequestedReset, ResetParameter}
 use Rattle.dcsctp_spec_lemmas.specs.spec.endpoint.Endpoint.{Endpoint, Core, closed, cookie_wait, cookie_echoed, open_in, OutstandingRequest}
@@ -15,23 +15,23 @@ use Rattle.dcsctp_spec_lemmas.specs.spec.association.ResetChanges.{is_due, Handl
 use Rattle.dcsctp_spec_lemmas.specs.spec.queues.Transfer.{Transfer, EndpointQueues}
 use Rattle.dcsctp_spec_lemmas.specs.spec.endpoint.FlushOutcomes.{Answer, draft_to, flush_of, first_ask, packets_allowed}
 use Rattle.dcsctp_spec_lemmas.specs.spec.endpoint.ReconfigurationOutcomes.{reset_again}
-use Rattle.dcsctp_spec_lemmas.specs.spec.endpoint.ResetOutcomes.{own_moved, waiting, has_completed, requested_in, is_renewal, request_number_in, state_by, request_state, renewable_left, parameters_handled_in, has_reset, answers_in_progress, ResetsInQueues, OwnAnswer, unanswered, retried, was_performed, has_failed, answered_in, own_streams, their_streams, reset_events, reset_events_of, resets_handled, reset_refusal_text, responses_outcome, responses_by, ResponseAnswers, WorksResets, ResetTurn, is_request_reached, core_with}
-use Rattle.dcsctp_theorem_sockets.proofs.Bursts.{packets_in-append, emits_core}
+use Rattle.dcsctp_spec_lemmas.specs.spec.endpoint.ResetOutcomes.{own_moved, waiting, has_completed, first_reset_request, is_renewal, first_request_number, state_if_renewed, request_state, renewable_left, handled_parameters_of, has_reset, answers_in_progress, ResetsInQueues, OwnAnswer, unanswered, retried, was_performed, has_failed, answer_to_own, own_streams, their_streams, reset_events, reset_events_of, resets_handled, reset_refusal_text, responses_outcome, responses_unless_refused, ResponseAnswers, HandlesResets, ResetTurn, is_request_reached, core_with}
+use Rattle.dcsctp_theorem_sockets.proofs.Bursts.{packets_of_events-append, emits_core}
 use Rattle.dcsctp_delivery_turns.specs.Actions.{Inside, inside, MakesPackets, has_refused, OwnEnds, unended, committed, rolled_back, PeerResets, unreset, absent, deferred, reset_now, works_resets}
-use Rattle.dcsctp_delivery_turns.specs.Asking.{Own, own_with, own_in, own_of}
+use Rattle.dcsctp_delivery_turns.specs.Asking.{Own, own_with, own_of_core, own_of}
 use Rattle.std.specs.Option.{option_map}
 use Rattle.dcsctp_spec_lemmas.proofs.FlushKeeps.{begun_by, flush_keeps}
 use Rattle.dcsctp_delivery_sending.specs.Flushes.{NoRequests}
 use Rattle.dcsctp_spec_laws.proofs.ResetLemmas.{KeepsPeer, chunk_brings, worked_keeps}
 use Rattle.dcsctp_spec_lemmas.specs.types.declared.capabilities.Capabilities.{Capabilities}
-use Rattle.dcsctp_spec_lemmas.specs.spec.association.Effect.{AssociationIdentity, identity_of, identity_in}
+use Rattle.dcsctp_spec_lemmas.specs.spec.association.Effect.{AssociationIdentity, identity_of, identity_of_core}
 use Rattle.dcsctp_spec_lemmas.proofs.OneAnswerLemmas.{answered_by}
 use Rattle.dcsctp_delivery_turns.proofs.Tags.{flush_link}
 use Rattle.dcsctp_delivery_turns.specs.Tags.{IsPeerTag}
 use Rattle.dcsctp_delivery_turns.proofs.Actions.{emits_link, Goes, MakesTo, both, rests, silent, emitted, flushed}
 use Rattle.dcsctp_delivery_turns.proofs.Performed.{completed_among, refused_among, chunk_says, reset_in_front, begun_none, chunk_performs, chunk_answers, Stays, own_stays}
 
-events_none : (theirs own : List ℕ) (happened : List Effect) → packets_in (reset_events theirs own happened) ≡ []
+events_none : (theirs own : List ℕ) (happened : List Effect) → packets_of_events (reset_events theirs own happened) ≡ []
 events_none theirs own [] = refl
 events_none theirs own (effects.draws pair ∷ happened) = events_none theirs own happened
 events_none theirs own (effects.sends packet ∷ happened) = events_none theirs own happened
@@ -114,7 +114,7 @@ no_reset : (came : Option Content) (happened : List Effect) (old : Inside) (tran
     → PeerResets came happened old (with_left left old)
 no_reset came happened old transfer left none known same = same_left came happened old left (same ∙ sym known) (unreset none)
 
-peer_resets : (parameters : List ResetParameter) (happened : List Effect) (performed in_progress : Bool) (reset : Option RequestedReset) (transfer left : Option Transfer) (old : Inside) → has_reset happened ≡ performed → requested_in parameters ≡ reset
+peer_resets : (parameters : List ResetParameter) (happened : List Effect) (performed in_progress : Bool) (reset : Option RequestedReset) (transfer left : Option Transfer) (old : Inside) → has_reset happened ≡ performed → first_reset_request parameters ≡ reset
     → old.queues.transfer ≡ transfer → (performed ≡ true → (is_request_reached transfer reset ≡ true) × ((one : RequestedReset) × (reset ≡ Some one)))
     → ResetsInQueues performed in_progress reset transfer left → PeerResets (Some (re_config parameters)) happened old (with_left left old)
 peer_resets parameters happened true in_progress (Some reset) (Some transfer) left old has asked known reached below =
@@ -153,32 +153,32 @@ module _ (came : Option Content) (to : ℕ) where
   with_peer (cookie_echoed my old cookie) held at is = is
   with_peer (open_in phase my old) held at is = is
 
-  sent_makes : (refused : Bool) (e : Endpoint) (told : List (Event Emission)) (held : Held) (parameters responses : List ResetParameter) (answers : List Answer) → IsPeerTag e.core to → held.peer.tag ≡ to → packets_in told ≡ [] → NoRequests responses
-      → ResponseAnswers refused e held responses answers → MakesTo came to (inside e) (responses_by refused e told held parameters responses answers)
+  sent_makes : (refused : Bool) (e : Endpoint) (told : List (Event Emission)) (held : Held) (parameters responses : List ResetParameter) (answers : List Answer) → IsPeerTag e.core to → held.peer.tag ≡ to → packets_of_events told ≡ [] → NoRequests responses
+      → ResponseAnswers refused e held responses answers → MakesTo came to (inside e) (responses_unless_refused refused e told held parameters responses answers)
   sent_makes true e told held parameters responses answers at tag none no_request allowed =
-      silent came to (inside e) (packets_in (told ++ error ProtocolViolation (reset_refusal_text parameters) ∷ [])) (packets_in-append told (error ProtocolViolation (reset_refusal_text parameters) ∷ []) ∙ ap (λ (l : List Emission). l ++ []) none)
+      silent came to (inside e) (packets_of_events (told ++ error ProtocolViolation (reset_refusal_text parameters) ∷ [])) (packets_of_events-append told (error ProtocolViolation (reset_refusal_text parameters) ∷ []) ∙ ap (λ (l : List Emission). l ++ []) none)
   sent_makes false e told held parameters responses answers at tag none no_request allowed =
       let first : Outcome = responses_outcome e held responses in
       let last : Outcome = flush_of first.after (draft_to held) answers in
-      let fronts : packets_in (told ++ first.events) ≡ packets_in first.events = packets_in-append told first.events ∙ ap (λ (l : List Emission). l ++ packets_in first.events) none in
+      let fronts : packets_of_events (told ++ first.events) ≡ packets_of_events first.events = packets_of_events-append told first.events ∙ ap (λ (l : List Emission). l ++ packets_of_events first.events) none in
       subst (λ (l : List Emission). MakesPackets came to (inside e) l (inside last.after))
-      (sym (packets_in-append (told ++ first.events) last.events ∙ ap (λ (l : List Emission). l ++ packets_in last.events) fronts))
-      (both came to (inside e) (inside first.after) (inside last.after) (packets_in first.events) (packets_in last.events) (responses_make e held responses no_request) (flushed came to first.after (draft_to held) answers (responses_peer e held responses at) tag tt tt tt tt allowed))
+      (sym (packets_of_events-append (told ++ first.events) last.events ∙ ap (λ (l : List Emission). l ++ packets_of_events last.events) fronts))
+      (both came to (inside e) (inside first.after) (inside last.after) (packets_of_events first.events) (packets_of_events last.events) (responses_make e held responses no_request) (flushed came to first.after (draft_to held) answers (responses_peer e held responses at) tag tt tt tt tt allowed))
 
-  responses_link : (e : Endpoint) (held : Held) (responses : List ResetParameter) → identity_in (responses_outcome e held responses).after.core ≡ identity_in e.core
+  responses_link : (e : Endpoint) (held : Held) (responses : List ResetParameter) → identity_of_core (responses_outcome e held responses).after.core ≡ identity_of_core e.core
   responses_link e held [] = refl
   responses_link e held (response ∷ responses) =
       let emission : Emission = to_peer held (re_config (response ∷ responses)) in
-      answered_by (λ (o : Outcome). identity_in o.after.core ≡ identity_in e.core) e emission refl (emits_link e [] emission)
+      answered_by (λ (o : Outcome). identity_of_core o.after.core ≡ identity_of_core e.core) e emission refl (emits_link e [] emission)
 
   sent_link : (refused : Bool) (e : Endpoint) (told : List (Event Emission)) (held : Held) (parameters responses : List ResetParameter) (answers : List Answer) → ResponseAnswers refused e held responses answers
-      → identity_in (responses_by refused e told held parameters responses answers).after.core ≡ identity_in e.core
+      → identity_of_core (responses_unless_refused refused e told held parameters responses answers).after.core ≡ identity_of_core e.core
   sent_link true e told held parameters responses answers allowed = refl
   sent_link false e told held parameters responses answers allowed =
       flush_link (responses_outcome e held responses).after (draft_to held) answers allowed ∙ responses_link e held responses
 
   -- What is known of the peer changes, but not the association.
-  with_link : (core : Core) (my : Pair) (old held : Held) → identity_in core ≡ Some (identity_of my old) → KeepsPeer old held → identity_in (core_with core held) ≡ Some (identity_of my old)
+  with_link : (core : Core) (my : Pair) (old held : Held) → identity_of_core core ≡ Some (identity_of my old) → KeepsPeer old held → identity_of_core (core_with core held) ≡ Some (identity_of my old)
   with_link closed my old held is keeps = absurd (cc)
   with_link (cookie_wait own) my old held is keeps = absurd (cc)
   with_link (cookie_echoed own before cookie) my old held is keeps = with_peer_link own my before old held is keeps
@@ -186,7 +186,7 @@ module _ (came : Option Content) (to : ℕ) where
 
   -- The flush resets none of the peer's streams.
   sent_none : (refused : Bool) (e : Endpoint) (told : List (Event Emission)) (held : Held) (parameters responses : List ResetParameter) (answers : List Answer) → ResponseAnswers refused e held responses answers
-      → has_reset (responses_by refused e told held parameters responses answers).effects ≡ false
+      → has_reset (responses_unless_refused refused e told held parameters responses answers).effects ≡ false
   sent_none true e told held parameters responses answers allowed = refl
   sent_none false e told held parameters responses answers allowed =
       let base : Endpoint = (responses_outcome e held responses).after in
@@ -194,29 +194,29 @@ module _ (came : Option Content) (to : ℕ) where
 
 -- ---- what is performed was reached
 
-reached_by : (reached is_renewed : Bool) → is_due (cond reached (state_by is_renewed) early) ≡ true → reached ≡ true
+reached_by : (reached is_renewed : Bool) → is_due (cond reached (state_if_renewed is_renewed) early) ≡ true → reached ≡ true
 reached_by true is_renewed is = refl
 reached_by false is_renewed is = absurd (cc)
 
-due_reached : (e : Endpoint) (held : Held) (parameters : List ResetParameter) → is_due (request_state e held parameters) ≡ true → is_request_reached e.queues.transfer (requested_in parameters) ≡ true
+due_reached : (e : Endpoint) (held : Held) (parameters : List ResetParameter) → is_due (request_state e held parameters) ≡ true → is_request_reached e.queues.transfer (first_reset_request parameters) ≡ true
 due_reached e held parameters is =
-    reached_by (is_request_reached e.queues.transfer (requested_in parameters)) (e.options.follow_rfc && is_renewal e.renewable held.peer_last (request_number_in parameters) (requested_in parameters)) is
+    reached_by (is_request_reached e.queues.transfer (first_reset_request parameters)) (e.options.follow_rfc && is_renewal e.renewable held.peer_last (first_request_number parameters) (first_reset_request parameters)) is
 
 -- ---- the turn
 
 module _ (to : ℕ) where
-  works_goes : (e : Endpoint) (my : Pair) (held : Held) (parameters : List ResetParameter) (o : Outcome) → identity_in e.core ≡ Some (identity_of my held) → IsPeerTag e.core to → held.peer.tag ≡ to → own_of e ≡ Some (own_with held e.outstanding)
-      → ((new : Held) (request : Option OutstandingRequest) → own_in (core_with e.core new) request ≡ Some (own_with new request)) → WorksResets e my held parameters o → Goes (Some (re_config parameters)) to e o
+  works_goes : (e : Endpoint) (my : Pair) (held : Held) (parameters : List ResetParameter) (o : Outcome) → identity_of_core e.core ≡ Some (identity_of my held) → IsPeerTag e.core to → held.peer.tag ≡ to → own_of e ≡ Some (own_with held e.outstanding)
+      → ((new : Held) (request : Option OutstandingRequest) → own_of_core (core_with e.core new) request ≡ Some (own_with new request)) → HandlesResets e my held parameters o → Goes (Some (re_config parameters)) to e o
   works_goes e my held parameters o linked at is own own_later turn =
-      let w : HandledParameters = parameters_handled_in e my held parameters in
+      let w : HandledParameters = handled_parameters_of e my held parameters in
       let state : RequestState = request_state e held parameters in
       let brought = chunk_brings my state held parameters in
-      let answer : OwnAnswer = answered_in held w parameters in
+      let answer : OwnAnswer = answer_to_own held w parameters in
       let tag : w.held.peer.tag ≡ to = ap (λ (p : Pair). p.tag) brought.keeps.peer ∙ is in
       let base : Endpoint = resets_handled e answer w.held turn.left (renewable_left e held w parameters) in
       let kept = (worked_keeps e answer w.held turn.left (renewable_left e held w parameters)).core in
       let told : List (Event Emission) = reset_events_of e parameters w.effects in
-      let last : Outcome = responses_by w.is_refused base told w.held parameters w.answers turn.answers in
+      let last : Outcome = responses_unless_refused w.is_refused base told w.held parameters w.answers turn.answers in
       let between : Inside = moved_inside answer e w.held in
       let silent_end : has_reset (w.effects ++ last.effects) ≡ has_reset w.effects = reset_in_front w.effects last.effects (sent_none (Some (re_config parameters)) to w.is_refused base told w.held parameters w.answers turn.answers turn.allowed) in
       let ends : OwnEnds (w.effects ++ last.effects) (inside e) between =
@@ -224,19 +224,19 @@ module _ (to : ℕ) where
       (own_stays held.own_outstanding w.held.own_outstanding _ w.effects brought.keeps.own_outstanding (chunk_says my state held parameters)) brought.keeps.own_next own
       (completed_among w.effects last.effects) (refused_among w.effects last.effects) in
       let asks : PeerResets (Some (re_config parameters)) (w.effects ++ last.effects) between (with_left turn.left between) =
-      peer_resets parameters (w.effects ++ last.effects) (has_reset w.effects) (answers_in_progress w.answers) (requested_in parameters) e.queues.transfer turn.left between silent_end refl
+      peer_resets parameters (w.effects ++ last.effects) (has_reset w.effects) (answers_in_progress w.answers) (first_reset_request parameters) e.queues.transfer turn.left between silent_end refl
       (moved_transfer answer e)
       (λ performed. (due_reached e held parameters (chunk_performs my state held parameters performed).all, ((chunk_performs my state held parameters performed).reset, (chunk_performs my state held parameters performed).asked))) turn.below in
       let later : inside base ≡ with_left turn.left between = ap (λ (i : Option Own). record { queues = base.queues; own = i }) (own_later w.held (own_moved answer e).outstanding) in
       subst (Goes (Some (re_config parameters)) to e) (sym turn.is)
       (works_resets
       (sent_link (Some (re_config parameters)) to w.is_refused base told w.held parameters w.answers turn.answers turn.allowed
-      ∙ ap identity_in kept ∙ with_link (Some (re_config parameters)) to e.core my held w.held linked brought.keeps ∙ sym linked)
+      ∙ ap identity_of_core kept ∙ with_link (Some (re_config parameters)) to e.core my held w.held linked brought.keeps ∙ sym linked)
       between (with_left turn.left between) ends asks
-      (subst (λ (i : Inside). MakesPackets (Some (re_config parameters)) to i (packets_in last.events) (inside last.after)) later
+      (subst (λ (i : Inside). MakesPackets (Some (re_config parameters)) to i (packets_of_events last.events) (inside last.after)) later
       (sent_makes (Some (re_config parameters)) to w.is_refused base told w.held parameters w.answers turn.answers
       (subst (λ (c : Core). IsPeerTag c to) (sym kept) (with_peer (Some (re_config parameters)) to e.core w.held at tag)) tag
-      (events_none (their_streams (requested_in parameters)) (own_streams e.outstanding) w.effects) (chunk_answers my state held parameters) turn.allowed)))
+      (events_none (their_streams (first_reset_request parameters)) (own_streams e.outstanding) w.effects) (chunk_answers my state held parameters) turn.allowed)))
 
   pub idle_goes : (e : Endpoint) (parameters : List ResetParameter) → Goes (Some (re_config parameters)) to e (still e)
   idle_goes e parameters = works_resets refl (inside e) (inside e) unended (unreset refl) (rests (Some (re_config parameters)) to (inside e))
@@ -245,6 +245,6 @@ module _ (to : ℕ) where
   reset_goes e closed parameters o same at is turn = subst (Goes (Some (re_config parameters)) to e) (sym turn) (idle_goes e parameters)
   reset_goes e (cookie_wait my) parameters o same at is turn = subst (Goes (Some (re_config parameters)) to e) (sym turn) (idle_goes e parameters)
   reset_goes e (cookie_echoed my held cookie) parameters o same at is turn =
-      works_goes e my held parameters o (ap identity_in same) at is (ap (λ (c : Core). own_in c e.outstanding) same) (λ new request. ap (λ (c : Core). own_in (core_with c new) request) same) turn
+      works_goes e my held parameters o (ap identity_of_core same) at is (ap (λ (c : Core). own_of_core c e.outstanding) same) (λ new request. ap (λ (c : Core). own_of_core (core_with c new) request) same) turn
   reset_goes e (open_in phase my held) parameters o same at is turn =
-      works_goes e my held parameters o (ap identity_in same) at is (ap (λ (c : Core). own_in c e.outstanding) same) (λ new request. ap (λ (c : Core). own_in (core_with c new) request) same) turn
+      works_goes e my held parameters o (ap identity_of_core same) at is (ap (λ (c : Core). own_of_core c e.outstanding) same) (λ new request. ap (λ (c : Core). own_of_core (core_with c new) request) same) turn

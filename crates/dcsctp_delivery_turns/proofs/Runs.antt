@@ -2,7 +2,7 @@
 use Rattle.dcsctp_delivery_directions.specs.Directions as directions
 use Rattle.std.proofs.Common.{true, false, None, [], sym, subst}
 use Rattle.dcsctp_spec_lemmas.specs.spec.queues.SendQueue.{empty_queue}
-use Rattle.dcsctp_delivery_turns.specs.Runs.{SendersGoOn, SendersBegin, SendersBeginAnew, ReceiversGoOn, ReceiversBegin}
+use Rattle.dcsctp_delivery_turns.specs.Runs.{SendersGoOn, SendersBegin, SendersBeginAgain, ReceiversGoOn, ReceiversBegin}
 use Rattle.dcsctp_delivery_turns.proofs.Turns.{turns_are_actions}
 use Rattle.dcsctp_delivery_turns.proofs.Beginnings.{fresh_waits, anew_runs, fresh_at_zero}
 use Rattle.dcsctp_delivery_turns.proofs.SenderRuns.{sender_becomes}
@@ -13,7 +13,7 @@ senders_begin mine options first size keeps =
     anew_runs options first size [] (record { queue = empty_queue mine; transfer = None }) (record { from_zero = true; keeps = keeps }) tt (fresh_waits mine) tt
     (record { zero = λ is. fresh_at_zero mine; all = λ id is. record { waits = λ place message at. absurd (cc); unpaused = tt } })
 
-pub begins_anew : SendersBeginAnew
+pub begins_anew : SendersBeginAgain
 begins_anew options first size queued below fit queues none =
     anew_runs options first size queued below (record { from_zero = false; keeps = λ id. false }) fit queues (subst (directions.NoneInFlight first below.queue.is_interleaved) (sym none) tt) (record { zero = λ is. absurd (cc); all = λ id is. absurd (cc) })
 

@@ -10,13 +10,13 @@ use Rattle.dcsctp_spec_lemmas.specs.spec.queues.Reassembly.{ReassemblyState}
 use Rattle.dcsctp_spec_lemmas.specs.spec.queues.Tracker.{TrackerState}
 use Rattle.dcsctp_spec_lemmas.specs.spec.queues.Transfer.{Transfer, EndpointQueues}
 use Rattle.dcsctp_spec_lemmas.specs.spec.endpoint.FlushOutcomes.{first_ask, packets_allowed}
-use Rattle.dcsctp_spec_lemmas.specs.spec.endpoint.TransferMoves.{timed_by, lost_all}
+use Rattle.dcsctp_spec_lemmas.specs.spec.endpoint.TransferMoves.{timed_transfer, lost_all}
 use Rattle.dcsctp_spec_lemmas.specs.spec.queues.Retransmission.{RetransmissionState}
 use Rattle.dcsctp_delivery_directions.proofs.Standing.{timed_outstanding, timed_begun}
 use Rattle.dcsctp_delivery_turns.specs.Actions.{Ledger, MayAcknowledge, Action, queues, sets, flushes, resends, resends_nothing, speaks, asks_again, acknowledges, loses, receives, receives_interleaved, forwards, forwards_interleaved, tracks, times, takes, Actions, nothing, further}
-use Rattle.dcsctp_delivery_turns.specs.Sides.{DirectionSteps, stays, moves, sending, SendingSteps, WasIn, WasSent, receiving, ReceivingSteps}
+use Rattle.dcsctp_delivery_turns.specs.Sides.{DirectionSteps, stays, moves, sending, SendingSteps, WasInSentPacket, WasSent, receiving, ReceivingSteps}
 use Rattle.dcsctp_delivery_directions.specs.Directions.{Direction, Beginning, HasReached, DirectionStep, DirectionRun, SameFlight, goes_on}
-use Rattle.dcsctp_spec_lemmas.specs.spec.queues.Arrivals.{data_arrival, i_data_arrival, skipped_in, messages_skipped_in}
+use Rattle.dcsctp_spec_lemmas.specs.spec.queues.Arrivals.{data_arrival, i_data_arrival, named_skips, skipped_messages}
 use Rattle.dcsctp_delivery_turns.specs.PeerRequests.{SameWaits}
 use Rattle.dcsctp_delivery_turns.proofs.Waiting.{same_waits, waits_by, waits_then, receives_wait, moves_wait}
 use Rattle.dcsctp_delivery_turns.specs.Reports.{ComesReported}
@@ -171,7 +171,7 @@ module _ (came : Option Content) (to : ℕ) (direction : Direction) (was : WasSe
       like same =
           subst (λ (t : Transfer). Alike t new) same
           (subst (λ (t : Transfer). Alike found t) (sym does.is)
-          (alike_then found (record found { retransmission = does.left }) (timed_by does.round_trip (record found { retransmission = does.left }))
+          (alike_then found (record found { retransmission = does.left }) (timed_transfer does.round_trip (record found { retransmission = does.left }))
           (record { cumulative = refl; ranges = refl; reassembly = refl }) (timed_alike does.round_trip (record found { retransmission = does.left }))))
   action_receives old _ transfer is (loses now found known) =
       alike_receives old _ transfer _ refl refl (like (same_transfer old.queues.transfer found transfer known is))
@@ -180,28 +180,28 @@ module _ (came : Option Content) (to : ℕ) (direction : Direction) (was : WasSe
       like same = subst (λ (t : Transfer). Alike t (lost_all now found)) same (record { cumulative = refl; ranges = refl; reassembly = refl })
   action_receives old _ transfer is (receives chunk found new came_is some known does) =
       let same : found ≡ transfer = same_transfer old.queues.transfer found transfer known is in
-      let sent : WasIn direction.sent (data_chunk chunk) = subst (λ (c : Option Content). WasSent direction.sent c) came_is was in
+      let sent : WasInSentPacket direction.sent (data_chunk chunk) = subst (λ (c : Option Content). WasSent direction.sent c) came_is was in
       by_step old _ transfer new refl
       (directions.receives sent.emission chunk found new sent.was sent.holds some (ap (λ (t : Transfer). t.tracker) same) (ap (λ (t : Transfer). t.reassembly) same) does)
       (subst (λ (t : Transfer). SameWaits t.reassembly.deferral new.reassembly.deferral) same (receives_wait (data_arrival chunk) found new does))
   action_receives old _ transfer is (receives_interleaved chunk found new came_is some known does) =
       let same : found ≡ transfer = same_transfer old.queues.transfer found transfer known is in
-      let sent : WasIn direction.sent (i_data_chunk chunk) = subst (λ (c : Option Content). WasSent direction.sent c) came_is was in
+      let sent : WasInSentPacket direction.sent (i_data_chunk chunk) = subst (λ (c : Option Content). WasSent direction.sent c) came_is was in
       by_step old _ transfer new refl
       (directions.receives_interleaved sent.emission chunk found new sent.was sent.holds some (ap (λ (t : Transfer). t.tracker) same) (ap (λ (t : Transfer). t.reassembly) same) does)
       (subst (λ (t : Transfer). SameWaits t.reassembly.deferral new.reassembly.deferral) same (receives_wait (i_data_arrival chunk) found new does))
   action_receives old _ transfer is (forwards tsn streams found new came_is known does) =
       let same : found ≡ transfer = same_transfer old.queues.transfer found transfer known is in
-      let sent : WasIn direction.sent (forward_tsn_chunk tsn streams) = subst (λ (c : Option Content). WasSent direction.sent c) came_is was in
+      let sent : WasInSentPacket direction.sent (forward_tsn_chunk tsn streams) = subst (λ (c : Option Content). WasSent direction.sent c) came_is was in
       by_step old _ transfer new refl
       (directions.forwards sent.emission tsn streams found new sent.was sent.holds (ap (λ (t : Transfer). t.tracker) same) (ap (λ (t : Transfer). t.reassembly) same) does)
-      (subst (λ (t : Transfer). SameWaits t.reassembly.deferral new.reassembly.deferral) same (moves_wait tsn (skipped_in streams) found new does))
+      (subst (λ (t : Transfer). SameWaits t.reassembly.deferral new.reassembly.deferral) same (moves_wait tsn (named_skips streams) found new does))
   action_receives old _ transfer is (forwards_interleaved tsn streams found new came_is known does) =
       let same : found ≡ transfer = same_transfer old.queues.transfer found transfer known is in
-      let sent : WasIn direction.sent (i_forward_tsn_chunk tsn streams) = subst (λ (c : Option Content). WasSent direction.sent c) came_is was in
+      let sent : WasInSentPacket direction.sent (i_forward_tsn_chunk tsn streams) = subst (λ (c : Option Content). WasSent direction.sent c) came_is was in
       by_step old _ transfer new refl
       (directions.forwards_interleaved sent.emission tsn streams found new sent.was sent.holds (ap (λ (t : Transfer). t.tracker) same) (ap (λ (t : Transfer). t.reassembly) same) does)
-      (subst (λ (t : Transfer). SameWaits t.reassembly.deferral new.reassembly.deferral) same (moves_wait tsn (messages_skipped_in streams) found new does))
+      (subst (λ (t : Transfer). SameWaits t.reassembly.deferral new.reassembly.deferral) same (moves_wait tsn (skipped_messages streams) found new does))
   action_receives old _ transfer is (tracks found tracked known cumulative ranges) =
       alike_receives old _ transfer _ refl refl (like (same_transfer old.queues.transfer found transfer known is))
     where
@@ -210,8 +210,8 @@ module _ (came : Option Content) (to : ℕ) (direction : Direction) (was : WasSe
   action_receives old _ transfer is (times round_trip found known) =
       alike_receives old _ transfer _ refl refl (like (same_transfer old.queues.transfer found transfer known is))
     where
-      like : found ≡ transfer → Alike transfer (timed_by round_trip found)
-      like same = subst (λ (t : Transfer). Alike t (timed_by round_trip found)) same (timed_alike round_trip found)
+      like : found ≡ transfer → Alike transfer (timed_transfer round_trip found)
+      like same = subst (λ (t : Transfer). Alike t (timed_transfer round_trip found)) same (timed_alike round_trip found)
   action_receives old new transfer is (takes found message messages known ready) =
       subst (λ (t : Transfer). ReceivingSteps direction t old new) (same_transfer old.queues.transfer found transfer known is)
       (by_step old new found _ refl (directions.takes message messages ready) (same_waits found.reassembly.deferral))

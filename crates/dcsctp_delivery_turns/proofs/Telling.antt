@@ -11,8 +11,8 @@ use Rattle.dcsctp_spec_lemmas.specs.spec.endpoint.Event.{Event, sent, error, inc
 use Rattle.dcsctp_spec_lemmas.specs.spec.endpoint.Outcome.{Outcome, quiet, sends, fits, to_peer}
 use Rattle.dcsctp_spec_runs.specs.Past.{HasEffect}
 use Rattle.dcsctp_spec_lemmas.specs.spec.association.Effect.{Effect}
-use Rattle.dcsctp_spec_lemmas.specs.spec.endpoint.FlushOutcomes.{FillingEvent, amount_is_low, total_amount_is_low, message_is_sent, message_may_have_expired, message_has_expired, message_ends, filling_event, Answer, answer_contents, filled, goes_out, asked, draft_to, next_draft, flush_of}
-use Rattle.dcsctp_spec_lemmas.specs.spec.endpoint.ResetOutcomes.{reset_events, reset_refusal_text, responses_outcome, responses_by}
+use Rattle.dcsctp_spec_lemmas.specs.spec.endpoint.FlushOutcomes.{FillingEvent, amount_is_low, total_amount_is_low, message_is_sent, message_may_have_expired, message_has_expired, message_ends, filling_event, Answer, answer_contents, filled_draft, goes_out, asked_outcome, draft_to, next_draft, flush_of}
+use Rattle.dcsctp_spec_lemmas.specs.spec.endpoint.ResetOutcomes.{reset_events, reset_refusal_text, responses_outcome, responses_unless_refused}
 use Rattle.dcsctp_spec_lemmas.proofs.OneAnswerLemmas.{answered_by}
 use Rattle.dcsctp_delivery_sending.specs.Places.{HasEntry}
 
@@ -71,15 +71,15 @@ module _ (streams : List ℕ) where
         | inr behind ↦ packet_none _ behind
       ]
 
-  asked_none : (e : Endpoint) (draft : Emission) (answer : Answer) → Told (asked e draft answer).events → ⊥
-  asked_none e draft answer has = out_none answer.after answer.told draft.with_checksum draft.packet.tag (filled draft (answer_contents answer)).packet.contents has
+  asked_none : (e : Endpoint) (draft : Emission) (answer : Answer) → Told (asked_outcome e draft answer).events → ⊥
+  asked_none e draft answer has = out_none answer.after answer.told draft.with_checksum draft.packet.tag (filled_draft draft (answer_contents answer)).packet.contents has
 
   flush_none : (e : Endpoint) (draft : Emission) (answers : List Answer) → Told (flush_of e draft answers).events → ⊥
   flush_none e draft [] has = has
   flush_none e draft (answer ∷ answers) has =
-      elim (entry_either (streams_reset_performed streams) (asked e draft answer).events (flush_of (asked e draft answer).after (next_draft e.core draft) answers).events has) [
+      elim (entry_either (streams_reset_performed streams) (asked_outcome e draft answer).events (flush_of (asked_outcome e draft answer).after (next_draft e.core draft) answers).events has) [
         | inl front ↦ asked_none e draft answer front
-        | inr behind ↦ flush_none (asked e draft answer).after (next_draft e.core draft) answers behind
+        | inr behind ↦ flush_none (asked_outcome e draft answer).after (next_draft e.core draft) answers behind
       ]
 
   packet_where_none : (b : Bool) (e : Endpoint) (emission : Emission) → Told (cond b (sends e [] [] emission) (quiet e [] [])).events → ⊥
@@ -98,7 +98,7 @@ module _ (streams : List ℕ) where
 
   -- So a RE-CONFIG tells what its effects tell.
   pub sent_tell : (refused : Bool) (e : Endpoint) (told : List (Event Emission)) (held : Held) (parameters responses : List ResetParameter) (answers : List Answer)
-      → Told (responses_by refused e told held parameters responses answers).events → Told told
+      → Told (responses_unless_refused refused e told held parameters responses answers).events → Told told
   sent_tell true e told held parameters responses answers has =
       elim (entry_either (streams_reset_performed streams) told (error ProtocolViolation (reset_refusal_text parameters) ∷ []) has) [
         | inl front ↦ front
@@ -135,7 +135,7 @@ entry_front entry (newest ∷ first) later (inr has) = inr (entry_front entry fi
 
 -- What is told first is told with what is sent behind it.
 pub told_first : (event : Event Emission) (refused : Bool) (e : Endpoint) (told : List (Event Emission)) (held : Held) (parameters responses : List ResetParameter) (answers : List Answer) → HasEntry event told
-    → HasEntry event (responses_by refused e told held parameters responses answers).events
+    → HasEntry event (responses_unless_refused refused e told held parameters responses answers).events
 told_first event true e told held parameters responses answers has = entry_front event told _ has
 told_first event false e told held parameters responses answers has =
     let base : Outcome = responses_outcome e held responses in

@@ -12,21 +12,21 @@ use Rattle.dcsctp_spec_lemmas.specs.types.declared.association.Held.{Held}
 use Rattle.dcsctp_spec_lemmas.specs.types.declared.association.Pair.{Pair}
 use Rattle.dcsctp_spec_lemmas.specs.spec.Packet.{Content, re_config}
 use Rattle.dcsctp_spec_lemmas.specs.spec.Reconfiguration.{RequestedReset, renewed_reset, NumberedReset, RequestState, early, due, renewed, ResetParameter, outgoing_reset_request, number_answered}
-use Rattle.dcsctp_spec_lemmas.specs.spec.association.Effect.{AssociationIdentity, Effect, identity_of, identity_in}
+use Rattle.dcsctp_spec_lemmas.specs.spec.association.Effect.{AssociationIdentity, Effect, identity_of, identity_of_core}
 use Rattle.dcsctp_spec_lemmas.specs.spec.association.FlushChanges.{next_number}
-use Rattle.dcsctp_spec_lemmas.specs.spec.association.ResetChanges.{RequestPlace, again, next, astray, request_place, repeated, is_due, outgoing_by, HandledParameters}
+use Rattle.dcsctp_spec_lemmas.specs.spec.association.ResetChanges.{RequestPlace, again, next, astray, request_place, repeated_request_outcome, is_due, outgoing_by_place, HandledParameters}
 use Rattle.dcsctp_spec_lemmas.specs.spec.endpoint.BegunResets.{BegunReset, begun_effects}
 use Rattle.dcsctp_spec_lemmas.specs.spec.endpoint.Endpoint.{Endpoint, Core, closed, cookie_wait, cookie_echoed, open_in}
 use Rattle.dcsctp_spec_lemmas.specs.spec.endpoint.Event.{incoming_stream_reset}
 use Rattle.dcsctp_spec_lemmas.specs.spec.endpoint.Outcome.{Outcome}
-use Rattle.dcsctp_spec_lemmas.specs.spec.endpoint.ResetOutcomes.{requested_in, is_request_reached, is_same_list, is_same_reset, is_renewal, state_by, request_state, renewable_after, renewable_left, has_reset, parameters_handled_in, answered_in, own_streams, reset_events_of, resets_handled, WorksResets, ResetTurn}
+use Rattle.dcsctp_spec_lemmas.specs.spec.endpoint.ResetOutcomes.{first_reset_request, is_request_reached, is_same_list, is_same_reset, is_renewal, state_if_renewed, request_state, renewable_after, renewable_left, has_reset, handled_parameters_of, answer_to_own, own_streams, reset_events_of, resets_handled, HandlesResets, ResetTurn}
 use Rattle.dcsctp_spec_lemmas.specs.spec.endpoint.Turn.{Input, chunk_input, Turn}
 use Rattle.dcsctp_spec_lemmas.proofs.EarlyLemmas.{content_by}
 use Rattle.dcsctp_spec_runs.specs.Past.{HasEffect, WasPerformed}
 use Rattle.dcsctp_delivery_sending.specs.Places.{HasEntry}
-use Rattle.dcsctp_delivery_turns.specs.Actions.{came_by, IsCall}
+use Rattle.dcsctp_delivery_turns.specs.Actions.{content_of_input, IsCall}
 use Rattle.dcsctp_delivery_turns.specs.PeerRequests.{NoneAsked, IsPlainRequest}
-use Rattle.dcsctp_delivery_turns.specs.ToldResets.{IsToldOf, TellsResets, TurnsTellResets}
+use Rattle.dcsctp_delivery_turns.specs.ToldResets.{IsReportedReset, ReportsResets, TurnsReportResets}
 use Rattle.dcsctp_delivery_turns.proofs.PeerRequests.{answers_ask, works_of, works_renewable}
 use Rattle.dcsctp_delivery_turns.proofs.PeersTurns.{Handles, calmly, handles, input_handles}
 use Rattle.dcsctp_delivery_turns.proofs.Telling.{entry_either, their_told, told_first}
@@ -48,15 +48,15 @@ none_performed (effect ∷ happened) peer number none (inl (inr has)) = none_per
 none_performed (effect ∷ happened) peer number none (inr (inl is)) = absurd (cc)
 none_performed (effect ∷ happened) peer number none (inr (inr has)) = none_performed happened peer number none (inr has)
 
-still_renewable : (e : Endpoint) (o : Outcome) (old : NumberedReset) → StaysOrNone e.renewable o.after.renewable → o.after.renewable ≡ Some old → IsToldOf e o old.reset.streams
+still_renewable : (e : Endpoint) (o : Outcome) (old : NumberedReset) → StaysOrNone e.renewable o.after.renewable → o.after.renewable ≡ Some old → IsReportedReset e o old.reset.streams
 still_renewable e o old (inl same) is = inr (old, sym same ∙ is, refl)
 still_renewable e o old (inr none) is = absurd (cc)
 
-told_nothing : (e : Endpoint) (input : Input) (o : Outcome) → NoneAsked o.effects → StaysOrNone e.renewable o.after.renewable → TellsResets e input o
+told_nothing : (e : Endpoint) (input : Input) (o : Outcome) → NoneAsked o.effects → StaysOrNone e.renewable o.after.renewable → ReportsResets e input o
 told_nothing e input o none stays =
     record { performed = λ peer number has. absurd (none_performed o.effects peer number none has); renewable = λ old is. still_renewable e o old stays is }
 
-calm_tells : (e : Endpoint) (input : Input) (o : Outcome) → CalmTurns (came_by input) e o → TellsResets e input o
+calm_tells : (e : Endpoint) (input : Input) (o : Outcome) → CalmTurns (content_of_input input) e o → ReportsResets e input o
 calm_tells e input o (goes_on asks) = told_nothing e input o asks.none asks.renews
 calm_tells e input o (begins begun opening linked asks) = told_nothing e input o asks.none asks.renews
 calm_tells e input o (collides collision asks) = told_nothing e input o asks.none asks.renews
@@ -85,7 +85,7 @@ module _ (last number : ℕ) (reset : RequestedReset) where
       second_is (not reset.is_new) _ (second_is (number == next_number last) _ (second_is (old.number == last) _ is)) in
       (old, refl, same_list old.reset.streams reset.streams (second_is (old.reset.last_tsn == reset.last_tsn) _ same))
 
-state_where : (reached is_same : Bool) → (if reached then state_by is_same else early) ≡ renewed → is_same ≡ true
+state_where : (reached is_same : Bool) → (if reached then state_if_renewed is_same else early) ≡ renewed → is_same ≡ true
 state_where true true is = refl
 state_where true false is = absurd (cc)
 state_where false is_same is = absurd (cc)
@@ -96,13 +96,13 @@ module _ (e : Endpoint) (my : Pair) (held : Held) (number : ℕ) (reset : Reques
   abbrev the_request : List ResetParameter
   the_request = outgoing_reset_request number (number_answered number reset.is_new) reset ∷ []
 
-  came_again : request_state e held the_request ≡ renewed → IsToldOf e o reset.streams
+  came_again : request_state e held the_request ≡ renewed → IsReportedReset e o reset.streams
   came_again is =
       let found = state_where (is_request_reached e.queues.transfer (Some reset)) (e.options.follow_rfc && is_renewal e.renewable held.peer_last (Some number) (Some reset)) is in
       inr (renewal_is held.peer_last number reset e.renewable (second_is e.options.follow_rfc _ found))
 
   -- A request is found to be the one before only where it is.
-  none_again : (peer : Pair) (its : ℕ) (result : ReconfigurationResponseResult) (reached : Bool) → HasEffect (effects.renews peer its) ((repeated held result reached).effects ++ []) → ⊥
+  none_again : (peer : Pair) (its : ℕ) (result : ReconfigurationResponseResult) (reached : Bool) → HasEffect (effects.renews peer its) ((repeated_request_outcome held result reached).effects ++ []) → ⊥
   none_again peer its SuccessNothingToDo reached has = has
   none_again peer its SuccessPerformed reached has = has
   none_again peer its Denied reached has = has
@@ -113,7 +113,7 @@ module _ (e : Endpoint) (my : Pair) (held : Held) (number : ℕ) (reset : Reques
   none_again peer its InProgress true (inr has) = has
   none_again peer its InProgress false has = has
 
-  renews_where : (peer : Pair) (its : ℕ) (place : RequestPlace) (state : RequestState) → HasEffect (effects.renews peer its) ((outgoing_by held number state place).effects ++ []) → state ≡ renewed
+  renews_where : (peer : Pair) (its : ℕ) (place : RequestPlace) (state : RequestState) → HasEffect (effects.renews peer its) ((outgoing_by_place held number state place).effects ++ []) → state ≡ renewed
   renews_where peer its again state has = absurd (none_again peer its held.peer_result (is_due state) has)
   renews_where peer its next renewed has = refl
   renews_where peer its next due (inl is) = absurd (cc)
@@ -131,21 +131,21 @@ module _ (e : Endpoint) (my : Pair) (held : Held) (number : ℕ) (reset : Reques
   begun_none (Some begun) peer its (inr (inl is)) = absurd (cc)
   begun_none (Some begun) peer its (inr (inr has)) = has
 
-  module _ (turn : WorksResets e my held the_request o) where
+  module _ (turn : HandlesResets e my held the_request o) where
     abbrev worked : HandledParameters
-    worked = parameters_handled_in e my held the_request
+    worked = handled_parameters_of e my held the_request
 
     event_told : HasEntry (incoming_stream_reset reset.streams) (reset_events_of e the_request worked.effects) → HasEntry (incoming_stream_reset reset.streams) o.events
     event_told has =
         subst (λ (x : Outcome). HasEntry (incoming_stream_reset reset.streams) x.events) (sym turn.is)
-        (told_first (incoming_stream_reset reset.streams) worked.is_refused (resets_handled e (answered_in held worked the_request) worked.held turn.left (renewable_left e held worked the_request)) (reset_events_of e the_request worked.effects)
+        (told_first (incoming_stream_reset reset.streams) worked.is_refused (resets_handled e (answer_to_own held worked the_request) worked.held turn.left (renewable_left e held worked the_request)) (reset_events_of e the_request worked.effects)
         worked.held the_request worked.answers turn.answers has)
 
-    worked_told : (peer : Pair) (its : ℕ) → WasPerformed peer its worked.effects → IsToldOf e o reset.streams
+    worked_told : (peer : Pair) (its : ℕ) → WasPerformed peer its worked.effects → IsReportedReset e o reset.streams
     worked_told peer its (inl has) = inl (event_told (their_told reset.streams (own_streams e.outstanding) peer its worked.effects has))
     worked_told peer its (inr has) = came_again (renews_where peer its (request_place held.peer_last number) (request_state e held the_request) has)
 
-    performed_told : (peer : Pair) (its : ℕ) → WasPerformed peer its o.effects → IsToldOf e o reset.streams
+    performed_told : (peer : Pair) (its : ℕ) → WasPerformed peer its o.effects → IsReportedReset e o reset.streams
     performed_told peer its (inl has) =
         let works = works_of e my held the_request o turn in
         elim (entry_either (effects.performs peer its) worked.effects (begun_effects works.begun) (subst (HasEffect (effects.performs peer its)) works.is has)) [
@@ -167,60 +167,60 @@ module _ (e : Endpoint) (my : Pair) (held : Held) (number : ℕ) (reset : Reques
     some_performed (effect ∷ happened) is =
         let rest = some_performed happened is in (rest.0, rest.1, elim rest.2 [ inl has ↦ inl (inr has) | inr has ↦ inr (inr has) ])
 
-    left_told : (may : Bool) (old : NumberedReset) → IsToldOf e o reset.streams → (if may then Some (record { number = number; reset = renewed_reset reset }) else None) ≡ Some old → IsToldOf e o old.reset.streams
-    left_told true old told is = subst (IsToldOf e o) (ap (λ (r : NumberedReset). r.reset.streams) (some_same (record { number = number; reset = renewed_reset reset }) old is)) told
+    left_told : (may : Bool) (old : NumberedReset) → IsReportedReset e o reset.streams → (if may then Some (record { number = number; reset = renewed_reset reset }) else None) ≡ Some old → IsReportedReset e o old.reset.streams
+    left_told true old told is = subst (IsReportedReset e o) (ap (λ (r : NumberedReset). r.reset.streams) (some_same (record { number = number; reset = renewed_reset reset }) old is)) told
       where
         some_same : (one other : NumberedReset) → ◌≡◌ {A = Option NumberedReset} (Some one) (Some other) → one ≡ other
         some_same one other same = cc
     left_told false old told is = absurd (cc)
 
-    renewable_told : (was_reset : Bool) → has_reset worked.effects ≡ was_reset → (old : NumberedReset) → renewable_after e held.peer_last the_request was_reset ≡ Some old → IsToldOf e o old.reset.streams
+    renewable_told : (was_reset : Bool) → has_reset worked.effects ≡ was_reset → (old : NumberedReset) → renewable_after e held.peer_last the_request was_reset ≡ Some old → IsReportedReset e o old.reset.streams
     renewable_told true was old is =
         let some = some_performed worked.effects was in left_told (e.options.follow_rfc && number == held.peer_last) old (worked_told some.0 some.1 some.2) is
     renewable_told false was old is = inr (old, is, refl)
 
-    request_tells : (input : Input) → came_by input ≡ Some (re_config the_request) → TellsResets e input o
+    request_tells : (input : Input) → content_of_input input ≡ Some (re_config the_request) → ReportsResets e input o
     request_tells input came =
         record {
-          performed = λ peer its has others other came' asked. subst (λ (r : RequestedReset). IsToldOf e o r.streams) (same_request others other (same_parameters others (sym came ∙ came')) asked) (performed_told peer its has);
+          performed = λ peer its has others other came' asked. subst (λ (r : RequestedReset). IsReportedReset e o r.streams) (same_request others other (same_parameters others (sym came ∙ came')) asked) (performed_told peer its has);
           renewable = λ old is. renewable_told (has_reset worked.effects) refl old (sym (works_renewable e my held the_request o turn) ∙ is);
         }
       where
         same_parameters : (others : List ResetParameter) → Some (re_config the_request) ≡ Some (re_config others) → the_request ≡ others
         same_parameters others same = cc
 
-        same_request : (others : List ResetParameter) (other : RequestedReset) → the_request ≡ others → requested_in others ≡ Some other → reset ≡ other
-        same_request others other same asked = (let found : requested_in the_request ≡ Some other = ap requested_in same ∙ asked in cc)
+        same_request : (others : List ResetParameter) (other : RequestedReset) → the_request ≡ others → first_reset_request others ≡ Some other → reset ≡ other
+        same_request others other same asked = (let found : first_reset_request the_request ≡ Some other = ap first_reset_request same ∙ asked in cc)
 
 -- ---- each turn
 
-works_tell : (e : Endpoint) (my : Pair) (held : Held) (tag : ℕ) (parameters : List ResetParameter) (o : Outcome) → IsPlainRequest (Some (re_config parameters)) → WorksResets e my held parameters o
-    → TellsResets e (chunk_input tag (re_config parameters)) o
+works_tell : (e : Endpoint) (my : Pair) (held : Held) (tag : ℕ) (parameters : List ResetParameter) (o : Outcome) → IsPlainRequest (Some (re_config parameters)) → HandlesResets e my held parameters o
+    → ReportsResets e (chunk_input tag (re_config parameters)) o
 works_tell e my held tag parameters o (inl none) turn =
     let asks = answers_ask e my held parameters o none turn in told_nothing e (chunk_input tag (re_config parameters)) o asks.none asks.renews
 works_tell e my held tag parameters o (inr asked) turn =
-    request_tells e my held asked.0 asked.1 o (subst (λ (p : List ResetParameter). WorksResets e my held p o) asked.2 turn) (chunk_input tag (re_config parameters))
+    request_tells e my held asked.0 asked.1 o (subst (λ (p : List ResetParameter). HandlesResets e my held p o) asked.2 turn) (chunk_input tag (re_config parameters))
     (ap (λ (p : List ResetParameter). Some (re_config p)) asked.2)
 
 plainly_by : (found : Option AssociationIdentity) (link : AssociationIdentity) (came : Option Content) → found ≡ Some link → (found ≡ None) ⊎ IsPlainRequest came → IsPlainRequest came
 plainly_by found link came linked (inl none) = (let clash : ◌≡◌ {A = Option AssociationIdentity} None (Some link) = sym none ∙ linked in absurd (cc))
 plainly_by found link came linked (inr plainly) = plainly
 
-reset_tells : (e : Endpoint) (core : Core) (tag : ℕ) (parameters : List ResetParameter) (o : Outcome) → (identity_in core ≡ None) ⊎ IsPlainRequest (Some (re_config parameters)) → ResetTurn e core parameters o
-    → TellsResets e (chunk_input tag (re_config parameters)) o
+reset_tells : (e : Endpoint) (core : Core) (tag : ℕ) (parameters : List ResetParameter) (o : Outcome) → (identity_of_core core ≡ None) ⊎ IsPlainRequest (Some (re_config parameters)) → ResetTurn e core parameters o
+    → ReportsResets e (chunk_input tag (re_config parameters)) o
 reset_tells e closed tag parameters o plainly turn = (let asks = as_this e.queues.transfer e.renewable o _ turn (rests e) in told_nothing e _ o asks.none asks.renews)
 reset_tells e (cookie_wait my) tag parameters o plainly turn = (let asks = as_this e.queues.transfer e.renewable o _ turn (rests e) in told_nothing e _ o asks.none asks.renews)
 reset_tells e (cookie_echoed my held cookie) tag parameters o plainly turn = works_tell e my held tag parameters o (plainly_by (Some (identity_of my held)) (identity_of my held) (Some (re_config parameters)) refl plainly) turn
 reset_tells e (open_in phase my held) tag parameters o plainly turn = works_tell e my held tag parameters o (plainly_by (Some (identity_of my held)) (identity_of my held) (Some (re_config parameters)) refl plainly) turn
 
-tell_by : (input : Input) → Handles input → (e : Endpoint) (o : Outcome) → (identity_in e.core ≡ None) ⊎ IsPlainRequest (came_by input) → IsCall input → Turn e input o → TellsResets e input o
+tell_by : (input : Input) → Handles input → (e : Endpoint) (o : Outcome) → (identity_of_core e.core ≡ None) ⊎ IsPlainRequest (content_of_input input) → IsCall input → Turn e input o → ReportsResets e input o
 tell_by input (calmly calm) e o plainly may turn = calm_tells e input o (calm_turns e input o calm may turn)
 tell_by input (handles tag parameters is) e o plainly may turn =
-    subst (λ (i : Input). TellsResets e i o) (sym is)
+    subst (λ (i : Input). ReportsResets e i o) (sym is)
     (content_by e tag (re_config parameters) o
     (λ dropped. let asks = as_this e.queues.transfer e.renewable o _ dropped (rests e) in told_nothing e (chunk_input tag (re_config parameters)) o asks.none asks.renews)
-    (λ handled. reset_tells e e.core tag parameters o (subst (λ (i : Input). (identity_in e.core ≡ None) ⊎ IsPlainRequest (came_by i)) is plainly) handled)
+    (λ handled. reset_tells e e.core tag parameters o (subst (λ (i : Input). (identity_of_core e.core ≡ None) ⊎ IsPlainRequest (content_of_input i)) is plainly) handled)
     (subst (λ (i : Input). Turn e i o) is turn))
 
-pub turns_tell_resets : TurnsTellResets
+pub turns_tell_resets : TurnsReportResets
 turns_tell_resets e input o plainly may turn = tell_by input (input_handles input) e o plainly may turn

@@ -1,14 +1,14 @@
 -- Each turn of a socket is a list of actions.
 use Rattle.dcsctp_delivery_turns.specs.Actions as actions
 use Rattle.std.proofs.Common.{ℕ, true, false, None, Some, refl, sym, subst}
-use Rattle.dcsctp_spec_lemmas.specs.spec.Cookie.{cookie_at}
+use Rattle.dcsctp_spec_lemmas.specs.spec.Cookie.{cookie_of_bytes}
 use Rattle.dcsctp_spec_lemmas.specs.spec.Packet.{Content, init, init_ack, cookie_echo, cookie_ack, re_config, abort, shutdown, shutdown_ack, shutdown_complete, plain}
 use Rattle.dcsctp_spec_lemmas.specs.spec.endpoint.Endpoint.{Endpoint, Core, closed, cookie_wait, cookie_echoed, open_in}
 use Rattle.dcsctp_spec_lemmas.specs.spec.endpoint.Outcome.{Outcome}
 use Rattle.dcsctp_spec_lemmas.specs.spec.endpoint.Turn.{Input, arrival, refusal, packet_begins, chunk_input, packet_ends, act_input, user_sets, user_sends, user_resets, user_takes, timer_expires, time_passes, restores, has_data_chunk, ContentTurn, ActTurn, Turn}
 use Rattle.dcsctp_spec_lemmas.specs.spec.association.Acts.{Act, connect, t1_expires, shut_down, step_of_shutdown, shutdown_repeats, abort_with, hands_over, flushes, request_again, request_renewed}
-use Rattle.dcsctp_spec_lemmas.specs.spec.endpoint.TimerOutcomes.{t1_goes_on}
-use Rattle.dcsctp_delivery_turns.specs.Actions.{IsCalm, inside, Becomes, resets_streams, streams_reset_by, goes_on, pauses, prepared_inside, came_by, queued_after, read_after, IsCall, peer_tag}
+use Rattle.dcsctp_spec_lemmas.specs.spec.endpoint.TimerOutcomes.{endpoint_with_t1_continued}
+use Rattle.dcsctp_delivery_turns.specs.Actions.{IsCalm, inside, Becomes, resets_streams, streams_user_resets, goes_on, pauses, prepared_inside, content_of_input, queued_after, read_after, IsCall, peer_tag}
 use Rattle.dcsctp_delivery_turns.specs.Tags.{IsPeerTag}
 use Rattle.dcsctp_delivery_turns.proofs.Actions.{Goes, rests, action_of}
 use Rattle.dcsctp_delivery_turns.proofs.Handshake.{again_link, init_goes, connect_goes, init_ack_goes, cookie_ack_goes, echo_goes, hand_over_goes, abort_goes, aborting_goes, again_goes, gives_up_goes}
@@ -33,7 +33,7 @@ none_calm = λ parameters is. absurd (cc)
 content_goes : (e : Endpoint) (tag : ℕ) (content : Content) (o : Outcome) → ContentTurn e tag content o → Goes (Some content) (peer_tag e.core) e o
 content_goes e tag (init theirs) o turn = subst (Goes _ (peer_tag e.core) e) (sym turn.2) (init_goes _ (λ parameters is. absurd (cc)) (peer_tag e.core) e theirs turn.0 turn.1)
 content_goes e tag (init_ack theirs cookie) o turn = subst (Goes _ (peer_tag e.core) e) (sym turn.3) (init_ack_goes (Some (init_ack theirs cookie)) (λ parameters is. absurd (cc)) (peer_tag e.core) tt e theirs cookie e.core turn.0 turn.1 turn.2)
-content_goes e tag (cookie_echo bytes) o turn = subst (Goes _ (peer_tag e.core) e) (sym turn.3) (echo_goes (Some (cookie_echo bytes)) (λ parameters is. absurd (cc)) (peer_tag e.core) tt e e.core tag (cookie_at bytes) turn.0 turn.1 refl (own_peer e.core) (own_peer e.core) turn.2)
+content_goes e tag (cookie_echo bytes) o turn = subst (Goes _ (peer_tag e.core) e) (sym turn.3) (echo_goes (Some (cookie_echo bytes)) (λ parameters is. absurd (cc)) (peer_tag e.core) tt e e.core tag (cookie_of_bytes bytes) turn.0 turn.1 refl (own_peer e.core) (own_peer e.core) turn.2)
 content_goes e tag cookie_ack o turn = subst (Goes _ (peer_tag e.core) e) (sym turn.2) (cookie_ack_goes _ (λ parameters is. absurd (cc)) (peer_tag e.core) e e.core turn.0 refl (own_peer e.core) turn.1)
 content_goes e tag (re_config parameters) o turn =
     content_by e tag (re_config parameters) o (λ dropped. subst (Goes _ (peer_tag e.core) e) (sym dropped) (idle_goes (peer_tag e.core) e parameters))
@@ -49,7 +49,7 @@ content_goes e tag (plain chunk) o turn =
 
 act_goes : (e : Endpoint) (act : Act) (o : Outcome) → IsCall (act_input act) → ActTurn e act o → Goes None (peer_tag e.core) e o
 act_goes e connect o may turn = subst (Goes None (peer_tag e.core) e) (sym turn.2) (connect_goes None none_calm (peer_tag e.core) e e.core turn.0 turn.1 refl)
-act_goes e (t1_expires true) o may turn = subst (Goes None (peer_tag e.core) e) (sym turn.2) (goes_on none_calm (again_link None none_calm (peer_tag e.core) (t1_goes_on e) e.core turn.0 turn.1) (again_goes None none_calm (peer_tag e.core) (t1_goes_on e) e.core turn.0 (own_peer e.core) (own_peer e.core) turn.1))
+act_goes e (t1_expires true) o may turn = subst (Goes None (peer_tag e.core) e) (sym turn.2) (goes_on none_calm (again_link None none_calm (peer_tag e.core) (endpoint_with_t1_continued e) e.core turn.0 turn.1) (again_goes None none_calm (peer_tag e.core) (endpoint_with_t1_continued e) e.core turn.0 (own_peer e.core) (own_peer e.core) turn.1))
 act_goes e (t1_expires false) o may turn = subst (Goes None (peer_tag e.core) e) (sym turn) (gives_up_goes None none_calm (peer_tag e.core) e e.core)
 act_goes e shut_down o may turn = subst (Goes None (peer_tag e.core) e) (sym turn) (shut_down_goes None none_calm (peer_tag e.core) e e.core refl (own_peer e.core))
 act_goes e step_of_shutdown o may turn = subst (Goes None (peer_tag e.core) e) (sym turn) (goes_on none_calm (step_link e e.core refl) (step_makes None none_calm (peer_tag e.core) e e.core refl (own_peer e.core)))
@@ -60,7 +60,7 @@ act_goes e flushes o may turn = goes_on none_calm (turn_link e o turn) (flush_ma
 act_goes e (request_again reset) o may turn = absurd may
 act_goes e (request_renewed reset) o may turn = absurd may
 
-pub turns_are_actions : (e : Endpoint) (input : Input) (o : Outcome) → IsCall input → Turn e input o → Becomes (streams_reset_by input) (came_by input) (peer_tag e.core) (queued_after e input) (read_after e input) e o
+pub turns_are_actions : (e : Endpoint) (input : Input) (o : Outcome) → IsCall input → Turn e input o → Becomes (streams_user_resets input) (content_of_input input) (peer_tag e.core) (queued_after e input) (read_after e input) e o
 turns_are_actions e arrival o may turn = subst (Goes None (peer_tag e.core) e) (sym turn) (goes_on none_calm refl (rests None (peer_tag e.core) (inside e)))
 turns_are_actions e (refusal text) o may turn = subst (Goes None (peer_tag e.core) e) (sym turn) (goes_on none_calm refl (rests None (peer_tag e.core) (inside e)))
 turns_are_actions e (packet_begins contents) o may turn = begin_goes None none_calm (peer_tag e.core) e e.core (has_data_chunk e.options.follow_rfc contents) o (own_peer e.core) turn

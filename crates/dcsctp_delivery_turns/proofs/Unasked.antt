@@ -4,7 +4,7 @@ use Rattle.std.proofs.Common.{◌≡◌, inl, ℕ, Bool, true, false, Option, No
 use Rattle.dcsctp_spec_lemmas.specs.wire.Content.{SackContent, no_user_data}
 use Rattle.dcsctp_spec_lemmas.specs.types.declared.arrivals.SkippedTo.{SkippedTo}
 use Rattle.dcsctp_spec_lemmas.specs.types.declared.association.Held.{Held}
-use Rattle.dcsctp_spec_lemmas.specs.spec.endpoint.Endpoint.{Endpoint, held_in}
+use Rattle.dcsctp_spec_lemmas.specs.spec.endpoint.Endpoint.{Endpoint, held_by_core}
 use Rattle.dcsctp_spec_lemmas.specs.spec.endpoint.Outcome.{Outcome, still, to_peer}
 use Rattle.dcsctp_spec_lemmas.specs.spec.Packet.{plain, error_of}
 use Rattle.dcsctp_spec_lemmas.specs.spec.association.Choices.{plain_contents}
@@ -14,12 +14,12 @@ use Rattle.dcsctp_spec_lemmas.specs.types.queues.Messages.{MessageContent}
 use Rattle.dcsctp_spec_lemmas.specs.spec.queues.OwnResets.{prepared_all}
 use Rattle.dcsctp_spec_lemmas.specs.spec.queues.Reassembly.{ReassemblyState}
 use Rattle.dcsctp_spec_lemmas.specs.spec.queues.Retransmission.{has_fast_retransmit}
-use Rattle.dcsctp_spec_lemmas.specs.spec.queues.Tracker.{TrackerState, after_packet_end, is_acknowledgement_due, sacked}
+use Rattle.dcsctp_spec_lemmas.specs.spec.queues.Tracker.{TrackerState, after_packet_end, is_acknowledgement_due, tracker_after_sack}
 use Rattle.dcsctp_spec_lemmas.specs.spec.queues.Transfer.{Transfer, EndpointQueues}
-use Rattle.dcsctp_spec_lemmas.specs.spec.endpoint.DataOutcomes.{with_transfer, endpoint_with_tracker, flush_by, AnswersTo, FlushTurn, no_user_data_outcome, ReceiveTurn, DataWhere, ForwardTurn, FastRetransmits, sack_taken, AcknowledgesBy, SackWhere, SackBy, SackTurn, acknowledging, EndWhere, EndsBy, opens_window, hastened_where_open, with_messages, taken_to, TakeWhere, TakeLeft, TakeTurn, delay_outcome, LossTurn}
-use Rattle.dcsctp_spec_lemmas.specs.spec.endpoint.FlushOutcomes.{own_sack, Answer, draft_to, room_in}
-use Rattle.dcsctp_spec_lemmas.specs.spec.endpoint.MessageOutcomes.{MessageRefusal, Sending, sending_refusal, queue_by, queue_one, queue_all, takes_any, SendAnswers, send_by, SendTurn}
-use Rattle.dcsctp_spec_lemmas.specs.spec.endpoint.PreparedResets.{ResetRefusal, reset_refusal, endpoint_with_queue, OwnResetsWhere, OwnResetsTurn}
+use Rattle.dcsctp_spec_lemmas.specs.spec.endpoint.DataOutcomes.{with_transfer, endpoint_with_tracker, flush_to_peer, AnswersTo, FlushTurn, no_user_data_outcome, ReceiveTurn, HandlesPayload, ForwardTurn, FastRetransmits, sack_taken, TakesSackAndFlushes, HandlesSackIfValid, HandlesSackIfConnected, SackTurn, acknowledging, AnswersPacketIfDue, AcknowledgesPacket, opens_window, hastened_where_open, with_messages, taken_to, TakesFirstReady, TakeLeft, TakeTurn, delay_outcome, LossTurn}
+use Rattle.dcsctp_spec_lemmas.specs.spec.endpoint.FlushOutcomes.{own_sack, Answer, draft_to, room_of_draft}
+use Rattle.dcsctp_spec_lemmas.specs.spec.endpoint.MessageOutcomes.{MessageRefusal, Sending, sending_refusal, queue_unless_refused, queue_one, queue_all, takes_any, SendAnswers, flush_if_queued, SendTurn}
+use Rattle.dcsctp_spec_lemmas.specs.spec.endpoint.PreparedResets.{ResetRefusal, reset_refusal, endpoint_with_queue, PreparesUnlessRefused, OwnResetsTurn}
 use Rattle.dcsctp_delivery_sending.proofs.Packets.{out_below}
 use Rattle.dcsctp_delivery_turns.specs.PeerRequests.{SameWaits}
 use Rattle.dcsctp_delivery_turns.proofs.Received.{timed_alike}
@@ -28,12 +28,12 @@ use Rattle.dcsctp_delivery_turns.proofs.Waiting.{unasked_append, same_waits, wai
 
 -- ---- a flush by itself
 
-to_asks : (e : Endpoint) (peer : Option Held) (answers : List Answer) → AnswersTo e peer answers → AsksNothing e.queues.transfer e.renewable (flush_by e peer answers)
+to_asks : (e : Endpoint) (peer : Option Held) (answers : List Answer) → AnswersTo e peer answers → AsksNothing e.queues.transfer e.renewable (flush_to_peer e peer answers)
 to_asks e None answers allowed = rests e
 to_asks e (Some held) answers allowed = flushed e (draft_to held) answers allowed
 
 pub flush_asks : (e : Endpoint) (o : Outcome) → FlushTurn e o → AsksNothing e.queues.transfer e.renewable o
-flush_asks e o turn = as_this e.queues.transfer e.renewable o _ turn.2 (to_asks e (held_in e.core) turn.0 turn.1)
+flush_asks e o turn = as_this e.queues.transfer e.renewable o _ turn.2 (to_asks e (held_by_core e.core) turn.0 turn.1)
 
 -- ---- data
 
@@ -50,8 +50,8 @@ receive_asks : (e : Endpoint) (transfer : Option Transfer) (arrival : Arrival) (
 receive_asks e None arrival o known turn = as_this e.queues.transfer e.renewable o _ turn (record { none = tt; waits = all_wait e.queues.transfer; renews = inl refl })
 receive_asks e (Some transfer) arrival o known turn = as_this e.queues.transfer e.renewable o _ turn.2 (turns_to e transfer turn.0 known (receives_wait arrival transfer turn.0 turn.1))
 
-pub data_asks : (e : Endpoint) (arrival : Arrival) (payload : List ℕ) (o : Outcome) → DataWhere e arrival payload o → AsksNothing e.queues.transfer e.renewable o
-data_asks e arrival [] o turn = as_this e.queues.transfer e.renewable o _ turn (no_data_asks e (held_in e.core) arrival.tsn)
+pub data_asks : (e : Endpoint) (arrival : Arrival) (payload : List ℕ) (o : Outcome) → HandlesPayload e arrival payload o → AsksNothing e.queues.transfer e.renewable o
+data_asks e arrival [] o turn = as_this e.queues.transfer e.renewable o _ turn (no_data_asks e (held_by_core e.core) arrival.tsn)
 data_asks e arrival (byte ∷ bytes) o turn = receive_asks e e.queues.transfer arrival o refl turn
 
 pub forward_asks : (e : Endpoint) (transfer : Option Transfer) (tsn : ℕ) (entries : List SkippedTo) (o : Outcome) → e.queues.transfer ≡ transfer → ForwardTurn e transfer tsn entries o → AsksNothing e.queues.transfer e.renewable o
@@ -75,7 +75,7 @@ fast_renewable true e held transfer o turn =
     let base : Endpoint = with_transfer e (record transfer { retransmission = turn.left }) in
     ap (λ (x : Outcome). x.after.renewable) turn.is ∙ out_renewable base [] (draft_to held).with_checksum (draft_to held).packet.tag (plain_contents turn.chunks)
 
-pub acknowledges_asks : (e : Endpoint) (held : Held) (transfer : Transfer) (sack : SackContent) (o : Outcome) → e.queues.transfer ≡ Some transfer → AcknowledgesBy e held transfer sack o → AsksNothing e.queues.transfer e.renewable o
+pub acknowledges_asks : (e : Endpoint) (held : Held) (transfer : Transfer) (sack : SackContent) (o : Outcome) → e.queues.transfer ≡ Some transfer → TakesSackAndFlushes e held transfer sack o → AsksNothing e.queues.transfer e.renewable o
 acknowledges_asks e held transfer sack o known turn =
     let taken : Endpoint = sack_taken e transfer turn.left in
     let same : turn.stepped.after.queues ≡ taken.queues = ap (λ (x : Outcome). x.after.queues) turn.steps ∙ step_below taken e.core in
@@ -94,44 +94,44 @@ acknowledges_asks e held transfer sack o known turn =
           (inl (fast_renewable (has_fast_retransmit turn.left.retransmission) turn.stepped.after held turn.left turn.fast turn.resends ∙ ap (λ (x : Outcome). x.after.renewable) turn.steps ∙ step_renewable taken e.core)) last.renews;
     })
 
-sack_where_asks : (b : Bool) (e : Endpoint) (held : Held) (transfer : Transfer) (sack : SackContent) (o : Outcome) → e.queues.transfer ≡ Some transfer → SackWhere b e held transfer sack o → AsksNothing e.queues.transfer e.renewable o
+sack_where_asks : (b : Bool) (e : Endpoint) (held : Held) (transfer : Transfer) (sack : SackContent) (o : Outcome) → e.queues.transfer ≡ Some transfer → HandlesSackIfValid b e held transfer sack o → AsksNothing e.queues.transfer e.renewable o
 sack_where_asks false e held transfer sack o known turn = as_this e.queues.transfer e.renewable o _ turn (rests e)
 sack_where_asks true e held transfer sack o known turn = acknowledges_asks e held transfer sack o known turn
 
-sack_by_asks : (e : Endpoint) (peer : Option Held) (transfer : Transfer) (sack : SackContent) (o : Outcome) → e.queues.transfer ≡ Some transfer → SackBy e peer transfer sack o → AsksNothing e.queues.transfer e.renewable o
+sack_by_asks : (e : Endpoint) (peer : Option Held) (transfer : Transfer) (sack : SackContent) (o : Outcome) → e.queues.transfer ≡ Some transfer → HandlesSackIfConnected e peer transfer sack o → AsksNothing e.queues.transfer e.renewable o
 sack_by_asks e None transfer sack o known turn = as_this e.queues.transfer e.renewable o _ turn (rests e)
 sack_by_asks e (Some held) transfer sack o known turn = sack_where_asks (is_sack_valid transfer.retransmission sack.cumulative_tsn_ack) e held transfer sack o known turn
 
 pub sack_asks : (e : Endpoint) (transfer : Option Transfer) (sack : SackContent) (o : Outcome) → e.queues.transfer ≡ transfer → SackTurn e transfer sack o → AsksNothing e.queues.transfer e.renewable o
 sack_asks e None sack o known turn = as_this e.queues.transfer e.renewable o _ turn (record { none = tt; waits = all_wait e.queues.transfer; renews = inl refl })
-sack_asks e (Some transfer) sack o known turn = sack_by_asks e (held_in e.core) transfer sack o known turn
+sack_asks e (Some transfer) sack o known turn = sack_by_asks e (held_by_core e.core) transfer sack o known turn
 
 -- ---- the end of a packet, what the user takes, and the timers of both
 
-end_where_asks : (b : Bool) (e : Endpoint) (peer : Option Held) (transfer : Transfer) (tracker : TrackerState) (o : Outcome) → e.queues.transfer ≡ Some transfer → EndWhere b e peer transfer tracker o → AsksNothing e.queues.transfer e.renewable o
+end_where_asks : (b : Bool) (e : Endpoint) (peer : Option Held) (transfer : Transfer) (tracker : TrackerState) (o : Outcome) → e.queues.transfer ≡ Some transfer → AnswersPacketIfDue b e peer transfer tracker o → AsksNothing e.queues.transfer e.renewable o
 end_where_asks true e (Some held) transfer tracker o known turn =
-    let base : Endpoint = endpoint_with_tracker e transfer (sacked tracker) in
-    let last = flushed base (acknowledging e held (own_sack (room_in e (draft_to held)) (record transfer { tracker = tracker }))) turn.answers turn.allowed in
+    let base : Endpoint = endpoint_with_tracker e transfer (tracker_after_sack tracker) in
+    let last = flushed base (acknowledging e held (own_sack (room_of_draft e (draft_to held)) (record transfer { tracker = tracker }))) turn.answers turn.allowed in
     as_this e.queues.transfer e.renewable o _ turn.is
     (record {
       none = last.none;
-      waits = wait_then e.queues.transfer base.queues.transfer _ (some_wait e.queues.transfer transfer (record transfer { tracker = sacked tracker }) known (same_waits transfer.reassembly.deferral)) last.waits;
+      waits = wait_then e.queues.transfer base.queues.transfer _ (some_wait e.queues.transfer transfer (record transfer { tracker = tracker_after_sack tracker }) known (same_waits transfer.reassembly.deferral)) last.waits;
       renews = last.renews;
     })
 end_where_asks true e None transfer tracker o known turn = as_this e.queues.transfer e.renewable o _ turn (turns_to e transfer (record transfer { tracker = tracker }) known (same_waits transfer.reassembly.deferral))
 end_where_asks false e peer transfer tracker o known turn = as_this e.queues.transfer e.renewable o _ turn (turns_to e transfer (record transfer { tracker = tracker }) known (same_waits transfer.reassembly.deferral))
 
-pub end_asks : (e : Endpoint) (transfer : Option Transfer) (o : Outcome) → e.queues.transfer ≡ transfer → EndsBy e transfer o → AsksNothing e.queues.transfer e.renewable o
+pub end_asks : (e : Endpoint) (transfer : Option Transfer) (o : Outcome) → e.queues.transfer ≡ transfer → AcknowledgesPacket e transfer o → AsksNothing e.queues.transfer e.renewable o
 end_asks e None o known turn = as_this e.queues.transfer e.renewable o _ turn (rests e)
 end_asks e (Some transfer) o known turn =
-    let tracker = after_packet_end e.moment transfer.tracker in end_where_asks (is_acknowledgement_due tracker) e (held_in e.core) transfer tracker o known turn
+    let tracker = after_packet_end e.moment transfer.tracker in end_where_asks (is_acknowledgement_due tracker) e (held_by_core e.core) transfer tracker o known turn
 
 -- An acknowledgement that is due leaves what waits.
 told_waits : (b : Bool) (moment : ℕ) (transfer : Transfer) → SameWaits transfer.reassembly.deferral (hastened_where_open b moment transfer).reassembly.deferral
 told_waits true moment transfer = same_waits transfer.reassembly.deferral
 told_waits false moment transfer = same_waits transfer.reassembly.deferral
 
-take_where_asks : (e : Endpoint) (transfer : Transfer) (messages : List MessageContent) (o : Outcome) → e.queues.transfer ≡ Some transfer → TakeWhere e transfer messages o → AsksNothing e.queues.transfer e.renewable o
+take_where_asks : (e : Endpoint) (transfer : Transfer) (messages : List MessageContent) (o : Outcome) → e.queues.transfer ≡ Some transfer → TakesFirstReady e transfer messages o → AsksNothing e.queues.transfer e.renewable o
 take_where_asks e transfer [] o known turn = as_this e.queues.transfer e.renewable o _ turn (rests e)
 take_where_asks e transfer (message ∷ messages) o known turn =
     let left : Transfer = with_messages messages transfer in
@@ -156,7 +156,7 @@ loss_asks e (Some transfer) o known turn =
 
 -- ---- what the user sends and resets
 
-queue_by_asks : (e : Endpoint) (sending : Sending) (refusal : Option MessageRefusal) → AsksNothing e.queues.transfer e.renewable (queue_by e sending refusal)
+queue_by_asks : (e : Endpoint) (sending : Sending) (refusal : Option MessageRefusal) → AsksNothing e.queues.transfer e.renewable (queue_unless_refused e sending refusal)
 queue_by_asks e sending None = record { none = tt; waits = all_wait e.queues.transfer; renews = inl refl }
 queue_by_asks e sending (Some refusal) = record { none = tt; waits = all_wait e.queues.transfer; renews = inl refl }
 
@@ -171,9 +171,9 @@ queue_all_asks e (sending ∷ sendings) =
       renews = stays_then e.renewable (queue_one e sending).after.renewable _ first.renews rest.renews;
     }
 
-send_by_asks : (b : Bool) (e : Endpoint) (answers : List Answer) → SendAnswers b e answers → AsksNothing e.queues.transfer e.renewable (send_by b e answers)
+send_by_asks : (b : Bool) (e : Endpoint) (answers : List Answer) → SendAnswers b e answers → AsksNothing e.queues.transfer e.renewable (flush_if_queued b e answers)
 send_by_asks false e answers allowed = rests e
-send_by_asks true e answers allowed = to_asks e (held_in e.core) answers allowed
+send_by_asks true e answers allowed = to_asks e (held_by_core e.core) answers allowed
 
 pub send_asks : (e : Endpoint) (sendings : List Sending) (o : Outcome) → SendTurn e sendings o → AsksNothing e.queues.transfer e.renewable o
 send_asks e sendings o turn =
@@ -182,12 +182,12 @@ send_asks e sendings o turn =
     let last = send_by_asks (takes_any e sendings) all.after turn.0 turn.1 in
     as_this e.queues.transfer e.renewable o _ turn.2
     (record {
-      none = unasked_append all.effects (send_by (takes_any e sendings) all.after turn.0).effects first.none last.none;
+      none = unasked_append all.effects (flush_if_queued (takes_any e sendings) all.after turn.0).effects first.none last.none;
       waits = wait_then e.queues.transfer all.after.queues.transfer _ first.waits last.waits;
       renews = stays_then e.renewable all.after.renewable _ first.renews last.renews;
     })
 
-resets_where_ask : (refusal : Option ResetRefusal) (e : Endpoint) (ids : List ℕ) (o : Outcome) → OwnResetsWhere refusal e ids o → AsksNothing e.queues.transfer e.renewable o
+resets_where_ask : (refusal : Option ResetRefusal) (e : Endpoint) (ids : List ℕ) (o : Outcome) → PreparesUnlessRefused refusal e ids o → AsksNothing e.queues.transfer e.renewable o
 resets_where_ask None e ids o turn =
     let last = flush_asks (endpoint_with_queue e (prepared_all ids e.queues.queue)) turn.flushed turn.flushes in
     as_this e.queues.transfer e.renewable o _ turn.is (record { none = last.none; waits = last.waits; renews = last.renews })

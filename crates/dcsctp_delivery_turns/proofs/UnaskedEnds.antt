@@ -12,8 +12,8 @@ use Rattle.dcsctp_spec_lemmas.specs.spec.Packet.{shutdown_complete}
 use Rattle.dcsctp_spec_lemmas.specs.spec.endpoint.Turn.{BeginTurn}
 use Rattle.dcsctp_spec_lemmas.specs.spec.endpoint.EndOutcomes.{abort_outcome, abort_to, aborting_outcome, end_of}
 use Rattle.dcsctp_spec_lemmas.specs.spec.endpoint.HandoverOutcomes.{hand_over_outcome}
-use Rattle.dcsctp_spec_lemmas.specs.spec.endpoint.HeardShutdown.{said_by_shutdown, heeds_shutdown, ShutdownWhere, ShutdownBy, ShutdownTurn}
-use Rattle.dcsctp_spec_lemmas.specs.spec.endpoint.ShutdownOutcomes.{shut_down_echoed, phase_at, may_go_on, step_by, step_outcome, step_from, t1_stopped, shut_down_outcome, shutdown_outcome, shutdown_ack_outcome, shutdown_complete_outcome, shutdown_sent_again}
+use Rattle.dcsctp_spec_lemmas.specs.spec.endpoint.HeardShutdown.{said_by_shutdown, acknowledges_by_shutdown, HearsValidShutdown, HearsShutdown, ShutdownTurn}
+use Rattle.dcsctp_spec_lemmas.specs.spec.endpoint.ShutdownOutcomes.{shut_down_echoed, endpoint_in_phase, may_continue_shutdown, step_if_acknowledged, step_outcome, step_from, t1_stopped, shut_down_outcome, shutdown_outcome, shutdown_ack_outcome, shutdown_complete_outcome, shutdown_sent_again}
 use Rattle.dcsctp_spec_lemmas.specs.spec.endpoint.TimerOutcomes.{t1_gives_up_outcome}
 use Rattle.dcsctp_spec_lemmas.specs.spec.queues.Transfer.{Transfer}
 use Rattle.dcsctp_spec_lemmas.proofs.AbortLemmas.{by_abort_outcome}
@@ -22,7 +22,7 @@ use Rattle.dcsctp_delivery_turns.proofs.Waiting.{AsksNothing, as_this, rests, sa
 
 -- ---- shutdown
 
-step_by_asks : (b : Bool) (e : Endpoint) (phase : OpenPhase) (my : Pair) (held : Held) → AsksNothing e.queues.transfer e.renewable (step_by b e phase my held)
+step_by_asks : (b : Bool) (e : Endpoint) (phase : OpenPhase) (my : Pair) (held : Held) → AsksNothing e.queues.transfer e.renewable (step_if_acknowledged b e phase my held)
 step_by_asks false e phase my held = rests e
 step_by_asks true e established my held = rests e
 step_by_asks true e shutdown_pending my held = said e _ tt refl refl
@@ -34,10 +34,10 @@ pub step_asks : (e : Endpoint) (core : Core) → AsksNothing e.queues.transfer e
 step_asks e closed = rests e
 step_asks e (cookie_wait my) = rests e
 step_asks e (cookie_echoed my held cookie) = rests e
-step_asks e (open_in phase my held) = step_by_asks (may_go_on e) e phase my held
+step_asks e (open_in phase my held) = step_by_asks (may_continue_shutdown e) e phase my held
 
 from_asks : (e : Endpoint) (phase : OpenPhase) (my : Pair) (held : Held) → AsksNothing e.queues.transfer e.renewable (step_from e phase my held)
-from_asks e phase my held = step_by_asks (may_go_on e) (phase_at e phase my held) phase my held
+from_asks e phase my held = step_by_asks (may_continue_shutdown e) (endpoint_in_phase e phase my held) phase my held
 
 echoed_asks : (follows : Bool) (e : Endpoint) (my : Pair) (held : Held) → AsksNothing e.queues.transfer e.renewable (shut_down_echoed follows e my held)
 echoed_asks true e my held = rests (record e { shutdown_asked = true })
@@ -64,14 +64,14 @@ shutdown_asks e (open_in shutdown_received my held) = rests e
 shutdown_asks e (open_in shutdown_ack_sent my held) = said e _ tt refl refl
 
 heard_where_asks : (b : Bool) (e : Endpoint) (phase : OpenPhase) (my : Pair) (held : Held) (transfer : Transfer) (tsn : ℕ) (o : Outcome) → e.queues.transfer ≡ Some transfer
-    → ShutdownWhere b e phase my held transfer tsn o → AsksNothing e.queues.transfer e.renewable o
-heard_where_asks true e phase my held transfer tsn o known turn = acknowledges_asks (phase_at e shutdown_received my held) held transfer (said_by_shutdown tsn transfer.retransmission) o known turn
+    → HearsValidShutdown b e phase my held transfer tsn o → AsksNothing e.queues.transfer e.renewable o
+heard_where_asks true e phase my held transfer tsn o known turn = acknowledges_asks (endpoint_in_phase e shutdown_received my held) held transfer (said_by_shutdown tsn transfer.retransmission) o known turn
 heard_where_asks false e phase my held transfer tsn o known turn = as_this e.queues.transfer e.renewable o _ turn (shutdown_asks e (open_in phase my held))
 
-heard_by_asks : (e : Endpoint) (phase : OpenPhase) (my : Pair) (held : Held) (found : Option Transfer) (tsn : ℕ) (o : Outcome) → e.queues.transfer ≡ found → ShutdownBy e phase my held found tsn o
+heard_by_asks : (e : Endpoint) (phase : OpenPhase) (my : Pair) (held : Held) (found : Option Transfer) (tsn : ℕ) (o : Outcome) → e.queues.transfer ≡ found → HearsShutdown e phase my held found tsn o
     → AsksNothing e.queues.transfer e.renewable o
 heard_by_asks e phase my held None tsn o known turn = as_this e.queues.transfer e.renewable o _ turn (shutdown_asks e (open_in phase my held))
-heard_by_asks e phase my held (Some transfer) tsn o known turn = heard_where_asks (heeds_shutdown e.options phase transfer tsn) e phase my held transfer tsn o known turn
+heard_by_asks e phase my held (Some transfer) tsn o known turn = heard_where_asks (acknowledges_by_shutdown e.options phase transfer tsn) e phase my held transfer tsn o known turn
 
 pub heard_asks : (e : Endpoint) (core : Core) (tsn : ℕ) (o : Outcome) → ShutdownTurn e core tsn o → AsksNothing e.queues.transfer e.renewable o
 heard_asks e closed tsn o turn = as_this e.queues.transfer e.renewable o _ turn (shutdown_asks e closed)

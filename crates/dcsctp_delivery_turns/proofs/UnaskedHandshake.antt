@@ -9,14 +9,14 @@ use Rattle.dcsctp_spec_lemmas.specs.spec.endpoint.Event.{Event, connected, conne
 use Rattle.dcsctp_spec_lemmas.specs.spec.endpoint.Outcome.{Outcome, quiet, emits, fits, drawing, to_peer}
 use Rattle.dcsctp_spec_lemmas.specs.spec.Packet.{Introduction, Content, cookie_echo, shutdown_ack, Emission}
 use Rattle.dcsctp_spec_lemmas.specs.spec.association.CookieEchoChanges.{held_by_cookie, Resolution, establish_new, restart, simultaneous_init, discard, maintain_existing, invalid_tag, stale}
-use Rattle.dcsctp_spec_lemmas.specs.spec.association.Effect.{identity_of, identity_in}
+use Rattle.dcsctp_spec_lemmas.specs.spec.association.Effect.{identity_of, identity_of_core}
 use Rattle.dcsctp_spec_lemmas.specs.spec.association.HandshakeChanges.{held_by_init_ack}
 use Rattle.dcsctp_spec_lemmas.specs.spec.queues.SendQueue.{SendQueueState, queue_restarted, numbered_for}
-use Rattle.dcsctp_spec_lemmas.specs.spec.endpoint.CookieEchoOutcomes.{cookie_ack_emission, EstablishAnswers, establish_by, established_by, interleaves, queue_where, queues_with, queues_begun, queues_by, queues_for_other, queues_collided, outlasts, collide_by, RestartAnswers, restart_by_where, MaintainAnswers, maintain_by, ResolvedAnswers, resolved_by, EchoedAnswers, cookie_echo_by, resolved_now, window_by_cookie}
+use Rattle.dcsctp_spec_lemmas.specs.spec.endpoint.CookieEchoOutcomes.{cookie_ack_emission, EstablishAnswers, establish_with_flush, endpoint_established, interleaves, queue_if_kept, queues_with, queues_begun, queues_if_kept, queues_for_other, queues_collided, outlasts, collide_with_flush, RestartAnswers, restart_with_flush_by_core, MaintainAnswers, maintain_with_flush, ResolvedAnswers, resolve_with_flush, EchoedAnswers, cookie_echo_with_flush, resolved_now, window_by_cookie}
 use Rattle.dcsctp_spec_lemmas.specs.spec.endpoint.FlushOutcomes.{Answer, draft_to, flush_answered}
-use Rattle.dcsctp_spec_lemmas.specs.spec.endpoint.HandshakeOutcomes.{pair_from, renewed_pair, init_ack_emission, init_outcome, init_emission, awaits_init_ack, connect_outcome, awaits_cookie_ack, echo_emission, EchoAnswers, InitAckAnswers, accepted_init_ack_by, init_ack_by, connected_after, CookieAckAnswers, cookie_ack_by, abort_emission, no_cookie_text}
-use Rattle.dcsctp_spec_lemmas.specs.spec.endpoint.TimerOutcomes.{AgainAnswers, again_by}
-use Rattle.dcsctp_delivery_turns.specs.Actions.{Begun, Collides, begun_transfer, IsOpening}
+use Rattle.dcsctp_spec_lemmas.specs.spec.endpoint.HandshakeOutcomes.{pair_from, renewed_pair, init_ack_emission, init_outcome, init_emission, awaits_init_ack, connect_outcome, awaits_cookie_ack, echo_emission, EchoAnswers, InitAckAnswers, accept_init_ack_with_flush, init_ack_with_flush, connected_after, CookieAckAnswers, cookie_ack_with_flush, abort_emission, no_cookie_text}
+use Rattle.dcsctp_spec_lemmas.specs.spec.endpoint.TimerOutcomes.{AgainAnswers, send_again_with_flush}
+use Rattle.dcsctp_delivery_turns.specs.Actions.{BeginsAssociation, Collides, begun_transfer, IsOpening}
 use Rattle.dcsctp_delivery_turns.proofs.Handshake.{second_holds, unasked_by, kept_or_anew}
 use Rattle.dcsctp_spec_lemmas.proofs.RefusalLemmas.{by_stale_outcome}
 use Rattle.std.proofs.lemmas.Bool.{eqb-true}
@@ -28,7 +28,7 @@ use Rattle.dcsctp_delivery_turns.proofs.Waiting.{stays_then, AsksNothing, rests,
 -- No request of the peer is accepted or performed, and the association continues or ends; or another one begins.
 pub data CalmTurns (came : Option Content) (e : Endpoint) (o : Outcome) : Type 0 where
   goes_on : AsksNothing e.queues.transfer e.renewable o → CalmTurns came e o
-  begins : (begun : Begun e o) → IsOpening came → identity_in o.after.core ≡ Some (identity_of begun.my begun.held) → AsksNothing (Some (begun_transfer e o begun)) e.renewable o → CalmTurns came e o
+  begins : (begun : BeginsAssociation e o) → IsOpening came → identity_of_core o.after.core ≡ Some (identity_of begun.my begun.held) → AsksNothing (Some (begun_transfer e o begun)) e.renewable o → CalmTurns came e o
   collides : (collision : Collides came e o) → AsksNothing (Some collision.kept) e.renewable o → CalmTurns came e o
 
 -- ---- the handshake
@@ -59,17 +59,17 @@ echoed_asks true e words tag cookie answers allowed = flushed_behind e words [] 
 echoed_asks false e words tag cookie answers allowed = said e _ tt refl refl
 
 echoed_link : (b : Bool) (e : Endpoint) (words : List Word) (tag : ℕ) (cookie : List ℕ) (answers : List Answer) → EchoAnswers b e tag cookie answers
-    → identity_in (cond b (flush_answered answers e words [] true tag (cookie_echo cookie ∷ [])) (quiet e words [])).after.core ≡ identity_in e.core
+    → identity_of_core (cond b (flush_answered answers e words [] true tag (cookie_echo cookie ∷ [])) (quiet e words [])).after.core ≡ identity_of_core e.core
 echoed_link true e words tag cookie answers allowed = flush_link e (echo_emission tag cookie) answers allowed
 echoed_link false e words tag cookie answers allowed = refl
 
-pub again_asks : (e : Endpoint) (core : Core) (answers : List Answer) → AgainAnswers e core answers → AsksNothing e.queues.transfer e.renewable (again_by (flush_answered answers) e core)
+pub again_asks : (e : Endpoint) (core : Core) (answers : List Answer) → AgainAnswers e core answers → AsksNothing e.queues.transfer e.renewable (send_again_with_flush (flush_answered answers) e core)
 again_asks e closed answers allowed = rests e
 again_asks e (cookie_wait my) answers allowed = emitted e [] (init_emission e my)
 again_asks e (cookie_echoed my held cookie) answers allowed = echoed_asks (fits e (echo_emission held.peer.tag cookie)) e [] held.peer.tag cookie answers allowed
 again_asks e (open_in phase my held) answers allowed = rests e
 
-pub cookie_ack_asks : (e : Endpoint) (core : Core) (answers : List Answer) → CookieAckAnswers e core answers → AsksNothing e.queues.transfer e.renewable (cookie_ack_by (flush_answered answers) e core)
+pub cookie_ack_asks : (e : Endpoint) (core : Core) (answers : List Answer) → CookieAckAnswers e core answers → AsksNothing e.queues.transfer e.renewable (cookie_ack_with_flush (flush_answered answers) e core)
 cookie_ack_asks e closed answers allowed = rests e
 cookie_ack_asks e (cookie_wait my) answers allowed = rests e
 cookie_ack_asks e (cookie_echoed my held cookie) answers allowed = (let last = flushed (connected_after e my held) (draft_to held) answers allowed in record { none = last.none; waits = last.waits; renews = last.renews })
@@ -77,7 +77,7 @@ cookie_ack_asks e (open_in phase my held) answers allowed = rests e
 
 module _ (came : Option Content) (opening : IsOpening came) (e : Endpoint) where
   accepted_calm : (my : Pair) (theirs : Introduction) (cookie : Option (List ℕ)) (word : ℕ) (answers : List Answer) → InitAckAnswers e theirs cookie (cookie_wait my) word answers
-      → CalmTurns came e (accepted_init_ack_by (flush_answered answers) e my theirs cookie word)
+      → CalmTurns came e (accept_init_ack_with_flush (flush_answered answers) e my theirs cookie word)
   accepted_calm my theirs None word answers allowed =
       goes_on (ended e.queues.transfer e.renewable (emits e [] (abort_emission theirs.pair.tag)) (aborted _ no_cookie_text) (emitted e [] (abort_emission theirs.pair.tag)).none)
   accepted_calm my theirs (Some cookie) word answers allowed =
@@ -95,7 +95,7 @@ module _ (came : Option Content) (opening : IsOpening came) (e : Endpoint) where
       }) opening (echoed_link is_short awaiting (U64 word ∷ []) theirs.pair.tag cookie answers allowed) (record { none = last.none; waits = last.waits; renews = last.renews })
 
   pub init_ack_calm : (theirs : Introduction) (cookie : Option (List ℕ)) (core : Core) (word : ℕ) (answers : List Answer) → InitAckAnswers e theirs cookie core word answers
-      → CalmTurns came e (init_ack_by (flush_answered answers) e theirs cookie core word)
+      → CalmTurns came e (init_ack_with_flush (flush_answered answers) e theirs cookie core word)
   init_ack_calm theirs cookie closed word answers allowed = goes_on (rests e)
   init_ack_calm theirs cookie (cookie_wait my) word answers allowed = accepted_calm my theirs cookie word answers allowed
   init_ack_calm theirs cookie (cookie_echoed my held echoed) word answers allowed = goes_on (rests e)
@@ -105,9 +105,9 @@ module _ (came : Option Content) (opening : IsOpening came) (e : Endpoint) where
 
   established_calm : (cookie : Cookie) (queue : SendQueueState) (tie : ℕ) (told : List (Event Emission)) (answers : List Answer)
       → ((queue ≡ numbered_for (interleaves e cookie) e.queues.queue) × (e.options.follow_rfc ≡ false)) ⊎ (queue ≡ numbered_for (interleaves e cookie) (queue_restarted e.queues.queue)) → EstablishAnswers e cookie (queues_with e cookie queue) tie answers
-      → CalmTurns came e (establish_by (flush_answered answers) e cookie (queues_with e cookie queue) tie told)
+      → CalmTurns came e (establish_with_flush (flush_answered answers) e cookie (queues_with e cookie queue) tie told)
   established_calm cookie queue tie told answers keeps allowed =
-      let base : Endpoint = established_by e cookie (queues_with e cookie queue) tie in
+      let base : Endpoint = endpoint_established e cookie (queues_with e cookie queue) tie in
       let last = flushed base (cookie_ack_emission (held_by_cookie e.options cookie) cookie) answers allowed in
       begins (record {
         my = cookie.maker;
@@ -120,14 +120,14 @@ module _ (came : Option Content) (opening : IsOpening came) (e : Endpoint) where
       }) opening (flush_link base (cookie_ack_emission (held_by_cookie e.options cookie) cookie) answers allowed) (record { none = last.none; waits = last.waits; renews = stays_then e.renewable base.renewable _ (inr refl) last.renews })
 
   anew_calm : (cookie : Cookie) (tie : ℕ) (told : List (Event Emission)) (answers : List Answer) → EstablishAnswers e cookie (queues_begun e cookie) tie answers
-      → CalmTurns came e (establish_by (flush_answered answers) e cookie (queues_begun e cookie) tie told)
+      → CalmTurns came e (establish_with_flush (flush_answered answers) e cookie (queues_begun e cookie) tie told)
   anew_calm cookie tie told answers allowed = established_calm cookie (numbered_for (interleaves e cookie) (queue_restarted e.queues.queue)) tie told answers (inr refl) allowed
 
   -- What was sent in the one association goes on in the other.
   other_calm : (mine : Pair) (held : Held) (echoed : List ℕ) (cookie : Cookie) (tie : ℕ) (transfer : Transfer) (answers : List Answer) → e.core ≡ cookie_echoed mine held echoed → e.queues.transfer ≡ Some transfer → outlasts e mine held cookie transfer ≡ true
-      → EstablishAnswers e cookie (queues_by true e cookie transfer) tie answers → CalmTurns came e (establish_by (flush_answered answers) e cookie (queues_by true e cookie transfer) tie (connected ∷ []))
+      → EstablishAnswers e cookie (queues_if_kept true e cookie transfer) tie answers → CalmTurns came e (establish_with_flush (flush_answered answers) e cookie (queues_if_kept true e cookie transfer) tie (connected ∷ []))
   other_calm mine held echoed cookie tie transfer answers same there lasts allowed =
-      let base : Endpoint = established_by e cookie (queues_by true e cookie transfer) tie in
+      let base : Endpoint = endpoint_established e cookie (queues_if_kept true e cookie transfer) tie in
       let last = flushed base (cookie_ack_emission (held_by_cookie e.options cookie) cookie) answers allowed in
       collides (record {
         opened = record {
@@ -139,7 +139,7 @@ module _ (came : Option Content) (opening : IsOpening came) (e : Endpoint) where
         };
         connected = inr (inl refl);
         old = identity_of mine held;
-        was = ap identity_in same;
+        was = ap identity_of_core same;
         tag = sym (eqb-true mine.tag cookie.maker.tag (second_holds e.options.follow_rfc _ _ lasts));
         unasked = unasked_by e mine held echoed cookie transfer same lasts;
         transfer = transfer;
@@ -149,25 +149,25 @@ module _ (came : Option Content) (opening : IsOpening came) (e : Endpoint) where
       }) (record { none = last.none; waits = last.waits; renews = stays_then e.renewable base.renewable _ (inr refl) last.renews })
 
   by_calm : (b : Bool) (mine : Pair) (held : Held) (echoed : List ℕ) (cookie : Cookie) (tie : ℕ) (transfer : Transfer) (answers : List Answer) → e.core ≡ cookie_echoed mine held echoed → e.queues.transfer ≡ Some transfer → outlasts e mine held cookie transfer ≡ b
-      → EstablishAnswers e cookie (queues_by b e cookie transfer) tie answers → CalmTurns came e (establish_by (flush_answered answers) e cookie (queues_by b e cookie transfer) tie (connected ∷ []))
+      → EstablishAnswers e cookie (queues_if_kept b e cookie transfer) tie answers → CalmTurns came e (establish_with_flush (flush_answered answers) e cookie (queues_if_kept b e cookie transfer) tie (connected ∷ []))
   by_calm true mine held echoed cookie tie transfer answers same there is allowed =
       other_calm mine held echoed cookie tie transfer answers same there is allowed
   by_calm false mine held echoed cookie tie transfer answers same there is allowed = anew_calm cookie tie (connected ∷ []) answers allowed
 
   by_transfer_calm : (mine : Pair) (held : Held) (echoed : List ℕ) (cookie : Cookie) (tie : ℕ) (transfer : Option Transfer) (answers : List Answer) → e.core ≡ cookie_echoed mine held echoed → e.queues.transfer ≡ transfer
-      → EstablishAnswers e cookie (queues_for_other e mine held cookie transfer) tie answers → CalmTurns came e (establish_by (flush_answered answers) e cookie (queues_for_other e mine held cookie transfer) tie (connected ∷ []))
+      → EstablishAnswers e cookie (queues_for_other e mine held cookie transfer) tie answers → CalmTurns came e (establish_with_flush (flush_answered answers) e cookie (queues_for_other e mine held cookie transfer) tie (connected ∷ []))
   by_transfer_calm mine held echoed cookie tie None answers same there allowed = anew_calm cookie tie (connected ∷ []) answers allowed
   by_transfer_calm mine held echoed cookie tie (Some transfer) answers same there allowed =
       by_calm (outlasts e mine held cookie transfer) mine held echoed cookie tie transfer answers same there refl allowed
 
   collided_calm : (core : Core) (cookie : Cookie) (tie : ℕ) (answers : List Answer) → e.core ≡ core → EstablishAnswers e cookie (queues_collided e core cookie) tie answers
-      → CalmTurns came e (collide_by (flush_answered answers) e core cookie tie)
+      → CalmTurns came e (collide_with_flush (flush_answered answers) e core cookie tie)
   collided_calm closed cookie tie answers same allowed = anew_calm cookie tie (connected ∷ []) answers allowed
   collided_calm (cookie_wait my) cookie tie answers same allowed = anew_calm cookie tie (connected ∷ []) answers allowed
   collided_calm (cookie_echoed mine held echoed) cookie tie answers same allowed = by_transfer_calm mine held echoed cookie tie e.queues.transfer answers same refl allowed
   collided_calm (open_in phase my held) cookie tie answers same allowed = anew_calm cookie tie (connected ∷ []) answers allowed
 
-  restarted_calm : (cookie : Cookie) (tie : ℕ) (core : Core) (answers : List Answer) → RestartAnswers e cookie tie core answers → CalmTurns came e (restart_by_where (flush_answered answers) e cookie tie core)
+  restarted_calm : (cookie : Cookie) (tie : ℕ) (core : Core) (answers : List Answer) → RestartAnswers e cookie tie core answers → CalmTurns came e (restart_with_flush_by_core (flush_answered answers) e cookie tie core)
   restarted_calm cookie tie closed answers allowed = anew_calm cookie tie (connection_restarted ∷ connected ∷ []) answers allowed
   restarted_calm cookie tie (cookie_wait my) answers allowed = anew_calm cookie tie (connection_restarted ∷ connected ∷ []) answers allowed
   restarted_calm cookie tie (cookie_echoed my held echoed) answers allowed = anew_calm cookie tie (connection_restarted ∷ connected ∷ []) answers allowed
@@ -177,7 +177,7 @@ module _ (came : Option Content) (opening : IsOpening came) (e : Endpoint) where
   restarted_calm cookie tie (open_in shutdown_received my held) answers allowed = anew_calm cookie tie (connection_restarted ∷ connected ∷ []) answers allowed
   restarted_calm cookie tie (open_in shutdown_ack_sent my held) answers allowed = goes_on (said e _ tt refl refl)
 
-  maintained_asks : (cookie : Cookie) (core : Core) (answers : List Answer) → MaintainAnswers e cookie core answers → AsksNothing e.queues.transfer e.renewable (maintain_by (flush_answered answers) e cookie core)
+  maintained_asks : (cookie : Cookie) (core : Core) (answers : List Answer) → MaintainAnswers e cookie core answers → AsksNothing e.queues.transfer e.renewable (maintain_with_flush (flush_answered answers) e cookie core)
   maintained_asks cookie closed answers allowed = rests e
   maintained_asks cookie (cookie_wait my) answers allowed = rests e
   maintained_asks cookie (cookie_echoed my held echoed) answers allowed =
@@ -185,8 +185,8 @@ module _ (came : Option Content) (opening : IsOpening came) (e : Endpoint) where
   maintained_asks cookie (open_in phase my held) answers allowed = flushed_behind e [] [] (cookie_ack_emission held cookie) answers allowed
 
   resolved_calm : (cookie : Cookie) (core : Core) (word : ℕ) (resolution : Resolution) (answers : List Answer) → e.core ≡ core → ResolvedAnswers e cookie core word resolution answers
-      → CalmTurns came e (resolved_by (flush_answered answers) e cookie core word resolution)
-  resolved_calm cookie core word establish_new answers same allowed = established_calm cookie (queue_where e.options.follow_rfc e cookie) word (connected ∷ []) answers (kept_or_anew e.options.follow_rfc e cookie) allowed
+      → CalmTurns came e (resolve_with_flush (flush_answered answers) e cookie core word resolution)
+  resolved_calm cookie core word establish_new answers same allowed = established_calm cookie (queue_if_kept e.options.follow_rfc e cookie) word (connected ∷ []) answers (kept_or_anew e.options.follow_rfc e cookie) allowed
   resolved_calm cookie core word restart answers same allowed = restarted_calm cookie word core answers allowed
   resolved_calm cookie core word simultaneous_init answers same allowed = collided_calm core cookie word answers same allowed
   resolved_calm cookie core word discard answers same allowed = goes_on (said e _ tt refl refl)
@@ -195,6 +195,6 @@ module _ (came : Option Content) (opening : IsOpening came) (e : Endpoint) where
   resolved_calm cookie core word stale answers same allowed = by_stale_outcome (CalmTurns came e) e cookie (goes_on (said e _ tt refl refl)) (goes_on (said e _ tt refl refl))
 
   pub echo_calm : (core : Core) (header : ℕ) (found : Result Cookie (List ℕ)) (word : ℕ) (answers : List Answer) → e.core ≡ core → EchoedAnswers e core header found word answers
-      → CalmTurns came e (cookie_echo_by (flush_answered answers) e core header found word)
+      → CalmTurns came e (cookie_echo_with_flush (flush_answered answers) e core header found word)
   echo_calm core header (Err text) word answers same allowed = goes_on (said e _ tt refl refl)
   echo_calm core header (Ok cookie) word answers same allowed = resolved_calm cookie core word (resolved_now e core header cookie) answers same allowed

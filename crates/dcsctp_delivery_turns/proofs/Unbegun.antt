@@ -2,20 +2,20 @@
 use Rattle.std.proofs.Common.{◌≡◌, ◌==◌, ℕ, Bool, true, false, ◌%◌, ◌^◌, Option, None, Some, List, [], ◌∷◌, map, refl, sym, ◌∙◌, ap, subst, inl, inr}
 use Rattle.std.specs.Prelude.{if◌then◌else◌}
 use Rattle.dcsctp_spec_lemmas.specs.types.declared.sending.UnderWay.{UnderWay}
-use Rattle.dcsctp_spec_lemmas.specs.types.queues.SendStreams.{Stream, unused, next_numbers, with_message, begun_anew}
+use Rattle.dcsctp_spec_lemmas.specs.types.queues.SendStreams.{Stream, unused_stream, next_numbers, with_message, renumbered_stream}
 use Rattle.dcsctp_spec_lemmas.specs.types.Setting.{Setting, stream_priority, stream_low_threshold, longest_message}
 use Rattle.dcsctp_spec_lemmas.specs.spec.Packet.{Content}
-use Rattle.dcsctp_spec_lemmas.specs.spec.association.Effect.{identity_in}
+use Rattle.dcsctp_spec_lemmas.specs.spec.association.Effect.{identity_of_core}
 use Rattle.dcsctp_spec_lemmas.specs.spec.endpoint.Endpoint.{Endpoint, Core, closed, cookie_wait, cookie_echoed, open_in, OutstandingRequest}
-use Rattle.dcsctp_spec_lemmas.specs.spec.endpoint.Event.{packets_in}
+use Rattle.dcsctp_spec_lemmas.specs.spec.endpoint.Event.{packets_of_events}
 use Rattle.dcsctp_spec_lemmas.specs.spec.endpoint.FlushOutcomes.{first_ask, packets_allowed}
 use Rattle.dcsctp_spec_lemmas.specs.spec.endpoint.MessageOutcomes.{Sending, sending_queued}
 use Rattle.dcsctp_spec_lemmas.specs.spec.endpoint.Outcome.{Outcome}
 use Rattle.dcsctp_spec_lemmas.specs.spec.endpoint.SettingOutcomes.{set_in_queue}
 use Rattle.dcsctp_spec_lemmas.specs.spec.endpoint.Turn.{Input}
 use Rattle.dcsctp_spec_lemmas.specs.spec.queues.Incoming.{is_named}
-use Rattle.dcsctp_spec_lemmas.specs.spec.queues.OwnResets.{is_open_pause, count_under_way, dropped_size, prepared_stream, with_used, prepared_open, prepared, prepared_all}
-use Rattle.dcsctp_spec_lemmas.specs.spec.queues.SendQueue.{SendQueueState, stream_changed, used, queue_stream, queued as waiting_as, with_priority, with_threshold, put_back, queue_restarted, is_other, numbered_where, numbered_for}
+use Rattle.dcsctp_spec_lemmas.specs.spec.queues.OwnResets.{is_open_pause, count_under_way, dropped_size, prepared_stream, with_used, prepared_open, queue_with_prepared, prepared_all}
+use Rattle.dcsctp_spec_lemmas.specs.spec.queues.SendQueue.{SendQueueState, stream_changed, used_streams, queue_stream, queued_message as waiting_as, with_priority, with_threshold, put_back, queue_restarted, is_other, numbered_if_new, numbered_for}
 use Rattle.dcsctp_spec_lemmas.specs.spec.queues.Transfer.{Transfer, EndpointQueues}
 use Rattle.dcsctp_delivery_sending.specs.Numbers.{stream_named}
 use Rattle.dcsctp_delivery_sending.proofs.StreamsNamed.{found_mapped, found_used}
@@ -23,8 +23,8 @@ use Rattle.dcsctp_delivery_directions.specs.Directions.{BeginsAtZero}
 use Rattle.dcsctp_delivery_sending.specs.Log.{Message}
 use Rattle.dcsctp_delivery_sending.specs.Losing.{IsOpenOn, AllWaitOn}
 use Rattle.dcsctp_delivery_sending.proofs.StillWaiting.{waits_mapped}
-use Rattle.dcsctp_delivery_turns.specs.Asking.{Own, own_in, own_of, AsksFit}
-use Rattle.dcsctp_delivery_turns.specs.Actions.{Ledger, Action, queues, sets, flushes, resends, resends_nothing, speaks, asks_again, acknowledges, loses, receives, receives_interleaved, forwards, forwards_interleaved, tracks, times, takes, Actions, nothing, further, came_by, peer_tag, queued_after, read_after, Inside, inside, MakesAlso, OwnEnds, unended, committed, rolled_back, PeerResets, unreset, absent, deferred, reset_now, Begun, Becomes, streams_reset_by, goes_on, pauses, prepared_inside, works_resets, renews, ends, begins, collides}
+use Rattle.dcsctp_delivery_turns.specs.Asking.{Own, own_of_core, own_of, AsksFit}
+use Rattle.dcsctp_delivery_turns.specs.Actions.{Ledger, Action, queues, sets, flushes, resends, resends_nothing, speaks, asks_again, acknowledges, loses, receives, receives_interleaved, forwards, forwards_interleaved, tracks, times, takes, Actions, nothing, further, content_of_input, peer_tag, queued_after, read_after, Inside, inside, MakesAlso, OwnEnds, unended, committed, rolled_back, PeerResets, unreset, absent, deferred, reset_now, BeginsAssociation, Becomes, streams_user_resets, goes_on, pauses, prepared_inside, works_resets, renews, ends, begins, collides}
 use Rattle.dcsctp_delivery_turns.specs.Unbegun.{IsAtZero, UnbegunTurns, stays_unbegun, begins_first, StaysWaiting, StaysAtZero, UnbegunBeginsAtZero, UnbegunBeginsWaiting, FreshIsAtZero}
 use Rattle.dcsctp_delivery_turns.proofs.Beginnings.{unlinked_fits}
 use Rattle.dcsctp_delivery_turns.proofs.ResetInputs.{named_by}
@@ -52,7 +52,7 @@ next_then old between new first second id = record { ordered = (second id).order
 -- one stream is changed
 next_changed : (other : ℕ) (f : Stream → Stream) → ((s : Stream) → (f s).id ≡ s.id) → ((s : Stream) → SameNext s (f s)) → (streams : List Stream) → NextStay streams (stream_changed other f streams)
 next_changed other f same each streams id =
-    found_mapped SameNext id (unused 0 0 0) (λ s. if s.id == other then f s else s) (λ s. one_id (s.id == other) s) (same_next (unused 0 0 0)) (λ s is. one_next (s.id == other) s) streams
+    found_mapped SameNext id (unused_stream 0 0 0) (λ s. if s.id == other then f s else s) (λ s. one_id (s.id == other) s) (same_next (unused_stream 0 0 0)) (λ s is. one_next (s.id == other) s) streams
   where
     one_id : (b : Bool) (s : Stream) → (if b then f s else s).id ≡ s.id
     one_id true s = same s
@@ -63,13 +63,13 @@ next_changed other f same each streams id =
     one_next false s = same_next s
 
 -- one is used for the first time
-next_used : (queue : SendQueueState) (other : ℕ) → NextStay queue.streams (used queue other)
+next_used : (queue : SendQueueState) (other : ℕ) → NextStay queue.streams (used_streams queue other)
 next_used queue other id = found_used SameNext id queue other same_next (λ s t unordered ordered none pause. record { ordered = sym ordered; unordered = sym unordered })
 
 -- one is used, and changed
-next_set : (queue : SendQueueState) (other : ℕ) (f : Stream → Stream) → ((s : Stream) → (f s).id ≡ s.id) → ((s : Stream) → SameNext s (f s)) → NextStay queue.streams (stream_changed other f (used queue other))
+next_set : (queue : SendQueueState) (other : ℕ) (f : Stream → Stream) → ((s : Stream) → (f s).id ≡ s.id) → ((s : Stream) → SameNext s (f s)) → NextStay queue.streams (stream_changed other f (used_streams queue other))
 next_set queue other f same each =
-    next_then queue.streams (used queue other) (stream_changed other f (used queue other)) (next_used queue other) (next_changed other f same each (used queue other))
+    next_then queue.streams (used_streams queue other) (stream_changed other f (used_streams queue other)) (next_used queue other) (next_changed other f same each (used_streams queue other))
 
 -- ---- queues that stay at 0
 
@@ -89,7 +89,7 @@ zero_set (stream_low_threshold id bytes) queue =
     zero_stays queue (set_in_queue (stream_low_threshold id bytes) queue) refl (next_set queue id (with_threshold bytes) (λ s. refl) (λ s. record { ordered = refl; unordered = refl }))
 zero_set (longest_message bytes) queue = λ zero. zero
 
-zero_prepared_one : (id : ℕ) (queue : SendQueueState) → IsAtZero queue → IsAtZero (prepared id queue)
+zero_prepared_one : (id : ℕ) (queue : SendQueueState) → IsAtZero queue → IsAtZero (queue_with_prepared id queue)
 zero_prepared_one id queue zero = go (is_open_pause (queue_stream left id).pause)
   where
     left : SendQueueState
@@ -106,7 +106,7 @@ zero_prepared_one id queue zero = go (is_open_pause (queue_stream left id).pause
 
 zero_prepared : (ids : List ℕ) (queue : SendQueueState) → IsAtZero queue → IsAtZero (prepared_all ids queue)
 zero_prepared [] queue zero = zero
-zero_prepared (id ∷ ids) queue zero = zero_prepared ids (prepared id queue) (zero_prepared_one id queue zero)
+zero_prepared (id ∷ ids) queue zero = zero_prepared ids (queue_with_prepared id queue) (zero_prepared_one id queue zero)
 
 -- ---- actions without an association
 
@@ -144,13 +144,13 @@ actions_unbegun came to old _ (further between new first last) u = action_unbegu
 -- ---- turns
 
 -- Without an association no request of our own is kept.
-own_none : (core : Core) (request : Option OutstandingRequest) → identity_in core ≡ None → own_in core request ≡ None
+own_none : (core : Core) (request : Option OutstandingRequest) → identity_of_core core ≡ None → own_of_core core request ≡ None
 own_none closed request none = refl
 own_none (cookie_wait my) request none = refl
 own_none (cookie_echoed my held cookie) request none = absurd (cc)
 own_none (open_in phase my held) request none = absurd (cc)
 
-module _ (e : Endpoint) (input : Input) (o : Outcome) (unlinked : identity_in e.core ≡ None) (none : e.queues.transfer ≡ None) (zero : IsAtZero e.queues.queue) where
+module _ (e : Endpoint) (input : Input) (o : Outcome) (unlinked : identity_of_core e.core ≡ None) (none : e.queues.transfer ≡ None) (zero : IsAtZero e.queues.queue) where
   start : IsUnbegun e.queues
   start = record { none = none; zero = zero }
 
@@ -158,14 +158,14 @@ module _ (e : Endpoint) (input : Input) (o : Outcome) (unlinked : identity_in e.
   own_is = own_none e.core e.outstanding unlinked
 
   abbrev Makes : Inside → Inside → Type 0
-  Makes old last = MakesAlso (came_by input) (peer_tag e.core) (queued_after e input) (read_after e input) old (packets_in o.events) last
+  Makes old last = MakesAlso (content_of_input input) (peer_tag e.core) (queued_after e input) (read_after e input) old (packets_of_events o.events) last
 
   -- what is made of such a queue is one
   makes_from : (old last : Inside) → IsUnbegun old.queues → old.own ≡ own_of e → Makes old last → IsUnbegun last.queues
   makes_from old last u is makes =
       let first = unlinked_fits e.core e.outstanding unlinked in
       let made = makes [] [] [] first.first first.asking (subst (λ (own : Option Own). AsksFit first.first own first.asking) (sym is) first.fits) in
-      actions_unbegun (came_by input) (peer_tag e.core) _ _ made.actions u
+      actions_unbegun (content_of_input input) (peer_tag e.core) _ _ made.actions u
 
   makes_unbegun : (old last : Inside) → old ≡ inside e → Makes old last → IsUnbegun last.queues
   makes_unbegun old last is makes = makes_from old last (subst (λ (i : Inside). IsUnbegun i.queues) (sym is) start) (ap (λ (i : Inside). i.own) is) makes
@@ -175,7 +175,7 @@ module _ (e : Endpoint) (input : Input) (o : Outcome) (unlinked : identity_in e.
   waits_from old last is makes id queued w =
       let first = unlinked_fits e.core e.outstanding unlinked in
       let made = makes queued [] [] first.first first.asking (subst (λ (own : Option Own). AsksFit first.first own first.asking) (sym is) first.fits) in
-      actions_wait_on id (came_by input) (peer_tag e.core) _ _ made.actions w
+      actions_wait_on id (content_of_input input) (peer_tag e.core) _ _ made.actions w
 
   stays_waiting : (old last : Inside) → old ≡ inside e → Makes old last → last.queues.queue ≡ o.after.queues.queue → StaysWaiting e input o
   stays_waiting old last is makes same id queued waits few spared all =
@@ -189,13 +189,13 @@ module _ (e : Endpoint) (input : Input) (o : Outcome) (unlinked : identity_in e.
   own_stays old _ none (rolled_back refused own is) = absurd (let both : Some own ≡ None = sym is ∙ none in cc)
 
   -- and none of the peer is performed
-  peer_stays : (between worked : Inside) → IsUnbegun between.queues → PeerResets (came_by input) o.effects between worked → worked ≡ between
+  peer_stays : (between worked : Inside) → IsUnbegun between.queues → PeerResets (content_of_input input) o.effects between worked → worked ≡ between
   peer_stays between _ u (unreset has_not) = refl
   peer_stays between _ u (absent none) = refl
   peer_stays between _ u (deferred has_not parameters reset came_is wants transfer known) = clash between.queues transfer known u
   peer_stays between _ u (reset_now has parameters reset came requested transfer reassembly known reached does) = clash between.queues transfer known u
 
-  unbegun_becomes : Becomes (streams_reset_by input) (came_by input) (peer_tag e.core) (queued_after e input) (read_after e input) e o → UnbegunTurns e input o
+  unbegun_becomes : Becomes (streams_user_resets input) (content_of_input input) (peer_tag e.core) (queued_after e input) (read_after e input) e o → UnbegunTurns e input o
   unbegun_becomes (goes_on calm same makes) =
       let left = makes_unbegun (inside e) (inside o.after) refl makes in
       stays_unbegun (same ∙ unlinked) left.none left.zero (stays_waiting (inside e) (inside o.after) refl makes refl)
@@ -229,7 +229,7 @@ pub fresh_is_at_zero : FreshIsAtZero
 fresh_is_at_zero options = record { idle = refl; ordered = λ id. refl; unordered = λ id. refl }
 
 numbered_idle : (enabled : Bool) (queue : SendQueueState) → queue.under_way ≡ None → numbered_for enabled queue ≡ record queue { is_interleaved = enabled }
-numbered_idle enabled queue idle = ap (λ (u : Option UnderWay). numbered_where u (is_other queue.is_interleaved enabled) (record queue { is_interleaved = enabled })) idle
+numbered_idle enabled queue idle = ap (λ (u : Option UnderWay). numbered_if_new u (is_other queue.is_interleaved enabled) (record queue { is_interleaved = enabled })) idle
 
 -- How messages are numbered may change.
 zero_numbered : (enabled : Bool) (queue : SendQueueState) → IsAtZero queue → IsAtZero (numbered_for enabled queue)
@@ -248,10 +248,10 @@ zero_restarted queue zero = record { idle = put_back_idle queue.under_way zero.i
     put_back_idle (Some under_way) is = refl
 
     again : (id : ℕ) → StartsAgain (stream_named id (put_back queue.under_way queue).streams) (stream_named id (queue_restarted queue).streams)
-    again id = found_mapped StartsAgain id (unused 0 0 0) begun_anew (λ s. refl) (refl, refl) (λ s is. (refl, refl)) (put_back queue.under_way queue).streams
+    again id = found_mapped StartsAgain id (unused_stream 0 0 0) renumbered_stream (λ s. refl) (refl, refl) (λ s is. (refl, refl)) (put_back queue.under_way queue).streams
 
 -- Either way its queue is at 0.
-pub begun_is_at_zero : (e : Endpoint) (o : Outcome) (begun : Begun e o) → IsAtZero e.queues.queue → IsAtZero begun.queue
+pub begun_is_at_zero : (e : Endpoint) (o : Outcome) (begun : BeginsAssociation e o) → IsAtZero e.queues.queue → IsAtZero begun.queue
 begun_is_at_zero e o begun zero =
     elim begun.keeps [
       | inl is ↦ subst IsAtZero (sym is.0) (zero_numbered begun.held.capabilities.message_interleaving e.queues.queue zero)
@@ -277,17 +277,17 @@ module _ (id : ℕ) (queued : List Message) where
   all_numbered enabled queue zero all =
       subst (λ (q : SendQueueState). AllWaitOn id queued q.streams) (sym (numbered_idle enabled queue zero.idle)) all
 
-  restarted_open : (streams : List Stream) → IsOpenOn id (map begun_anew streams)
+  restarted_open : (streams : List Stream) → IsOpenOn id (map renumbered_stream streams)
   restarted_open [] = tt
   restarted_open (stream ∷ streams) = (λ on. refl, restarted_open streams)
 
   all_restarted : (queue : SendQueueState) → IsAtZero queue → AllWaitOn id queued queue.streams → AllWaitOn id queued (queue_restarted queue).streams
   all_restarted queue zero all = go queue.under_way zero.idle
     where
-      go : (under_way : Option UnderWay) → under_way ≡ None → AllWaitOn id queued (map begun_anew (put_back under_way queue).streams)
+      go : (under_way : Option UnderWay) → under_way ≡ None → AllWaitOn id queued (map renumbered_stream (put_back under_way queue).streams)
       go None is =
           record {
-            waits = λ place message at on. waits_mapped begun_anew (λ s w has. has) queue.streams place (all.waits place message at on);
+            waits = λ place message at on. waits_mapped renumbered_stream (λ s w has. has) queue.streams place (all.waits place message at on);
             unpaused = restarted_open queue.streams;
           }
       go (Some under_way) is = absurd (cc)

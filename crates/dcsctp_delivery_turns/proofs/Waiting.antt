@@ -16,8 +16,8 @@ use Rattle.dcsctp_spec_lemmas.specs.spec.queues.Tracker.{is_new_tsn, is_forward,
 use Rattle.dcsctp_spec_lemmas.specs.spec.queues.Transfer.{Transfer, EndpointQueues}
 use Rattle.dcsctp_spec_lemmas.specs.spec.endpoint.BegunResets.{BegunReset, begun_effects, after_begun}
 use Rattle.dcsctp_spec_lemmas.specs.spec.endpoint.EndOutcomes.{ended_outcome}
-use Rattle.dcsctp_spec_lemmas.specs.spec.endpoint.FlushOutcomes.{Answer, answer_contents, filled, goes_out, asked, next_draft, flush_of, FlushAnswers, Ask, first_ask, later_ask, IsAnswerOfQueues, IsFlushAnswer, AreFlushAnswers, at_limit, at_empty, after_packet, packets_allowed}
-use Rattle.dcsctp_spec_lemmas.specs.spec.endpoint.TransferMoves.{AddsWhere, has_room, ReceivesWhere, ReceivesData, SkipsWhere, MovesWhere, MovesForward}
+use Rattle.dcsctp_spec_lemmas.specs.spec.endpoint.FlushOutcomes.{Answer, answer_contents, filled_draft, goes_out, asked_outcome, next_draft, flush_of, FlushAnswers, Ask, first_ask, later_ask, IsAnswerOfQueues, IsFlushAnswer, AreFlushAnswers, at_limit, at_empty, after_packet, packets_allowed}
+use Rattle.dcsctp_spec_lemmas.specs.spec.endpoint.TransferMoves.{AddsIfNew, has_room, ReceivesIfRoom, ReceivesData, SkipsIfMoved, MovesIfForward, MovesForward}
 use Rattle.dcsctp_spec_lemmas.proofs.FlushKeeps.{begun_by, flush_keeps}
 use Rattle.dcsctp_delivery_sending.proofs.Packets.{out_below}
 use Rattle.dcsctp_delivery_turns.specs.PeerRequests.{NoneAsked, SameWaits}
@@ -73,11 +73,11 @@ adds_wait tsn chunk old new true true counts defers does = waits_as old _ new (d
 adds_wait tsn chunk old new true false counts defers does = waits_by old.deferral new.deferral (does.taken counts defers).deferral
 adds_wait tsn chunk old new false defers counts is does = waits_as old old new (does.too_much counts) (same_waits old.deferral)
 
-adds_where_wait : (b : Bool) (tsn : ℕ) (chunk : ChunkModel) (old new : ReassemblyState) → AddsWhere b tsn chunk old new → Waits old new
+adds_where_wait : (b : Bool) (tsn : ℕ) (chunk : ChunkModel) (old new : ReassemblyState) → AddsIfNew b tsn chunk old new → Waits old new
 adds_where_wait true tsn chunk old new does = adds_wait tsn chunk old new (can_count (length chunk.payload) old) (is_data_deferred tsn chunk.stream old.deferral) refl refl does
 adds_where_wait false tsn chunk old new does = waits_as old old new does (same_waits old.deferral)
 
-receives_where_wait : (b : Bool) (arrival : Arrival) (old new : Transfer) → ReceivesWhere b arrival old new → Waits old.reassembly new.reassembly
+receives_where_wait : (b : Bool) (arrival : Arrival) (old new : Transfer) → ReceivesIfRoom b arrival old new → Waits old.reassembly new.reassembly
 receives_where_wait true arrival old new does = adds_where_wait (is_new_tsn arrival.tsn old.tracker) arrival.tsn arrival.chunk old.reassembly new.reassembly does.reassembly
 receives_where_wait false arrival old new does =
     waits_as old.reassembly old.reassembly new.reassembly
@@ -97,11 +97,11 @@ skips_wait : (tsn : ℕ) (entries : List SkippedTo) (old new : ReassemblyState) 
 skips_wait tsn entries old new true defers does = beside_waits tsn entries old new old.deferral refl defers does
 skips_wait tsn entries old new false defers does = waits_by old.deferral new.deferral (does.moved defers).deferral
 
-skips_where_wait : (b : Bool) (tsn : ℕ) (entries : List SkippedTo) (old new : ReassemblyState) → SkipsWhere b tsn entries old new → Waits old new
+skips_where_wait : (b : Bool) (tsn : ℕ) (entries : List SkippedTo) (old new : ReassemblyState) → SkipsIfMoved b tsn entries old new → Waits old new
 skips_where_wait true tsn entries old new does = skips_wait tsn entries old new (is_forward_deferred tsn old.deferral) refl does
 skips_where_wait false tsn entries old new does = waits_as old old new does (same_waits old.deferral)
 
-moves_where_wait : (b : Bool) (tsn : ℕ) (entries : List SkippedTo) (old new : Transfer) → MovesWhere b tsn entries old new → Waits old.reassembly new.reassembly
+moves_where_wait : (b : Bool) (tsn : ℕ) (entries : List SkippedTo) (old new : Transfer) → MovesIfForward b tsn entries old new → Waits old.reassembly new.reassembly
 moves_where_wait true tsn entries old new does = skips_where_wait (is_forward old.tracker.cumulative tsn) tsn entries old.reassembly new.reassembly does.reassembly
 moves_where_wait false tsn entries old new does = waits_as old.reassembly old.reassembly new.reassembly (ap (λ (t : Transfer). t.reassembly) does) (same_waits old.reassembly.deferral)
 
@@ -143,16 +143,16 @@ answered_none : (ask : Ask) (e : Endpoint) (draft : Emission) (found : Option Tr
 answered_none ask e draft None answer none is does = ap (λ (a : Answer). a.after.queues.transfer) does ∙ none
 answered_none ask e draft (Some transfer) answer none is does = absurd (cc)
 
-asked_none : (ask : Ask) (e : Endpoint) (draft : Emission) (answer : Answer) → e.queues.transfer ≡ None → IsFlushAnswer ask e draft answer → (asked e draft answer).after.queues.transfer ≡ None
+asked_none : (ask : Ask) (e : Endpoint) (draft : Emission) (answer : Answer) → e.queues.transfer ≡ None → IsFlushAnswer ask e draft answer → (asked_outcome e draft answer).after.queues.transfer ≡ None
 asked_none ask e draft answer none does =
-    ap (λ (b : EndpointQueues). b.transfer) (out_below answer.after _ draft.with_checksum draft.packet.tag (filled draft (answer_contents answer)).packet.contents)
+    ap (λ (b : EndpointQueues). b.transfer) (out_below answer.after _ draft.with_checksum draft.packet.tag (filled_draft draft (answer_contents answer)).packet.contents)
     ∙ answered_none ask e draft e.queues.transfer answer none none does.by_transfer
 
 flush_none : (ask : Ask) (n : ℕ) (e : Endpoint) (draft : Emission) (answers : List Answer) → e.queues.transfer ≡ None → AreFlushAnswers ask n e draft answers → (flush_of e draft answers).after.queues.transfer ≡ None
 flush_none _ _ _ _ _ none (at_limit ask e draft) = none
 flush_none _ _ _ _ _ none (at_empty ask more e draft answer does empty) = asked_none ask e draft answer none does
 flush_none _ _ _ _ _ none (after_packet ask more e draft answer answers does some rest) =
-    flush_none later_ask more (asked e draft answer).after (next_draft e.core draft) answers (asked_none ask e draft answer none does) rest
+    flush_none later_ask more (asked_outcome e draft answer).after (next_draft e.core draft) answers (asked_none ask e draft answer none does) rest
 
 flush_waits : (found : Option Transfer) (e : Endpoint) (draft : Emission) (answers : List Answer) → e.queues.transfer ≡ found → FlushAnswers e draft answers → StillWaits found (flush_of e draft answers).after.queues.transfer
 flush_waits None e draft answers known allowed =
@@ -181,9 +181,9 @@ begun_renewable : (begun : Option BegunReset) (e : Endpoint) → (after_begun be
 begun_renewable None e = refl
 begun_renewable (Some begun) e = refl
 
-asked_renewable : (ask : Ask) (e : Endpoint) (draft : Emission) (answer : Answer) → IsFlushAnswer ask e draft answer → (asked e draft answer).after.renewable ≡ e.renewable
+asked_renewable : (ask : Ask) (e : Endpoint) (draft : Emission) (answer : Answer) → IsFlushAnswer ask e draft answer → (asked_outcome e draft answer).after.renewable ≡ e.renewable
 asked_renewable ask e draft answer does =
-    out_renewable answer.after _ draft.with_checksum draft.packet.tag (filled draft (answer_contents answer)).packet.contents
+    out_renewable answer.after _ draft.with_checksum draft.packet.tag (filled_draft draft (answer_contents answer)).packet.contents
     ∙ ap (λ (x : Endpoint). x.renewable) does.kept ∙ begun_renewable answer.begun e
 
 -- A flush leaves it.
@@ -191,7 +191,7 @@ pub flush_renewable : (ask : Ask) (n : ℕ) (e : Endpoint) (draft : Emission) (a
 flush_renewable _ _ _ _ _ (at_limit ask e draft) = refl
 flush_renewable _ _ _ _ _ (at_empty ask more e draft answer does empty) = asked_renewable ask e draft answer does
 flush_renewable _ _ _ _ _ (after_packet ask more e draft answer answers does some rest) =
-    flush_renewable later_ask more (asked e draft answer).after (next_draft e.core draft) answers rest ∙ asked_renewable ask e draft answer does
+    flush_renewable later_ask more (asked_outcome e draft answer).after (next_draft e.core draft) answers rest ∙ asked_renewable ask e draft answer does
 
 -- ---- outcomes
 

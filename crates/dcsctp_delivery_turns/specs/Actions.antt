@@ -6,7 +6,7 @@ use Rattle.dcsctp_spec_lemmas.specs.wire.Content.{DataContent, IDataContent, Sac
 use Rattle.dcsctp_spec_lemmas.specs.types.declared.association.Held.{Held}
 use Rattle.dcsctp_spec_lemmas.specs.types.declared.association.Pair.{Pair}
 use Rattle.dcsctp_spec_lemmas.specs.spec.endpoint.Endpoint.{Endpoint, Core, closed, cookie_wait, cookie_echoed, open_in}
-use Rattle.dcsctp_spec_lemmas.specs.spec.endpoint.Event.{packets_in}
+use Rattle.dcsctp_spec_lemmas.specs.spec.endpoint.Event.{packets_of_events}
 use Rattle.dcsctp_spec_lemmas.specs.spec.endpoint.Outcome.{Outcome}
 use Rattle.dcsctp_spec_lemmas.specs.spec.endpoint.Cause.{has_stale_cookie}
 use Rattle.dcsctp_spec_lemmas.specs.spec.Packet.{Content, re_config, init, init_ack, cookie_echo, abort, shutdown, shutdown_complete, Plain, unworked, plain, Emission}
@@ -14,9 +14,9 @@ use Rattle.dcsctp_spec_runs.specs.Past.{HasEffect}
 use Rattle.dcsctp_spec_lemmas.specs.spec.endpoint.Turn.{Input, chunk_input, act_input, user_sets, user_sends, user_resets, user_takes, restores, Turn}
 use Rattle.dcsctp_spec_lemmas.specs.spec.association.Acts.{request_again, request_renewed}
 use Rattle.dcsctp_spec_lemmas.specs.spec.association.Choices.{plain_contents}
-use Rattle.dcsctp_spec_lemmas.specs.spec.association.Effect.{AssociationIdentity, Effect, holds, connects, fails, identity_of, identity_in}
+use Rattle.dcsctp_spec_lemmas.specs.spec.association.Effect.{AssociationIdentity, Effect, holds, connects, fails, identity_of, identity_of_core}
 use Rattle.dcsctp_spec_lemmas.specs.spec.queues.Acknowledging.{is_sack_valid}
-use Rattle.dcsctp_spec_lemmas.specs.spec.queues.Arrivals.{data_arrival, i_data_arrival, skipped_in, messages_skipped_in}
+use Rattle.dcsctp_spec_lemmas.specs.spec.queues.Arrivals.{data_arrival, i_data_arrival, named_skips, skipped_messages}
 use Rattle.dcsctp_spec_lemmas.specs.spec.queues.AtOnce.{SendsAtOnce}
 use Rattle.dcsctp_spec_lemmas.specs.spec.queues.Chunks.{AreChunksOfTsns}
 use Rattle.dcsctp_spec_lemmas.specs.types.queues.Messages.{MessageContent}
@@ -29,12 +29,12 @@ use Rattle.dcsctp_spec_lemmas.specs.spec.queues.Tracker.{TrackerState}
 use Rattle.dcsctp_spec_lemmas.specs.spec.queues.Transfer.{Transfer, EndpointQueues, new_transfer, transfer_kept}
 use Rattle.dcsctp_spec_lemmas.specs.spec.endpoint.FlushOutcomes.{Answer, FlushAnswers, flush_of}
 use Rattle.dcsctp_spec_lemmas.specs.spec.endpoint.MessageOutcomes.{MessageRefusal, Sending, sending_queued, sending_refusal, queue_one}
-use Rattle.dcsctp_spec_lemmas.specs.spec.endpoint.ResetOutcomes.{has_completed, has_reset, requested_in}
+use Rattle.dcsctp_spec_lemmas.specs.spec.endpoint.ResetOutcomes.{has_completed, has_reset, first_reset_request}
 use Rattle.dcsctp_spec_lemmas.specs.types.Setting.{Setting}
 use Rattle.dcsctp_spec_lemmas.specs.spec.endpoint.SettingOutcomes.{set_in_queue}
-use Rattle.dcsctp_spec_lemmas.specs.spec.endpoint.TransferMoves.{ReceivesData, MovesForward, TakesSack, timed_by, lost_all}
+use Rattle.dcsctp_spec_lemmas.specs.spec.endpoint.TransferMoves.{ReceivesData, MovesForward, TakesSack, timed_transfer, lost_all}
 use Rattle.dcsctp_delivery_sending.specs.Log.{Fits, Message}
-use Rattle.dcsctp_delivery_sending.specs.Flushes.{NoData, reset_begun_by}
+use Rattle.dcsctp_delivery_sending.specs.Flushes.{NoData, begun_reset_of}
 use Rattle.dcsctp_delivery_sending.specs.Queueing.{message_of, SettingFits}
 use Rattle.dcsctp_spec_lemmas.specs.spec.Reconfiguration.{RequestedReset, ResetParameter, renewed_reset}
 use Rattle.dcsctp_spec_lemmas.specs.spec.association.FlushChanges.{reset_request}
@@ -110,7 +110,7 @@ pub data Action (came : Option Content) (to : ℕ) (old : Ledger) : Ledger → T
   sets : (setting : Setting) → SettingFits setting → Action came to old (record old { queues = record old.queues { queue = set_in_queue setting old.queues.queue } })
   flushes : (e : Endpoint) (draft : Emission) (answers : List Answer) → e.queues ≡ old.queues → IsPeerTag e.core to → draft.packet.tag ≡ to → NoData draft.packet.contents → NoEnd draft.packet.contents → NoneStale draft.packet.contents
       → AllReportSo (IsCumulative old.queues.transfer) draft.packet.contents → FlushAnswers e draft answers
-      → Action came to old (record old { queues = (flush_of e draft answers).after.queues; sent = old.sent ++ packets_in (flush_of e draft answers).events; asking = asking_with (reset_begun_by answers) old.asking })
+      → Action came to old (record old { queues = (flush_of e draft answers).after.queues; sent = old.sent ++ packets_of_events (flush_of e draft answers).events; asking = asking_with (begun_reset_of answers) old.asking })
   resends : (now room : ℕ) (transfer : Transfer) (left : RetransmissionState) (tsns : List ℕ) (chunks : List Plain) (emission : Emission) → emission.packet.tag ≡ to → old.queues.transfer ≡ Some transfer
       → SendsAtOnce now room old.queues.queue transfer.retransmission left tsns → AreChunksOfTsns left.outstanding tsns chunks → emission.packet.contents ≡ plain_contents chunks
       → Action came to old (record old { queues = queues_with_transfer (record transfer { retransmission = left }) old.queues; sent = old.sent ++ emission ∷ [] })
@@ -128,15 +128,15 @@ pub data Action (came : Option Content) (to : ℕ) (old : Ledger) : Ledger → T
   receives_interleaved : (chunk : IDataContent) (transfer new : Transfer) → came ≡ Some (plain (unworked (i_data_chunk chunk))) → chunk.payload ≢ [] → old.queues.transfer ≡ Some transfer
       → ReceivesData (i_data_arrival chunk) transfer new → Action came to old (record old { queues = queues_with_transfer new old.queues })
   forwards : (tsn : ℕ) (streams : List ℕ) (transfer new : Transfer) → came ≡ Some (plain (unworked (forward_tsn_chunk tsn streams))) → old.queues.transfer ≡ Some transfer
-      → MovesForward tsn (skipped_in streams) transfer new → Action came to old (record old { queues = queues_with_transfer new old.queues })
+      → MovesForward tsn (named_skips streams) transfer new → Action came to old (record old { queues = queues_with_transfer new old.queues })
   forwards_interleaved : (tsn : ℕ) (streams : List ℕ) (transfer new : Transfer) → came ≡ Some (plain (unworked (i_forward_tsn_chunk tsn streams))) → old.queues.transfer ≡ Some transfer
-      → MovesForward tsn (messages_skipped_in streams) transfer new → Action came to old (record old { queues = queues_with_transfer new old.queues })
+      → MovesForward tsn (skipped_messages streams) transfer new → Action came to old (record old { queues = queues_with_transfer new old.queues })
   -- When an acknowledgement is due may change.
   tracks : (transfer : Transfer) (tracker : TrackerState) → old.queues.transfer ≡ Some transfer → tracker.cumulative ≡ transfer.tracker.cumulative → tracker.ranges ≡ transfer.tracker.ranges
       → Action came to old (record old { queues = queues_with_transfer (record transfer { tracker = tracker }) old.queues })
   -- A round trip may be taken into account.
   times : (round_trip : Option ℕ) (transfer : Transfer) → old.queues.transfer ≡ Some transfer
-      → Action came to old (record old { queues = queues_with_transfer (timed_by round_trip transfer) old.queues })
+      → Action came to old (record old { queues = queues_with_transfer (timed_transfer round_trip transfer) old.queues })
   takes : (transfer : Transfer) (message : MessageContent) (messages : List MessageContent) → old.queues.transfer ≡ Some transfer → transfer.reassembly.incoming.ready ≡ message ∷ messages
       → Action came to old (record old { queues = queues_with_transfer (record transfer { reassembly = with_ready messages transfer.reassembly }) old.queues; read = old.read ++ message ∷ [] })
 
@@ -155,18 +155,18 @@ peer_tag (cookie_echoed my held cookie) = held.peer.tag
 peer_tag (open_in phase my held) = held.peer.tag
 
 -- the chunk that is handled
-abbrev pub came_by : Input → Option Content
-came_by (chunk_input tag content) = Some content
-came_by input = None
+abbrev pub content_of_input : Input → Option Content
+content_of_input (chunk_input tag content) = Some content
+content_of_input input = None
 
 -- the messages that were queued, newest first, with those of this call that aren't refused
-abbrev pub queued_where : Option MessageRefusal → Sending → List Message → List Message
-queued_where None sending queued = message_of sending ∷ queued
-queued_where (Some refusal) sending queued = queued
+abbrev pub queued_unless_refused : Option MessageRefusal → Sending → List Message → List Message
+queued_unless_refused None sending queued = message_of sending ∷ queued
+queued_unless_refused (Some refusal) sending queued = queued
 
 abbrev pub queued_together : Endpoint → List Sending → List Message → List Message
 queued_together e [] queued = queued
-queued_together e (sending ∷ sendings) queued = queued_together (queue_one e sending).after sendings (queued_where (sending_refusal e sending) sending queued)
+queued_together e (sending ∷ sendings) queued = queued_together (queue_one e sending).after sendings (queued_unless_refused (sending_refusal e sending) sending queued)
 
 abbrev pub queued_after : Endpoint → Input → List Message → List Message
 queued_after e (user_sends sendings) queued = queued_together e sendings queued
@@ -177,12 +177,12 @@ abbrev pub with_first : List MessageContent → List MessageContent → List Mes
 with_first [] read = read
 with_first (message ∷ messages) read = read ++ message ∷ []
 
-abbrev pub read_where : Option Transfer → List MessageContent → List MessageContent
-read_where None read = read
-read_where (Some transfer) read = with_first transfer.reassembly.incoming.ready read
+abbrev pub read_if_connected : Option Transfer → List MessageContent → List MessageContent
+read_if_connected None read = read
+read_if_connected (Some transfer) read = with_first transfer.reassembly.incoming.ready read
 
 abbrev pub read_after : Endpoint → Input → List MessageContent → List MessageContent
-read_after e user_takes read = read_where e.queues.transfer read
+read_after e user_takes read = read_if_connected e.queues.transfer read
 read_after e input read = read
 
 -- the queues and trackers of a socket, and what it keeps of its own requests
@@ -194,7 +194,7 @@ abbrev pub inside : Endpoint → Inside
 inside e = record { queues = e.queues; own = own_of e }
 
 -- Actions lead from the ledger to this one; what the socket keeps of its requests is of those that were begun.
-pub record Made (came : Option Content) (to : ℕ) (old : Ledger) (first : ℕ) (new : Inside) (queued : List Message) (sent : List Emission) (read : List MessageContent) : Type 0 where
+pub record LeadsToLedger (came : Option Content) (to : ℕ) (old : Ledger) (first : ℕ) (new : Inside) (queued : List Message) (sent : List Emission) (read : List MessageContent) : Type 0 where
   pub asking : Asking
   pub grows : AskingGrows old.asking asking
   pub fits : AsksFit first new.own asking
@@ -204,13 +204,13 @@ pub record Made (came : Option Content) (to : ℕ) (old : Ledger) (first : ℕ) 
 abbrev pub MakesPackets : Option Content → ℕ → Inside → List Emission → Inside → Type 0
 MakesPackets came to old packets new =
     (queued : List Message) (sent : List Emission) (read : List MessageContent) (first : ℕ) (asking : Asking) → AsksFit first old.own asking
-    → Made came to (ledger_of queued old.queues sent read asking) first new queued (sent ++ packets) read
+    → LeadsToLedger came to (ledger_of queued old.queues sent read asking) first new queued (sent ++ packets) read
 
 -- So they do, with what a turn queues and reads.
 abbrev pub MakesAlso : Option Content → ℕ → (List Message → List Message) → (List MessageContent → List MessageContent) → Inside → List Emission → Inside → Type 0
 MakesAlso came to adds taken old packets new =
     (queued : List Message) (sent : List Emission) (read : List MessageContent) (first : ℕ) (asking : Asking) → AsksFit first old.own asking
-    → Made came to (ledger_of queued old.queues sent read asking) first new (adds queued) (sent ++ packets) (taken read)
+    → LeadsToLedger came to (ledger_of queued old.queues sent read asking) first new (adds queued) (sent ++ packets) (taken read)
 
 -- ---- what a RE-CONFIG does before
 
@@ -235,9 +235,9 @@ pub data PeerResets (came : Option Content) (happened : List Effect) (old : Insi
   unreset : has_reset happened ≡ false → PeerResets came happened old old
   -- There is nothing below the association.
   absent : old.queues.transfer ≡ None → PeerResets came happened old old
-  deferred : has_reset happened ≡ false → (parameters : List ResetParameter) (reset : RequestedReset) → came ≡ Some (re_config parameters) → requested_in parameters ≡ Some reset → (transfer : Transfer) → old.queues.transfer ≡ Some transfer
+  deferred : has_reset happened ≡ false → (parameters : List ResetParameter) (reset : RequestedReset) → came ≡ Some (re_config parameters) → first_reset_request parameters ≡ Some reset → (transfer : Transfer) → old.queues.transfer ≡ Some transfer
       → PeerResets came happened old (record old { queues = queues_with_transfer (record transfer { reassembly = deferring reset.last_tsn reset.streams transfer.reassembly }) old.queues })
-  reset_now : has_reset happened ≡ true → (parameters : List ResetParameter) (reset : RequestedReset) → came ≡ Some (re_config parameters) → requested_in parameters ≡ Some reset
+  reset_now : has_reset happened ≡ true → (parameters : List ResetParameter) (reset : RequestedReset) → came ≡ Some (re_config parameters) → first_reset_request parameters ≡ Some reset
       → (transfer : Transfer) (reassembly : ReassemblyState) → old.queues.transfer ≡ Some transfer → is_reset_reached reset transfer.tracker ≡ true → EndsDeferral reset.streams transfer.reassembly reassembly
       → PeerResets came happened old (record old { queues = queues_with_transfer (record transfer { reassembly = reassembly }) old.queues })
 
@@ -248,7 +248,7 @@ IsCalm came = (parameters : List ResetParameter) → came ≡ Some (re_config pa
 -- ---- all
 
 -- An association begins: what waits to be sent is kept, without `follow_rfc`, or what is under way is put back for it.
-pub record Begun (e : Endpoint) (o : Outcome) : Type 0 where
+pub record BeginsAssociation (e : Endpoint) (o : Outcome) : Type 0 where
   pub my : Pair
   pub held : Held
   pub window : ℕ
@@ -258,10 +258,10 @@ pub record Begun (e : Endpoint) (o : Outcome) : Type 0 where
   pub keeps : ((queue ≡ numbered_for held.capabilities.message_interleaving e.queues.queue) × (e.options.follow_rfc ≡ false)) ⊎ (queue ≡ numbered_for held.capabilities.message_interleaving (queue_restarted e.queues.queue))
 
 -- with nothing in flight and nothing received
-abbrev pub begun_transfer : (e : Endpoint) (o : Outcome) → Begun e o → Transfer
+abbrev pub begun_transfer : (e : Endpoint) (o : Outcome) → BeginsAssociation e o → Transfer
 begun_transfer e o begun = new_transfer e.options begun.held.capabilities begun.my.first_tsn begun.held.peer.first_tsn begun.window
 
-abbrev pub opening_queues : (e : Endpoint) (o : Outcome) → Begun e o → EndpointQueues
+abbrev pub opening_queues : (e : Endpoint) (o : Outcome) → BeginsAssociation e o → EndpointQueues
 opening_queues e o begun = record { queue = begun.queue; transfer = Some (begun_transfer e o begun) }
 
 -- An association begins by one of these chunks.
@@ -276,9 +276,9 @@ resets_streams (user_resets ids) = true
 resets_streams input = false
 
 -- which streams does the user reset by it, if any?
-abbrev pub streams_reset_by : Input → Option (List ℕ)
-streams_reset_by (user_resets ids) = Some ids
-streams_reset_by input = None
+abbrev pub streams_user_resets : Input → Option (List ℕ)
+streams_user_resets (user_resets ids) = Some ids
+streams_user_resets input = None
 
 -- this one?
 abbrev pub resets_stream : ℕ → Input → Bool
@@ -290,19 +290,19 @@ abbrev pub prepared_inside : List ℕ → Inside → Inside
 prepared_inside ids inside = record inside { queues = record inside.queues { queue = prepared_all ids inside.queues.queue } }
 
 -- An association begins in a turn, and is what it records first.
-pub record Opened (came : Option Content) (o : Outcome) : Type 0 where
+pub record RecordsOpening (came : Option Content) (o : Outcome) : Type 0 where
   pub opening : IsOpening came
   pub link : AssociationIdentity
-  pub linked : identity_in o.after.core ≡ Some link
+  pub linked : identity_of_core o.after.core ≡ Some link
   pub later : List Effect
   pub noted : o.effects ≡ holds link ∷ later
 
 -- Both ends began at the same time. Our own tag serves another association, and what was sent in the one goes on in the other.
 pub record Collides (came : Option Content) (e : Endpoint) (o : Outcome) : Type 0 where
-  pub opened : Opened came o
+  pub opened : RecordsOpening came o
   pub connected : HasEffect (connects opened.link) o.effects
   pub old : AssociationIdentity
-  pub was : identity_in e.core ≡ Some old
+  pub was : identity_of_core e.core ≡ Some old
   pub tag : opened.link.my.tag ≡ old.my.tag
   -- No request to reset streams was begun.
   pub unasked : (own : Own) → own_of e ≡ Some own → own.next ≡ old.my.first_tsn
@@ -324,21 +324,21 @@ kept_inside {e = e} collision again =
 -- nothing else happens. Or the association ends after its last packets, which report no TSN, and no request of ours begins or ends
 -- before. Or another one begins, and takes its place; or both ends began at the same time.
 pub data Becomes (resets : Option (List ℕ)) (came : Option Content) (to : ℕ) (adds : List Message → List Message) (taken : List MessageContent → List MessageContent) (e : Endpoint) (o : Outcome) : Type 0 where
-  goes_on : IsCalm came → identity_in o.after.core ≡ identity_in e.core → MakesAlso came to adds taken (inside e) (packets_in o.events) (inside o.after) → Becomes resets came to adds taken e o
-  pauses : (ids : List ℕ) → resets ≡ Some ids → IsCalm came → identity_in o.after.core ≡ identity_in e.core → AllByRecursion (λ id. id < 2 ^ 16) ids
-      → MakesAlso came to adds taken (prepared_inside ids (inside e)) (packets_in o.events) (inside o.after) → Becomes resets came to adds taken e o
-  works_resets : identity_in o.after.core ≡ identity_in e.core → (between worked : Inside) → OwnEnds o.effects (inside e) between → PeerResets came o.effects between worked
-      → MakesAlso came to adds taken worked (packets_in o.events) (inside o.after) → Becomes resets came to adds taken e o
-  renews : IsCalm came → identity_in o.after.core ≡ identity_in e.core → ((queued : List Message) → adds queued ≡ queued) → ((read : List MessageContent) → taken read ≡ read)
-      → (own : Own) (number : ℕ) (emission : Emission) → own_of e ≡ Some own → own.number ≡ Some number → inside o.after ≡ record { queues = e.queues; own = Some (renewed_own own) } → packets_in o.events ≡ emission ∷ []
+  goes_on : IsCalm came → identity_of_core o.after.core ≡ identity_of_core e.core → MakesAlso came to adds taken (inside e) (packets_of_events o.events) (inside o.after) → Becomes resets came to adds taken e o
+  pauses : (ids : List ℕ) → resets ≡ Some ids → IsCalm came → identity_of_core o.after.core ≡ identity_of_core e.core → AllByRecursion (λ id. id < 2 ^ 16) ids
+      → MakesAlso came to adds taken (prepared_inside ids (inside e)) (packets_of_events o.events) (inside o.after) → Becomes resets came to adds taken e o
+  works_resets : identity_of_core o.after.core ≡ identity_of_core e.core → (between worked : Inside) → OwnEnds o.effects (inside e) between → PeerResets came o.effects between worked
+      → MakesAlso came to adds taken worked (packets_of_events o.events) (inside o.after) → Becomes resets came to adds taken e o
+  renews : IsCalm came → identity_of_core o.after.core ≡ identity_of_core e.core → ((queued : List Message) → adds queued ≡ queued) → ((read : List MessageContent) → taken read ≡ read)
+      → (own : Own) (number : ℕ) (emission : Emission) → own_of e ≡ Some own → own.number ≡ Some number → inside o.after ≡ record { queues = e.queues; own = Some (renewed_own own) } → packets_of_events o.events ≡ emission ∷ []
       → emission.packet.tag ≡ to → emission.packet.contents ≡ reset_request own.next (renewed_reset own.again) ∷ [] → Becomes resets came to adds taken e o
-  ends : identity_in o.after.core ≡ None → ((read : List MessageContent) → taken read ≡ read) → AreReports to (λ tsn. ⊥) (packets_in o.events) → (last : Inside) → last.own ≡ own_of e → MakesAlso came to adds taken (inside e) (packets_in o.events) last
+  ends : identity_of_core o.after.core ≡ None → ((read : List MessageContent) → taken read ≡ read) → AreReports to (λ tsn. ⊥) (packets_of_events o.events) → (last : Inside) → last.own ≡ own_of e → MakesAlso came to adds taken (inside e) (packets_of_events o.events) last
       → o.after.queues ≡ record last.queues { transfer = None } → Becomes resets came to adds taken e o
-  begins : (begun : Begun e o) → IsOpening came → identity_in o.after.core ≡ Some (identity_of begun.my begun.held) → ((queued : List Message) → adds queued ≡ queued) → ((read : List MessageContent) → taken read ≡ read)
-      → (again : RequestedReset) → MakesPackets came begun.held.peer.tag (record { queues = opening_queues e o begun; own = Some (record { number = None; next = begun.my.first_tsn; again = again }) }) (packets_in o.events) (inside o.after)
+  begins : (begun : BeginsAssociation e o) → IsOpening came → identity_of_core o.after.core ≡ Some (identity_of begun.my begun.held) → ((queued : List Message) → adds queued ≡ queued) → ((read : List MessageContent) → taken read ≡ read)
+      → (again : RequestedReset) → MakesPackets came begun.held.peer.tag (record { queues = opening_queues e o begun; own = Some (record { number = None; next = begun.my.first_tsn; again = again }) }) (packets_of_events o.events) (inside o.after)
       → Becomes resets came to adds taken e o
   collides : (collision : Collides came e o) → ((queued : List Message) → adds queued ≡ queued) → ((read : List MessageContent) → taken read ≡ read)
-      → (again : RequestedReset) → MakesPackets came collision.opened.link.peer.tag (kept_inside collision again) (packets_in o.events) (inside o.after)
+      → (again : RequestedReset) → MakesPackets came collision.opened.link.peer.tag (kept_inside collision again) (packets_of_events o.events) (inside o.after)
       → Becomes resets came to adds taken e o
 
 -- The messages of a call and the streams that it names fit their fields, as those in memory do; no snapshot is restored; and a request to reset streams is
@@ -354,4 +354,4 @@ IsCall input = Unit {0}
 
 -- This holds for each turn.
 abbrev pub TurnsAreActions : Type 0
-TurnsAreActions = (e : Endpoint) (input : Input) (o : Outcome) → IsCall input → Turn e input o → Becomes (streams_reset_by input) (came_by input) (peer_tag e.core) (queued_after e input) (read_after e input) e o
+TurnsAreActions = (e : Endpoint) (input : Input) (o : Outcome) → IsCall input → Turn e input o → Becomes (streams_user_resets input) (content_of_input input) (peer_tag e.core) (queued_after e input) (read_after e input) e o

@@ -19,14 +19,14 @@ abbrev pub own_with : Held → Option OutstandingRequest → Own
 own_with held request = record { number = held.own_outstanding; next = held.own_next; again = reset_again request }
 
 -- None: there is no peer.
-abbrev pub own_in : Core → Option OutstandingRequest → Option Own
-own_in closed request = None
-own_in (cookie_wait my) request = None
-own_in (cookie_echoed my held cookie) request = Some (own_with held request)
-own_in (open_in phase my held) request = Some (own_with held request)
+abbrev pub own_of_core : Core → Option OutstandingRequest → Option Own
+own_of_core closed request = None
+own_of_core (cookie_wait my) request = None
+own_of_core (cookie_echoed my held cookie) request = Some (own_with held request)
+own_of_core (open_in phase my held) request = Some (own_with held request)
 
 abbrev pub own_of : Endpoint → Option Own
-own_of e = own_in e.core e.outstanding
+own_of e = own_of_core e.core e.outstanding
 
 -- once the request that has no end continues under the next number
 abbrev pub renewed_own : Own → Own

@@ -9,14 +9,14 @@ use Rattle.dcsctp_spec_lemmas.specs.spec.endpoint.BegunResets.{stream_field}
 use Rattle.dcsctp_delivery_sending.specs.Places.{HasEntry}
 use Rattle.dcsctp_spec_runs.specs.Past.{HasEffect}
 use Rattle.dcsctp_spec_lemmas.specs.spec.endpoint.Turn.{Input, Turn}
-use Rattle.dcsctp_spec_lemmas.specs.spec.association.Effect.{AssociationIdentity, completes, identity_in}
+use Rattle.dcsctp_spec_lemmas.specs.spec.association.Effect.{AssociationIdentity, completes, identity_of_core}
 use Rattle.dcsctp_delivery_turns.specs.Actions.{IsCall}
 use Rattle.dcsctp_delivery_turns.specs.Asking.{Own, own_of}
 
 -- The request of this number has no end yet, in the association whose own pair this is.
 pub record EndsOwn (e : Endpoint) (o : Outcome) (my : Pair) (number : ℕ) : Type 0 where
   pub link : AssociationIdentity
-  pub linked : identity_in e.core ≡ Some link
+  pub linked : identity_of_core e.core ≡ Some link
   pub mine : link.my ≡ my
   pub own : Own
   pub kept : own_of e ≡ Some own

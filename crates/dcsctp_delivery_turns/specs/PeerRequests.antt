@@ -10,12 +10,12 @@ use Rattle.dcsctp_spec_runs.specs.Past.{WasPerformed, number_to_accept, number_t
 use Rattle.dcsctp_spec_lemmas.specs.spec.Reconfiguration.{RequestedReset, outgoing_reset_request, number_answered}
 use Rattle.dcsctp_spec_lemmas.specs.spec.endpoint.Turn.{Input, Turn}
 use Rattle.dcsctp_spec_runs.specs.World.{after_effects}
-use Rattle.dcsctp_spec_lemmas.specs.spec.association.Effect.{AssociationIdentity, Effect, accepts, performs, renews, resumes, identity_of, identity_in}
+use Rattle.dcsctp_spec_lemmas.specs.spec.association.Effect.{AssociationIdentity, Effect, accepts, performs, renews, resumes, identity_of, identity_of_core}
 use Rattle.dcsctp_spec_lemmas.specs.spec.association.FlushChanges.{next_number, reset_request}
 use Rattle.dcsctp_spec_lemmas.specs.spec.queues.Reassembly.{DeferralModel}
 use Rattle.dcsctp_spec_lemmas.specs.spec.queues.Transfer.{Transfer}
 use Rattle.dcsctp_delivery_sending.specs.Flushes.{NoRequests}
-use Rattle.dcsctp_delivery_turns.specs.Actions.{came_by, Begun, IsOpening, IsCalm, IsCall}
+use Rattle.dcsctp_delivery_turns.specs.Actions.{content_of_input, BeginsAssociation, IsOpening, IsCalm, IsCall}
 
 -- No request of the peer was accepted or performed, and no association was restored.
 abbrev pub NoneAsked : List Effect → Type 0
@@ -40,11 +40,11 @@ pub record KnowsPeer (past : List Effect) (held : Held) : Type 0 where
   pub accepts : number_to_accept past ≡ Some (next_number held.peer_last)
   pub performs : held.peer_result ≡ InProgress → number_to_perform past ≡ Some held.peer_last
 
-abbrev pub KnowsPeerIn : List Effect → Core → Type 0
-KnowsPeerIn past closed = Unit {0}
-KnowsPeerIn past (cookie_wait my) = Unit {0}
-KnowsPeerIn past (cookie_echoed my held cookie) = KnowsPeer past held
-KnowsPeerIn past (open_in phase my held) = KnowsPeer past held
+abbrev pub KnowsPeerOfCore : List Effect → Core → Type 0
+KnowsPeerOfCore past closed = Unit {0}
+KnowsPeerOfCore past (cookie_wait my) = Unit {0}
+KnowsPeerOfCore past (cookie_echoed my held cookie) = KnowsPeer past held
+KnowsPeerOfCore past (open_in phase my held) = KnowsPeer past held
 
 -- A RE-CONFIG that is handled has no request, or is one own request of the peer, as a flush sends it.
 abbrev pub IsPlainRequest : Option Content → Type 0
@@ -61,32 +61,32 @@ pub data PeerTurns (link : AssociationIdentity) (past : List Effect) (e : Endpoi
   -- Nothing is asked.
   asks_nothing : NoneAsked o.effects → SameWaits old new → PeerTurns link past e input o old new
   -- A request is performed: the next one, or the one in progress.
-  performs_it : (number : ℕ) (reset : RequestedReset) → came_by input ≡ Some (reset_request number reset) → IsDue past number
+  performs_it : (number : ℕ) (reset : RequestedReset) → content_of_input input ≡ Some (reset_request number reset) → IsDue past number
       → ((peer : Pair) (other : ℕ) → WasPerformed peer other o.effects → (peer ≡ link.peer) × (other ≡ number)) → WasPerformed link.peer number o.effects
       → number_to_accept (after_effects o.effects past) ≡ Some (next_number number) → number_to_perform (after_effects o.effects past) ≡ None → new ≡ None → PeerTurns link past e input o old new
   -- It is in progress from here on, or still.
-  defers_it : (number : ℕ) (reset : RequestedReset) → came_by input ≡ Some (reset_request number reset) → IsDue past number
+  defers_it : (number : ℕ) (reset : RequestedReset) → content_of_input input ≡ Some (reset_request number reset) → IsDue past number
       → ((peer : Pair) (other : ℕ) → WasPerformed peer other o.effects → ⊥)
       → number_to_accept (after_effects o.effects past) ≡ Some (next_number number) → number_to_perform (after_effects o.effects past) ≡ Some number
       → (left : DeferralModel) → new ≡ Some left → WaitsFor reset old left → PeerTurns link past e input o old new
   -- Another association begins.
-  begins_anew : (begun : Begun e o) → IsOpening (came_by input) → identity_in o.after.core ≡ Some (identity_of begun.my begun.held) → NoneAsked o.effects → new ≡ None → PeerTurns link past e input o old new
+  begins_anew : (begun : BeginsAssociation e o) → IsOpening (content_of_input input) → identity_of_core o.after.core ≡ Some (identity_of begun.my begun.held) → NoneAsked o.effects → new ≡ None → PeerTurns link past e input o old new
 
 -- This holds for each turn in an association.
 abbrev pub PeersTurn : Type 0
 PeersTurn =
-    (e : Endpoint) (input : Input) (o : Outcome) (past : List Effect) (link : AssociationIdentity) (transfer left : Transfer) → KnowsPeerIn past e.core → IsPlainRequest (came_by input) → IsCall input → Turn e input o
-    → identity_in e.core ≡ Some link → e.queues.transfer ≡ Some transfer → o.after.queues.transfer ≡ Some left
+    (e : Endpoint) (input : Input) (o : Outcome) (past : List Effect) (link : AssociationIdentity) (transfer left : Transfer) → KnowsPeerOfCore past e.core → IsPlainRequest (content_of_input input) → IsCall input → Turn e input o
+    → identity_of_core e.core ≡ Some link → e.queues.transfer ≡ Some transfer → o.after.queues.transfer ≡ Some left
     → PeerTurns link past e input o transfer.reassembly.deferral left.reassembly.deferral
 
 -- No request is accepted or performed where no RE-CONFIG is handled.
 abbrev pub CalmAsksNothing : Type 0
-CalmAsksNothing = (e : Endpoint) (input : Input) (o : Outcome) → IsCalm (came_by input) → IsCall input → Turn e input o → NoneAsked o.effects
+CalmAsksNothing = (e : Endpoint) (input : Input) (o : Outcome) → IsCalm (content_of_input input) → IsCall input → Turn e input o → NoneAsked o.effects
 
 -- Nor is one where there is no association. One that begins waits for no reset.
 abbrev pub UnlinkedAsksNothing : Type 0
 UnlinkedAsksNothing =
-    (e : Endpoint) (input : Input) (o : Outcome) → IsCall input → Turn e input o → identity_in e.core ≡ None
+    (e : Endpoint) (input : Input) (o : Outcome) → IsCall input → Turn e input o → identity_of_core e.core ≡ None
     → NoneAsked o.effects × ((left : Transfer) → e.queues.transfer ≡ None → o.after.queues.transfer ≡ Some left → left.reassembly.deferral ≡ None)
 
 -- Nor is one where an association ends: a RE-CONFIG ends none.

@@ -47,7 +47,7 @@ ActionsSend =
 -- ---- the direction on which it receives
 
 -- The chunk was in a packet that the other side sent.
-pub record WasIn (sent : List Emission) (chunk : ChunkContent) : Type 0 where
+pub record WasInSentPacket (sent : List Emission) (chunk : ChunkContent) : Type 0 where
   pub emission : Emission
   pub was : HasEntry emission sent
   pub holds : HasEntry (plain (unworked chunk)) emission.packet.contents
@@ -60,10 +60,10 @@ pub record WasAsked (sent : List Emission) (parameters : List ResetParameter) : 
 
 -- The chunk that is handled, if it has data, passes TSNs or asks for a reset of streams, was sent by the other side.
 abbrev pub WasSent : List Emission → Option Content → Type 0
-WasSent sent (Some (plain (unworked (data_chunk chunk)))) = WasIn sent (data_chunk chunk)
-WasSent sent (Some (plain (unworked (forward_tsn_chunk tsn streams)))) = WasIn sent (forward_tsn_chunk tsn streams)
-WasSent sent (Some (plain (unworked (i_data_chunk chunk)))) = WasIn sent (i_data_chunk chunk)
-WasSent sent (Some (plain (unworked (i_forward_tsn_chunk tsn streams)))) = WasIn sent (i_forward_tsn_chunk tsn streams)
+WasSent sent (Some (plain (unworked (data_chunk chunk)))) = WasInSentPacket sent (data_chunk chunk)
+WasSent sent (Some (plain (unworked (forward_tsn_chunk tsn streams)))) = WasInSentPacket sent (forward_tsn_chunk tsn streams)
+WasSent sent (Some (plain (unworked (i_data_chunk chunk)))) = WasInSentPacket sent (i_data_chunk chunk)
+WasSent sent (Some (plain (unworked (i_forward_tsn_chunk tsn streams)))) = WasInSentPacket sent (i_forward_tsn_chunk tsn streams)
 WasSent sent (Some (re_config parameters)) = NoRequests parameters ⊎ WasAsked sent parameters
 WasSent sent came = Unit {0}
 

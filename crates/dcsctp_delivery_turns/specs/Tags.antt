@@ -2,9 +2,9 @@
 -- sections 5.2.4 and 8.5).
 use Rattle.std.specs.Prelude.{◌≡◌, ℕ, false, None, List, [], ◌∷◌, Ok}
 use Rattle.dcsctp_spec_lemmas.specs.spec.Admission.{all_chunks, admits, first_abort, first_shutdown_complete, is_echo_in_front, is_single_init}
-use Rattle.dcsctp_spec_lemmas.specs.spec.Cookie.{Cookie, cookie_at}
+use Rattle.dcsctp_spec_lemmas.specs.spec.Cookie.{Cookie, cookie_of_bytes}
 use Rattle.dcsctp_spec_lemmas.specs.spec.endpoint.Endpoint.{Endpoint, Core, closed, cookie_wait, cookie_echoed, open_in, own_tag}
-use Rattle.dcsctp_spec_lemmas.specs.spec.endpoint.Event.{packets_in}
+use Rattle.dcsctp_spec_lemmas.specs.spec.endpoint.Event.{packets_of_events}
 use Rattle.dcsctp_spec_lemmas.specs.spec.endpoint.Following.{next_chunk}
 use Rattle.dcsctp_spec_lemmas.specs.spec.endpoint.Outcome.{Outcome}
 use Rattle.dcsctp_spec_lemmas.specs.spec.Packet.{Packet, Emission}
@@ -22,7 +22,7 @@ TagsAreOwn =
 -- association under that tag, or drops the rest of its packet (RFC 9260, section 5.2.4).
 abbrev pub EchoesBearOwnTag : Type 0
 EchoesBearOwnTag =
-    (e : Endpoint) (header : ℕ) (bytes : List ℕ) (cookie : Cookie) (o : Outcome) → cookie_at bytes ≡ Ok cookie → header ≡ cookie.maker.tag → CookieEchoTurn e header bytes o
+    (e : Endpoint) (header : ℕ) (bytes : List ℕ) (cookie : Cookie) (o : Outcome) → cookie_of_bytes bytes ≡ Ok cookie → header ≡ cookie.maker.tag → CookieEchoTurn e header bytes o
     → o.following ≡ next_chunk → own_tag o.after.core ≡ header
 
 -- It is the peer's tag, if there is a peer.
@@ -40,4 +40,4 @@ AllTo tag (emission ∷ emissions) = (emission.packet.tag ≡ tag) × AllTo tag 
 -- Every packet of a flush goes to the tag of its first, where that is the peer's.
 abbrev pub FlushesGoToPeer : Type 0
 FlushesGoToPeer =
-    (e : Endpoint) (draft : Emission) (answers : List Answer) → IsPeerTag e.core draft.packet.tag → FlushAnswers e draft answers → AllTo draft.packet.tag (packets_in (flush_of e draft answers).events)
+    (e : Endpoint) (draft : Emission) (answers : List Answer) → IsPeerTag e.core draft.packet.tag → FlushAnswers e draft answers → AllTo draft.packet.tag (packets_of_events (flush_of e draft answers).events)

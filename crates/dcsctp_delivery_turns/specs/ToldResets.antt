@@ -6,24 +6,24 @@ use Rattle.dcsctp_spec_lemmas.specs.spec.Reconfiguration.{RequestedReset, Number
 use Rattle.dcsctp_spec_lemmas.specs.spec.endpoint.Endpoint.{Endpoint}
 use Rattle.dcsctp_spec_lemmas.specs.spec.endpoint.Event.{incoming_stream_reset}
 use Rattle.dcsctp_spec_lemmas.specs.spec.endpoint.Outcome.{Outcome}
-use Rattle.dcsctp_spec_lemmas.specs.spec.endpoint.ResetOutcomes.{requested_in}
+use Rattle.dcsctp_spec_lemmas.specs.spec.endpoint.ResetOutcomes.{first_reset_request}
 use Rattle.dcsctp_spec_lemmas.specs.spec.endpoint.Turn.{Input, Turn}
-use Rattle.dcsctp_spec_lemmas.specs.spec.association.Effect.{identity_in}
+use Rattle.dcsctp_spec_lemmas.specs.spec.association.Effect.{identity_of_core}
 use Rattle.dcsctp_spec_runs.specs.Past.{WasPerformed}
 use Rattle.dcsctp_delivery_sending.specs.Places.{HasEntry}
-use Rattle.dcsctp_delivery_turns.specs.Actions.{came_by, IsCall}
+use Rattle.dcsctp_delivery_turns.specs.Actions.{content_of_input, IsCall}
 use Rattle.dcsctp_delivery_turns.specs.PeerRequests.{IsPlainRequest}
 
 -- The user is told in this turn that the peer has reset these streams, or they are those of the request that may come again.
-abbrev pub IsToldOf : Endpoint → Outcome → List ℕ → Type 0
-IsToldOf e o streams = HasEntry (incoming_stream_reset streams) o.events ⊎ ((old : NumberedReset) × (e.renewable ≡ Some old) × (old.reset.streams ≡ streams))
+abbrev pub IsReportedReset : Endpoint → Outcome → List ℕ → Type 0
+IsReportedReset e o streams = HasEntry (incoming_stream_reset streams) o.events ⊎ ((old : NumberedReset) × (e.renewable ≡ Some old) × (old.reset.streams ≡ streams))
 
 -- So it is of a request that is performed in this turn, and of what may come again after it.
-pub record TellsResets (e : Endpoint) (input : Input) (o : Outcome) : Type 0 where
-  pub performed : (peer : Pair) (number : ℕ) → WasPerformed peer number o.effects → (parameters : List ResetParameter) (reset : RequestedReset) → came_by input ≡ Some (re_config parameters) → requested_in parameters ≡ Some reset
-      → IsToldOf e o reset.streams
-  pub renewable : (old : NumberedReset) → o.after.renewable ≡ Some old → IsToldOf e o old.reset.streams
+pub record ReportsResets (e : Endpoint) (input : Input) (o : Outcome) : Type 0 where
+  pub performed : (peer : Pair) (number : ℕ) → WasPerformed peer number o.effects → (parameters : List ResetParameter) (reset : RequestedReset) → content_of_input input ≡ Some (re_config parameters) → first_reset_request parameters ≡ Some reset
+      → IsReportedReset e o reset.streams
+  pub renewable : (old : NumberedReset) → o.after.renewable ≡ Some old → IsReportedReset e o old.reset.streams
 
 -- This holds for each turn, if there is no association, or a RE-CONFIG that is handled has no request, or one as a flush sends it.
-abbrev pub TurnsTellResets : Type 0
-TurnsTellResets = (e : Endpoint) (input : Input) (o : Outcome) → (identity_in e.core ≡ None) ⊎ IsPlainRequest (came_by input) → IsCall input → Turn e input o → TellsResets e input o
+abbrev pub TurnsReportResets : Type 0
+TurnsReportResets = (e : Endpoint) (input : Input) (o : Outcome) → (identity_of_core e.core ≡ None) ⊎ IsPlainRequest (content_of_input input) → IsCall input → Turn e input o → ReportsResets e input o

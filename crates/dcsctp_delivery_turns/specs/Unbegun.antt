@@ -3,7 +3,7 @@
 use Rattle.std.specs.Prelude.{◌≡◌, ◌<◌, ◌^◌, ℕ, true, false, None, Some, List, length}
 use Rattle.dcsctp_spec_lemmas.specs.types.declared.options.Options.{Options}
 use Rattle.dcsctp_spec_lemmas.specs.types.queues.SendStreams.{next_numbers}
-use Rattle.dcsctp_spec_lemmas.specs.spec.association.Effect.{identity_of, identity_in}
+use Rattle.dcsctp_spec_lemmas.specs.spec.association.Effect.{identity_of, identity_of_core}
 use Rattle.dcsctp_spec_lemmas.specs.spec.endpoint.Endpoint.{Endpoint}
 use Rattle.dcsctp_spec_lemmas.specs.spec.endpoint.Outcome.{Outcome}
 use Rattle.dcsctp_spec_lemmas.specs.spec.endpoint.Turn.{Input, Turn}
@@ -13,7 +13,7 @@ use Rattle.dcsctp_delivery_sending.specs.Log.{Message}
 use Rattle.dcsctp_delivery_sending.specs.Losing.{AllWaitOn}
 use Rattle.dcsctp_delivery_sending.specs.Queueing.{QueueWaits}
 use Rattle.dcsctp_delivery_directions.specs.Directions.{BeginsAtZero}
-use Rattle.dcsctp_delivery_turns.specs.Actions.{came_by, queued_after, Begun, IsOpening, resets_stream, IsCall}
+use Rattle.dcsctp_delivery_turns.specs.Actions.{content_of_input, queued_after, BeginsAssociation, IsOpening, resets_stream, IsCall}
 
 -- No message is under way, and the next one of each stream, ordered or not, has SSN 0 and MID 0.
 pub record IsAtZero (queue : SendQueueState) : Type 0 where
@@ -30,23 +30,23 @@ StaysWaiting e input o =
 
 -- There is still no association, and the queue is still at 0; or an association begins in this turn.
 pub data UnbegunTurns (e : Endpoint) (input : Input) (o : Outcome) : Type 0 where
-  stays_unbegun : identity_in o.after.core ≡ None → o.after.queues.transfer ≡ None → IsAtZero o.after.queues.queue → StaysWaiting e input o → UnbegunTurns e input o
-  begins_first : (begun : Begun e o) → IsOpening (came_by input) → identity_in o.after.core ≡ Some (identity_of begun.my begun.held) → UnbegunTurns e input o
+  stays_unbegun : identity_of_core o.after.core ≡ None → o.after.queues.transfer ≡ None → IsAtZero o.after.queues.queue → StaysWaiting e input o → UnbegunTurns e input o
+  begins_first : (begun : BeginsAssociation e o) → IsOpening (content_of_input input) → identity_of_core o.after.core ≡ Some (identity_of begun.my begun.held) → UnbegunTurns e input o
 
 -- This holds for each turn of a socket without an association.
 abbrev pub StaysAtZero : Type 0
 StaysAtZero =
-    (e : Endpoint) (input : Input) (o : Outcome) → identity_in e.core ≡ None → e.queues.transfer ≡ None → IsAtZero e.queues.queue → IsCall input → Turn e input o → UnbegunTurns e input o
+    (e : Endpoint) (input : Input) (o : Outcome) → identity_of_core e.core ≡ None → e.queues.transfer ≡ None → IsAtZero e.queues.queue → IsCall input → Turn e input o → UnbegunTurns e input o
 
 -- An association that begins with such a queue begins with number 0 on each stream, and with SSN 0.
 abbrev pub UnbegunBeginsAtZero : Type 0
 UnbegunBeginsAtZero =
-    (e : Endpoint) (o : Outcome) (begun : Begun e o) → IsAtZero e.queues.queue → BeginsAtZero begun.queue
+    (e : Endpoint) (o : Outcome) (begun : BeginsAssociation e o) → IsAtZero e.queues.queue → BeginsAtZero begun.queue
 
 -- And all that waits on a stream that isn't to be reset is kept.
 abbrev pub UnbegunBeginsWaiting : Type 0
 UnbegunBeginsWaiting =
-    (e : Endpoint) (o : Outcome) (begun : Begun e o) (id : ℕ) (queued : List Message) → IsAtZero e.queues.queue
+    (e : Endpoint) (o : Outcome) (begun : BeginsAssociation e o) (id : ℕ) (queued : List Message) → IsAtZero e.queues.queue
     → AllWaitOn id queued e.queues.queue.streams → AllWaitOn id queued begun.queue.streams
 
 -- A socket that was just made has such a queue.

@@ -3,7 +3,7 @@
 use Rattle.std.specs.Prelude.{◌≡◌, ℕ, Bool, false, Option, None, Some, List, Ok}
 use Rattle.std.specs.List.{AllByRecursion}
 use Rattle.dcsctp_spec_lemmas.specs.types.declared.capabilities.Capabilities.{Capabilities}
-use Rattle.dcsctp_spec_lemmas.specs.spec.Cookie.{Cookie, cookie_at}
+use Rattle.dcsctp_spec_lemmas.specs.spec.Cookie.{Cookie, cookie_of_bytes}
 use Rattle.dcsctp_spec_lemmas.specs.spec.Packet.{cookie_echo}
 use Rattle.dcsctp_spec_lemmas.specs.spec.endpoint.Turn.{Input, chunk_input}
 use Rattle.dcsctp_spec_lemmas.specs.spec.queues.Items.{Item}
@@ -24,14 +24,14 @@ abbrev pub IsUntouched : ℕ → Capabilities → RetransmissionState → Type 0
 IsUntouched first kinds state = AreFirst first kinds.message_interleaving state.outstanding × (state.partial_reliability ≡ kinds.partial_reliability)
 
 -- There is an association, and this holds of what is in flight.
-abbrev pub Untouched : ℕ → Capabilities → Option Transfer → Type 0
-Untouched first kinds None = ⊥
-Untouched first kinds (Some transfer) = IsUntouched first kinds transfer.retransmission
+abbrev pub IsTransferUntouched : ℕ → Capabilities → Option Transfer → Type 0
+IsTransferUntouched first kinds None = ⊥
+IsTransferUntouched first kinds (Some transfer) = IsUntouched first kinds transfer.retransmission
 
 -- The cookie reads back, and this is the tag that its maker had drawn.
 pub record IsOfMaker (tag : ℕ) (bytes : List ℕ) : Type 0 where
   pub cookie : Cookie
-  pub reads : cookie_at bytes ≡ Ok cookie
+  pub reads : cookie_of_bytes bytes ≡ Ok cookie
   pub under : tag ≡ cookie.maker.tag
 
 -- A COOKIE ECHO that is handled went to its cookie's maker.

@@ -5,10 +5,10 @@ ghost use Rattle.dcsctp_delivery_turns.specs.Addressed.{DataGoesToPeer, Addresse
 ghost use Rattle.dcsctp_delivery_turns.specs.Completing.{CompletesOwn};
 ghost use Rattle.dcsctp_delivery_turns.specs.PeerRequests.{CalmAsksNothing, EndsAskNothing, PeersTurn, UnlinkedAsksNothing};
 ghost use Rattle.dcsctp_delivery_turns.specs.Reporting.{TurnsReport};
-ghost use Rattle.dcsctp_delivery_turns.specs.Runs.{ReceiversBegin, ReceiversGoOn, SendersBegin, SendersBeginAnew, SendersGoOn};
+ghost use Rattle.dcsctp_delivery_turns.specs.Runs.{ReceiversBegin, ReceiversGoOn, SendersBegin, SendersBeginAgain, SendersGoOn};
 ghost use Rattle.dcsctp_delivery_turns.specs.Sides.{StepsGoOn, ActionsSend, ActionsReceive};
 ghost use Rattle.dcsctp_delivery_turns.specs.Tags.{TagsAreOwn, EchoesBearOwnTag, FlushesGoToPeer};
-ghost use Rattle.dcsctp_delivery_turns.specs.ToldResets.{TurnsTellResets};
+ghost use Rattle.dcsctp_delivery_turns.specs.ToldResets.{TurnsReportResets};
 ghost use Rattle.dcsctp_delivery_turns.specs.Unbegun.{FreshIsAtZero, StaysAtZero, UnbegunBeginsAtZero, UnbegunBeginsWaiting};
 
 /// A flush goes to the peer's tag, and a packet with data is handled only under our own tag (RFC 9260, sections 5.2.4
@@ -51,7 +51,7 @@ pub fn data_goes_to_peer()
 pub fn runs_go_on()
     ensures made { SendersBegin }
     ensures sends { SendersGoOn }
-    ensures anew { SendersBeginAnew }
+    ensures anew { SendersBeginAgain }
     ensures receives { ReceiversGoOn }
     ensures idle { ReceiversBegin }
 {}
@@ -75,7 +75,7 @@ pub fn peers_requests_turn()
 /// The user is told of each reset of streams that the peer has asked for and that is performed (RFC 6525, section 5.2.2),
 /// in that turn, or before where the request came again under the next number.
 pub fn turns_tell_resets()
-    ensures { TurnsTellResets }
+    ensures { TurnsReportResets }
 {}
 
 /// A socket that has had no association has begun no message: each stream is at number 0, whatever is queued, until the

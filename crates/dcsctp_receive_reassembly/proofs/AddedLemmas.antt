@@ -2,7 +2,7 @@
 use Rattle.std.proofs.Common.{ℕ, zero, suc, Bool, true, false, Option, Some, None, List, [], ◌∷◌, ◌++◌, take, drop, sym, subst}
 use Rattle.std.specs.Prelude.{is_some, slice_get}
 use Rattle.std.specs.List.{AllByRecursion}
-use Rattle.dcsctp_api.specs.spec.queues.Runs.{RunModel, PartModel, Assembled, part_dropped, part_kept, message_whole, AddsPart, AddsAt, entry_before, chosen, front_end, back_start, merged, run_before, run_behind, with_part, without_runs}
+use Rattle.dcsctp_api.specs.spec.queues.Runs.{RunModel, PartModel, Assembly, part_dropped, part_kept, message_whole, AddsPart, AssemblesPart, entry_before, chosen, front_end, back_start, run_with_part, run_before, run_behind, with_part, without_runs}
 
 module _ (Is : RunModel → Type 0) where
   pub taken_each : (k : ℕ) (runs : List RunModel) → AllByRecursion Is runs → AllByRecursion Is (take k runs)
@@ -35,7 +35,7 @@ module _ (Is : RunModel → Type 0) where
   before_each true zero runs are = tt
   before_each true (suc at) runs are = got_each at runs are
 
-  pub added_to_each : (part : PartModel) (old new : List RunModel) (outcome : Assembled) → ((front back : Option RunModel) → EachOf front → Is (merged front part back)) → AllByRecursion Is old → AddsPart part old outcome new → AllByRecursion Is new
+  pub added_to_each : (part : PartModel) (old new : List RunModel) (outcome : Assembly) → ((front back : Option RunModel) → EachOf front → Is (run_with_part front part back)) → AllByRecursion Is old → AddsPart part old outcome new → AllByRecursion Is new
   added_to_each part old new outcome merges are adds = go outcome adds.adds
     where
       at : ℕ
@@ -43,7 +43,7 @@ module _ (Is : RunModel → Type 0) where
 
       kept : (joins joins' : Bool) → AllByRecursion Is (with_part joins joins' at part old)
       kept joins joins' =
-          both_each (take (front_end joins at) old) (merged (chosen joins (entry_before at old)) part (chosen joins' (slice_get old at)) ∷ drop (back_start joins' at) old)
+          both_each (take (front_end joins at) old) (run_with_part (chosen joins (entry_before at old)) part (chosen joins' (slice_get old at)) ∷ drop (back_start joins' at) old)
           (taken_each (front_end joins at) old are)
           (merges (chosen joins (entry_before at old)) (chosen joins' (slice_get old at)) (before_each joins at old are), left_each (back_start joins' at) old are)
 
@@ -51,7 +51,7 @@ module _ (Is : RunModel → Type 0) where
       left joins joins' =
           both_each (take (front_end joins at) old) (drop (back_start joins' at) old) (taken_each (front_end joins at) old are) (left_each (back_start joins' at) old are)
 
-      go : (outcome : Assembled) → AddsAt at part old outcome new → AllByRecursion Is new
+      go : (outcome : Assembly) → AssemblesPart at part old outcome new → AllByRecursion Is new
       go part_dropped is = subst (AllByRecursion Is) (sym is.1) are
       go part_kept is = subst (AllByRecursion Is) (sym is.2) (kept (is_some (run_before at old part)) (is_some (run_behind part at old)))
       go (message_whole whole) is = subst (AllByRecursion Is) (sym is.3) (left (is_some (run_before at old part)) (is_some (run_behind part at old)))

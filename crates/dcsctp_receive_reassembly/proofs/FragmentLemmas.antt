@@ -11,7 +11,7 @@ use Rattle.std.specs.declared.alloc.AllocError.{AllocError}
 use Rattle.dcsctp_receive_ordered_map.specs.Entries.{Ascends}
 use Rattle.dcsctp_api.specs.spec.queues.IncomingStreams.{runs_up_to, runs_behind}
 use Rattle.dcsctp_api.specs.spec.queues.Numbers.{fragment_place}
-use Rattle.dcsctp_api.specs.spec.queues.Runs.{RunModel, PartModel, AddsPart, behind_place, merged}
+use Rattle.dcsctp_api.specs.spec.queues.Runs.{RunModel, PartModel, AddsPart, behind_place, run_with_part}
 use Rattle.dcsctp_receive_reassembly.specs.declared.runs.Run.{Run}
 use Rattle.dcsctp_receive_reassembly.specs.declared.runs.Assembled.{Assembled as Outcome}
 use Rattle.dcsctp_receive_reassembly.specs.Runs.{run_model, assembled_of, up_to_place, IsInPlace, AreInPlace}
@@ -19,7 +19,7 @@ use Rattle.dcsctp_receive_reassembly.proofs.AddedLemmas.{EachOf, added_to_each}
 
 -- ---- a part that is added
 
-merged_in_place : (part : PartModel) → part.place / 2 ^ 64 ≡ part.number → (front back : Option RunModel) → EachOf IsInPlace front → IsInPlace (merged front part back)
+merged_in_place : (part : PartModel) → part.place / 2 ^ 64 ≡ part.number → (front back : Option RunModel) → EachOf IsInPlace front → IsInPlace (run_with_part front part back)
 merged_in_place part place None None is = place
 merged_in_place part place None (Some back) is = place
 merged_in_place part place (Some front) None is = is

@@ -7,12 +7,12 @@ use Rattle.std.specs.BTreeMap.{is_at}
 use Rattle.std.specs.Map.{lookup}
 use Rattle.std.proofs.lemmas.List.{append-nil, take-append-drop}
 use Rattle.dcsctp_receive_ordered_map.specs.Entries.{Ascends}
-use Rattle.dcsctp_api.specs.spec.queues.Runs.{part_kept, message_whole, entry_before, chosen, RunModel, PartModel, IsRunPlace, is_held_before, AddsPart, is_whole, whole_run, merged, with_part, without_runs, follows, precedes, following, preceding, run_before, run_behind}
+use Rattle.dcsctp_api.specs.spec.queues.Runs.{part_kept, message_whole, entry_before, chosen, RunModel, PartModel, IsRunPlace, is_held_before, AddsPart, is_whole, whole_run, run_with_part, with_part, without_runs, follows, precedes, following, preceding, run_before, run_behind}
 use Rattle.dcsctp_receive_reassembly.specs.declared.joins.Joins.{Joins}
 use Rattle.dcsctp_receive_reassembly.specs.declared.runs.Run.{Run}
 use Rattle.dcsctp_receive_reassembly.specs.declared.runs.Whole.{Whole}
 use Rattle.dcsctp_receive_reassembly.specs.Joins.{FindsJoins}
-use Rattle.dcsctp_receive_reassembly.specs.Runs.{BeginsIf, RunBeginsAt, run_model, whole_of}
+use Rattle.dcsctp_receive_reassembly.specs.Runs.{BeginsIf, IsRunBeginning, run_model, whole_of}
 use Rattle.dcsctp_receive_reassembly.proofs.RunsLemmas.{AddsPart-kept, AddsPart-whole, begins_before, begins_behind, joins_where, run_before_none, run_behind_none}
 use Rattle.dcsctp_receive_reassembly.proofs.RunMapLemmas.{looked_up, lookup_shows}
 
@@ -20,7 +20,7 @@ use Rattle.dcsctp_receive_reassembly.proofs.RunMapLemmas.{looked_up, lookup_show
 pub named_run : (first : Option ℕ) (place at : ℕ) (es : List (ℕ × Run)) (o : Option Run) → Ascends es → first ≡ Some place → o ≡ lookup (is_at (nat_cmp place)) es → BeginsIf first (slice_get (map run_model es) at) → option_map (λ (run : Run). run_model (place, run)) o ≡ chosen (is_some first) (slice_get (map run_model es) at)
 named_run first place at es o ascends names looked begins = go o looked
   where
-    here : RunBeginsAt place (slice_get (map run_model es) at)
+    here : IsRunBeginning place (slice_get (map run_model es) at)
     here = subst (λ (it : Option ℕ). BeginsIf it (slice_get (map run_model es) at)) names begins
 
     none_found : (o : Option Run) → o ≡ lookup (is_at (nat_cmp place)) es → is_some o ≡ false → ⊥
@@ -83,11 +83,11 @@ module _ (part : PartModel) (old : List RunModel) (joins : Joins) where
       (sym first ∙ joins_where (run_before at old part) joins.first finds.first) (sym next ∙ joins_where (run_behind part at old) joins.next finds.next)
       (sym finds.whole ∙ not_it) kept
 
-  pub adds_whole : (at : ℕ) (new : List RunModel) (before behind : Option RunModel) (whole : Whole) → IsRunPlace at part.place old → FindsJoins at part old joins → joins.is_whole ≡ true → before ≡ run_before at old part → behind ≡ run_behind part at old → whole_of whole ≡ whole_run (merged before part behind) → new ≡ without_runs (is_some joins.first) (is_some joins.next) at old → AddsPart part old (message_whole (whole_of whole)) new
+  pub adds_whole : (at : ℕ) (new : List RunModel) (before behind : Option RunModel) (whole : Whole) → IsRunPlace at part.place old → FindsJoins at part old joins → joins.is_whole ≡ true → before ≡ run_before at old part → behind ≡ run_behind part at old → whole_of whole ≡ whole_run (run_with_part before part behind) → new ≡ without_runs (is_some joins.first) (is_some joins.next) at old → AddsPart part old (message_whole (whole_of whole)) new
   adds_whole at new before behind whole place finds it before_is behind_is bytes left =
       AddsPart-whole at part old new before behind (is_some joins.first) (is_some joins.next) whole place finds.absent before_is behind_is
       (joins_where (run_before at old part) joins.first finds.first ∙ ap is_some (sym before_is)) (joins_where (run_behind part at old) joins.next finds.next ∙ ap is_some (sym behind_is))
-      (ap (λ (o : Option RunModel). is_whole (merged o part behind)) before_is ∙ ap (λ (o : Option RunModel). is_whole (merged (run_before at old part) part o)) behind_is ∙ sym finds.whole ∙ it) bytes left
+      (ap (λ (o : Option RunModel). is_whole (run_with_part o part behind)) before_is ∙ ap (λ (o : Option RunModel). is_whole (run_with_part (run_before at old part) part o)) behind_is ∙ sym finds.whole ∙ it) bytes left
 
 -- a message of one part
 pub adds_alone : (at : ℕ) (part : PartModel) (old : List RunModel) (whole : Whole) → IsRunPlace at part.place old → is_held_before at old part.place ≡ false → part.is_beginning ≡ true → part.is_end ≡ true → whole_of whole ≡ record { number = part.number; ppid = part.ppid; payload = part.payload } → AddsPart part old (message_whole (whole_of whole)) old

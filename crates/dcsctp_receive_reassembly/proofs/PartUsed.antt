@@ -2,7 +2,7 @@
 use Rattle.std.proofs.Common.{◌≡◌, ℕ, zero, suc, ◌+◌, ◌-◌, ◌≤◌, Bool, true, false, List, [], ◌∷◌, ◌++◌, length, length-append, take, drop, Option, Some, None, if◌then◌else◌, arith, refl, sym, ◌∙◌, ap}
 use Rattle.std.specs.Prelude.{slice_get, is_some}
 use Rattle.std.proofs.lemmas.List.Sums.{sum_by-append, sum_by-cons, sum_by-take-drop}
-use Rattle.dcsctp_api.specs.spec.queues.Runs.{Assembled, part_dropped, part_kept, message_whole, entry_before, joined_bytes, RunModel, PartModel, AddsPart, AddsAt, merged, run_before, run_behind, following, preceding, follows, precedes, front_end, back_start, chosen, with_part, without_runs}
+use Rattle.dcsctp_api.specs.spec.queues.Runs.{Assembly, part_dropped, part_kept, message_whole, entry_before, joined_bytes, RunModel, PartModel, AddsPart, AssemblesPart, run_with_part, run_before, run_behind, following, preceding, follows, precedes, front_end, back_start, chosen, with_part, without_runs}
 use Rattle.dcsctp_api.specs.spec.queues.Runs.{part_used, payloads_used, run_used, runs_used}
 use Rattle.dcsctp_receive_reassembly.specs.Runs.{lent_used}
 use Rattle.dcsctp_receive_reassembly.specs.Held.{capped_u128}
@@ -14,7 +14,7 @@ module _ (overhead : ℕ) where
   used_appended : (front back : List (List ℕ)) → payloads_used overhead (front ++ back) ≡ payloads_used overhead front + payloads_used overhead back
   used_appended front back = sum_by-append (part_used overhead) front back
 
-  used_merged : (front : Option RunModel) (part : PartModel) (back : Option RunModel) → run_used overhead (merged front part back) ≡ lent_used overhead front + part_used overhead part.payload + lent_used overhead back
+  used_merged : (front : Option RunModel) (part : PartModel) (back : Option RunModel) → run_used overhead (run_with_part front part back) ≡ lent_used overhead front + part_used overhead part.payload + lent_used overhead back
   used_merged None part None = omega (arith, used_single part.payload)
   used_merged (Some front) part None = omega (arith, used_single part.payload, used_appended front.payloads (part.payload ∷ []))
   used_merged None part (Some back) = omega (arith, used_single part.payload, used_appended (part.payload ∷ []) back.payloads)
@@ -82,9 +82,9 @@ module _ (overhead : ℕ) where
 
   used_with_part : (at : ℕ) (runs : List RunModel) (part : PartModel) → runs_used overhead (with_part (is_some (run_before at runs part)) (is_some (run_behind part at runs)) at part runs) ≡ runs_used overhead runs + part_used overhead part.payload
   used_with_part at runs part =
-      let run : RunModel = merged (chosen (is_some (run_before at runs part)) (entry_before at runs)) part (chosen (is_some (run_behind part at runs)) (slice_get runs at)) in
-      let same : run_used overhead (merged (chosen (is_some (run_before at runs part)) (entry_before at runs)) part (chosen (is_some (run_behind part at runs)) (slice_get runs at))) ≡ run_used overhead (merged (run_before at runs part) part (run_behind part at runs)) =
-      ap (λ front. run_used overhead (merged front part (chosen (is_some (run_behind part at runs)) (slice_get runs at)))) (chosen_following (entry_before at runs) part) ∙ ap (λ back. run_used overhead (merged (run_before at runs part) part back)) (chosen_preceding (slice_get runs at) part) in
+      let run : RunModel = run_with_part (chosen (is_some (run_before at runs part)) (entry_before at runs)) part (chosen (is_some (run_behind part at runs)) (slice_get runs at)) in
+      let same : run_used overhead (run_with_part (chosen (is_some (run_before at runs part)) (entry_before at runs)) part (chosen (is_some (run_behind part at runs)) (slice_get runs at))) ≡ run_used overhead (run_with_part (run_before at runs part) part (run_behind part at runs)) =
+      ap (λ front. run_used overhead (run_with_part front part (chosen (is_some (run_behind part at runs)) (slice_get runs at)))) (chosen_following (entry_before at runs) part) ∙ ap (λ back. run_used overhead (run_with_part (run_before at runs part) part back)) (chosen_preceding (slice_get runs at) part) in
       omega (
         arith,
         same,
@@ -138,18 +138,18 @@ module _ (overhead : ℕ) where
   bytes_within (Some run) = bytes_within_payloads run.payloads
 
   -- What the runs use then that a part was added to, by what became of it.
-  abbrev pub PartCounted : PartModel → List RunModel → Assembled → List RunModel → Type 0
+  abbrev pub PartCounted : PartModel → List RunModel → Assembly → List RunModel → Type 0
   PartCounted part old part_dropped new = runs_used overhead new ≡ runs_used overhead old
   PartCounted part old part_kept new = runs_used overhead new ≡ runs_used overhead old + part_used overhead part.payload
   PartCounted part old (message_whole whole) new = runs_used overhead new + length whole.payload ≤ runs_used overhead old + length part.payload
 
-  counted_at : (at : ℕ) (part : PartModel) (old : List RunModel) (outcome : Assembled) (new : List RunModel) → AddsAt at part old outcome new → PartCounted part old outcome new
+  counted_at : (at : ℕ) (part : PartModel) (old : List RunModel) (outcome : Assembly) (new : List RunModel) → AssemblesPart at part old outcome new → PartCounted part old outcome new
   counted_at at part old part_dropped new adds = ap (runs_used overhead) adds.1
   counted_at at part old part_kept new adds = ap (runs_used overhead) adds.2 ∙ used_with_part overhead at old part
   counted_at at part old (message_whole whole) new adds =
       let left : runs_used overhead new ≡ runs_used overhead (without_runs (is_some (run_before at old part)) (is_some (run_behind part at old)) at old) = ap (runs_used overhead) adds.3 in
-      let bytes : length whole.payload ≡ run_used 0 (merged (run_before at old part) part (run_behind part at old)) =
-      ap (λ w. length w.payload) adds.2 ∙ joined_bytes_used (merged (run_before at old part) part (run_behind part at old)).payloads in
+      let bytes : length whole.payload ≡ run_used 0 (run_with_part (run_before at old part) part (run_behind part at old)) =
+      ap (λ w. length w.payload) adds.2 ∙ joined_bytes_used (run_with_part (run_before at old part) part (run_behind part at old)).payloads in
       omega (
         arith,
         left,
@@ -160,5 +160,5 @@ module _ (overhead : ℕ) where
         used_without overhead at old part,
       )
 
-  pub part_counted : (part : PartModel) (old : List RunModel) (outcome : Assembled) (new : List RunModel) → AddsPart part old outcome new → PartCounted part old outcome new
+  pub part_counted : (part : PartModel) (old : List RunModel) (outcome : Assembly) (new : List RunModel) → AddsPart part old outcome new → PartCounted part old outcome new
   part_counted part old outcome new adds = counted_at adds.at part old outcome new adds.adds

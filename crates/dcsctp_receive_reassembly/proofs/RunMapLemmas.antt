@@ -12,35 +12,35 @@ use Rattle.std.specs.Map.{lookup, set_value, remove_entry}
 use Rattle.std.proofs.lemmas.List.{map-append, take-map, drop-map, length-map}
 use Rattle.std.proofs.lemmas.Bool.Decides.{nat_tests}
 use Rattle.dcsctp_receive_ordered_map.specs.Entries.{Ascends, count_up_to, HasKey, Splits}
-use Rattle.dcsctp_api.specs.spec.queues.Runs.{entry_before, RunModel, PartModel, holds, holds_some, is_held_before, single_run, merged, with_part, without_runs, IsRunPlace, StartsUpTo, StartsBehind}
+use Rattle.dcsctp_api.specs.spec.queues.Runs.{entry_before, RunModel, PartModel, holds, holds_some, is_held_before, single_run, run_with_part, with_part, without_runs, IsRunPlace, StartsUpTo, StartsBehind}
 use Rattle.dcsctp_receive_ordered_map.proofs.EntryLemmas.{remove_at, set_at, lookup_at, find_key, lookup_split, get-map, entry_before-map, count_places, key_from_some, cmp_less, cmp_greater, get_behind_put, put_over_next, put_again, get_before_taken, link_next, ordered_at}
 use Rattle.dcsctp_receive_reassembly.specs.declared.runs.Run.{Run}
-use Rattle.dcsctp_receive_reassembly.specs.Runs.{run_model, RunBeginsAt, RoomIn, HasRoomForRun, CanLink, CanLinkAt}
+use Rattle.dcsctp_receive_reassembly.specs.Runs.{run_model, IsRunBeginning, HasRoomInRun, HasRoomForRun, CanLink, CanLinkRuns}
 
-pub found : (first i : ℕ) (es : List (ℕ × Run)) → RunBeginsAt first (slice_get (map run_model es) i) → (value : Run) × (slice_get es i ≡ Some (first, value))
+pub found : (first i : ℕ) (es : List (ℕ × Run)) → IsRunBeginning first (slice_get (map run_model es) i) → (value : Run) × (slice_get es i ≡ Some (first, value))
 found first i [] begins = absurd begins
 found first zero (e ∷ es) begins = (e.1, ap (λ key. Some (key, e.1)) begins)
 found first (suc i) (e ∷ es) begins = found first i es begins
 
 -- a run that is taken out
-pub removed_run : (first i : ℕ) (es : List (ℕ × Run)) → Ascends es → RunBeginsAt first (slice_get (map run_model es) i) → map run_model (remove_entry (is_at (nat_cmp first)) es) ≡ take i (map run_model es) ++ drop (suc i) (map run_model es)
+pub removed_run : (first i : ℕ) (es : List (ℕ × Run)) → Ascends es → IsRunBeginning first (slice_get (map run_model es) i) → map run_model (remove_entry (is_at (nat_cmp first)) es) ≡ take i (map run_model es) ++ drop (suc i) (map run_model es)
 removed_run first i es ascends begins =
     let there = found first i es begins in
     ap (λ all. map run_model all) (remove_at i first there.0 es ascends there.1) ∙ simp (map-append, take-map, drop-map)
 
 -- a run that is written
-pub written_run : (first i : ℕ) (w : Run) (es : List (ℕ × Run)) → Ascends es → RunBeginsAt first (slice_get (map run_model es) i) → map run_model (set_value (is_at (nat_cmp first)) es w) ≡ take i (map run_model es) ++ run_model (first, w) ∷ drop (suc i) (map run_model es)
+pub written_run : (first i : ℕ) (w : Run) (es : List (ℕ × Run)) → Ascends es → IsRunBeginning first (slice_get (map run_model es) i) → map run_model (set_value (is_at (nat_cmp first)) es w) ≡ take i (map run_model es) ++ run_model (first, w) ∷ drop (suc i) (map run_model es)
 written_run first i w es ascends begins =
     let there = found first i es begins in
     ap (λ all. map run_model all) (set_at i first there.0 w es ascends there.1) ∙ simp (map-append, take-map, drop-map)
 
 -- a run that is looked up
-pub looked_up : (first i : ℕ) (es : List (ℕ × Run)) → Ascends es → RunBeginsAt first (slice_get (map run_model es) i) → IsSome (lookup (is_at (nat_cmp first)) es)
+pub looked_up : (first i : ℕ) (es : List (ℕ × Run)) → Ascends es → IsRunBeginning first (slice_get (map run_model es) i) → IsSome (lookup (is_at (nat_cmp first)) es)
 looked_up first i es ascends begins =
     let there = found first i es begins in
     subst (λ o. IsSome o) (sym (lookup_at i first there.0 es ascends there.1)) refl
 
-pub lookup_shows : (first i : ℕ) (run : Run) (es : List (ℕ × Run)) → Ascends es → RunBeginsAt first (slice_get (map run_model es) i) → lookup (is_at (nat_cmp first)) es ≡ Some run → slice_get (map run_model es) i ≡ Some (run_model (first, run))
+pub lookup_shows : (first i : ℕ) (run : Run) (es : List (ℕ × Run)) → Ascends es → IsRunBeginning first (slice_get (map run_model es) i) → lookup (is_at (nat_cmp first)) es ≡ Some run → slice_get (map run_model es) i ≡ Some (run_model (first, run))
 lookup_shows first i run es ascends begins is =
     let there = found first i es begins in
     let same : Some there.0 ≡ Some run = sym (lookup_at i first there.0 es ascends there.1) ∙ is in
@@ -104,17 +104,17 @@ pub lent_some : (lent : Option (MutBor Run)) → IsSome (option_copied_mut lent)
 lent_some None is = is
 lent_some (Some run) is = is
 
-pub before_some : (at first : ℕ) (runs : BTreeMap ℕ Run) (lent : Option (MutBor Run)) → Ascends runs.entries → RunBeginsAt first (entry_before at (map run_model runs.entries)) → option_copied_mut lent ≡ get nat_cmp runs first → IsSome lent
+pub before_some : (at first : ℕ) (runs : BTreeMap ℕ Run) (lent : Option (MutBor Run)) → Ascends runs.entries → IsRunBeginning first (entry_before at (map run_model runs.entries)) → option_copied_mut lent ≡ get nat_cmp runs first → IsSome lent
 before_some zero first runs lent ascends begins lends = absurd begins
 before_some (suc i) first runs lent ascends begins lends = lent_some lent (subst (λ o. IsSome o) (sym lends) (looked_up first i runs.entries ascends begins))
 
-pub written_before : (at first : ℕ) (part : PartModel) (old new : BTreeMap ℕ Run) (before after : Run) → Ascends old.entries → RunBeginsAt first (entry_before at (map run_model old.entries)) → get nat_cmp old first ≡ Some before → WritesThrough nat_cmp (nat_cmp first) old after new → run_model (first, after) ≡ merged (Some (run_model (first, before))) part None → map run_model new.entries ≡ with_part true false at part (map run_model old.entries)
+pub written_before : (at first : ℕ) (part : PartModel) (old new : BTreeMap ℕ Run) (before after : Run) → Ascends old.entries → IsRunBeginning first (entry_before at (map run_model old.entries)) → get nat_cmp old first ≡ Some before → WritesThrough nat_cmp (nat_cmp first) old after new → run_model (first, after) ≡ run_with_part (Some (run_model (first, before))) part None → map run_model new.entries ≡ with_part true false at part (map run_model old.entries)
 written_before zero first part old new before after ascends begins is writes made = absurd begins
 written_before (suc i) first part old new before after ascends begins is writes made =
     ap (λ all. map run_model all) writes.0
     ∙ written_run first i after old.entries ascends begins
-    ∙ ap (λ run. take i (map run_model old.entries) ++ run ∷ drop (suc i) (map run_model old.entries)) (made ∙ ap (λ o. merged o part None) (sym (lookup_shows first i before old.entries ascends begins is)))
-    ∙ ap (λ place. take place (map run_model old.entries) ++ merged (slice_get (map run_model old.entries) i) part None ∷ drop (suc i) (map run_model old.entries)) (less i)
+    ∙ ap (λ run. take i (map run_model old.entries) ++ run ∷ drop (suc i) (map run_model old.entries)) (made ∙ ap (λ o. run_with_part o part None) (sym (lookup_shows first i before old.entries ascends begins is)))
+    ∙ ap (λ place. take place (map run_model old.entries) ++ run_with_part (slice_get (map run_model old.entries) i) part None ∷ drop (suc i) (map run_model old.entries)) (less i)
 
 -- a run that is written and reads as before leaves the models
 pub written_same : (first : ℕ) (old new : BTreeMap ℕ Run) (before after : Run) → Ascends old.entries → get nat_cmp old first ≡ Some before → WritesThrough nat_cmp (nat_cmp first) old after new → run_model (first, after) ≡ run_model (first, before) → map run_model new.entries ≡ map run_model old.entries
@@ -147,24 +147,24 @@ get_here zero run runs rest within = refl
 get_here (suc at) run [] rest within = absurd (omega arith)
 get_here (suc at) run (first ∷ runs) rest within = get_here at run runs rest (omega arith)
 
-within_some : (first at : ℕ) (runs : List RunModel) → RunBeginsAt first (slice_get runs at) → at < length runs
+within_some : (first at : ℕ) (runs : List RunModel) → IsRunBeginning first (slice_get runs at) → at < length runs
 within_some first at [] begins = absurd begins
 within_some first zero (run ∷ runs) begins = omega arith
 within_some first (suc at) (run ∷ runs) begins = omega (arith, within_some first at runs begins)
 
 -- the next run begins after the place
-pub next_behind : (place next : ℕ) (es : List (ℕ × Run)) → Ascends es → RunBeginsAt next (slice_get (map run_model es) (count_up_to place es)) → place < next
+pub next_behind : (place next : ℕ) (es : List (ℕ × Run)) → Ascends es → IsRunBeginning next (slice_get (map run_model es) (count_up_to place es)) → place < next
 next_behind place next es ascends begins =
     let there = found next (count_up_to place es) es begins in
     (count_places place es ascends).behind (next, there.0) there.1
 
 -- The part was put in front of the next run, whose place is this.
 pub record FrontOf (at next : ℕ) (part : PartModel) (runs : List RunModel) (es : List (ℕ × Run)) : Type 0 where
-  pub begins : RunBeginsAt next (slice_get runs at)
+  pub begins : IsRunBeginning next (slice_get runs at)
   pub put : map run_model es ≡ with_part false false at part runs
   pub ascends : Ascends es
 
-pub front_of : (next : ℕ) (part : PartModel) (es fs gs : List (ℕ × Run)) → RunBeginsAt next (slice_get (map run_model es) (count_up_to part.place es)) → map run_model fs ≡ map run_model es → map run_model gs ≡ with_part false false (count_up_to part.place fs) part (map run_model fs) → Ascends gs → FrontOf (count_up_to part.place es) next part (map run_model es) gs
+pub front_of : (next : ℕ) (part : PartModel) (es fs gs : List (ℕ × Run)) → IsRunBeginning next (slice_get (map run_model es) (count_up_to part.place es)) → map run_model fs ≡ map run_model es → map run_model gs ≡ with_part false false (count_up_to part.place fs) part (map run_model fs) → Ascends gs → FrontOf (count_up_to part.place es) next part (map run_model es) gs
 front_of next part es fs gs begins same put ascends =
     record {
       begins = begins;
@@ -172,9 +172,9 @@ front_of next part es fs gs begins same put ascends =
       ascends = ascends;
     }
 
-pub next_begins : (at next : ℕ) (part : PartModel) (runs : List RunModel) (es : List (ℕ × Run)) → FrontOf at next part runs es → RunBeginsAt next (slice_get (map run_model es) (suc at))
+pub next_begins : (at next : ℕ) (part : PartModel) (runs : List RunModel) (es : List (ℕ × Run)) → FrontOf at next part runs es → IsRunBeginning next (slice_get (map run_model es) (suc at))
 next_begins at next part runs es front =
-    subst (λ o. RunBeginsAt next o) (sym (ap (λ all. slice_get all (suc at)) front.put ∙ get_behind_put at (single_run part) runs (omega (arith, within_some next at runs front.begins)))) front.begins
+    subst (λ o. IsRunBeginning next o) (sym (ap (λ all. slice_get all (suc at)) front.put ∙ get_behind_put at (single_run part) runs (omega (arith, within_some next at runs front.begins)))) front.begins
 
 -- the next run is taken out
 pub next_left : (at next : ℕ) (part : PartModel) (runs : List RunModel) (es fs : List (ℕ × Run)) → FrontOf at next part runs es → fs ≡ remove_entry (is_at (nat_cmp next)) es → map run_model fs ≡ take at runs ++ single_run part ∷ drop (suc at) runs
@@ -184,9 +184,9 @@ next_left at next part runs es fs front left =
     ∙ ap (λ all. take (suc at) all ++ drop (suc (suc at)) all) front.put
     ∙ put_over_next at (single_run part) runs (omega (arith, within_some next at runs front.begins))
 
-pub part_begins : (at next : ℕ) (part : PartModel) (runs : List RunModel) (es fs : List (ℕ × Run)) → FrontOf at next part runs es → fs ≡ remove_entry (is_at (nat_cmp next)) es → RunBeginsAt part.place (slice_get (map run_model fs) at)
+pub part_begins : (at next : ℕ) (part : PartModel) (runs : List RunModel) (es fs : List (ℕ × Run)) → FrontOf at next part runs es → fs ≡ remove_entry (is_at (nat_cmp next)) es → IsRunBeginning part.place (slice_get (map run_model fs) at)
 part_begins at next part runs es fs front left =
-    subst (λ o. RunBeginsAt part.place o) (sym (ap (λ all. slice_get all at) (next_left at next part runs es fs front left) ∙ get_here at (single_run part) runs (drop (suc at) runs) (omega (arith, within_some next at runs front.begins)))) refl
+    subst (λ o. IsRunBeginning part.place o) (sym (ap (λ all. slice_get all at) (next_left at next part runs es fs front left) ∙ get_here at (single_run part) runs (drop (suc at) runs) (omega (arith, within_some next at runs front.begins)))) refl
 
 -- the run of the part alone
 pub part_shown : (at next : ℕ) (part : PartModel) (single : Run) (runs : List RunModel) (es fs : List (ℕ × Run)) → FrontOf at next part runs es → fs ≡ remove_entry (is_at (nat_cmp next)) es → Ascends fs → lookup (is_at (nat_cmp part.place)) fs ≡ Some single → run_model (part.place, single) ≡ single_run part
@@ -195,19 +195,19 @@ part_shown at next part single runs es fs front left ascends is =
     cc
 
 -- it takes the next one over
-pub kept_behind : (at next : ℕ) (part : PartModel) (behind after : Run) (runs : List RunModel) (es : List (ℕ × Run)) (old new : BTreeMap ℕ Run) → FrontOf at next part runs es → lookup (is_at (nat_cmp next)) es ≡ Some behind → old.entries ≡ remove_entry (is_at (nat_cmp next)) es → Ascends old.entries → WritesThrough nat_cmp (nat_cmp part.place) old after new → run_model (part.place, after) ≡ merged None part (Some (run_model (next, behind))) → map run_model new.entries ≡ with_part false true at part runs
+pub kept_behind : (at next : ℕ) (part : PartModel) (behind after : Run) (runs : List RunModel) (es : List (ℕ × Run)) (old new : BTreeMap ℕ Run) → FrontOf at next part runs es → lookup (is_at (nat_cmp next)) es ≡ Some behind → old.entries ≡ remove_entry (is_at (nat_cmp next)) es → Ascends old.entries → WritesThrough nat_cmp (nat_cmp part.place) old after new → run_model (part.place, after) ≡ run_with_part None part (Some (run_model (next, behind))) → map run_model new.entries ≡ with_part false true at part runs
 kept_behind at next part behind after runs es old new front is left ascends writes made =
     let next_is : Some (run_model (next, behind)) ≡ slice_get runs at = sym (lookup_shows next (suc at) behind es front.ascends (next_begins at next part runs es front) is) ∙ ap (λ all. slice_get all (suc at)) front.put ∙ get_behind_put at (single_run part) runs (omega (arith, within_some next at runs front.begins)) in
     ap (λ all. map run_model all) writes.0
     ∙ written_run part.place at after old.entries ascends (part_begins at next part runs es old.entries front left)
     ∙ ap (λ all. take at all ++ run_model (part.place, after) ∷ drop (suc at) all) (next_left at next part runs es old.entries front left)
     ∙ put_again at (single_run part) (run_model (part.place, after)) runs (drop (suc at) runs) (omega (arith, within_some next at runs front.begins))
-    ∙ ap (λ run. take at runs ++ run ∷ drop (suc at) runs) (made ∙ ap (λ o. merged None part o) next_is)
+    ∙ ap (λ run. take at runs ++ run ∷ drop (suc at) runs) (made ∙ ap (λ o. run_with_part None part o) next_is)
 
 -- The next run, after the one at `first`, was taken out.
 pub record NextTaken (at first next : ℕ) (runs : List RunModel) (es fs : List (ℕ × Run)) : Type 0 where
-  pub before : RunBeginsAt first (entry_before at runs)
-  pub behind : RunBeginsAt next (slice_get runs at)
+  pub before : IsRunBeginning first (entry_before at runs)
+  pub behind : IsRunBeginning next (slice_get runs at)
   pub shows : map run_model es ≡ runs
   pub ascends : Ascends es
   pub left : fs ≡ remove_entry (is_at (nat_cmp next)) es
@@ -216,7 +216,7 @@ pub record NextTaken (at first next : ℕ) (runs : List RunModel) (es fs : List 
 taken_models : (at first next : ℕ) (runs : List RunModel) (es fs : List (ℕ × Run)) → NextTaken at first next runs es fs → map run_model fs ≡ take at runs ++ drop (suc at) runs
 taken_models at first next runs es fs taken =
     ap (λ all. map run_model all) taken.left
-    ∙ removed_run next at es taken.ascends (subst (λ all. RunBeginsAt next (slice_get all at)) (sym taken.shows) taken.behind)
+    ∙ removed_run next at es taken.ascends (subst (λ all. IsRunBeginning next (slice_get all at)) (sym taken.shows) taken.behind)
     ∙ ap (λ all. take at all ++ drop (suc at) all) taken.shows
 
 taken_before : (at first next : ℕ) (runs : List RunModel) (es fs : List (ℕ × Run)) → NextTaken at first next runs es fs → entry_before at (map run_model fs) ≡ entry_before at runs
@@ -228,27 +228,27 @@ taken_before (suc i) first next runs es fs taken =
 pub first_looked_up : (at first next : ℕ) (runs : List RunModel) (es fs : List (ℕ × Run)) → NextTaken at first next runs es fs → IsSome (lookup (is_at (nat_cmp first)) fs)
 first_looked_up zero first next runs es fs taken = absurd taken.before
 first_looked_up (suc i) first next runs es fs taken =
-    looked_up first i fs taken.ascends' (subst (λ o. RunBeginsAt first o) (sym (taken_before (suc i) first next runs es fs taken)) taken.before)
+    looked_up first i fs taken.ascends' (subst (λ o. IsRunBeginning first o) (sym (taken_before (suc i) first next runs es fs taken)) taken.before)
 
-pub kept_between : (at first next : ℕ) (part : PartModel) (before behind after : Run) (runs : List RunModel) (es : List (ℕ × Run)) (old new : BTreeMap ℕ Run) → NextTaken at first next runs es old.entries → lookup (is_at (nat_cmp next)) es ≡ Some behind → get nat_cmp old first ≡ Some before → WritesThrough nat_cmp (nat_cmp first) old after new → run_model (first, after) ≡ merged (Some (run_model (first, before))) part (Some (run_model (next, behind))) → map run_model new.entries ≡ with_part true true at part runs
+pub kept_between : (at first next : ℕ) (part : PartModel) (before behind after : Run) (runs : List RunModel) (es : List (ℕ × Run)) (old new : BTreeMap ℕ Run) → NextTaken at first next runs es old.entries → lookup (is_at (nat_cmp next)) es ≡ Some behind → get nat_cmp old first ≡ Some before → WritesThrough nat_cmp (nat_cmp first) old after new → run_model (first, after) ≡ run_with_part (Some (run_model (first, before))) part (Some (run_model (next, behind))) → map run_model new.entries ≡ with_part true true at part runs
 kept_between zero first next part before behind after runs es old new taken is is' writes made = absurd taken.before
 kept_between (suc i) first next part before behind after runs es old new taken is is' writes made =
-    let here : RunBeginsAt first (slice_get (map run_model old.entries) i) = subst (λ o. RunBeginsAt first o) (sym (taken_before (suc i) first next runs es old.entries taken)) taken.before in
+    let here : IsRunBeginning first (slice_get (map run_model old.entries) i) = subst (λ o. IsRunBeginning first o) (sym (taken_before (suc i) first next runs es old.entries taken)) taken.before in
     let first_is : Some (run_model (first, before)) ≡ slice_get runs i = sym (lookup_shows first i before old.entries taken.ascends' here is') ∙ taken_before (suc i) first next runs es old.entries taken in
-    let next_is : Some (run_model (next, behind)) ≡ slice_get runs (suc i) = sym (lookup_shows next (suc i) behind es taken.ascends (subst (λ all. RunBeginsAt next (slice_get all (suc i))) (sym taken.shows) taken.behind) is) ∙ ap (λ all. slice_get all (suc i)) taken.shows in
+    let next_is : Some (run_model (next, behind)) ≡ slice_get runs (suc i) = sym (lookup_shows next (suc i) behind es taken.ascends (subst (λ all. IsRunBeginning next (slice_get all (suc i))) (sym taken.shows) taken.behind) is) ∙ ap (λ all. slice_get all (suc i)) taken.shows in
     ap (λ all. map run_model all) writes.0
     ∙ written_run first i after old.entries taken.ascends' here
     ∙ ap (λ all. take i all ++ run_model (first, after) ∷ drop (suc i) all) (taken_models (suc i) first next runs es old.entries taken)
     ∙ link_next i (run_model (first, after)) runs (within_some next (suc i) runs taken.behind)
-    ∙ ap (λ run. take i runs ++ run ∷ drop (suc (suc i)) runs) (made ∙ ap (λ o. merged o part (Some (run_model (next, behind)))) first_is ∙ ap (λ o. merged (slice_get runs i) part o) next_is)
-    ∙ ap (λ place. take place runs ++ merged (slice_get runs i) part (slice_get runs (suc i)) ∷ drop (suc (suc i)) runs) (less i)
+    ∙ ap (λ run. take i runs ++ run ∷ drop (suc (suc i)) runs) (made ∙ ap (λ o. run_with_part o part (Some (run_model (next, behind)))) first_is ∙ ap (λ o. run_with_part (slice_get runs i) part o) next_is)
+    ∙ ap (λ place. take place runs ++ run_with_part (slice_get runs i) part (slice_get runs (suc i)) ∷ drop (suc (suc i)) runs) (less i)
 
 -- two runs that read alike have as many parts
 as_long : (first : ℕ) (run other : Run) (es fs : List (ℕ × Run)) → Ascends es → Ascends fs → map run_model fs ≡ map run_model es → lookup (is_at (nat_cmp first)) es ≡ Some run → lookup (is_at (nat_cmp first)) fs ≡ Some other → length run.others.items ≡ length other.others.items
 as_long first run other es fs ascends ascends' same is is' =
     let key = key_from_some first run es ascends is in
     let here : slice_get (map run_model es) key.0 ≡ Some (run_model (first, run)) = get-map run_model key.0 es ∙ ap (λ o. option_map run_model o) key.1 in
-    let begins : RunBeginsAt first (slice_get (map run_model fs) key.0) = subst (λ o. RunBeginsAt first o) (sym here ∙ ap (λ all. slice_get all key.0) (sym same)) refl in
+    let begins : IsRunBeginning first (slice_get (map run_model fs) key.0) = subst (λ o. IsRunBeginning first o) (sym here ∙ ap (λ all. slice_get all key.0) (sym same)) refl in
     let models : Some (run_model (first, run)) ≡ Some (run_model (first, other)) = sym here ∙ ap (λ all. slice_get all key.0) (sym same) ∙ lookup_shows first key.0 other fs ascends' begins is' in
     let lengths : suc (length (map (λ (payload : Vec ℕ Global). payload.items) run.others.items)) ≡ suc (length (map (λ (payload : Vec ℕ Global). payload.items) other.others.items)) = ap (λ o. parts_of o) models in
     omega (arith, lengths, length-map run.others.items (λ (payload : Vec ℕ Global). payload.items), length-map other.others.items (λ (payload : Vec ℕ Global). payload.items))
@@ -257,18 +257,18 @@ as_long first run other es fs ascends ascends' same is is' =
     parts_of None = 0
     parts_of (Some run) = length run.payloads
 
-room_in : (count : ℕ) (o : Option Run) (run : Run) → RoomIn count o → o ≡ Some run → length run.others.items + count ≤ deque_capacity run.others
-room_in count o run room is = subst (λ o. RoomIn count o) is room
+room_in : (count : ℕ) (o : Option Run) (run : Run) → HasRoomInRun count o → o ≡ Some run → length run.others.items + count ≤ deque_capacity run.others
+room_in count o run room is = subst (λ o. HasRoomInRun count o) is room
 
 -- there is room in the longer of two runs, the one in front or the one after it
-pub room_in_front : (first next : ℕ) (front back : Run) (old new : BTreeMap ℕ Run) → Ascends old.entries → Ascends new.entries → map run_model new.entries ≡ map run_model old.entries → get nat_cmp old first ≡ Some front → get nat_cmp old next ≡ Some back → length back.others.items ≤ length front.others.items → HasRoomForRun first (length back.others.items + 2) new → CanLinkAt first next new
+pub room_in_front : (first next : ℕ) (front back : Run) (old new : BTreeMap ℕ Run) → Ascends old.entries → Ascends new.entries → map run_model new.entries ≡ map run_model old.entries → get nat_cmp old first ≡ Some front → get nat_cmp old next ≡ Some back → length back.others.items ≤ length front.others.items → HasRoomForRun first (length back.others.items + 2) new → CanLinkRuns first next new
 room_in_front first next front back old new ascends ascends' same is is' shorter room = λ front' back' there there'.
     let fronts = as_long first front front' old.entries new.entries ascends ascends' same is there in
     let backs = as_long next back back' old.entries new.entries ascends ascends' same is' there' in
     let here = room_in (length back.others.items + 2) (get nat_cmp new first) front' room there in
     (λ (fits : length back'.others.items ≤ length front'.others.items). omega (arith, fronts, backs, here), λ (more : length front'.others.items < length back'.others.items). absurd (omega (arith, fronts, backs, shorter, more)))
 
-pub room_in_back : (first next : ℕ) (front back : Run) (old new : BTreeMap ℕ Run) → Ascends old.entries → Ascends new.entries → map run_model new.entries ≡ map run_model old.entries → get nat_cmp old first ≡ Some front → get nat_cmp old next ≡ Some back → length front.others.items < length back.others.items → HasRoomForRun next (length front.others.items + 2) new → CanLinkAt first next new
+pub room_in_back : (first next : ℕ) (front back : Run) (old new : BTreeMap ℕ Run) → Ascends old.entries → Ascends new.entries → map run_model new.entries ≡ map run_model old.entries → get nat_cmp old first ≡ Some front → get nat_cmp old next ≡ Some back → length front.others.items < length back.others.items → HasRoomForRun next (length front.others.items + 2) new → CanLinkRuns first next new
 room_in_back first next front back old new ascends ascends' same is is' shorter room = λ front' back' there there'.
     let fronts = as_long first front front' old.entries new.entries ascends ascends' same is there in
     let backs = as_long next back back' old.entries new.entries ascends ascends' same is' there' in
@@ -286,18 +286,18 @@ pub taken_both : (at first next : ℕ) (runs : List RunModel) (es fs gs : List (
 taken_both zero first next runs es fs gs taken left = absurd taken.before
 taken_both (suc i) first next runs es fs gs taken left =
     ap (λ all. map run_model all) left
-    ∙ removed_run first i fs taken.ascends' (subst (λ o. RunBeginsAt first o) (sym (taken_before (suc i) first next runs es fs taken)) taken.before)
+    ∙ removed_run first i fs taken.ascends' (subst (λ o. IsRunBeginning first o) (sym (taken_before (suc i) first next runs es fs taken)) taken.before)
     ∙ ap (λ all. take i all ++ drop (suc i) all) (taken_models (suc i) first next runs es fs taken)
     ∙ take_pair i runs
     ∙ ap (λ place. take place runs ++ drop (suc (suc i)) runs) (less i)
 
-pub taken_first : (at first : ℕ) (es fs : List (ℕ × Run)) → Ascends es → RunBeginsAt first (entry_before at (map run_model es)) → fs ≡ remove_entry (is_at (nat_cmp first)) es → map run_model fs ≡ without_runs true false at (map run_model es)
+pub taken_first : (at first : ℕ) (es fs : List (ℕ × Run)) → Ascends es → IsRunBeginning first (entry_before at (map run_model es)) → fs ≡ remove_entry (is_at (nat_cmp first)) es → map run_model fs ≡ without_runs true false at (map run_model es)
 taken_first zero first es fs ascends begins left = absurd begins
 taken_first (suc i) first es fs ascends begins left =
     ap (λ all. map run_model all) left ∙ removed_run first i es ascends begins
     ∙ ap (λ place. take place (map run_model es) ++ drop (suc i) (map run_model es)) (less i)
 
-pub taken_next : (at next : ℕ) (es fs : List (ℕ × Run)) → Ascends es → RunBeginsAt next (slice_get (map run_model es) at) → fs ≡ remove_entry (is_at (nat_cmp next)) es → map run_model fs ≡ without_runs false true at (map run_model es)
+pub taken_next : (at next : ℕ) (es fs : List (ℕ × Run)) → Ascends es → IsRunBeginning next (slice_get (map run_model es) at) → fs ≡ remove_entry (is_at (nat_cmp next)) es → map run_model fs ≡ without_runs false true at (map run_model es)
 taken_next at next es fs ascends begins left = ap (λ all. map run_model all) left ∙ removed_run next at es ascends begins
 
 -- the run at a key has room still once another key was put
@@ -305,12 +305,12 @@ pub room_left : (count place next : ℕ) (old new : BTreeMap ℕ Run) (run : Run
 room_left count place next old new run less room others is =
     room_in count (get nat_cmp old next) run room (sym (others next (cmp_below place next less)) ∙ is)
 
-pub before_looked_up : (at first : ℕ) (es : List (ℕ × Run)) → Ascends es → RunBeginsAt first (entry_before at (map run_model es)) → IsSome (lookup (is_at (nat_cmp first)) es)
+pub before_looked_up : (at first : ℕ) (es : List (ℕ × Run)) → Ascends es → IsRunBeginning first (entry_before at (map run_model es)) → IsSome (lookup (is_at (nat_cmp first)) es)
 before_looked_up zero first es ascends begins = absurd begins
 before_looked_up (suc i) first es ascends begins = looked_up first i es ascends begins
 
 -- the places of the runs on both sides differ
-pub sides_apart : (place at first next : ℕ) (es : List (ℕ × Run)) → Ascends es → at ≡ count_up_to place es → RunBeginsAt first (entry_before at (map run_model es)) → RunBeginsAt next (slice_get (map run_model es) at) → first < next
+pub sides_apart : (place at first next : ℕ) (es : List (ℕ × Run)) → Ascends es → at ≡ count_up_to place es → IsRunBeginning first (entry_before at (map run_model es)) → IsRunBeginning next (slice_get (map run_model es) at) → first < next
 sides_apart place zero first next es ascends is before behind = absurd before
 sides_apart place (suc i) first next es ascends is before behind =
     let front = found first i es before in
@@ -318,6 +318,6 @@ sides_apart place (suc i) first next es ascends is before behind =
     ordered_at es ascends i (first, front.0) (next, back.0) front.1 back.1
 
 -- the two runs can be linked still once the next one was taken out
-pub links_after : (first next : ℕ) (old new : BTreeMap ℕ Run) (front back : Run) → first < next → CanLinkAt first next old → UpdatesBy nat_cmp (nat_cmp next) old new None → get nat_cmp old next ≡ Some back → get nat_cmp new first ≡ Some front → CanLink front back
+pub links_after : (first next : ℕ) (old new : BTreeMap ℕ Run) (front back : Run) → first < next → CanLinkRuns first next old → UpdatesBy nat_cmp (nat_cmp next) old new None → get nat_cmp old next ≡ Some back → get nat_cmp new first ≡ Some front → CanLink front back
 links_after first next old new front back less room updates is is' =
     room front back (sym (updates.2 first (cmp_above next first less)) ∙ is') is

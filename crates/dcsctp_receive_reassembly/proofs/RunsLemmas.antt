@@ -5,7 +5,7 @@ use Rattle.std.specs.Option.{option_map}
 use Rattle.std.proofs.lemmas.Bool.{and_left, and_right, not_from_true}
 use Rattle.std.proofs.lemmas.List.{take-append-drop}
 use Rattle.std.proofs.lemmas.Bool.Decides.{nat_tests}
-use Rattle.dcsctp_api.specs.spec.queues.Runs.{part_dropped, part_kept, message_whole, entry_before, RunModel, PartModel, IsRunPlace, is_held_before, AddsPart, is_whole, whole_run, merged, with_part, without_runs, follows, precedes, following, preceding, run_before, run_behind}
+use Rattle.dcsctp_api.specs.spec.queues.Runs.{part_dropped, part_kept, message_whole, entry_before, RunModel, PartModel, IsRunPlace, is_held_before, AddsPart, is_whole, whole_run, run_with_part, with_part, without_runs, follows, precedes, following, preceding, run_before, run_behind}
 use Rattle.dcsctp_receive_reassembly.specs.declared.runs.Whole.{Whole}
 use Rattle.dcsctp_receive_reassembly.specs.Runs.{BeginsIf, whole_of}
 
@@ -29,22 +29,22 @@ pub run_behind_none : (at : ℕ) (runs : List RunModel) (part : PartModel) → p
 run_behind_none at runs part ends = not_preceding part (slice_get runs at) ends
 
 -- a part that makes its message whole
-pub AddsPart-whole : (at : ℕ) (part : PartModel) (old new : List RunModel) (before behind : Option RunModel) (joins_before joins_behind : Bool) (whole : Whole) → IsRunPlace at part.place old → is_held_before at old part.place ≡ false → before ≡ run_before at old part → behind ≡ run_behind part at old → joins_before ≡ is_some before → joins_behind ≡ is_some behind → is_whole (merged before part behind) ≡ true → whole_of whole ≡ whole_run (merged before part behind) → new ≡ without_runs joins_before joins_behind at old → AddsPart part old (message_whole (whole_of whole)) new
+pub AddsPart-whole : (at : ℕ) (part : PartModel) (old new : List RunModel) (before behind : Option RunModel) (joins_before joins_behind : Bool) (whole : Whole) → IsRunPlace at part.place old → is_held_before at old part.place ≡ false → before ≡ run_before at old part → behind ≡ run_behind part at old → joins_before ≡ is_some before → joins_behind ≡ is_some behind → is_whole (run_with_part before part behind) ≡ true → whole_of whole ≡ whole_run (run_with_part before part behind) → new ≡ without_runs joins_before joins_behind at old → AddsPart part old (message_whole (whole_of whole)) new
 AddsPart-whole at part old new before behind joins_before joins_behind whole place new_here before_is behind_is joins joins' is_it bytes left =
     record {
       at = at;
       place = place;
       adds = (
         new_here,
-        ap (λ run. is_whole (merged run part (run_behind part at old))) (sym before_is) ∙ ap (λ run. is_whole (merged before part run)) (sym behind_is) ∙ is_it,
-        bytes ∙ ap (λ run. whole_run (merged run part behind)) before_is ∙ ap (λ run. whole_run (merged (run_before at old part) part run)) behind_is,
+        ap (λ run. is_whole (run_with_part run part (run_behind part at old))) (sym before_is) ∙ ap (λ run. is_whole (run_with_part before part run)) (sym behind_is) ∙ is_it,
+        bytes ∙ ap (λ run. whole_run (run_with_part run part behind)) before_is ∙ ap (λ run. whole_run (run_with_part (run_before at old part) part run)) behind_is,
         left ∙ ap (λ joins. without_runs joins joins_behind at old) (joins ∙ ap is_some before_is) ∙ ap (λ joins. without_runs (is_some (run_before at old part)) joins at old) (joins' ∙ ap is_some behind_is),
       );
       alone = λ begins ends.
           let first : before ≡ None = before_is ∙ run_before_none at old part begins in
           let second : behind ≡ None = behind_is ∙ run_behind_none at old part ends in (
             left ∙ ap (λ joins. without_runs joins joins_behind at old) (joins ∙ ap is_some first) ∙ ap (λ joins. without_runs false joins at old) (joins' ∙ ap is_some second) ∙ take-append-drop at old,
-            bytes ∙ ap (λ run. whole_run (merged run part behind)) first ∙ ap (λ run. whole_run (merged None part run)) second,
+            bytes ∙ ap (λ run. whole_run (run_with_part run part behind)) first ∙ ap (λ run. whole_run (run_with_part None part run)) second,
           );
     }
 
@@ -53,14 +53,14 @@ pub AddsPart-dropped : (at : ℕ) (part : PartModel) (old : List RunModel) → I
 AddsPart-dropped at part old place held = record { at = at; place = place; adds = (held, refl); alone = λ begins ends. refl }
 
 -- a part that is kept
-pub AddsPart-kept : (at : ℕ) (part : PartModel) (old new : List RunModel) (before behind : Option RunModel) (joins_before joins_behind : Bool) → IsRunPlace at part.place old → is_held_before at old part.place ≡ false → before ≡ run_before at old part → behind ≡ run_behind part at old → joins_before ≡ is_some before → joins_behind ≡ is_some behind → is_whole (merged before part behind) ≡ false → new ≡ with_part joins_before joins_behind at part old → AddsPart part old part_kept new
+pub AddsPart-kept : (at : ℕ) (part : PartModel) (old new : List RunModel) (before behind : Option RunModel) (joins_before joins_behind : Bool) → IsRunPlace at part.place old → is_held_before at old part.place ≡ false → before ≡ run_before at old part → behind ≡ run_behind part at old → joins_before ≡ is_some before → joins_behind ≡ is_some behind → is_whole (run_with_part before part behind) ≡ false → new ≡ with_part joins_before joins_behind at part old → AddsPart part old part_kept new
 AddsPart-kept at part old new before behind joins_before joins_behind place new_here before_is behind_is joins joins' not_it kept =
     record {
       at = at;
       place = place;
       adds = (
         new_here,
-        ap (λ run. is_whole (merged run part (run_behind part at old))) (sym before_is) ∙ ap (λ run. is_whole (merged before part run)) (sym behind_is) ∙ not_it,
+        ap (λ run. is_whole (run_with_part run part (run_behind part at old))) (sym before_is) ∙ ap (λ run. is_whole (run_with_part before part run)) (sym behind_is) ∙ not_it,
         kept ∙ ap (λ joins. with_part joins joins_behind at part old) (joins ∙ ap is_some before_is) ∙ ap (λ joins. with_part (is_some (run_before at old part)) joins at part old) (joins' ∙ ap is_some behind_is),
       );
       alone = λ begins ends. go begins ends (before_is ∙ run_before_none at old part begins) (behind_is ∙ run_behind_none at old part ends);
@@ -68,8 +68,8 @@ AddsPart-kept at part old new before behind joins_before joins_behind place new_
   where
     go : part.is_beginning ≡ true → part.is_end ≡ true → before ≡ None → behind ≡ None → ⊥
     go begins ends first second =
-        let alone : is_whole (merged None part None) ≡ false = ap (λ run. is_whole (merged run part None)) (sym first) ∙ ap (λ run. is_whole (merged before part run)) (sym second) ∙ not_it in
-        let whole : is_whole (merged None part None) ≡ true = ap (λ test. test && part.is_end) begins ∙ ends in
+        let alone : is_whole (run_with_part None part None) ≡ false = ap (λ run. is_whole (run_with_part run part None)) (sym first) ∙ ap (λ run. is_whole (run_with_part before part run)) (sym second) ∙ not_it in
+        let whole : is_whole (run_with_part None part None) ≡ true = ap (λ test. test && part.is_end) begins ∙ ends in
         absurd (cc)
 
 -- ---- where the runs begin that join a part
@@ -100,17 +100,17 @@ number_same : (front : RunModel) (part : PartModel) → follows front part ≡ t
 number_same front part is =
     grind (arith, nat_tests, is)
 
-number-merged : (front : Option RunModel) (part : PartModel) (behind : Option RunModel) → (merged (following front part) part behind).number ≡ part.number
+number-merged : (front : Option RunModel) (part : PartModel) (behind : Option RunModel) → (run_with_part (following front part) part behind).number ≡ part.number
 number-merged None part None = refl
 number-merged None part (Some back) = refl
 number-merged (Some front) part behind = go (follows front part) refl behind
   where
-    go : (test : Bool) → follows front part ≡ test → (behind : Option RunModel) → (merged (if test then Some front else None) part behind).number ≡ part.number
+    go : (test : Bool) → follows front part ≡ test → (behind : Option RunModel) → (run_with_part (if test then Some front else None) part behind).number ≡ part.number
     go true is None = number_same front part is
     go true is (Some back) = number_same front part is
     go false is None = refl
     go false is (Some back) = refl
 
-pub IsOfMessage-whole : (at : ℕ) (part : PartModel) (old : List RunModel) (before behind : Option RunModel) (whole : Whole) → before ≡ run_before at old part → whole_of whole ≡ whole_run (merged before part behind) → whole.number ≡ part.number
+pub IsOfMessage-whole : (at : ℕ) (part : PartModel) (old : List RunModel) (before behind : Option RunModel) (whole : Whole) → before ≡ run_before at old part → whole_of whole ≡ whole_run (run_with_part before part behind) → whole.number ≡ part.number
 IsOfMessage-whole at part old before behind whole is bytes =
-    ap (λ w. w.number) bytes ∙ ap (λ run. (merged run part behind).number) is ∙ number-merged (entry_before at old) part behind
+    ap (λ w. w.number) bytes ∙ ap (λ run. (run_with_part run part behind).number) is ∙ number-merged (entry_before at old) part behind

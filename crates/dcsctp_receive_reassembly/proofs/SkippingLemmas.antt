@@ -9,10 +9,10 @@ use Rattle.dcsctp_api.specs.types.declared.arrivals.SkippedTo.{SkippedTo}
 use Rattle.dcsctp_api.specs.types.declared.arrivals.SkippedTo.TheVariants.{Ssn, Mid}
 use Rattle.dcsctp_receive_reassembly.specs.declared.incoming.Incoming.{Incoming}
 use Rattle.dcsctp_receive_reassembly.specs.declared.stream.Stream.{Stream}
-use Rattle.dcsctp_api.specs.spec.queues.Incoming.{is_named, IncomingModel, stream_on, skipped_on, skipped_by, deliveries_by, SkipsOne, SkipsAll}
+use Rattle.dcsctp_api.specs.spec.queues.Incoming.{is_named, IncomingModel, stream_on, skipped_on, stream_skipping, deliveries_of_skips, SkipsOne, SkipsAll}
 use Rattle.dcsctp_api.specs.spec.queues.Numbers.{number_near, short_number_near}
 use Rattle.dcsctp_api.specs.spec.queues.Runs.{WholeModel}
-use Rattle.dcsctp_api.specs.spec.queues.IncomingStreams.{StreamModel, new_stream, delivered_as, due, not_due, next_after, next_past, deliveries_from, skipped, skipped_stream, skip_deliveries}
+use Rattle.dcsctp_api.specs.spec.queues.IncomingStreams.{StreamModel, new_stream, delivered_as, due, not_due, next_after, next_past, deliveries_from, stream_after_skip, skipped_stream, skip_deliveries}
 use Rattle.dcsctp_receive_reassembly.specs.Reassembly.{Balances}
 use Rattle.dcsctp_receive_reassembly.specs.Skipping.{AllMade, room_beyond, room_for}
 
@@ -39,7 +39,7 @@ due_length next (whole ∷ waiting) = go (nat_le whole.number next) (due_length 
 deliveries_length : (next : ℕ) (stream : StreamModel) → length (deliveries_from next stream) + length (not_due next stream.waiting) ≡ length stream.waiting
 deliveries_length next stream = omega (arith, due_length next stream.waiting, length-map (due next stream.waiting) (delivered_as stream.id))
 
-pub skipped_length : (entry : SkippedTo) (stream : StreamModel) → length (skip_deliveries entry stream) + length (skipped entry stream).waiting ≡ length stream.waiting
+pub skipped_length : (entry : SkippedTo) (stream : StreamModel) → length (skip_deliveries entry stream) + length (stream_after_skip entry stream).waiting ≡ length stream.waiting
 skipped_length (Ssn id ssn) stream = deliveries_length (next_past (short_number_near stream.next ssn) stream.next) stream
 skipped_length (Mid id false mid) stream = deliveries_length (next_past (number_near stream.next mid) stream.next) stream
 skipped_length (Mid id true mid) stream = omega arith
@@ -98,15 +98,15 @@ room_apart (entry ∷ entries) seen id streams = go (seen (skipped_stream entry)
 skipped_on-less : (entry : SkippedTo) (id : ℕ) (stream : StreamModel) → length (skipped_on entry id stream).waiting ≤ length stream.waiting
 skipped_on-less entry id stream = go (skipped_stream entry == id)
   where
-    go : (is_it : Bool) → length (if is_it then skipped entry stream else stream).waiting ≤ length stream.waiting
+    go : (is_it : Bool) → length (if is_it then stream_after_skip entry stream else stream).waiting ≤ length stream.waiting
     go true = omega (arith, skipped_length entry stream)
     go false = omega arith
 
 pub room_left : (entry : SkippedTo) (entries : List SkippedTo) (old new : IncomingModel) (len capacity : ℕ) → SkipsOne entry old new → len + room_for (entry ∷ entries) (λ id. stream_on id old.streams) ≤ capacity → len + length (skip_deliveries entry (stream_on (skipped_stream entry) old.streams)) + room_for entries (λ id. stream_on id new.streams) ≤ capacity
 room_left entry entries old new len capacity skips room =
     let named : ℕ = skipped_stream entry in
-    let here : stream_on named new.streams ≡ skipped entry (stream_on named old.streams) =
-    skips.streams named ∙ ap (λ (is : Bool). if is then skipped entry (stream_on named old.streams) else stream_on named old.streams) (eq-eqb named named refl) in
+    let here : stream_on named new.streams ≡ stream_after_skip entry (stream_on named old.streams) =
+    skips.streams named ∙ ap (λ (is : Bool). if is then stream_after_skip entry (stream_on named old.streams) else stream_on named old.streams) (eq-eqb named named refl) in
     omega (
       arith,
       room,
@@ -118,21 +118,21 @@ room_left entry entries old new len capacity skips room =
 
 -- ---- entries in turn
 
-deliveries_by-same : (entries : List SkippedTo) (f g : ℕ → StreamModel) → ((id : ℕ) → f id ≡ g id) → deliveries_by entries f ≡ deliveries_by entries g
-deliveries_by-same [] f g same = refl
-deliveries_by-same (entry ∷ entries) f g same =
-    ap (λ stream. skip_deliveries entry stream ++ deliveries_by entries (λ id. skipped_on entry id (f id))) (same (skipped_stream entry))
-    ∙ ap (λ rest. skip_deliveries entry (g (skipped_stream entry)) ++ rest) (deliveries_by-same entries (λ id. skipped_on entry id (f id)) (λ id. skipped_on entry id (g id)) (λ id. ap (λ stream. skipped_on entry id stream) (same id)))
+deliveries_of_skips-same : (entries : List SkippedTo) (f g : ℕ → StreamModel) → ((id : ℕ) → f id ≡ g id) → deliveries_of_skips entries f ≡ deliveries_of_skips entries g
+deliveries_of_skips-same [] f g same = refl
+deliveries_of_skips-same (entry ∷ entries) f g same =
+    ap (λ stream. skip_deliveries entry stream ++ deliveries_of_skips entries (λ id. skipped_on entry id (f id))) (same (skipped_stream entry))
+    ∙ ap (λ rest. skip_deliveries entry (g (skipped_stream entry)) ++ rest) (deliveries_of_skips-same entries (λ id. skipped_on entry id (f id)) (λ id. skipped_on entry id (g id)) (λ id. ap (λ stream. skipped_on entry id stream) (same id)))
 
 pub SkipsAll-step : (entry : SkippedTo) (entries : List SkippedTo) (old between new : IncomingModel) → SkipsOne entry old between → SkipsAll entries between new → SkipsAll (entry ∷ entries) old new
 SkipsAll-step entry entries old between new one rest =
-    let later : deliveries_by entries (λ id. stream_on id between.streams) ≡ deliveries_by entries (λ id. skipped_on entry id (stream_on id old.streams)) = deliveries_by-same entries (λ id. stream_on id between.streams) (λ id. skipped_on entry id (stream_on id old.streams)) one.streams in
+    let later : deliveries_of_skips entries (λ id. stream_on id between.streams) ≡ deliveries_of_skips entries (λ id. skipped_on entry id (stream_on id old.streams)) = deliveries_of_skips-same entries (λ id. stream_on id between.streams) (λ id. skipped_on entry id (stream_on id old.streams)) one.streams in
     record {
-      streams = λ id. rest.streams id ∙ ap (λ stream. skipped_by entries id stream) (one.streams id);
+      streams = λ id. rest.streams id ∙ ap (λ stream. stream_skipping entries id stream) (one.streams id);
       ready =
           rest.ready
-          ∙ ap (λ front. front ++ deliveries_by entries (λ id. stream_on id between.streams)) one.ready
-          ∙ append_assoc old.ready (skip_deliveries entry (stream_on (skipped_stream entry) old.streams)) (deliveries_by entries (λ id. stream_on id between.streams))
+          ∙ ap (λ front. front ++ deliveries_of_skips entries (λ id. stream_on id between.streams)) one.ready
+          ∙ append_assoc old.ready (skip_deliveries entry (stream_on (skipped_stream entry) old.streams)) (deliveries_of_skips entries (λ id. stream_on id between.streams))
           ∙ ap (λ more. old.ready ++ (skip_deliveries entry (stream_on (skipped_stream entry) old.streams) ++ more)) later;
       received = rest.received ∙ one.received;
       unordered = rest.unordered ∙ one.unordered;

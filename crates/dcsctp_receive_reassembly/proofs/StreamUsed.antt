@@ -9,7 +9,7 @@ use Rattle.dcsctp_api.specs.types.declared.arrivals.SkippedTo.{SkippedTo}
 use Rattle.dcsctp_api.specs.types.declared.arrivals.SkippedTo.TheVariants.{Ssn, Mid}
 use Rattle.dcsctp_api.specs.spec.queues.Numbers.{number_near, short_number_near}
 use Rattle.dcsctp_api.specs.spec.queues.Runs.{RunModel, PartModel, WholeModel, AddsPart, part_kept, message_whole, behind_place, part_used, run_used, runs_used, wholes_used}
-use Rattle.dcsctp_api.specs.spec.queues.IncomingStreams.{StreamModel, delivered_as, due, not_due, next_after, next_past, deliveries_from, ready_with, ready_bytes, kept_stream_used, WaitsAmong, UnorderedOutcome, skipped, skip_deliveries, skip_used}
+use Rattle.dcsctp_api.specs.spec.queues.IncomingStreams.{StreamModel, delivered_as, due, not_due, next_after, next_past, deliveries_from, ready_with, ready_bytes, kept_stream_used, WaitsAmong, UnorderedOutcome, stream_after_skip, skip_deliveries, skip_used}
 use Rattle.dcsctp_receive_reassembly.specs.declared.runs.Assembled.{Assembled}
 use Rattle.dcsctp_receive_reassembly.specs.declared.runs.Assembled.TheVariants.{Dropped, Kept, Whole as WholeMessage}
 use Rattle.dcsctp_receive_reassembly.specs.declared.runs.Whole.{Whole}
@@ -182,7 +182,7 @@ module _ (overhead : ℕ) where
       go false rest = omega (arith, rest, sum_by-cons (run_used overhead) run (filter (λ run. not (drops run)) runs), sum_by-cons (run_used overhead) run runs)
 
   pub skipped_used : (entry : SkippedTo) (stream : StreamModel)
-      → kept_stream_used overhead (skipped entry stream) + ready_bytes (skip_deliveries entry stream) + (skip_used overhead entry stream + length (skip_deliveries entry stream) * overhead) ≡ kept_stream_used overhead stream
+      → kept_stream_used overhead (stream_after_skip entry stream) + ready_bytes (skip_deliveries entry stream) + (skip_used overhead entry stream + length (skip_deliveries entry stream) * overhead) ≡ kept_stream_used overhead stream
   skipped_used (Ssn id ssn) stream =
       omega (arith, parted_used (λ run. nat_le run.number (short_number_near stream.next ssn)) stream.ordered, deliveries_used (next_past (short_number_near stream.next ssn) stream.next) stream)
   skipped_used (Mid id false mid) stream =

@@ -15,13 +15,13 @@ use Rattle.std.proofs.lemmas.List.Folds.{list_any-append}
 use Rattle.std.proofs.lemmas.List.Sums.{sum_by-cons}
 use Rattle.dcsctp_api.specs.spec.queues.Incoming.{is_named, parts_left}
 use Rattle.dcsctp_receive_ordered_map.specs.Entries.{Ascends, count_up_to}
-use Rattle.dcsctp_api.specs.spec.queues.Runs.{RunModel, PartModel, WholeModel, AddsPart, run_used, runs_used, part_kept, message_whole, entry_before, is_held_before, merged, follows, precedes, following, preceding, with_part, without_runs}
+use Rattle.dcsctp_api.specs.spec.queues.Runs.{RunModel, PartModel, WholeModel, AddsPart, run_used, runs_used, part_kept, message_whole, entry_before, is_held_before, run_with_part, follows, precedes, following, preceding, with_part, without_runs}
 use Rattle.dcsctp_receive_reassembly.specs.declared.joins.Joins.{Joins}
 use Rattle.dcsctp_receive_reassembly.specs.declared.runs.Run.{Run}
 use Rattle.dcsctp_receive_reassembly.specs.Joins.{FindsJoins}
 use Rattle.dcsctp_receive_reassembly.specs.Held.{capped_u128}
-use Rattle.dcsctp_receive_reassembly.specs.Runs.{run_model, lent_used, Frees, RunBeginsAt}
-use Rattle.dcsctp_receive_reassembly.specs.Unordered.{IsIndexed, BeginsAtTsn, begin_of, begins_at, index_place, is_place_of}
+use Rattle.dcsctp_receive_reassembly.specs.Runs.{run_model, lent_used, Frees, IsRunBeginning}
+use Rattle.dcsctp_receive_reassembly.specs.Unordered.{IsIndexed, BeginsAtTsn, begin_of, has_run_from, index_place, is_place_of}
 use Rattle.dcsctp_receive_reassembly.proofs.AddedLemmas.{EachOf, added_to_each, taken_each, left_each, both_each}
 use Rattle.dcsctp_receive_reassembly.proofs.RunMapLemmas.{absent, lookup_shows}
 
@@ -100,20 +100,20 @@ within_at zero run (other ∷ runs) all is = let same : other ≡ run = cc in su
 within_at (suc i) run (other ∷ runs) all is = within_at i run runs all.1 is
 
 -- no later run begins at the place of an earlier one
-not_later : (run : RunModel) (runs : List RunModel) → run.first < 2 ^ 64 → AllByRecursion BeginsAtTsn runs → AllByRecursion (λ other. run.first < other.first) runs → begins_at (begin_of run) runs ≡ false
+not_later : (run : RunModel) (runs : List RunModel) → run.first < 2 ^ 64 → AllByRecursion BeginsAtTsn runs → AllByRecursion (λ other. run.first < other.first) runs → has_run_from (begin_of run) runs ≡ false
 not_later run [] within all beyond = refl
 not_later run (other ∷ runs) within all beyond =
     let here : (begin_of other == begin_of run) ≡ false = turned (begin_of other) (begin_of run) ∙ apart run.number other.number run.first other.first within all.0 beyond.0 in
-    ap (λ test. test || begins_at (begin_of run) runs) here ∙ not_later run runs within all.1 beyond.1
+    ap (λ test. test || has_run_from (begin_of run) runs) here ∙ not_later run runs within all.1 beyond.1
 
 -- ---- a run that is taken out
 
 -- one place is that of the first run
-first_out : (place : ℕ) (run : RunModel) (runs : List RunModel) → run.first < 2 ^ 64 → AllByRecursion BeginsAtTsn runs → AllByRecursion (λ other. run.first < other.first) runs → begins_at place runs ≡ (not (begin_of run == place) && begins_at place (run ∷ runs))
+first_out : (place : ℕ) (run : RunModel) (runs : List RunModel) → run.first < 2 ^ 64 → AllByRecursion BeginsAtTsn runs → AllByRecursion (λ other. run.first < other.first) runs → has_run_from place runs ≡ (not (begin_of run == place) && has_run_from place (run ∷ runs))
 first_out place run runs within all beyond = go (begin_of run == place) refl
   where
-    go : (test : Bool) → (begin_of run == place) ≡ test → begins_at place runs ≡ (not test && (test || begins_at place runs))
-    go true is = subst (λ (it : ℕ). begins_at it runs ≡ false) (same_from (begin_of run) place is) (not_later run runs within all beyond)
+    go : (test : Bool) → (begin_of run == place) ≡ test → has_run_from place runs ≡ (not test && (test || has_run_from place runs))
+    go true is = subst (λ (it : ℕ). has_run_from it runs ≡ false) (same_from (begin_of run) place is) (not_later run runs within all beyond)
     go false is = refl
 
 skip_first : (a b c d : Bool) → (b ≡ true → a ≡ false) → d ≡ (not b && c) → a || d ≡ (not b && (a || c))
@@ -121,13 +121,13 @@ skip_first true true c d never rest = absurd (let no : true ≡ false = never re
 skip_first true false c d never rest = refl
 skip_first false b c d never rest = rest
 
-pub run_out : (place i : ℕ) (run : RunModel) (runs : List RunModel) → AreAscending runs → AllByRecursion BeginsAtTsn runs → slice_get runs i ≡ Some run → begins_at place (take i runs ++ drop (suc i) runs) ≡ (not (begin_of run == place) && begins_at place runs)
+pub run_out : (place i : ℕ) (run : RunModel) (runs : List RunModel) → AreAscending runs → AllByRecursion BeginsAtTsn runs → slice_get runs i ≡ Some run → has_run_from place (take i runs ++ drop (suc i) runs) ≡ (not (begin_of run == place) && has_run_from place runs)
 run_out place i run [] ascends all is = absurd (cc)
 run_out place zero run (first ∷ runs) ascends all is =
     let same : first ≡ run = cc in
-    subst (λ (it : RunModel). begins_at place runs ≡ (not (begin_of it == place) && begins_at place (first ∷ runs))) same (first_out place first runs all.0 all.1 ascends.0)
+    subst (λ (it : RunModel). has_run_from place runs ≡ (not (begin_of it == place) && has_run_from place (first ∷ runs))) same (first_out place first runs all.0 all.1 ascends.0)
 run_out place (suc i) run (first ∷ runs) ascends all is =
-    skip_first (begin_of first == place) (begin_of run == place) (begins_at place runs) (begins_at place (take i runs ++ drop (suc i) runs)) other (run_out place i run runs ascends.1 all.1 is)
+    skip_first (begin_of first == place) (begin_of run == place) (has_run_from place runs) (has_run_from place (take i runs ++ drop (suc i) runs)) other (run_out place i run runs ascends.1 all.1 is)
   where
     other : (begin_of run == place) ≡ true → (begin_of first == place) ≡ false
     other at =
@@ -142,17 +142,17 @@ swapped true false c = refl
 swapped false true c = refl
 swapped false false c = refl
 
-pub run_in : (place i : ℕ) (run : RunModel) (runs rest : List RunModel) → begins_at place (take i runs ++ run ∷ rest) ≡ ((begin_of run == place) || begins_at place (take i runs ++ rest))
+pub run_in : (place i : ℕ) (run : RunModel) (runs rest : List RunModel) → has_run_from place (take i runs ++ run ∷ rest) ≡ ((begin_of run == place) || has_run_from place (take i runs ++ rest))
 run_in place i run runs rest =
     list_any-append (λ it. begin_of it == place) (take i runs) (run ∷ rest)
-    ∙ swapped (begins_at place (take i runs)) (begin_of run == place) (begins_at place rest)
+    ∙ swapped (has_run_from place (take i runs)) (begin_of run == place) (has_run_from place rest)
     ∙ ap (λ others. (begin_of run == place) || others) (sym (list_any-append (λ it. begin_of it == place) (take i runs) rest))
 
-instead : (place i : ℕ) (run front : RunModel) (runs rest : List RunModel) → slice_get runs i ≡ Some front → begin_of run ≡ begin_of front → begins_at place (take i runs ++ run ∷ rest) ≡ begins_at place (take (suc i) runs ++ rest)
+instead : (place i : ℕ) (run front : RunModel) (runs rest : List RunModel) → slice_get runs i ≡ Some front → begin_of run ≡ begin_of front → has_run_from place (take i runs ++ run ∷ rest) ≡ has_run_from place (take (suc i) runs ++ rest)
 instead place i run front [] rest is same = absurd (cc)
 instead place zero run front (first ∷ runs) rest is same =
     let it : first ≡ front = cc in
-    ap (λ (at : ℕ). (at == place) || begins_at place rest) (same ∙ ap begin_of (sym it))
+    ap (λ (at : ℕ). (at == place) || has_run_from place rest) (same ∙ ap begin_of (sym it))
 instead place (suc i) run front (first ∷ runs) rest is same =
     ap (λ others. (begin_of first == place) || others) (instead place i run front runs rest is same)
 
@@ -199,24 +199,24 @@ less i = omega arith
 
 module _ (place : ℕ) (part : PartModel) (runs : List RunModel) (ascends : AreAscending runs) (all : AllByRecursion BeginsAtTsn runs) where
   -- the run behind is taken out
-  next_out : (at next : ℕ) → IsNext (Some next) at part runs → begins_at place (take at runs ++ drop (suc at) runs) ≡ (not (index_place part.number next == place) && begins_at place runs)
+  next_out : (at next : ℕ) → IsNext (Some next) at part runs → has_run_from place (take at runs ++ drop (suc at) runs) ≡ (not (index_place part.number next == place) && has_run_from place runs)
   next_out at next is =
       run_out place at is.0 runs ascends all is.1
-      ∙ ap (λ test. not test && begins_at place runs) (place_same place part.number next is.0 is.2 is.3)
+      ∙ ap (λ test. not test && has_run_from place runs) (place_same place part.number next is.0 is.2 is.3)
 
   -- a part that follows on a run
-  kept_before : (at first : ℕ) (next : Option ℕ) → IsFirst (Some first) at part runs → IsNext next at part runs → begins_at place (with_part true (is_some next) at part runs) ≡ (not (is_place_of part.number next place) && begins_at place runs)
+  kept_before : (at first : ℕ) (next : Option ℕ) → IsFirst (Some first) at part runs → IsNext next at part runs → has_run_from place (with_part true (is_some next) at part runs) ≡ (not (is_place_of part.number next place) && has_run_from place runs)
   kept_before zero first next is is' = absurd (let none : None ≡ Some is.0 = is.1 in cc)
   kept_before (suc i) first None is is' =
-      ap (λ (o : Option RunModel). begins_at place (take (suc i - 1) runs ++ merged o part None ∷ drop (suc i) runs)) is.1
-      ∙ ap (λ (k : ℕ). begins_at place (take k runs ++ merged (Some is.0) part None ∷ drop (suc i) runs)) (sym (less i))
-      ∙ instead place i (merged (Some is.0) part None) is.0 runs (drop (suc i) runs) is.1 refl
-      ∙ ap (begins_at place) (take-append-drop (suc i) runs)
+      ap (λ (o : Option RunModel). has_run_from place (take (suc i - 1) runs ++ run_with_part o part None ∷ drop (suc i) runs)) is.1
+      ∙ ap (λ (k : ℕ). has_run_from place (take k runs ++ run_with_part (Some is.0) part None ∷ drop (suc i) runs)) (sym (less i))
+      ∙ instead place i (run_with_part (Some is.0) part None) is.0 runs (drop (suc i) runs) is.1 refl
+      ∙ ap (has_run_from place) (take-append-drop (suc i) runs)
   kept_before (suc i) first (Some next) is is' =
-      ap (λ (o : Option RunModel). begins_at place (take (suc i - 1) runs ++ merged o part (slice_get runs (suc i)) ∷ drop (suc (suc i)) runs)) is.1
-      ∙ ap (λ (o : Option RunModel). begins_at place (take (suc i - 1) runs ++ merged (Some is.0) part o ∷ drop (suc (suc i)) runs)) is'.1
-      ∙ ap (λ (k : ℕ). begins_at place (take k runs ++ merged (Some is.0) part (Some is'.0) ∷ drop (suc (suc i)) runs)) (sym (less i))
-      ∙ instead place i (merged (Some is.0) part (Some is'.0)) is.0 runs (drop (suc (suc i)) runs) is.1 refl
+      ap (λ (o : Option RunModel). has_run_from place (take (suc i - 1) runs ++ run_with_part o part (slice_get runs (suc i)) ∷ drop (suc (suc i)) runs)) is.1
+      ∙ ap (λ (o : Option RunModel). has_run_from place (take (suc i - 1) runs ++ run_with_part (Some is.0) part o ∷ drop (suc (suc i)) runs)) is'.1
+      ∙ ap (λ (k : ℕ). has_run_from place (take k runs ++ run_with_part (Some is.0) part (Some is'.0) ∷ drop (suc (suc i)) runs)) (sym (less i))
+      ∙ instead place i (run_with_part (Some is.0) part (Some is'.0)) is.0 runs (drop (suc (suc i)) runs) is.1 refl
       ∙ next_out (suc i) next is'
 
   both_tests : (a b c : Bool) → (b ≡ true → a ≡ false) → a || (not b && c) ≡ (not b && (a || c))
@@ -225,15 +225,15 @@ module _ (place : ℕ) (part : PartModel) (runs : List RunModel) (ascends : AreA
   both_tests false b c never = refl
 
   -- a part that begins a run
-  kept_beginning : (at : ℕ) (next : Option ℕ) → part.place < 2 ^ 64 → IsNext next at part runs → begins_at place (with_part false (is_some next) at part runs) ≡ (not (is_place_of part.number next place) && ((index_place part.number part.place == place) || begins_at place runs))
+  kept_beginning : (at : ℕ) (next : Option ℕ) → part.place < 2 ^ 64 → IsNext next at part runs → has_run_from place (with_part false (is_some next) at part runs) ≡ (not (is_place_of part.number next place) && ((index_place part.number part.place == place) || has_run_from place runs))
   kept_beginning at None within is =
-      run_in place at (merged None part None) runs (drop at runs)
-      ∙ ap (λ rest. (index_place part.number part.place == place) || begins_at place rest) (take-append-drop at runs)
+      run_in place at (run_with_part None part None) runs (drop at runs)
+      ∙ ap (λ rest. (index_place part.number part.place == place) || has_run_from place rest) (take-append-drop at runs)
   kept_beginning at (Some next) within is =
-      ap (λ (o : Option RunModel). begins_at place (take at runs ++ merged None part o ∷ drop (suc at) runs)) is.1
-      ∙ run_in place at (merged None part (Some is.0)) runs (drop (suc at) runs)
+      ap (λ (o : Option RunModel). has_run_from place (take at runs ++ run_with_part None part o ∷ drop (suc at) runs)) is.1
+      ∙ run_in place at (run_with_part None part (Some is.0)) runs (drop (suc at) runs)
       ∙ ap (λ test. (index_place part.number part.place == place) || test) (next_out at next is)
-      ∙ both_tests (index_place part.number part.place == place) (index_place part.number next == place) (begins_at place runs) other
+      ∙ both_tests (index_place part.number part.place == place) (index_place part.number next == place) (has_run_from place runs) other
     where
       other : (index_place part.number next == place) ≡ true → (index_place part.number part.place == place) ≡ false
       other at_it =
@@ -253,29 +253,29 @@ module _ (place : ℕ) (part : PartModel) (runs : List RunModel) (ascends : AreA
   drop_at (suc i) run (first ∷ those) is = drop_at i run those is
 
   -- the runs that a message was joined from are taken out
-  taken_out : (at : ℕ) (first next : Option ℕ) → IsFirst first at part runs → IsNext next at part runs → begins_at place (without_runs (is_some first) (is_some next) at runs) ≡ (not (is_place_of part.number next place) && (not (is_place_of part.number first place) && begins_at place runs))
-  taken_out at None None is is' = ap (begins_at place) (take-append-drop at runs)
+  taken_out : (at : ℕ) (first next : Option ℕ) → IsFirst first at part runs → IsNext next at part runs → has_run_from place (without_runs (is_some first) (is_some next) at runs) ≡ (not (is_place_of part.number next place) && (not (is_place_of part.number first place) && has_run_from place runs))
+  taken_out at None None is is' = ap (has_run_from place) (take-append-drop at runs)
   taken_out at None (Some next) is is' = next_out at next is'
   taken_out zero (Some first) next is is' = absurd (let none : None ≡ Some is.0 = is.1 in cc)
   taken_out (suc i) (Some first) None is is' =
-      ap (λ (k : ℕ). begins_at place (take k runs ++ drop (suc i) runs)) (sym (less i))
+      ap (λ (k : ℕ). has_run_from place (take k runs ++ drop (suc i) runs)) (sym (less i))
       ∙ run_out place i is.0 runs ascends all is.1
-      ∙ ap (λ test. not test && begins_at place runs) (place_same place part.number first is.0 is.2 is.3)
+      ∙ ap (λ test. not test && has_run_from place runs) (place_same place part.number first is.0 is.2 is.3)
   taken_out (suc i) (Some first) (Some next) is is' =
-      ap (λ (k : ℕ). begins_at place (take k runs ++ drop (suc (suc i)) runs)) (sym (less i))
-      ∙ out_twice (index_place part.number next == place) (index_place part.number first == place) (begins_at place runs) (begins_at place (take i runs ++ drop (suc (suc i)) runs)) first_gone next_gone
+      ap (λ (k : ℕ). has_run_from place (take k runs ++ drop (suc (suc i)) runs)) (sym (less i))
+      ∙ out_twice (index_place part.number next == place) (index_place part.number first == place) (has_run_from place runs) (has_run_from place (take i runs ++ drop (suc (suc i)) runs)) first_gone next_gone
     where
-      first_gone : (index_place part.number next == place) || begins_at place (take i runs ++ drop (suc (suc i)) runs) ≡ (not (index_place part.number first == place) && begins_at place runs)
+      first_gone : (index_place part.number next == place) || has_run_from place (take i runs ++ drop (suc (suc i)) runs) ≡ (not (index_place part.number first == place) && has_run_from place runs)
       first_gone =
-          ap (λ test. test || begins_at place (take i runs ++ drop (suc (suc i)) runs)) (sym (place_same place part.number next is'.0 is'.2 is'.3))
+          ap (λ test. test || has_run_from place (take i runs ++ drop (suc (suc i)) runs)) (sym (place_same place part.number next is'.0 is'.2 is'.3))
           ∙ sym (run_in place i is'.0 runs (drop (suc (suc i)) runs))
-          ∙ ap (λ rest. begins_at place (take i runs ++ rest)) (sym (drop_at (suc i) is'.0 runs is'.1))
+          ∙ ap (λ rest. has_run_from place (take i runs ++ rest)) (sym (drop_at (suc i) is'.0 runs is'.1))
           ∙ run_out place i is.0 runs ascends all is.1
-          ∙ ap (λ test. not test && begins_at place runs) (place_same place part.number first is.0 is.2 is.3)
+          ∙ ap (λ test. not test && has_run_from place runs) (place_same place part.number first is.0 is.2 is.3)
 
-      next_gone : (index_place part.number first == place) || begins_at place (take i runs ++ drop (suc (suc i)) runs) ≡ (not (index_place part.number next == place) && begins_at place runs)
+      next_gone : (index_place part.number first == place) || has_run_from place (take i runs ++ drop (suc (suc i)) runs) ≡ (not (index_place part.number next == place) && has_run_from place runs)
       next_gone =
-          ap (λ test. test || begins_at place (take i runs ++ drop (suc (suc i)) runs)) (sym (place_same place part.number first is.0 is.2 is.3))
+          ap (λ test. test || has_run_from place (take i runs ++ drop (suc (suc i)) runs)) (sym (place_same place part.number first is.0 is.2 is.3))
           ∙ sym (run_in place i is.0 runs (drop (suc (suc i)) runs))
           ∙ instead place i is.0 is.0 runs (drop (suc (suc i)) runs) is.1 refl
           ∙ next_out (suc i) next is'
@@ -291,36 +291,36 @@ elsewhere id place e within within' other = go (begin_of (run_model e) == index_
         let found : (place == e.0) ≡ true = grind (arith, nat_tests, same) in
         sym found ∙ sym (at_number place e.0) ∙ other
 
-not_there : (id place : ℕ) (es : List (ℕ × Run)) → place < 2 ^ 64 → AllByRecursion BeginsAtTsn (map run_model es) → lookup (is_at (nat_cmp place)) es ≡ None → begins_at (index_place id place) (map run_model es) ≡ false
+not_there : (id place : ℕ) (es : List (ℕ × Run)) → place < 2 ^ 64 → AllByRecursion BeginsAtTsn (map run_model es) → lookup (is_at (nat_cmp place)) es ≡ None → has_run_from (index_place id place) (map run_model es) ≡ false
 not_there id place [] within all none = refl
 not_there id place (e ∷ es) within all none = go (is_at (nat_cmp place) e.0) refl none (not_there id place es within all.1)
   where
-    go : (test : Bool) → is_at (nat_cmp place) e.0 ≡ test → cond test (Some e.1) (lookup (is_at (nat_cmp place)) es) ≡ None → (lookup (is_at (nat_cmp place)) es ≡ None → begins_at (index_place id place) (map run_model es) ≡ false) → begins_at (index_place id place) (map run_model (e ∷ es)) ≡ false
+    go : (test : Bool) → is_at (nat_cmp place) e.0 ≡ test → cond test (Some e.1) (lookup (is_at (nat_cmp place)) es) ≡ None → (lookup (is_at (nat_cmp place)) es ≡ None → has_run_from (index_place id place) (map run_model es) ≡ false) → has_run_from (index_place id place) (map run_model (e ∷ es)) ≡ false
     go true is none rest = absurd (cc)
-    go false is none rest = ap (λ test. test || begins_at (index_place id place) (map run_model es)) (elsewhere id place e within all.0 is) ∙ rest none
+    go false is none rest = ap (λ test. test || has_run_from (index_place id place) (map run_model es)) (elsewhere id place e within all.0 is) ∙ rest none
 
-pub absent_place : (id place : ℕ) (es : List (ℕ × Run)) → place < 2 ^ 64 → Ascends es → AllByRecursion BeginsAtTsn (map run_model es) → is_held_before (count_up_to place es) (map run_model es) place ≡ false → begins_at (index_place id place) (map run_model es) ≡ false
+pub absent_place : (id place : ℕ) (es : List (ℕ × Run)) → place < 2 ^ 64 → Ascends es → AllByRecursion BeginsAtTsn (map run_model es) → is_held_before (count_up_to place es) (map run_model es) place ≡ false → has_run_from (index_place id place) (map run_model es) ≡ false
 absent_place id place es within ascends all free = not_there id place es within all (absent place es ascends free)
 
 -- ---- the index then
 
-pub is_kept_before : (at : ℕ) (part : PartModel) (runs : List RunModel) (joins : Joins) → AreAscending runs → AllByRecursion BeginsAtTsn runs → FindsJoins at part runs joins → is_some joins.first ≡ true → (place : ℕ) → begins_at place (with_part (is_some joins.first) (is_some joins.next) at part runs) ≡ (not (is_place_of part.number joins.next place) && begins_at place runs)
+pub is_kept_before : (at : ℕ) (part : PartModel) (runs : List RunModel) (joins : Joins) → AreAscending runs → AllByRecursion BeginsAtTsn runs → FindsJoins at part runs joins → is_some joins.first ≡ true → (place : ℕ) → has_run_from place (with_part (is_some joins.first) (is_some joins.next) at part runs) ≡ (not (is_place_of part.number joins.next place) && has_run_from place runs)
 is_kept_before at part runs joins ascends all finds some place = go joins.first some (is_first at part runs joins finds)
   where
-    go : (first : Option ℕ) → is_some first ≡ true → IsFirst first at part runs → begins_at place (with_part (is_some first) (is_some joins.next) at part runs) ≡ (not (is_place_of part.number joins.next place) && begins_at place runs)
+    go : (first : Option ℕ) → is_some first ≡ true → IsFirst first at part runs → has_run_from place (with_part (is_some first) (is_some joins.next) at part runs) ≡ (not (is_place_of part.number joins.next place) && has_run_from place runs)
     go None some is = absurd (cc)
     go (Some first) some is = kept_before place part runs ascends all at first joins.next is (is_next at part runs joins finds)
 
-pub is_kept_beginning : (at : ℕ) (part : PartModel) (runs : List RunModel) (joins : Joins) → part.place < 2 ^ 64 → AreAscending runs → AllByRecursion BeginsAtTsn runs → FindsJoins at part runs joins → joins.first ≡ None → (place : ℕ) → begins_at place (with_part (is_some joins.first) (is_some joins.next) at part runs) ≡ (not (is_place_of part.number joins.next place) && ((index_place part.number part.place == place) || begins_at place runs))
+pub is_kept_beginning : (at : ℕ) (part : PartModel) (runs : List RunModel) (joins : Joins) → part.place < 2 ^ 64 → AreAscending runs → AllByRecursion BeginsAtTsn runs → FindsJoins at part runs joins → joins.first ≡ None → (place : ℕ) → has_run_from place (with_part (is_some joins.first) (is_some joins.next) at part runs) ≡ (not (is_place_of part.number joins.next place) && ((index_place part.number part.place == place) || has_run_from place runs))
 is_kept_beginning at part runs joins within ascends all finds none place =
-    ap (λ (first : Option ℕ). begins_at place (with_part (is_some first) (is_some joins.next) at part runs)) none
+    ap (λ (first : Option ℕ). has_run_from place (with_part (is_some first) (is_some joins.next) at part runs)) none
     ∙ kept_beginning place part runs ascends all at joins.next within (is_next at part runs joins finds)
 
-pub is_taken_out : (at : ℕ) (part : PartModel) (runs : List RunModel) (joins : Joins) → AreAscending runs → AllByRecursion BeginsAtTsn runs → FindsJoins at part runs joins → (place : ℕ) → begins_at place (without_runs (is_some joins.first) (is_some joins.next) at runs) ≡ (not (is_place_of part.number joins.next place) && (not (is_place_of part.number joins.first place) && begins_at place runs))
+pub is_taken_out : (at : ℕ) (part : PartModel) (runs : List RunModel) (joins : Joins) → AreAscending runs → AllByRecursion BeginsAtTsn runs → FindsJoins at part runs joins → (place : ℕ) → has_run_from place (without_runs (is_some joins.first) (is_some joins.next) at runs) ≡ (not (is_place_of part.number joins.next place) && (not (is_place_of part.number joins.first place) && has_run_from place runs))
 is_taken_out at part runs joins ascends all finds place =
     taken_out place part runs ascends all at joins.first joins.next (is_first at part runs joins finds) (is_next at part runs joins finds)
 
-merged_within : (part : PartModel) → part.place < 2 ^ 64 → (front back : Option RunModel) → EachOf BeginsAtTsn front → BeginsAtTsn (merged front part back)
+merged_within : (part : PartModel) → part.place < 2 ^ 64 → (front back : Option RunModel) → EachOf BeginsAtTsn front → BeginsAtTsn (run_with_part front part back)
 merged_within part place None None is = place
 merged_within part place None (Some back) is = place
 merged_within part place (Some front) None is = is
@@ -334,7 +334,7 @@ kept_index at part old new joins firsts after place ascends indexed finds adds k
           forgets it
           ∙ ap (λ had. not (is_place_of part.number joins.next it) && had) (indexed.each it)
           ∙ sym (is_kept_before at part old joins ascends indexed.within finds some it)
-          ∙ ap (begins_at it) (sym kept);
+          ∙ ap (has_run_from it) (sym kept);
       within = added_to_each BeginsAtTsn part old new part_kept (merged_within part place) indexed.within adds;
     }
 
@@ -347,7 +347,7 @@ begun_index at number part old new joins firsts between after place ascends inde
           ∙ ap (λ had. not (is_place_of part.number joins.next it) && had)
           (contains_with number firsts between updates it ∙ ap (λ (number : ℕ). (number == it) || contains nat_cmp firsts it) is ∙ ap (λ had. (index_place part.number part.place == it) || had) (indexed.each it))
           ∙ sym (is_kept_beginning at part old joins place ascends indexed.within finds none it)
-          ∙ ap (begins_at it) (sym kept);
+          ∙ ap (has_run_from it) (sym kept);
       within = added_to_each BeginsAtTsn part old new part_kept (merged_within part place) indexed.within adds;
     }
 
@@ -356,13 +356,13 @@ back_again true had never = sym (never refl)
 back_again false had never = refl
 
 -- its place in the index is taken back
-pub left_index : (number : ℕ) (old : List RunModel) (firsts between after : BTreeSet ℕ) → IsIndexed firsts old → begins_at number old ≡ false → UpdatesBy nat_cmp (nat_cmp number) firsts between true → UpdatesBy nat_cmp (nat_cmp number) between after false → IsIndexed after old
+pub left_index : (number : ℕ) (old : List RunModel) (firsts between after : BTreeSet ℕ) → IsIndexed firsts old → has_run_from number old ≡ false → UpdatesBy nat_cmp (nat_cmp number) firsts between true → UpdatesBy nat_cmp (nat_cmp number) between after false → IsIndexed after old
 left_index number old firsts between after indexed free puts takes =
     record {
       each = λ it.
           contains_without number between after takes it
           ∙ ap (λ had. not (number == it) && had) (contains_with number firsts between puts it ∙ ap (λ had. (number == it) || had) (indexed.each it))
-          ∙ back_again (number == it) (begins_at it old) (λ same. ap (λ (place : ℕ). begins_at place old) (sym (same_from number it same)) ∙ free);
+          ∙ back_again (number == it) (has_run_from it old) (λ same. ap (λ (place : ℕ). has_run_from place old) (sym (same_from number it same)) ∙ free);
       within = indexed.within;
     }
 
@@ -374,18 +374,18 @@ taken_index at part old new joins whole firsts between after ascends indexed fin
           next it
           ∙ ap (λ had. not (is_place_of part.number joins.next it) && had) (first it ∙ ap (λ had. not (is_place_of part.number joins.first it) && had) (indexed.each it))
           ∙ sym (is_taken_out at part old joins ascends indexed.within finds it)
-          ∙ ap (begins_at it) (sym left);
+          ∙ ap (has_run_from it) (sym left);
       within = added_to_each BeginsAtTsn part old new (message_whole whole) (merged_within part place) indexed.within adds;
     }
 
 -- ---- runs that are dropped
 
 -- a place that the index has is that of a run
-pub found_run : (place : ℕ) (runs : List RunModel) → begins_at place runs ≡ true → (i : ℕ) × (run : RunModel) × (slice_get runs i ≡ Some run) × (begin_of run ≡ place)
+pub found_run : (place : ℕ) (runs : List RunModel) → has_run_from place runs ≡ true → (i : ℕ) × (run : RunModel) × (slice_get runs i ≡ Some run) × (begin_of run ≡ place)
 found_run place [] is = absurd (cc)
 found_run place (run ∷ runs) is = go (begin_of run == place) refl is (found_run place runs)
   where
-    go : (test : Bool) → (begin_of run == place) ≡ test → (test || begins_at place runs) ≡ true → (begins_at place runs ≡ true → (i : ℕ) × (other : RunModel) × (slice_get runs i ≡ Some other) × (begin_of other ≡ place)) → (i : ℕ) × (other : RunModel) × (slice_get (run ∷ runs) i ≡ Some other) × (begin_of other ≡ place)
+    go : (test : Bool) → (begin_of run == place) ≡ test → (test || has_run_from place runs) ≡ true → (has_run_from place runs ≡ true → (i : ℕ) × (other : RunModel) × (slice_get runs i ≡ Some other) × (begin_of other ≡ place)) → (i : ℕ) × (other : RunModel) × (slice_get (run ∷ runs) i ≡ Some other) × (begin_of other ≡ place)
     go true at is rest = (zero, run, refl, same_from (begin_of run) place at)
     go false at is rest =
         let found = rest is in
@@ -404,7 +404,7 @@ pub record FoundRun (place : ℕ) (es : List (ℕ × Run)) : Type 0 where
   pub run : RunModel
   pub is : slice_get (map run_model es) i ≡ Some run
   pub begins : begin_of run ≡ place
-  pub at : RunBeginsAt (place % 2 ^ 64) (slice_get (map run_model es) i)
+  pub at : IsRunBeginning (place % 2 ^ 64) (slice_get (map run_model es) i)
 
 pub found_in : (place : ℕ) (es : List (ℕ × Run)) (firsts : BTreeSet ℕ) → IsIndexed firsts (map run_model es) → contains nat_cmp firsts place ≡ true → FoundRun place es
 found_in place es firsts indexed there =
@@ -414,7 +414,7 @@ found_in place es firsts indexed there =
       run = found.1;
       is = found.2;
       begins = found.3;
-      at = subst (λ (o : Option RunModel). RunBeginsAt (place % 2 ^ 64) o) (sym found.2) (sym (tsn_of place found.1 (within_at found.0 found.1 (map run_model es) indexed.within found.2) found.3));
+      at = subst (λ (o : Option RunModel). IsRunBeginning (place % 2 ^ 64) o) (sym found.2) (sym (tsn_of place found.1 (within_at found.0 found.1 (map run_model es) indexed.within found.2) found.3));
     }
 
 -- what it uses
@@ -431,9 +431,9 @@ dropped_index i place run old new firsts after ascends indexed is begins left up
       each = λ it.
           contains_without place firsts after updates it
           ∙ ap (λ had. not (place == it) && had) (indexed.each it)
-          ∙ ap (λ (at : ℕ). not (at == it) && begins_at it old) (sym begins)
+          ∙ ap (λ (at : ℕ). not (at == it) && has_run_from it old) (sym begins)
           ∙ sym (run_out it i run old ascends indexed.within is)
-          ∙ ap (begins_at it) (sym left);
+          ∙ ap (has_run_from it) (sym left);
       within = subst (AllByRecursion BeginsAtTsn) (sym left) (both_each BeginsAtTsn (take i old) (drop (suc i) old) (taken_each BeginsAtTsn i old indexed.within) (left_each BeginsAtTsn (suc i) old indexed.within));
     }
 
@@ -451,16 +451,16 @@ or_right true b is = absurd (cc)
 or_right false b is = is
 
 -- no run of the stream is left
-pub none_left : (id : ℕ) (runs : List RunModel) → ((place : ℕ) → place / 2 ^ 64 ≡ id → begins_at place runs ≡ false) → filter (λ run. not (id == run.number)) runs ≡ runs
+pub none_left : (id : ℕ) (runs : List RunModel) → ((place : ℕ) → place / 2 ^ 64 ≡ id → has_run_from place runs ≡ false) → filter (λ run. not (id == run.number)) runs ≡ runs
 none_left id [] none = refl
-none_left id (run ∷ runs) none = go (id == run.number) refl (none_left id runs (λ place at. or_right (begin_of run == place) (begins_at place runs) (none place at)))
+none_left id (run ∷ runs) none = go (id == run.number) refl (none_left id runs (λ place at. or_right (begin_of run == place) (has_run_from place runs) (none place at)))
   where
     go : (test : Bool) → (id == run.number) ≡ test → filter (λ run. not (id == run.number)) runs ≡ runs → (if not test then run ∷ filter (λ run. not (id == run.number)) runs else filter (λ run. not (id == run.number)) runs) ≡ run ∷ runs
     go true at rest =
         let here : (begin_of run == begin_of run) ≡ true = grind (arith, nat_tests) in
         let stream : begin_of run / 2 ^ 64 ≡ id = stream_of (begin_of run) run refl ∙ sym (same_from id run.number at) in
-        let no : (begin_of run == begin_of run) || begins_at (begin_of run) runs ≡ false = none (begin_of run) stream in
-        absurd (let never : true ≡ false = sym (ap (λ (test : Bool). test || begins_at (begin_of run) runs) here) ∙ no in cc)
+        let no : (begin_of run == begin_of run) || has_run_from (begin_of run) runs ≡ false = none (begin_of run) stream in
+        absurd (let never : true ≡ false = sym (ap (λ (test : Bool). test || has_run_from (begin_of run) runs) here) ∙ no in cc)
     go false at rest = ap (λ kept. run ∷ kept) rest
 
 -- the parts that are left once one stream is reset, and then the others

@@ -14,7 +14,7 @@ use Rattle.dcsctp_receive_ordered_map.proofs.EntryLemmas.{split_from_none, looku
 use Rattle.dcsctp_api.specs.types.declared.arrivals.Taken.{Taken}
 use Rattle.dcsctp_receive_reassembly.specs.declared.stream.Waiting.{Waiting}
 use Rattle.dcsctp_api.specs.spec.queues.Runs.{PartModel, WholeModel}
-use Rattle.dcsctp_api.specs.spec.queues.IncomingStreams.{StreamModel, is_number_waiting, is_message_due, NumberedBelow, NumberedFrom, IsNumberPlace, WaitsAmong, TakesOrdered, TakesAhead, TakesWhole}
+use Rattle.dcsctp_api.specs.spec.queues.IncomingStreams.{StreamModel, is_number_waiting, is_message_due, IsNumberedBelow, IsNumberedFrom, IsNumberPlace, WaitsAmong, TakesOrdered, TakesAhead, TakesWhole}
 use Rattle.dcsctp_receive_reassembly.specs.Streams.{waiting_whole, HoldsPlace}
 
 -- ---- the first message that waits
@@ -69,12 +69,12 @@ place_left number old new held =
     ∙ put_back (count_up_to number old) (number, held.empty) old (count_within number old)
 
 -- the message is written there
-below_at : (number i : ℕ) (entries : List (ℕ × Waiting)) → ((e : ℕ × Waiting) → slice_get entries i ≡ Some e → e.0 < number) → NumberedBelow number (slice_get (map waiting_whole entries) i)
+below_at : (number i : ℕ) (entries : List (ℕ × Waiting)) → ((e : ℕ × Waiting) → slice_get entries i ≡ Some e → e.0 < number) → IsNumberedBelow number (slice_get (map waiting_whole entries) i)
 below_at number i [] below = tt
 below_at number zero (entry ∷ entries) below = below entry refl
 below_at number (suc i) (entry ∷ entries) below = below_at number i entries below
 
-from_at : (number i : ℕ) (entries : List (ℕ × Waiting)) → ((e : ℕ × Waiting) → slice_get entries i ≡ Some e → number < e.0) → NumberedFrom number (slice_get (map waiting_whole entries) i)
+from_at : (number i : ℕ) (entries : List (ℕ × Waiting)) → ((e : ℕ × Waiting) → slice_get entries i ≡ Some e → number < e.0) → IsNumberedFrom number (slice_get (map waiting_whole entries) i)
 from_at number i [] behind = tt
 from_at number zero (entry ∷ entries) behind = omega (arith, behind entry refl)
 from_at number (suc i) (entry ∷ entries) behind = from_at number i entries behind

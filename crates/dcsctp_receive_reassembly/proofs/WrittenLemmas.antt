@@ -6,7 +6,7 @@ use Rattle.std.proofs.lemmas.Bool.Decides.{nat_tests}
 use Rattle.dcsctp_api.specs.types.declared.arrivals.SkippedTo.{SkippedTo}
 use Rattle.dcsctp_receive_reassembly.specs.declared.stream.Stream.{Stream}
 use Rattle.dcsctp_receive_reassembly.specs.Streams.{stream_model}
-use Rattle.dcsctp_api.specs.spec.queues.IncomingStreams.{new_stream, skipped, skipped_stream}
+use Rattle.dcsctp_api.specs.spec.queues.IncomingStreams.{new_stream, stream_after_skip, skipped_stream}
 use Rattle.dcsctp_receive_reassembly.specs.Reassembly.{entry_of}
 use Rattle.dcsctp_api.specs.spec.queues.Incoming.{stream_on, skipped_on}
 use Rattle.dcsctp_receive_reassembly.proofs.ReassemblyLemmas.{stream_on-get, stream_on-same, same_key}
@@ -18,14 +18,14 @@ same_from m n is = grind (arith, nat_tests)
 apart_from : (m n : ℕ) → (m == n) ≡ false → n ≡ m → ⊥
 apart_from m n is same = grind (arith, nat_tests)
 
-pub skipped_written : (entry : SkippedTo) (old new : BTreeMap ℕ Stream) (before after : Stream) → Written (skipped_stream entry) old new before after → stream_model after ≡ skipped entry (stream_model before) → (id : ℕ) → stream_on id (map entry_of new.entries) ≡ skipped_on entry id (stream_on id (map entry_of old.entries))
+pub skipped_written : (entry : SkippedTo) (old new : BTreeMap ℕ Stream) (before after : Stream) → Written (skipped_stream entry) old new before after → stream_model after ≡ stream_after_skip entry (stream_model before) → (id : ℕ) → stream_on id (map entry_of new.entries) ≡ skipped_on entry id (stream_on id (map entry_of old.entries))
 skipped_written entry old new before after written skips id = go (skipped_stream entry == id) refl
   where
-    here : stream_on (skipped_stream entry) (map entry_of new.entries) ≡ skipped entry (stream_on (skipped_stream entry) (map entry_of old.entries))
-    here = written.becomes ∙ skips ∙ ap (λ stream. skipped entry stream) (sym written.was)
+    here : stream_on (skipped_stream entry) (map entry_of new.entries) ≡ stream_after_skip entry (stream_on (skipped_stream entry) (map entry_of old.entries))
+    here = written.becomes ∙ skips ∙ ap (λ stream. stream_after_skip entry stream) (sym written.was)
 
-    go : (is_it : Bool) → (skipped_stream entry == id) ≡ is_it → stream_on id (map entry_of new.entries) ≡ (if is_it then skipped entry (stream_on id (map entry_of old.entries)) else stream_on id (map entry_of old.entries))
-    go true is = subst (λ (key : ℕ). stream_on key (map entry_of new.entries) ≡ skipped entry (stream_on key (map entry_of old.entries))) (same_from (skipped_stream entry) id is) here
+    go : (is_it : Bool) → (skipped_stream entry == id) ≡ is_it → stream_on id (map entry_of new.entries) ≡ (if is_it then stream_after_skip entry (stream_on id (map entry_of old.entries)) else stream_on id (map entry_of old.entries))
+    go true is = subst (λ (key : ℕ). stream_on key (map entry_of new.entries) ≡ stream_after_skip entry (stream_on key (map entry_of old.entries))) (same_from (skipped_stream entry) id is) here
     go false is = written.others id (apart_from (skipped_stream entry) id is)
 
 pub removed_stream : (key : ℕ) (old new : BTreeMap ℕ Stream) → UpdatesBy nat_cmp (nat_cmp key) old new None → (id : ℕ) → stream_on id (map entry_of new.entries) ≡ (if key == id then new_stream id else stream_on id (map entry_of old.entries))

@@ -7,7 +7,7 @@ use Rattle.std.specs.BTreeMap.{BTreeMap, get}
 use Rattle.std.specs.Ordering.{nat_cmp}
 use Rattle.dcsctp_api.specs.spec.queues.Runs.{RunModel, PartModel, WholeModel, run_used, runs_used}
 use Rattle.dcsctp_receive_reassembly.specs.Held.{capped_u128}
-use Rattle.dcsctp_api.specs.spec.queues.Runs.{Assembled as AssembledModel, part_dropped, part_kept, message_whole}
+use Rattle.dcsctp_api.specs.spec.queues.Runs.{Assembly as AssembledModel, part_dropped, part_kept, message_whole}
 use Rattle.dcsctp_receive_reassembly.specs.declared.runs.Run.{Run}
 use Rattle.dcsctp_receive_reassembly.specs.declared.runs.Part.{Part}
 use Rattle.dcsctp_receive_reassembly.specs.declared.runs.Whole.{Whole}
@@ -39,21 +39,21 @@ assembled_of Kept = part_kept
 assembled_of (WholeMessage message) = message_whole (whole_of message)
 
 -- Is there such a run, and does it begin at this place?
-abbrev pub RunBeginsAt : ℕ → Option RunModel → Type 0
-RunBeginsAt first None = ⊥
-RunBeginsAt first (Some run) = run.first ≡ first
+abbrev pub IsRunBeginning : ℕ → Option RunModel → Type 0
+IsRunBeginning first None = ⊥
+IsRunBeginning first (Some run) = run.first ≡ first
 
 abbrev pub BeginsIf : Option ℕ → Option RunModel → Type 0
 BeginsIf None run = Unit {0}
-BeginsIf (Some first) run = RunBeginsAt first run
+BeginsIf (Some first) run = IsRunBeginning first run
 
 -- Is there room for that many more parts in the run that begins at this place?
-abbrev pub RoomIn : ℕ → Option Run → Type 0
-RoomIn count None = ⊥
-RoomIn count (Some run) = length run.others.items + count ≤ deque_capacity run.others
+abbrev pub HasRoomInRun : ℕ → Option Run → Type 0
+HasRoomInRun count None = ⊥
+HasRoomInRun count (Some run) = length run.others.items + count ≤ deque_capacity run.others
 
 abbrev pub HasRoomForRun : ℕ → ℕ → BTreeMap ℕ Run → Type 0
-HasRoomForRun first count runs = RoomIn count (get nat_cmp runs first)
+HasRoomForRun first count runs = HasRoomInRun count (get nat_cmp runs first)
 
 -- Is there room for a part between two runs: in the longer one, for the part and for the shorter one?
 abbrev pub CanLink : Run → Run → Type 0
@@ -62,8 +62,8 @@ CanLink front back =
     × (length front.others.items < length back.others.items → length front.others.items + 2 + length back.others.items ≤ deque_capacity back.others)
 
 -- the same of the runs that begin at these places
-abbrev pub CanLinkAt : ℕ → ℕ → BTreeMap ℕ Run → Type 0
-CanLinkAt first next runs =
+abbrev pub CanLinkRuns : ℕ → ℕ → BTreeMap ℕ Run → Type 0
+CanLinkRuns first next runs =
     (front back : Run) → get nat_cmp runs first ≡ Some front → get nat_cmp runs next ≡ Some back → CanLink front back
 
 -- Is there a first run, and does it begin at the place or before it?

@@ -15,8 +15,8 @@ abbrev pub begin_of : RunModel → ℕ
 begin_of run = index_place run.number run.first
 
 -- Does a run begin there?
-abbrev pub begins_at : ℕ → List RunModel → Bool
-begins_at place runs = list_any (λ run. begin_of run == place) runs
+abbrev pub has_run_from : ℕ → List RunModel → Bool
+has_run_from place runs = list_any (λ run. begin_of run == place) runs
 
 -- A run begins at the number of a TSN.
 abbrev pub BeginsAtTsn : RunModel → Type 0
@@ -24,7 +24,7 @@ BeginsAtTsn run = run.first < 2 ^ 64
 
 -- The index has the place of each run, and no other.
 pub record IsIndexed (firsts : BTreeSet ℕ) (runs : List RunModel) : Type 0 where
-  pub each : (place : ℕ) → contains nat_cmp firsts place ≡ begins_at place runs
+  pub each : (place : ℕ) → contains nat_cmp firsts place ≡ has_run_from place runs
   pub within : AllByRecursion BeginsAtTsn runs
 
 -- Is it the place of a run of the stream that begins there, if there is one?

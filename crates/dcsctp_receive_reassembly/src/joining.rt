@@ -18,8 +18,8 @@ ghost use Rattle.std.specs.Prelude.{
 ghost use Rattle.std.specs.BTreeMap.{IsOrdered, get, is_at};
 ghost use Rattle.std.specs.Ordering.{nat_cmp};
 ghost use Rattle.dcsctp_receive_ordered_map.specs.Entries.{count_up_to};
-ghost use Rattle.dcsctp_api.specs.spec.queues.Runs.{part_kept, message_whole, entry_before, chosen, whole_run, single_run, merged, joined_bytes, with_part, without_runs, is_held_before, AddsPart};
-ghost use Rattle.dcsctp_receive_reassembly.specs.Runs.{assembled_of, run_model, part_of, whole_of, lent_run, lent_used, RunBeginsAt, BeginsIf, IsOfMessage, Frees, IsFreed};
+ghost use Rattle.dcsctp_api.specs.spec.queues.Runs.{part_kept, message_whole, entry_before, chosen, whole_run, single_run, run_with_part, joined_bytes, with_part, without_runs, is_held_before, AddsPart};
+ghost use Rattle.dcsctp_receive_reassembly.specs.Runs.{assembled_of, run_model, part_of, whole_of, lent_run, lent_used, IsRunBeginning, BeginsIf, IsOfMessage, Frees, IsFreed};
 ghost use Rattle.dcsctp_receive_reassembly.specs.Joins.{FindsJoins};
 ghost use Rattle.dcsctp_receive_reassembly.specs.Held.{capped_u128};
 
@@ -92,7 +92,7 @@ fn joined(
         + lent_used overhead (lent_run behind.entry))) }
     ensures whole { IfOk result
         (λ whole. whole_of whole
-        ≡ whole_run (merged (lent_run before.entry) (part_of part) (lent_run behind.entry))) }
+        ≡ whole_run (run_with_part (lent_run before.entry) (part_of part) (lent_run behind.entry))) }
 {
     let used = used_by(before, overhead).saturating_add(used_by(behind, overhead));
     let front = before.map_or(0, |(_, run)| size_of_run(run));
@@ -141,7 +141,7 @@ fn keep_alone(alloc: Global, runs: &mut BTreeMap<u128, Run>, part: Part) -> Resu
 
 // The part goes to the run before it, which begins at `first`.
 fn keep_before(runs: &mut BTreeMap<u128, Run>, first: u128, part: Part) -> Result<(), AllocError>
-    requires before { RunBeginsAt first
+    requires before { IsRunBeginning first
         (entry_before (count_up_to part.place runs.old.entries) (map run_model runs.old.entries)) }
     ensures ok { OnOk result
         (map run_model runs.new.entries
@@ -162,7 +162,7 @@ fn keep_behind(
 ) -> Result<(), AllocError>
     requires absent { is_held_before (count_up_to part.place runs.old.entries)
         (map run_model runs.old.entries) part.place ≡ false }
-    requires behind { RunBeginsAt next
+    requires behind { IsRunBeginning next
         (slice_get (map run_model runs.old.entries) (count_up_to part.place runs.old.entries)) }
     requires ordered { IsOrdered nat_cmp runs.old }
     ensures ok { OnOk result
@@ -186,9 +186,9 @@ fn keep_between(
     part: Part,
     next: u128,
 ) -> Result<(), AllocError>
-    requires before { RunBeginsAt first
+    requires before { IsRunBeginning first
         (entry_before (count_up_to part.place runs.old.entries) (map run_model runs.old.entries)) }
-    requires behind { RunBeginsAt next
+    requires behind { IsRunBeginning next
         (slice_get (map run_model runs.old.entries) (count_up_to part.place runs.old.entries)) }
     requires ordered { IsOrdered nat_cmp runs.old }
     ensures ok { OnOk result

@@ -5,7 +5,7 @@ ghost use Rattle.std.specs.Option.{option_map};
 ghost use Rattle.std.specs.BTreeMap.{IsOrdered};
 ghost use Rattle.std.specs.Ordering.{nat_cmp};
 ghost use Rattle.dcsctp_receive_ordered_map.specs.Entries.{count_up_to};
-ghost use Rattle.dcsctp_api.specs.spec.queues.Runs.{follows, precedes, following, run_behind, merged, is_whole, holds_some, is_held_before};
+ghost use Rattle.dcsctp_api.specs.spec.queues.Runs.{follows, precedes, following, run_behind, run_with_part, is_whole, holds_some, is_held_before};
 ghost use Rattle.dcsctp_receive_reassembly.specs.Runs.{run_model, part_of, lent_run};
 ghost use Rattle.dcsctp_receive_reassembly.specs.Joins.{FindsJoins};
 
@@ -79,7 +79,7 @@ fn run_behind<'x>(part: &Part, runs: &'x BTreeMap<u128, Run>) -> Option<(u128, &
 // Is the message of the part whole with the runs on both sides?
 fn is_whole(before: Option<(u128, &Run)>, part: &Part, behind: Option<(u128, &Run)>) -> bool
     ensures { result
-        ≡ is_whole (merged (lent_run before.entry) (part_of part.now) (lent_run behind.entry)) }
+        ≡ is_whole (run_with_part (lent_run before.entry) (part_of part.now) (lent_run behind.entry)) }
 {
     let has_beginning = match before {
         Some((_, run)) => run.has_beginning,

@@ -19,8 +19,8 @@ ghost use Rattle.std.specs.Prelude.{
 ghost use Rattle.std.specs.VecDeque.{deque_capacity};
 ghost use Rattle.std.specs.BTreeMap.{IsOrdered, get};
 ghost use Rattle.std.specs.Ordering.{nat_cmp};
-ghost use Rattle.dcsctp_api.specs.spec.queues.Runs.{PartModel, single_run, merged};
-ghost use Rattle.dcsctp_receive_reassembly.specs.Runs.{run_model, part_of, HasRoomForRun, CanLink, CanLinkAt};
+ghost use Rattle.dcsctp_api.specs.spec.queues.Runs.{PartModel, single_run, run_with_part};
+ghost use Rattle.dcsctp_receive_reassembly.specs.Runs.{run_model, part_of, HasRoomForRun, CanLink, CanLinkRuns};
 
 use crate::runs::{Part, Run};
 use std::alloc::AllocError;
@@ -31,7 +31,7 @@ pub fn append(run: &mut Run, part: Part) -> Result<(), AllocError>
     ensures ok { OnOk result
         ((first : ℕ)
         → run_model (first, run.new)
-        ≡ merged (Some (run_model (first, run.old))) (part_of part) None) }
+        ≡ run_with_part (Some (run_model (first, run.old))) (part_of part) None) }
     ensures err { OnErr result
         ((first : ℕ) → run_model (first, run.new) ≡ run_model (first, run.old)) }
 {
@@ -44,7 +44,7 @@ pub fn append(run: &mut Run, part: Part) -> Result<(), AllocError>
 pub fn take_over(run: &mut Run, behind: Run)
     requires { length behind.others.items < deque_capacity behind.others }
     ensures { (next : ℕ) (part : PartModel) → run_model (part.place, run.old) ≡ single_run part
-        → run_model (part.place, run.new) ≡ merged None part (Some (run_model (next, behind))) }
+        → run_model (part.place, run.new) ≡ run_with_part None part (Some (run_model (next, behind))) }
 {
     let Run {
         payload,
@@ -63,7 +63,7 @@ fn link_behind(run: &mut Run, payload: Vec<u8>, behind: Run)
         ≤ deque_capacity run.old.others }
     ensures { (first next : ℕ) (part : PartModel) → part.payload ≡ payload.items
         → run_model (first, run.new)
-        ≡ merged (Some (run_model (first, run.old))) part (Some (run_model (next, behind))) }
+        ≡ run_with_part (Some (run_model (first, run.old))) part (Some (run_model (next, behind))) }
 {
     let Run {
         payload: next,
@@ -94,7 +94,7 @@ fn link_in_front(run: &mut Run, payload: Vec<u8>, behind: Run)
         ≤ deque_capacity behind.others }
     ensures { (first next : ℕ) (part : PartModel) → part.payload ≡ payload.items
         → run_model (first, run.new)
-        ≡ merged (Some (run_model (first, run.old))) part (Some (run_model (next, behind))) }
+        ≡ run_with_part (Some (run_model (first, run.old))) part (Some (run_model (next, behind))) }
 {
     let Run {
         payload: next,
@@ -115,7 +115,7 @@ pub fn link(run: &mut Run, payload: Vec<u8>, behind: Run)
     requires { CanLink run.old behind }
     ensures { (first next : ℕ) (part : PartModel) → part.payload ≡ payload.items
         → run_model (first, run.new)
-        ≡ merged (Some (run_model (first, run.old))) part (Some (run_model (next, behind))) }
+        ≡ run_with_part (Some (run_model (first, run.old))) part (Some (run_model (next, behind))) }
 {
     if behind.others.len() <= run.others.len() {
         link_behind(run, payload, behind);
@@ -155,7 +155,7 @@ pub fn reserve_between(
     requires back { IsSome (get nat_cmp runs.old next) }
     requires ordered { IsOrdered nat_cmp runs.old }
     ensures kept { map run_model runs.new.entries ≡ map run_model runs.old.entries }
-    ensures room { OnOk result (CanLinkAt first next runs.new) }
+    ensures room { OnOk result (CanLinkRuns first next runs.new) }
     ensures ordered { IsOrdered nat_cmp runs.new }
 {
     let front = runs.get(&first).unwrap().others.len();

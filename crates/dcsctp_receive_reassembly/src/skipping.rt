@@ -12,7 +12,7 @@ ghost use Rattle.dcsctp_api.specs.spec.queues.Incoming.{is_named, stream_on, Kee
 ghost use Rattle.dcsctp_api.specs.spec.queues.IncomingStreams.{ready_bytes, kept_stream_used, streams_used};
 ghost use Rattle.dcsctp_api.specs.spec.queues.Runs.{behind_place};
 ghost use Rattle.dcsctp_api.specs.types.queues.Messages.{message_content};
-ghost use Rattle.dcsctp_api.specs.spec.queues.IncomingStreams.{new_stream, skipped_stream, skipped, skip_deliveries, skip_used};
+ghost use Rattle.dcsctp_api.specs.spec.queues.IncomingStreams.{new_stream, skipped_stream, stream_after_skip, skip_deliveries, skip_used};
 ghost use Rattle.dcsctp_receive_reassembly.specs.Reassembly.{incoming_of, entry_of, Balances};
 ghost use Rattle.dcsctp_receive_reassembly.specs.Skipping.{AllMade, room_for};
 

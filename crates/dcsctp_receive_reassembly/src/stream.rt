@@ -14,7 +14,7 @@ ghost use Rattle.dcsctp_api.specs.spec.queues.Readiness.{holds_parts};
 ghost use Rattle.dcsctp_receive_reassembly.specs.declared.stream.Waiting.{Waiting};
 ghost use Rattle.dcsctp_receive_reassembly.specs.Streams.{stream_model, waiting_whole, HoldsPlace, chunk_of};
 ghost use Rattle.dcsctp_receive_reassembly.specs.Counting.{CountsOutcome, CountsPart};
-ghost use Rattle.dcsctp_api.specs.spec.queues.IncomingStreams.{is_number_waiting, is_message_due, delivered_from, deliveries_from, delivered_as, next_after, ready_with, NothingTaken, WaitsAmong, TakesOrdered, TakesAhead, TakesUnordered, UnorderedOutcome, next_past, runs_up_to, skipped, skipped_in_order, skipped_out_of_order, skip_deliveries, skip_used, data_part, TakesOnStream, new_stream};
+ghost use Rattle.dcsctp_api.specs.spec.queues.IncomingStreams.{is_number_waiting, is_message_due, delivered_from, deliveries_from, delivered_as, next_after, ready_with, TakesNothing, WaitsAmong, TakesOrdered, TakesAhead, TakesUnordered, UnorderedOutcome, next_past, runs_up_to, stream_after_skip, skipped_in_order, skipped_out_of_order, skip_deliveries, skip_used, data_part, TakesOnStream, new_stream};
 
 use crate::arrivals::Data;
 use crate::counting::{Counted, NOTHING, kept, waiting_overhead};
@@ -401,7 +401,7 @@ impl Stream {
         requires { part.place / 2 ^ 64 ≡ part.number }
         ensures past { part.number < self.old.next
             → IfOk result
-            (λ counted. NothingTaken counted.taken
+            (λ counted. TakesNothing counted.taken
             × (stream_model self.new ≡ stream_model self.old)
             × (map message_content ready.new.items ≡ map message_content ready.old.items)) }
         ensures ok { self.old.next ≤ part.number
@@ -529,7 +529,7 @@ impl Stream {
         ready: &mut VecDeque<Message>,
     ) -> u128
         requires { deque_len ready.old + btree_map_len self.old.waiting ≤ deque_capacity ready.old }
-        ensures stream { stream_model self.new ≡ skipped entry.now (stream_model self.old) }
+        ensures stream { stream_model self.new ≡ stream_after_skip entry.now (stream_model self.old) }
         ensures ready { map message_content ready.new.items
             ≡ map message_content ready.old.items
             ++ skip_deliveries entry.now (stream_model self.old) }

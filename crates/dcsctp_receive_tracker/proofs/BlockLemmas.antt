@@ -5,7 +5,7 @@ use Rattle.std.specs.Int.{w16, to_be_bytes}
 use Rattle.std.proofs.lemmas.List.{append-nil}
 use Rattle.dcsctp_spec_lemmas.specs.types.declared.tracking.TsnRange.{TsnRange}
 use Rattle.dcsctp_receive_tracker.specs.Received.{range_of}
-use Rattle.dcsctp_spec_lemmas.specs.spec.queues.Ranges.{IsBeyond, is_in}
+use Rattle.dcsctp_spec_lemmas.specs.spec.queues.Ranges.{IsBeyond, is_number_covered}
 use Rattle.dcsctp_receive_tracker.specs.Acknowledging.{IsWithinReach}
 use Rattle.dcsctp_spec_lemmas.specs.spec.queues.Tracker.{block_bytes}
 use Rattle.dcsctp_receive_tracker.proofs.ReceivedLemmas.{inside_test, or_true}
@@ -45,7 +45,7 @@ near_from cumulative from (range ∷ ranges) later beyond near =
     let filled : range.first ≤ range.last = beyond.1 in (
       omega arith,
       filled,
-      near range.last (ap (λ test. test || is_in range.last ranges) (inside_test range.first range.last range.last filled (omega arith))),
+      near range.last (ap (λ test. test || is_number_covered range.last ranges) (inside_test range.first range.last range.last filled (omega arith))),
       near_from cumulative range.last ranges (omega arith) beyond.2 (λ number is. near number (ap (λ test. (nat_le range.first number && nat_le number range.last) || test) is ∙ or_true (nat_le range.first number && nat_le number range.last))),
     )
 

@@ -3,8 +3,8 @@ use Rattle.std.proofs.Common.{◌≡◌, ◌<◌, ◌-◌, ◌^◌, ◌+◌, ℕ
 use Rattle.std.specs.Bool.{IsTrue}
 use Rattle.std.proofs.lemmas.Bool.Decides.{nat_tests}
 use Rattle.dcsctp_spec_lemmas.specs.types.declared.tracking.TsnRange.{TsnRange}
-use Rattle.dcsctp_spec_lemmas.specs.spec.queues.Ranges.{IsBeyond, ReceivesNumber, MovesForwardTo, received, forwarded}
-use Rattle.dcsctp_spec_lemmas.specs.spec.queues.Tracker.{TrackerState, nearest_number, highest, after_arrival, with_duplicate, has_ranges, stopped, is_new_tsn, is_urgent, observed, has_numbers_left, after_forward}
+use Rattle.dcsctp_spec_lemmas.specs.spec.queues.Ranges.{IsBeyond, ReceivesNumber, MovesForwardTo, ranges_with_number, forwarded_ranges}
+use Rattle.dcsctp_spec_lemmas.specs.spec.queues.Tracker.{TrackerState, nearest_number, highest, after_arrival, with_duplicate, has_ranges, stopped_timer, is_new_tsn, is_urgent, tracker_after_data, has_numbers_left, after_forward}
 use Rattle.dcsctp_spec_lemmas.proofs.RangesLemmas.{received_only, forwarded_only}
 use Rattle.dcsctp_receive_tracker.specs.Received.{range_of}
 
@@ -17,23 +17,23 @@ observing tsn immediate is_new tracker cumulative ranges =
       duplicates = with_duplicate tsn is_new tracker.duplicates;
       has_seen_data = true;
       acknowledgement = after_arrival tracker.acknowledgement (is_urgent is_new immediate tracker ranges);
-      delay = stopped tracker.delay;
+      delay = stopped_timer tracker.delay;
     }
 
 pub observes : (tsn : ℕ) (immediate is_new : Bool) (old new : TrackerState) (reached : ℕ) (ranges : List TsnRange) → IsBeyond old.cumulative old.ranges
-    → ReceivesNumber (nearest_number old.cumulative tsn) old.cumulative old.ranges is_new reached ranges → new ≡ observing tsn immediate is_new old reached ranges → new ≡ observed tsn immediate old
+    → ReceivesNumber (nearest_number old.cumulative tsn) old.cumulative old.ranges is_new reached ranges → new ≡ observing tsn immediate is_new old reached ranges → new ≡ tracker_after_data tsn immediate old
 observes tsn immediate is_new old new reached ranges beyond takes is =
     let number = nearest_number old.cumulative tsn in
     let only = received_only number old.cumulative old.ranges is_new reached ranges beyond takes in
     is
     ∙ ap (λ (b : Bool). observing tsn immediate b old reached ranges) takes.answer
     ∙ ap (λ (n : ℕ). observing tsn immediate (is_new_tsn tsn old) old n ranges) only.0
-    ∙ ap (λ (rs : List TsnRange). observing tsn immediate (is_new_tsn tsn old) old (received number old.cumulative old.ranges).cumulative rs) only.1
+    ∙ ap (λ (rs : List TsnRange). observing tsn immediate (is_new_tsn tsn old) old (ranges_with_number number old.cumulative old.ranges).cumulative rs) only.1
 
 -- the same once all up to a TSN counts as received
 abbrev moving : TrackerState → ℕ → List TsnRange → TrackerState
 moving tracker cumulative ranges =
-    record tracker { cumulative = cumulative; ranges = ranges; acknowledgement = after_arrival tracker.acknowledgement false; delay = stopped tracker.delay }
+    record tracker { cumulative = cumulative; ranges = ranges; acknowledgement = after_arrival tracker.acknowledgement false; delay = stopped_timer tracker.delay }
 
 pub moves : (tsn number : ℕ) (old new : TrackerState) (reached : ℕ) (ranges : List TsnRange) → IsBeyond old.cumulative old.ranges → number ≡ nearest_number old.cumulative tsn
     → old.cumulative < 2 ^ 64 - 2 ^ 32 → old.cumulative < number → MovesForwardTo number old.ranges reached ranges → new ≡ moving old reached ranges → new ≡ after_forward tsn old
@@ -44,8 +44,8 @@ moves tsn number old new reached ranges beyond of few above takes is =
     let ahead : nat_lt old.cumulative (nearest_number old.cumulative tsn) ≡ true = grind (arith, nat_tests) in
     rw (left, ahead) (is
     ∙ ap (λ (n : ℕ). moving old n ranges) only.0
-    ∙ ap (λ (rs : List TsnRange). moving old (forwarded number old.cumulative old.ranges).cumulative rs) only.1
-    ∙ ap (λ (n : ℕ). moving old (forwarded n old.cumulative old.ranges).cumulative (forwarded n old.cumulative old.ranges).ranges) of)
+    ∙ ap (λ (rs : List TsnRange). moving old (forwarded_ranges number old.cumulative old.ranges).cumulative rs) only.1
+    ∙ ap (λ (n : ℕ). moving old (forwarded_ranges n old.cumulative old.ranges).cumulative (forwarded_ranges n old.cumulative old.ranges).ranges) of)
 
 -- A tracker has ranges unless its map is empty.
 pub has_entries : (is_empty : Bool) (entries : List (ℕ × ℕ)) → (IsTrue is_empty → length entries ≡ 0) × (length entries ≡ 0 → IsTrue is_empty) → has_ranges (map range_of entries) ≡ not is_empty

@@ -11,8 +11,8 @@ use Rattle.dcsctp_spec_lemmas.specs.spec.queues.Runs.{entry_before}
 use Rattle.dcsctp_receive_ordered_map.proofs.EntryLemmas.{count_within, behind_count, count_places, next_from_some, next_from_none, insert_at, set_at, remove_at, find_key, get-map, entry_before-map}
 use Rattle.dcsctp_spec_lemmas.specs.types.declared.tracking.TsnRange.{TsnRange}
 use Rattle.dcsctp_receive_tracker.specs.Received.{range_of, Removes, Joins, AddsToRanges}
-use Rattle.dcsctp_spec_lemmas.specs.spec.queues.Ranges.{IsBeyond, is_in}
-use Rattle.dcsctp_receive_tracker.proofs.ReceivedLemmas.{end_of, drop-at, IsBeyond-drop, IsBeyond-rest, IsBeyond-later, end_of-before, is_in-below, is_in-neither, is_in-at, Adds-alone, Adds-earlier, Adds-later, Adds-between}
+use Rattle.dcsctp_spec_lemmas.specs.spec.queues.Ranges.{IsBeyond, is_number_covered}
+use Rattle.dcsctp_receive_tracker.proofs.ReceivedLemmas.{end_of, drop-at, IsBeyond-drop, IsBeyond-rest, IsBeyond-later, end_of-before, is_number_covered-below, is_number_covered-neither, is_number_covered-at, Adds-alone, Adds-earlier, Adds-later, Adds-between}
 use Rattle.dcsctp_receive_tracker.proofs.NeighborLemmas.{entry_of}
 
 -- ---- one entry written, and the next one taken out
@@ -105,20 +105,20 @@ module _ (from number : ℕ) (es : List (ℕ × ℕ)) (sorted : Ascends es) (ord
       (λ range is. ends (range.first, range.last) (entry_of (entry_before at es) range (sym (entry_before-map range_of at es) ∙ is)))
 
   -- the number is in no range
-  pub is_in-none : from < number → ((e : ℕ × ℕ) → entry_before at es ≡ Some e → e.1 < number) → is_in number ranges ≡ false
+  pub is_in-none : from < number → ((e : ℕ × ℕ) → entry_before at es ≡ Some e → e.1 < number) → is_number_covered number ranges ≡ false
   is_in-none start ends =
       let past : end_of from (take at ranges) + 0 < number = ends_before 0 (omega arith) (λ e is. let last : e.1 < number = ends e is in omega arith) in
-      is_in-neither number from at ranges ordered (omega arith)
-      (is_in-below number (end_of from (take at ranges)) (drop at ranges) (IsBeyond-drop at from ranges ordered)
+      is_number_covered-neither number from at ranges ordered (omega arith)
+      (is_number_covered-below number (end_of from (take at ranges)) (drop at ranges) (IsBeyond-drop at from ranges ordered)
       (λ range is. behind_count number es sorted at (range.first, range.last) (omega arith) (first_behind range is)))
 
-  inside_at : (i : ℕ) (e : ℕ × ℕ) → entry_before i es ≡ Some e → e.0 ≤ number → number ≤ e.1 → is_in number ranges ≡ true
+  inside_at : (i : ℕ) (e : ℕ × ℕ) → entry_before i es ≡ Some e → e.0 ≤ number → number ≤ e.1 → is_number_covered number ranges ≡ true
   inside_at zero e is above below = absurd (cc)
   inside_at (suc i) e is above below =
-      is_in-at number i ranges (range_of e) (drop (suc i) ranges) (drop-at i ranges (range_of e) (range_at i e es is)) above below
+      is_number_covered-at number i ranges (range_of e) (drop (suc i) ranges) (drop-at i ranges (range_of e) (range_at i e es is)) above below
 
   -- the number is in the range before it
-  pub is_in-before : (e : ℕ × ℕ) → entry_before at es ≡ Some e → number ≤ e.1 → is_in number ranges ≡ true
+  pub is_in-before : (e : ℕ × ℕ) → entry_before at es ≡ Some e → number ≤ e.1 → is_number_covered number ranges ≡ true
   is_in-before e is below = inside_at at e is ((count_places number es sorted).before e is) below
 
   -- no range begins right after the number

@@ -7,7 +7,7 @@ use Rattle.dcsctp_spec_lemmas.specs.spec.queues.Runs.{entry_before}
 use Rattle.dcsctp_receive_ordered_map.proofs.EntryLemmas.{entry_within}
 use Rattle.dcsctp_spec_lemmas.specs.types.declared.tracking.TsnRange.{TsnRange}
 use Rattle.dcsctp_receive_tracker.specs.Received.{IsSpaced, AddsToRanges}
-use Rattle.dcsctp_spec_lemmas.specs.spec.queues.Ranges.{IsBeyond, is_in, ReceivesNumber, MovesForwardTo}
+use Rattle.dcsctp_spec_lemmas.specs.spec.queues.Ranges.{IsBeyond, is_number_covered, ReceivesNumber, MovesForwardTo}
 
 -- the last number of the last range, or this one where there is none
 abbrev pub end_of : ℕ → List TsnRange → ℕ
@@ -35,25 +35,25 @@ or_regrouped : (a b c : Bool) → (a || (b || c)) ≡ ((a || b) || c)
 or_regrouped true b c = refl
 or_regrouped false b c = refl
 
-pub is_in-append : (number : ℕ) (xs ys : List TsnRange) → is_in number (xs ++ ys) ≡ (is_in number xs || is_in number ys)
-is_in-append number [] ys = refl
-is_in-append number (range ∷ xs) ys =
-    ap (λ rest. (nat_le range.first number && nat_le number range.last) || rest) (is_in-append number xs ys)
-    ∙ or_regrouped (nat_le range.first number && nat_le number range.last) (is_in number xs) (is_in number ys)
+pub is_number_covered-append : (number : ℕ) (xs ys : List TsnRange) → is_number_covered number (xs ++ ys) ≡ (is_number_covered number xs || is_number_covered number ys)
+is_number_covered-append number [] ys = refl
+is_number_covered-append number (range ∷ xs) ys =
+    ap (λ rest. (nat_le range.first number && nat_le number range.last) || rest) (is_number_covered-append number xs ys)
+    ∙ or_regrouped (nat_le range.first number && nat_le number range.last) (is_number_covered number xs) (is_number_covered number ys)
 
 -- ---- one more number
 
 -- the tail of the ranges gets the number, and the others stay
-pub Adds-at : (from number i : ℕ) (ranges tail : List TsnRange) → IsBeyond from ranges → IsBeyond (end_of from (take i ranges)) tail → ((other : ℕ) → is_in other tail ≡ (is_in other (drop i ranges) || (other == number))) → AddsToRanges from number ranges (take i ranges ++ tail)
+pub Adds-at : (from number i : ℕ) (ranges tail : List TsnRange) → IsBeyond from ranges → IsBeyond (end_of from (take i ranges)) tail → ((other : ℕ) → is_number_covered other tail ≡ (is_number_covered other (drop i ranges) || (other == number))) → AddsToRanges from number ranges (take i ranges ++ tail)
 Adds-at from number i ranges tail beyond back members =
     record {
       beyond = IsBeyond-append from (take i ranges) tail (IsBeyond-take i from ranges beyond) back;
       members = λ other.
-          is_in-append other (take i ranges) tail
-          ∙ ap (λ rest. is_in other (take i ranges) || rest) (members other)
-          ∙ or_regrouped (is_in other (take i ranges)) (is_in other (drop i ranges)) (other == number)
-          ∙ ap (λ all. all || (other == number)) (sym (is_in-append other (take i ranges) (drop i ranges)))
-          ∙ ap (λ all. is_in other all || (other == number)) (take-append-drop i ranges);
+          is_number_covered-append other (take i ranges) tail
+          ∙ ap (λ rest. is_number_covered other (take i ranges) || rest) (members other)
+          ∙ or_regrouped (is_number_covered other (take i ranges)) (is_number_covered other (drop i ranges)) (other == number)
+          ∙ ap (λ all. all || (other == number)) (sym (is_number_covered-append other (take i ranges) (drop i ranges)))
+          ∙ ap (λ all. is_number_covered other all || (other == number)) (take-append-drop i ranges);
     }
 
 or_swapped : (a b c : Bool) → ((a || b) || c) ≡ ((a || c) || b)
@@ -73,9 +73,9 @@ or_flipped true false = refl
 or_flipped false true = refl
 or_flipped false false = refl
 
-pub is_in-single : (number other : ℕ) (range : TsnRange) (ranges : List TsnRange) → range.first ≡ number → range.last ≡ number → is_in other (range ∷ ranges) ≡ (is_in other ranges || (other == number))
-is_in-single number other range ranges first last =
-    rw (first, last) (ap (λ test. test || is_in other ranges) (single_test number other) ∙ or_flipped (other == number) (is_in other ranges))
+pub is_number_covered-single : (number other : ℕ) (range : TsnRange) (ranges : List TsnRange) → range.first ≡ number → range.last ≡ number → is_number_covered other (range ∷ ranges) ≡ (is_number_covered other ranges || (other == number))
+is_number_covered-single number other range ranges first last =
+    rw (first, last) (ap (λ test. test || is_number_covered other ranges) (single_test number other) ∙ or_flipped (other == number) (is_number_covered other ranges))
 
 -- a range that begins one earlier
 earlier_test : (first last number other : ℕ) → number + 1 ≡ first → first ≤ last → (nat_le number other && nat_le other last) ≡ ((nat_le first other && nat_le other last) || (other == number))
@@ -109,26 +109,26 @@ pub inside_test : (first last number : ℕ) → first ≤ number → number ≤ 
 inside_test first last number above below = grind (arith, nat_tests)
 
 -- a number past all ranges
-pub is_in-past : (number from : ℕ) (ranges : List TsnRange) → IsBeyond from ranges → end_of from ranges < number → is_in number ranges ≡ false
-is_in-past number from [] beyond past = refl
-is_in-past number from (range ∷ ranges) beyond past =
+pub is_number_covered-past : (number from : ℕ) (ranges : List TsnRange) → IsBeyond from ranges → end_of from ranges < number → is_number_covered number ranges ≡ false
+is_number_covered-past number from [] beyond past = refl
+is_number_covered-past number from (range ∷ ranges) beyond past =
     let last : range.last ≤ end_of range.last ranges = end_of-above range.last ranges beyond.2 in
-    rw (above_test range.first range.last number (omega arith)) (is_in-past number range.last ranges beyond.2 past)
+    rw (above_test range.first range.last number (omega arith)) (is_number_covered-past number range.last ranges beyond.2 past)
 
 -- a number before all ranges
-pub is_in-before : (number from : ℕ) (ranges : List TsnRange) → IsBeyond from ranges → number ≤ from + 1 → is_in number ranges ≡ false
-is_in-before number from [] beyond before = refl
-is_in-before number from (range ∷ ranges) beyond before =
+pub is_number_covered-before : (number from : ℕ) (ranges : List TsnRange) → IsBeyond from ranges → number ≤ from + 1 → is_number_covered number ranges ≡ false
+is_number_covered-before number from [] beyond before = refl
+is_number_covered-before number from (range ∷ ranges) beyond before =
     let gap : from + 1 < range.first = beyond.0 in
     let filled : range.first ≤ range.last = beyond.1 in
-    rw (below_test range.first range.last number (omega arith)) (is_in-before number range.last ranges beyond.2 (omega arith))
+    rw (below_test range.first range.last number (omega arith)) (is_number_covered-before number range.last ranges beyond.2 (omega arith))
 
 -- a number that is in no range up to a place, nor in one after it
-pub is_in-neither : (number from i : ℕ) (ranges : List TsnRange) → IsBeyond from ranges → end_of from (take i ranges) < number → is_in number (drop i ranges) ≡ false → is_in number ranges ≡ false
-is_in-neither number from i ranges beyond before behind =
-    ap (λ all. is_in number all) (sym (take-append-drop i ranges))
-    ∙ is_in-append number (take i ranges) (drop i ranges)
-    ∙ ap (λ front. front || is_in number (drop i ranges)) (is_in-past number from (take i ranges) (IsBeyond-take i from ranges beyond) before)
+pub is_number_covered-neither : (number from i : ℕ) (ranges : List TsnRange) → IsBeyond from ranges → end_of from (take i ranges) < number → is_number_covered number (drop i ranges) ≡ false → is_number_covered number ranges ≡ false
+is_number_covered-neither number from i ranges beyond before behind =
+    ap (λ all. is_number_covered number all) (sym (take-append-drop i ranges))
+    ∙ is_number_covered-append number (take i ranges) (drop i ranges)
+    ∙ ap (λ front. front || is_number_covered number (drop i ranges)) (is_number_covered-past number from (take i ranges) (IsBeyond-take i from ranges beyond) before)
     ∙ behind
 
 pub or_true : (a : Bool) → (a || true) ≡ true
@@ -136,13 +136,13 @@ or_true true = refl
 or_true false = refl
 
 -- a number that is in the range at a place
-pub is_in-at : (number i : ℕ) (ranges : List TsnRange) (range : TsnRange) (rest : List TsnRange) → drop i ranges ≡ range ∷ rest → range.first ≤ number → number ≤ range.last → is_in number ranges ≡ true
-is_in-at number i ranges range rest at above below =
-    ap (λ all. is_in number all) (sym (take-append-drop i ranges))
-    ∙ is_in-append number (take i ranges) (drop i ranges)
-    ∙ ap (λ behind. is_in number (take i ranges) || is_in number behind) at
-    ∙ ap (λ test. is_in number (take i ranges) || (test || is_in number rest)) (inside_test range.first range.last number above below)
-    ∙ or_true (is_in number (take i ranges))
+pub is_number_covered-at : (number i : ℕ) (ranges : List TsnRange) (range : TsnRange) (rest : List TsnRange) → drop i ranges ≡ range ∷ rest → range.first ≤ number → number ≤ range.last → is_number_covered number ranges ≡ true
+is_number_covered-at number i ranges range rest at above below =
+    ap (λ all. is_number_covered number all) (sym (take-append-drop i ranges))
+    ∙ is_number_covered-append number (take i ranges) (drop i ranges)
+    ∙ ap (λ behind. is_number_covered number (take i ranges) || is_number_covered number behind) at
+    ∙ ap (λ test. is_number_covered number (take i ranges) || (test || is_number_covered number rest)) (inside_test range.first range.last number above below)
+    ∙ or_true (is_number_covered number (take i ranges))
 
 -- ---- the ways in which a number is added
 
@@ -158,16 +158,16 @@ or_covered a number other f covered = go (other == number) refl
     go false differs = sym (or_false (f other))
 
 -- it is there already
-pub Adds-none : (from number : ℕ) (ranges : List TsnRange) → IsBeyond from ranges → is_in number ranges ≡ true → AddsToRanges from number ranges ranges
+pub Adds-none : (from number : ℕ) (ranges : List TsnRange) → IsBeyond from ranges → is_number_covered number ranges ≡ true → AddsToRanges from number ranges ranges
 Adds-none from number ranges beyond there =
-    record { beyond = beyond; members = λ other. or_covered true number other (λ n. is_in n ranges) there }
+    record { beyond = beyond; members = λ other. or_covered true number other (λ n. is_number_covered n ranges) there }
 
 -- alone
 pub Adds-alone : (from number i : ℕ) (ranges : List TsnRange) → IsBeyond from ranges → end_of from (take i ranges) + 1 < number → IsBeyond number (drop i ranges) → AddsToRanges from number ranges (take i ranges ++ record { first = number; last = number } ∷ drop i ranges)
 Adds-alone from number i ranges beyond past apart =
     Adds-at from number i ranges (record { first = number; last = number } ∷ drop i ranges) beyond
     (past, omega arith, apart)
-    (λ other. is_in-single number other (record { first = number; last = number }) (drop i ranges) refl refl)
+    (λ other. is_number_covered-single number other (record { first = number; last = number }) (drop i ranges) refl refl)
 
 -- before the first of a range
 pub Adds-earlier : (from number i : ℕ) (ranges : List TsnRange) (range : TsnRange) (rest : List TsnRange) → IsBeyond from ranges → end_of from (take i ranges) + 1 < number → drop i ranges ≡ range ∷ rest → number + 1 ≡ range.first → AddsToRanges from number ranges (take i ranges ++ record { first = number; last = range.last } ∷ rest)
@@ -177,9 +177,9 @@ Adds-earlier from number i ranges range rest beyond past at touching =
     Adds-at from number i ranges (record { first = number; last = range.last } ∷ rest) beyond
     (past, omega arith, back.2)
     (λ other.
-    ap (λ test. test || is_in other rest) (earlier_test range.first range.last number other touching filled)
-    ∙ or_swapped (nat_le range.first other && nat_le other range.last) (other == number) (is_in other rest)
-    ∙ ap (λ tail. is_in other tail || (other == number)) (sym at))
+    ap (λ test. test || is_number_covered other rest) (earlier_test range.first range.last number other touching filled)
+    ∙ or_swapped (nat_le range.first other && nat_le other range.last) (other == number) (is_number_covered other rest)
+    ∙ ap (λ tail. is_number_covered other tail || (other == number)) (sym at))
 
 -- right after the last number of a range, and not touching the next range
 pub Adds-later : (from number i : ℕ) (ranges : List TsnRange) (range : TsnRange) (rest : List TsnRange) → IsBeyond from ranges → drop i ranges ≡ range ∷ rest → range.last + 1 ≡ number → IsBeyond number rest → AddsToRanges from number ranges (take i ranges ++ record { first = range.first; last = number } ∷ rest)
@@ -189,9 +189,9 @@ Adds-later from number i ranges range rest beyond at touching apart =
     Adds-at from number i ranges (record { first = range.first; last = number } ∷ rest) beyond
     (back.0, omega arith, apart)
     (λ other.
-    ap (λ test. test || is_in other rest) (later_test range.first range.last number other touching filled)
-    ∙ or_swapped (nat_le range.first other && nat_le other range.last) (other == number) (is_in other rest)
-    ∙ ap (λ tail. is_in other tail || (other == number)) (sym at))
+    ap (λ test. test || is_number_covered other rest) (later_test range.first range.last number other touching filled)
+    ∙ or_swapped (nat_le range.first other && nat_le other range.last) (other == number) (is_number_covered other rest)
+    ∙ ap (λ tail. is_number_covered other tail || (other == number)) (sym at))
 
 -- between two ranges that touch it both
 pub Adds-between : (from number i : ℕ) (ranges : List TsnRange) (range next : TsnRange) (rest : List TsnRange) → IsBeyond from ranges → drop i ranges ≡ range ∷ (next ∷ rest) → range.last + 1 ≡ number → number + 1 ≡ next.first → AddsToRanges from number ranges (take i ranges ++ record { first = range.first; last = next.last } ∷ rest)
@@ -202,10 +202,10 @@ Adds-between from number i ranges range next rest beyond at before after =
     Adds-at from number i ranges (record { first = range.first; last = next.last } ∷ rest) beyond
     (back.0, omega arith, back.2.2)
     (λ other.
-    ap (λ test. test || is_in other rest) (joined_test range.first range.last next.first next.last number other before after filled filled')
-    ∙ or_swapped ((nat_le range.first other && nat_le other range.last) || (nat_le next.first other && nat_le other next.last)) (other == number) (is_in other rest)
-    ∙ ap (λ test. test || (other == number)) (sym (or_regrouped (nat_le range.first other && nat_le other range.last) (nat_le next.first other && nat_le other next.last) (is_in other rest)))
-    ∙ ap (λ tail. is_in other tail || (other == number)) (sym at))
+    ap (λ test. test || is_number_covered other rest) (joined_test range.first range.last next.first next.last number other before after filled filled')
+    ∙ or_swapped ((nat_le range.first other && nat_le other range.last) || (nat_le next.first other && nat_le other next.last)) (other == number) (is_number_covered other rest)
+    ∙ ap (λ test. test || (other == number)) (sym (or_regrouped (nat_le range.first other && nat_le other range.last) (nat_le next.first other && nat_le other next.last) (is_number_covered other rest)))
+    ∙ ap (λ tail. is_number_covered other tail || (other == number)) (sym at))
 
 -- ---- places
 
@@ -227,12 +227,12 @@ IsBeyond-later from number [] beyond later = tt
 IsBeyond-later from number (range ∷ ranges) beyond later = (later range refl, beyond.1, beyond.2)
 
 -- a number before the first of the ranges
-pub is_in-below : (number from : ℕ) (ranges : List TsnRange) → IsBeyond from ranges → ((range : TsnRange) → slice_get ranges 0 ≡ Some range → number < range.first) → is_in number ranges ≡ false
-is_in-below number from [] beyond below = refl
-is_in-below number from (range ∷ ranges) beyond below =
+pub is_number_covered-below : (number from : ℕ) (ranges : List TsnRange) → IsBeyond from ranges → ((range : TsnRange) → slice_get ranges 0 ≡ Some range → number < range.first) → is_number_covered number ranges ≡ false
+is_number_covered-below number from [] beyond below = refl
+is_number_covered-below number from (range ∷ ranges) beyond below =
     let first : number < range.first = below range refl in
     let filled : range.first ≤ range.last = beyond.1 in
-    rw (below_test range.first range.last number first) (is_in-before number range.last ranges beyond.2 (omega arith))
+    rw (below_test range.first range.last number first) (is_number_covered-before number range.last ranges beyond.2 (omega arith))
 
 -- where the ranges up to a place end
 end_of-at : (from i : ℕ) (ranges : List TsnRange) (range : TsnRange) → slice_get ranges i ≡ Some range → end_of from (take (suc i) ranges) ≡ range.last
@@ -267,12 +267,12 @@ pub Receives-next : (number cumulative : ℕ) (old : List TsnRange) (reached : �
 Receives-next number cumulative old reached new next beyond advances =
     let forward : number ≤ reached = advances.forward in
     record {
-      answer = ap not (sym (ap (λ test. test || is_in number old) (next_is_new cumulative number next) ∙ is_in-before number cumulative old beyond (omega arith)));
+      answer = ap not (sym (ap (λ test. test || is_number_covered number old) (next_is_new cumulative number next) ∙ is_number_covered-before number cumulative old beyond (omega arith)));
       forward = omega arith;
       beyond = advances.beyond;
       members = λ other.
           advances.members other
-          ∙ ap (λ test. test || is_in other old) (next_test cumulative number other next)
-          ∙ or_swapped (nat_le other cumulative) (other == number) (is_in other old);
+          ∙ ap (λ test. test || is_number_covered other old) (next_test cumulative number other next)
+          ∙ or_swapped (nat_le other cumulative) (other == number) (is_number_covered other old);
       known = λ never. absurd (cc);
     }

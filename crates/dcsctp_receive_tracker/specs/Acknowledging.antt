@@ -4,12 +4,12 @@ use Rattle.dcsctp_spec_lemmas.specs.types.declared.tracking.TsnRange.{TsnRange}
 use Rattle.dcsctp_spec_lemmas.specs.types.declared.tracking.AckState.{AckState}
 use Rattle.dcsctp_spec_lemmas.specs.types.declared.tracking.AckState.TheVariants.{Idle, BecomingDelayed, Delayed, Immediate}
 use Rattle.dcsctp_spec_lemmas.specs.spec.endpoint.Timers.{RunningTimer, TimerModel}
-use Rattle.dcsctp_spec_lemmas.specs.spec.queues.Ranges.{is_in}
+use Rattle.dcsctp_spec_lemmas.specs.spec.queues.Ranges.{is_number_covered}
 use Rattle.dcsctp_spec_lemmas.specs.spec.queues.Tracker.{greatest_distance}
 
 -- No number in the ranges is more than 65,535 beyond the cumulative one.
 abbrev pub IsWithinReach : ℕ → List TsnRange → Type 0
-IsWithinReach cumulative ranges = (number : ℕ) → is_in number ranges ≡ true → number ≤ cumulative + greatest_distance
+IsWithinReach cumulative ranges = (number : ℕ) → is_number_covered number ranges ≡ true → number ≤ cumulative + greatest_distance
 
 -- The timer doesn't start again once it has expired.
 pub record RunsOnce (timer : TimerModel) : Type 0 where

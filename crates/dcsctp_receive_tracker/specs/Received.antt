@@ -2,7 +2,7 @@
 use Rattle.std.specs.Prelude.{◌≡◌, ◌==◌, ℕ, ◌≤◌, ◌||◌, List, [], ◌∷◌, ◌++◌, map, take, drop, suc, slice_get, Option, None, Some}
 use Rattle.std.specs.BTreeMap.{BTreeMap}
 use Rattle.dcsctp_spec_lemmas.specs.types.declared.tracking.TsnRange.{TsnRange}
-use Rattle.dcsctp_spec_lemmas.specs.spec.queues.Ranges.{IsBeyond, is_in}
+use Rattle.dcsctp_spec_lemmas.specs.spec.queues.Ranges.{IsBeyond, is_number_covered}
 
 -- A map holds the ranges. The key of an entry is the first number of a range, and the value is its last.
 abbrev pub range_of : ℕ × ℕ → TsnRange
@@ -29,4 +29,4 @@ Joins written number (Some next) new = Removes next.first (written next.last) ne
 -- The number is added to the ranges beyond a cumulative one, and nothing else.
 pub record AddsToRanges (cumulative number : ℕ) (old new : List TsnRange) : Type 0 where
   pub beyond : IsBeyond cumulative new
-  pub members : (other : ℕ) → is_in other new ≡ (is_in other old || (other == number))
+  pub members : (other : ℕ) → is_number_covered other new ≡ (is_number_covered other old || (other == number))

@@ -8,7 +8,7 @@ ghost use Rattle.std.specs.Int.{w32, to_be_bytes};
 ghost use Rattle.dcsctp_receive_tracker.specs.Received.{ranges_of};
 ghost use Rattle.dcsctp_spec_lemmas.specs.spec.queues.Ranges.{IsBeyond};
 ghost use Rattle.dcsctp_receive_tracker.specs.Acknowledging.{IsWithinReach};
-ghost use Rattle.dcsctp_spec_lemmas.specs.spec.queues.Tracker.{nearest_number, heeds_gap, block_bytes, acknowledgement_delay, after_arrival, is_sack_due, with_duplicate};
+ghost use Rattle.dcsctp_spec_lemmas.specs.spec.queues.Tracker.{nearest_number, comes_into_gap, block_bytes, acknowledgement_delay, after_arrival, is_sack_due, with_duplicate};
 
 use crate::received::{Received, advance};
 use dcsctp_send_timer::Timer;
@@ -67,7 +67,7 @@ fn is_urgent(
 
 // Does data that comes now come into a gap, and does that count (RFC 5681, section 4.2)?
 fn heeds_gap(follows_rfc: bool, received: &Received) -> bool
-    ensures { result ≡ heeds_gap follows_rfc (ranges_of received.now.ranges) }
+    ensures { result ≡ comes_into_gap follows_rfc (ranges_of received.now.ranges) }
 {
     if follows_rfc {
         !received.ranges.is_empty()
@@ -236,8 +236,8 @@ impl Model for DataTracker {
 impl DataTracker {
     ghost use Rattle.std.specs.Prelude.{◌%◌, []};
     ghost use Rattle.dcsctp_receive_tracker.specs.Acknowledging.{RunsWhereDelayed};
-    ghost use Rattle.dcsctp_spec_lemmas.specs.spec.queues.Tracker.{new_tracker, is_valid_tsn, is_new_tsn, observed, is_below_highest, is_first_missing, delay_over, hastened, is_forward, after_forward, after_packet_end, is_acknowledgement_due, acknowledgement_asked, after_moment, stopped, owes_acknowledgement, with_timeout, most_blocks, duplicates_left};
-    ghost use Rattle.dcsctp_spec_lemmas.specs.spec.endpoint.Timers.{running_deadline, expires_at};
+    ghost use Rattle.dcsctp_spec_lemmas.specs.spec.queues.Tracker.{new_tracker, is_valid_tsn, is_new_tsn, tracker_after_data, is_below_highest, is_first_missing, delay_over, hastened_tracker, is_forward, after_forward, after_packet_end, is_acknowledgement_due, acknowledgement_asked, after_moment, stopped_timer, owes_acknowledgement, with_timeout, most_blocks, duplicates_left};
+    ghost use Rattle.dcsctp_spec_lemmas.specs.spec.endpoint.Timers.{running_deadline, is_expired_timer};
 
     /// Nothing was received yet, and `peer_initial_tsn` is the TSN that is to come first. The one before it
     /// counts as received (RFC 9260, section 6.2), which is 2^32 - 1 if the first is 0. Allocates nothing.
@@ -315,7 +315,7 @@ impl DataTracker {
 
     /// An acknowledgement is due at the moment `now`: `handle_timeout` at that moment says so.
     pub fn hasten_acknowledgement(&mut self, now: SocketTime)
-        ensures { self.new ≡ hastened now self.old }
+        ensures { self.new ≡ hastened_tracker now self.old }
     {
         self.acknowledgement = AckState::Delayed;
         self.delay.start_due(now);
@@ -332,7 +332,7 @@ impl DataTracker {
     pub fn observe(&mut self, tsn: u32, immediate_ack: bool) -> Result<bool, AllocError>
         requires { is_valid_tsn self.old.cumulative tsn ≡ true }
         ensures is_new { IfOk result (λ is_new. is_new ≡ is_new_tsn tsn self.old) }
-        ensures ok { OnOk result (self.new ≡ observed tsn immediate_ack self.old) }
+        ensures ok { OnOk result (self.new ≡ tracker_after_data tsn immediate_ack self.old) }
         ensures err { OnErr result (self.new ≡ self.old) }
     {
         let number = number_of(self.received.cumulative, tsn);
@@ -479,7 +479,7 @@ impl DataTracker {
     /// Advances the delay to `now`, and returns whether it is over, so that a SACK is due. Before its
     /// deadline nothing changes.
     pub fn handle_timeout(&mut self, now: SocketTime) -> bool
-        ensures answer { result ≡ expires_at now self.old.delay.running }
+        ensures answer { result ≡ is_expired_timer now self.old.delay.running }
         ensures left { self.new ≡ after_moment now self.old }
     {
         let is_over = self.delay.expire(now);

@@ -19,7 +19,7 @@ ghost use Rattle.std.specs.BTreeMap.{IsOrdered, get, insert_entry, is_at};
 ghost use Rattle.dcsctp_receive_ordered_map.specs.Entries.{count_up_to};
 ghost use Rattle.dcsctp_spec_lemmas.specs.spec.queues.Runs.{entry_before};
 ghost use Rattle.dcsctp_receive_tracker.specs.Received.{range_of, ranges_of, IsSpaced, Joins, AddsToRanges};
-ghost use Rattle.dcsctp_spec_lemmas.specs.spec.queues.Ranges.{IsBeyond, is_in, ReceivesNumber, MovesForwardTo};
+ghost use Rattle.dcsctp_spec_lemmas.specs.spec.queues.Ranges.{IsBeyond, is_number_covered, ReceivesNumber, MovesForwardTo};
 ghost use Rattle.dcsctp_spec_lemmas.specs.spec.queues.Tracker.{highest};
 
 use dcsctp_spec_lemmas::types::TsnRange;
@@ -189,7 +189,7 @@ impl Received {
             (λ _. AddsToRanges self.old.cumulative number (ranges_of self.old.ranges)
             (ranges_of self.new.ranges)) }
         ensures answer { IfOk result
-            (λ is_new. is_new ≡ not (is_in number (ranges_of self.old.ranges))) }
+            (λ is_new. is_new ≡ not (is_number_covered number (ranges_of self.old.ranges))) }
         ensures known { IfOk result
             (λ is_new. is_new ≡ false → ranges_of self.new.ranges ≡ ranges_of self.old.ranges) }
         ensures kept { self.new.cumulative ≡ self.old.cumulative }

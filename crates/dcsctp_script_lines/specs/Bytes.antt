@@ -4,9 +4,9 @@ use Rattle.std.specs.declared.alloc.Global.{Global}
 use Rattle.hex.specs.Hex.{decode_of}
 
 -- a text without its spaces
-abbrev pub digits_in : List ℕ → List ℕ
-digits_in [] = []
-digits_in (byte ∷ text) = if byte == 32 then digits_in text else byte ∷ digits_in text
+abbrev pub text_without_spaces : List ℕ → List ℕ
+text_without_spaces [] = []
+text_without_spaces (byte ∷ text) = if byte == 32 then text_without_spaces text else byte ∷ text_without_spaces text
 
 -- no digits at all, or others than an even number of hexadecimal ones; nor the sign for no bytes
 pub record WritesNone (digits : List ℕ) : Type 0 where

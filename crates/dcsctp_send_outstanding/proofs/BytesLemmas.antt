@@ -13,7 +13,7 @@ use Rattle.dcsctp_api.specs.types.SnapshotItems.{OutstandingPart, outstanding_pa
 use Rattle.dcsctp_api.specs.spec.Soundness.{HasBytes}
 use Rattle.dcsctp_api.specs.spec.queues.Items.{Item}
 use Rattle.dcsctp_api.specs.spec.queues.OutstandingParts.{item_again, state_again}
-use Rattle.dcsctp_api.specs.types.queues.Progress.{is_marked, missed, missed_where, marked_lost, acknowledged, tells_of, progress_changed}
+use Rattle.dcsctp_api.specs.types.queues.Progress.{is_marked, missed_progress, missed_if_told, marked_lost, acknowledged_progress, tells_whether_missing, progress_changed}
 use Rattle.dcsctp_send_outstanding.specs.Outstanding.{KeepsAbandoned, MayChange}
 
 -- ---- items come
@@ -52,13 +52,13 @@ not_both (x ∷ xs) zero item marked_lost at is lt same abandoned =
     cc
 not_both (x ∷ xs) (suc p) item marked_lost at is lt same abandoned = not_both xs p item marked_lost at is (omega arith) same abandoned
 
-missed_stays : (progress : Progress) (state : ItemState) → state ≡ Abandoned → progress.state ≡ Abandoned → (missed state progress).state ≡ Abandoned
+missed_stays : (progress : Progress) (state : ItemState) → state ≡ Abandoned → progress.state ≡ Abandoned → (missed_progress state progress).state ≡ Abandoned
 missed_stays progress InFlight is was = cc
 missed_stays progress Marked is was = cc
 missed_stays progress Acknowledged is was = cc
 missed_stays progress Abandoned is was = was
 
-missed_where_stays : (tells : Bool) (progress : Progress) → progress.state ≡ Abandoned → (missed_where tells progress).state ≡ Abandoned
+missed_where_stays : (tells : Bool) (progress : Progress) → progress.state ≡ Abandoned → (missed_if_told tells progress).state ≡ Abandoned
 missed_where_stays true progress is = missed_stays progress progress.state is is
 missed_where_stays false progress is = is
 
@@ -68,7 +68,7 @@ marked_stays progress Marked is was = cc
 marked_stays progress Acknowledged is was = cc
 marked_stays progress Abandoned is was = was
 
-acknowledged_stays : (progress : Progress) (state : ItemState) → state ≡ Abandoned → progress.state ≡ Abandoned → (acknowledged state progress).state ≡ Abandoned
+acknowledged_stays : (progress : Progress) (state : ItemState) → state ≡ Abandoned → progress.state ≡ Abandoned → (acknowledged_progress state progress).state ≡ Abandoned
 acknowledged_stays progress InFlight is was = cc
 acknowledged_stays progress Marked is was = cc
 acknowledged_stays progress Acknowledged is was = cc
@@ -77,7 +77,7 @@ acknowledged_stays progress Abandoned is was = was
 abandoned_stays : (change : Change) (items : List Item) (p : ℕ) (item : Item) → p < length items → item ≡ get_or items p item → MayChange change p items → item.progress.state ≡ Abandoned
     → (progress_changed change item.progress).state ≡ Abandoned
 abandoned_stays (SendAgain next) items p item lt is may abandoned = absurd (not_both items p item may.item may.at may.is lt is abandoned)
-abandoned_stays (Miss newest) items p item lt is may abandoned = missed_where_stays (tells_of item.progress.sent_before newest) item.progress abandoned
+abandoned_stays (Miss newest) items p item lt is may abandoned = missed_where_stays (tells_whether_missing item.progress.sent_before newest) item.progress abandoned
 abandoned_stays Mark items p item lt is may abandoned = marked_stays item.progress item.progress.state abandoned abandoned
 abandoned_stays Acknowledge items p item lt is may abandoned = acknowledged_stays item.progress item.progress.state abandoned abandoned
 abandoned_stays Abandon items p item lt is may abandoned = refl

@@ -6,7 +6,7 @@ use Rattle.std.proofs.lemmas.List.Sums.{sum_by-set, sum_by-cons, sum_by_push, ge
 use Rattle.std.proofs.lemmas.Option.{slice_get_within}
 use Rattle.dcsctp_api.specs.wire.declared.chunk.sack.GapAckBlock.{GapAckBlock}
 use Rattle.dcsctp_api.specs.types.declared.progress.Change.TheVariants.{Acknowledge}
-use Rattle.dcsctp_api.specs.spec.queues.Items.{Item, number_where, item_size, in_flight_size, unacknowledged_size, unacknowledged_count, never_acknowledged_count, marked_count, marked_items, changed_item, changed_between}
+use Rattle.dcsctp_api.specs.spec.queues.Items.{Item, number_or_zero, item_size, in_flight_size, unacknowledged_size, unacknowledged_count, never_acknowledged_count, marked_count, marked_items, changed_item, changed_between}
 use Rattle.dcsctp_send_outstanding.specs.declared.named_places.NamedPlaces.{NamedPlaces}
 use Rattle.dcsctp_api.specs.types.declared.progress.Change.{Change}
 use Rattle.dcsctp_api.specs.types.declared.progress.Progress.{Progress}
@@ -18,7 +18,7 @@ use Rattle.dcsctp_api.specs.spec.Soundness.{HasBytes}
 use Rattle.dcsctp_send_outstanding.specs.NamedPlaces.{AreSettled}
 use Rattle.dcsctp_send_outstanding.specs.Totals.{total_with, total_without, HasRoomInTotals}
 use Rattle.dcsctp_send_outstanding.proofs.BytesLemmas.{bytes_set, bytes_pushed}
-use Rattle.dcsctp_api.specs.spec.queues.Outstanding.{OutstandingState, header_of, reported}
+use Rattle.dcsctp_api.specs.spec.queues.Outstanding.{OutstandingState, header_of, reported_items}
 
 -- a sum of terms that have a bound
 pub sum_bounded : {X : Type 0} (f : X → ℕ) (bound : ℕ) → ((x : X) → f x ≤ bound) → (xs : List X) → sum_by f xs ≤ length xs * bound
@@ -29,7 +29,7 @@ sum_bounded f bound each (x ∷ xs) =
     let whole = sum_by-cons f x xs in
     grind arith
 
-pub counted_bounded : (test : Bool) (number bound : ℕ) → number ≤ bound → number_where test number ≤ bound
+pub counted_bounded : (test : Bool) (number bound : ℕ) → number ≤ bound → number_or_zero test number ≤ bound
 counted_bounded true number bound h = h
 counted_bounded false number bound h = omega arith
 
@@ -236,7 +236,7 @@ le_or_lt a b = grind arith
 pub none_marked : (items : List Item) → ((k : ℕ) (item : Item) → slice_get items k ≡ Some item → is_marked item.progress.state ≡ false) → marked_items items ≡ 0
 none_marked [] each = refl
 none_marked (x ∷ xs) each =
-    let here = ap (λ (b : Bool). number_where b 1) (each 0 x refl) in
+    let here = ap (λ (b : Bool). number_or_zero b 1) (each 0 x refl) in
     let later = none_marked xs (λ k item is. each (suc k) item is) in
     let all = sum_by-cons marked_count x xs in
     omega arith
@@ -247,14 +247,14 @@ none_marked_around cursor items before behind =
     none_marked items (λ k item is. elim (le_or_lt cursor k) [ inl h ↦ behind k item h (slice_get_within items k item is) is | inr h ↦ before k item h is ])
 
 -- one more block
-pub reported_further : (count : ℕ) (blocks : List GapAckBlock) (k : ℕ) (block d : GapAckBlock) (items : List Item) → k < length blocks → block ≡ get_or blocks k d → reported count (take (suc k) blocks) items ≡ changed_between Acknowledge (count + block.start - 1) (count + block.end) (reported count (take k blocks) items)
+pub reported_further : (count : ℕ) (blocks : List GapAckBlock) (k : ℕ) (block d : GapAckBlock) (items : List Item) → k < length blocks → block ≡ get_or blocks k d → reported_items count (take (suc k) blocks) items ≡ changed_between Acknowledge (count + block.start - 1) (count + block.end) (reported_items count (take k blocks) items)
 reported_further count [] k block d items within is = absurd (omega arith)
 reported_further count (x ∷ xs) zero block d items within is =
     ap (λ (b : GapAckBlock). changed_between Acknowledge (count + b.start - 1) (count + b.end) items) (sym is)
 reported_further count (x ∷ xs) (suc k) block d items within is =
     reported_further count xs k block d (changed_between Acknowledge (count + x.start - 1) (count + x.end) items) (omega arith) is
 
-pub length-reported : (count : ℕ) (blocks : List GapAckBlock) (items : List Item) → length (reported count blocks items) ≡ length items
+pub length-reported : (count : ℕ) (blocks : List GapAckBlock) (items : List Item) → length (reported_items count blocks items) ≡ length items
 length-reported count [] items = refl
 length-reported count (x ∷ xs) items =
     length-reported count xs (changed_between Acknowledge (count + x.start - 1) (count + x.end) items)

@@ -2,7 +2,7 @@
 use Rattle.std.proofs.Common.{min, unwrap_or, ◌≡◌, ◌⊎◌, inl, inr, ℕ, zero, suc, ◌+◌, ◌-◌, ◌<◌, ◌≤◌, true, max, Bool, Option, None, Some, List, [], ◌∷◌, length, take, get_or, refl, ap, arith}
 use Rattle.std.specs.List.{slice_get}
 use Rattle.std.proofs.lemmas.Option.{slice_get_within}
-use Rattle.dcsctp_api.specs.spec.queues.Reports.{ShowsMissing, MissesUntil, IsPlaceWithin, NamesItem, IsNewlyAcknowledged, IsLastAt, IsLastPlace}
+use Rattle.dcsctp_api.specs.spec.queues.Reports.{ShowsMissing, MissesUntil, IsPlaceWithin, NamesItem, IsNewlyAcknowledged, IsLastItem, IsLastPlace}
 use Rattle.dcsctp_api.specs.wire.declared.chunk.sack.GapAckBlock.{GapAckBlock}
 use Rattle.dcsctp_api.specs.spec.queues.Items.{Item}
 use Rattle.dcsctp_api.specs.types.queues.Progress.{is_unacknowledged}
@@ -62,7 +62,7 @@ last_either P Q items (Some a) None p q =
     }
 last_either P Q items (Some a) (Some b) p q = go (le_or_lt a b)
   where
-    go : (a ≤ b) ⊎ (b < a) → IsLastAt (λ k x. P k x ⊎ Q k x) items (max a b)
+    go : (a ≤ b) ⊎ (b < a) → IsLastItem (λ k x. P k x ⊎ Q k x) items (max a b)
     go (inl below) =
         let is : max a b ≡ b = omega arith in
         rw is (record {
@@ -113,7 +113,7 @@ has_item (x ∷ xs) zero within = (x, refl)
 has_item (x ∷ xs) (suc k) within = has_item xs k (omega arith)
 
 -- the last item of a row of places
-pub last_of_row : (items : List Item) (start end limit : ℕ) → limit ≡ min end (length items) → start < limit → IsLastAt (λ place item. IsPlaceWithin start end place) items (limit - 1)
+pub last_of_row : (items : List Item) (start end limit : ℕ) → limit ≡ min end (length items) → start < limit → IsLastItem (λ place item. IsPlaceWithin start end place) items (limit - 1)
 last_of_row items start end limit is some =
     let has = has_item items (limit - 1) (omega arith) in
     record {
@@ -153,7 +153,7 @@ newest_first count blocks items found last =
     last
 
 -- an item that is awaited, after which none is
-pub last_awaited : (items : List Item) (start end place : ℕ) (item : Item) → start < place → place ≤ end → slice_get items (place - 1) ≡ Some item → is_unacknowledged item.progress.state ≡ true → ((k : ℕ) (x : Item) → place ≤ k → k < end → slice_get items k ≡ Some x → is_unacknowledged x.progress.state ≡ true → ⊥) → IsLastAt (λ k x. IsPlaceWithin start end k × (is_unacknowledged x.progress.state ≡ true)) items (place - 1)
+pub last_awaited : (items : List Item) (start end place : ℕ) (item : Item) → start < place → place ≤ end → slice_get items (place - 1) ≡ Some item → is_unacknowledged item.progress.state ≡ true → ((k : ℕ) (x : Item) → place ≤ k → k < end → slice_get items k ≡ Some x → is_unacknowledged x.progress.state ≡ true → ⊥) → IsLastItem (λ k x. IsPlaceWithin start end k × (is_unacknowledged x.progress.state ≡ true)) items (place - 1)
 last_awaited items start end place item from to at awaited none_behind =
     record {
       item = item;

@@ -12,13 +12,13 @@ use Rattle.dcsctp_api.specs.types.declared.progress.Change.TheVariants.{SendAgai
 use Rattle.dcsctp_api.specs.types.declared.progress.ItemState.{ItemState}
 use Rattle.dcsctp_api.specs.types.declared.progress.ItemState.TheVariants.{InFlight, Marked, Acknowledged, Abandoned}
 use Rattle.dcsctp_api.specs.types.declared.progress.Progress.{Progress}
-use Rattle.dcsctp_api.specs.types.queues.Progress.{progress_changed, tells_of, missed, missed_where, marked_lost, acknowledged, is_in_flight, is_unacknowledged}
-use Rattle.dcsctp_send_outstanding.specs.Settled.{is_settled, leaves_settled, is_left_by, is_unsettled_by}
+use Rattle.dcsctp_api.specs.types.queues.Progress.{progress_changed, tells_whether_missing, missed_progress, missed_if_told, marked_lost, acknowledged_progress, is_in_flight, is_unacknowledged}
+use Rattle.dcsctp_send_outstanding.specs.Settled.{is_settled, leaves_settled, is_left_unchanged, is_unsettled}
 use Rattle.dcsctp_send_outstanding.specs.declared.totals.Totals.{Totals}
 use Rattle.dcsctp_send_outstanding.specs.Outstanding.{AreItemsKept, later_of}
-use Rattle.dcsctp_api.specs.spec.queues.Outstanding.{reported}
-use Rattle.dcsctp_api.specs.spec.queues.Reports.{IsPlaceWithin, NamesItem, IsLastAt, IsLastPlace}
-use Rattle.dcsctp_send_outstanding.specs.NamedPlaces.{IsNamedPlace, IsSettledAt, AreSettled, AreSettledBetween, BlocksAreSettled, IsLeftBetween}
+use Rattle.dcsctp_api.specs.spec.queues.Outstanding.{reported_items}
+use Rattle.dcsctp_api.specs.spec.queues.Reports.{IsPlaceWithin, NamesItem, IsLastItem, IsLastPlace}
+use Rattle.dcsctp_send_outstanding.specs.NamedPlaces.{IsNamedPlace, IsSettledItem, AreSettled, AreSettledBetween, BlocksAreSettled, IsLeftBetween}
 use Rattle.dcsctp_send_outstanding.proofs.ItemsLemmas.{le_or_lt}
 use Rattle.dcsctp_send_outstanding.proofs.MessageLemmas.{index_at}
 use Rattle.dcsctp_send_outstanding.proofs.ReportLemmas.{has_item, last_either}
@@ -26,16 +26,16 @@ use Rattle.dcsctp_send_outstanding.proofs.ReportLemmas.{has_item, last_either}
 -- ---- one item
 
 -- if a miss leaves an item as it is, it does so whether or not the SACK reports on the item
-miss_is_same : (b : Bool) (progress : Progress) → missed progress.state progress ≡ progress → missed_where b progress ≡ progress
+miss_is_same : (b : Bool) (progress : Progress) → missed_progress progress.state progress ≡ progress → missed_if_told b progress ≡ progress
 miss_is_same true progress same = same
 miss_is_same false progress same = refl
 
 -- a change leaves what it is known to leave
-pub left_is_same : (change : Change) (progress : Progress) → is_left_by change progress ≡ true → progress_changed change progress ≡ progress
+pub left_is_same : (change : Change) (progress : Progress) → is_left_unchanged change progress ≡ true → progress_changed change progress ≡ progress
 left_is_same (SendAgain next) progress h = absurd (cc)
-left_is_same (Miss newest) progress h = miss_is_same (tells_of progress.sent_before newest) progress (go progress.state h)
+left_is_same (Miss newest) progress h = miss_is_same (tells_whether_missing progress.sent_before newest) progress (go progress.state h)
   where
-    go : (state : ItemState) → is_left_by (Miss newest) (record progress { state = state }) ≡ true → missed state (record progress { state = state }) ≡ record progress { state = state }
+    go : (state : ItemState) → is_left_unchanged (Miss newest) (record progress { state = state }) ≡ true → missed_progress state (record progress { state = state }) ≡ record progress { state = state }
     go InFlight h = grind (arith, nat_tests)
     go Marked h = refl
     go Acknowledged h = refl
@@ -49,7 +49,7 @@ left_is_same Mark progress h = go progress.state h
     go Abandoned h = refl
 left_is_same Acknowledge progress h = go progress.state progress.was_acknowledged h
   where
-    go : (state : ItemState) (was : Bool) → is_settled (record progress { state = state; was_acknowledged = was }) ≡ true → acknowledged state (record progress { state = state; was_acknowledged = was }) ≡ record progress { state = state; was_acknowledged = was }
+    go : (state : ItemState) (was : Bool) → is_settled (record progress { state = state; was_acknowledged = was }) ≡ true → acknowledged_progress state (record progress { state = state; was_acknowledged = was }) ≡ record progress { state = state; was_acknowledged = was }
     go InFlight was h = absurd (cc)
     go Marked was h = absurd (cc)
     go Acknowledged true h = refl
@@ -65,9 +65,9 @@ settled_is_not_awaited progress h awaited = let both = rw awaited at h in absurd
 -- Most changes are known to leave what is settled.
 pub settled_is_left : (change : Change) (progress : Progress) → leaves_settled change ≡ true → is_settled progress ≡ true → progress_changed change progress ≡ progress
 settled_is_left (SendAgain next) progress leaves h = absurd (cc)
-settled_is_left (Miss newest) progress leaves h = miss_is_same (tells_of progress.sent_before newest) progress (go progress.state h)
+settled_is_left (Miss newest) progress leaves h = miss_is_same (tells_whether_missing progress.sent_before newest) progress (go progress.state h)
   where
-    go : (state : ItemState) → is_settled (record progress { state = state }) ≡ true → missed state (record progress { state = state }) ≡ record progress { state = state }
+    go : (state : ItemState) → is_settled (record progress { state = state }) ≡ true → missed_progress state (record progress { state = state }) ≡ record progress { state = state }
     go InFlight h = absurd (cc)
     go Marked h = refl
     go Acknowledged h = refl
@@ -86,14 +86,14 @@ settled_is_left Abandon progress leaves h = absurd (cc)
 pub acknowledged_is_settled : (progress : Progress) → is_settled (progress_changed Acknowledge progress) ≡ true
 acknowledged_is_settled progress = go progress.state
   where
-    go : (state : ItemState) → is_settled (acknowledged state (record progress { state = state })) ≡ true
+    go : (state : ItemState) → is_settled (acknowledged_progress state (record progress { state = state })) ≡ true
     go InFlight = refl
     go Marked = refl
     go Acknowledged = refl
     go Abandoned = refl
 
 -- What is settled stays so, unless the change is known to unsettle it.
-pub stays_settled : (change : Change) (progress : Progress) → is_unsettled_by change progress ≡ false → is_settled progress ≡ true → is_settled (progress_changed change progress) ≡ true
+pub stays_settled : (change : Change) (progress : Progress) → is_unsettled change progress ≡ false → is_settled progress ≡ true → is_settled (progress_changed change progress) ≡ true
 stays_settled (SendAgain next) progress keeps h = absurd (cc)
 stays_settled (Miss newest) progress keeps h = rw (settled_is_left (Miss newest) progress refl h) h
 stays_settled Mark progress keeps h = rw (settled_is_left Mark progress refl h) h
@@ -158,7 +158,7 @@ one_left change place items item at left = sym (none_left_changed change place (
 pub row_is_settled : (named : NamedPlaces) (items : List Item) (start end : ℕ) → AreSettled named items → ((k : ℕ) → start ≤ k → k < end → IsNamedPlace named k) → AreSettledBetween start end items
 row_is_settled named items start end settled row k item from to at = go (settled k (row k from to))
   where
-    go : IsSettledAt items k → is_settled item.progress ≡ true
+    go : IsSettledItem items k → is_settled item.progress ≡ true
     go was = ap (λ (x : Item). is_settled x.progress) (same_at items k item was.item at was.at) ∙ was.is
 
 pub row_is_left : (change : Change) (start end : ℕ) (items : List Item) → leaves_settled change ≡ true → AreSettledBetween start end items → IsLeftBetween change start end items
@@ -175,7 +175,7 @@ get_replaced (y ∷ ys) (suc place) (suc k) new x h =
     elim (get_replaced ys place k new x h) [ inl e ↦ inl (ap suc e.0, e.1) | inr e ↦ inr e ]
 
 -- one item is changed
-pub settled_replaced : (change : Change) (old named : NamedPlaces) (items : List Item) (place : ℕ) (item : Item) (progress : Progress) (unsettles : Bool) → AreSettled old items → item ≡ get_or items place item → progress ≡ progress_changed change item.progress → unsettles ≡ is_unsettled_by change item.progress → ((k : ℕ) → IsNamedPlace named k → (unsettles ≡ false) × IsNamedPlace old k) → AreSettled named (set items place (record item { progress = progress }))
+pub settled_replaced : (change : Change) (old named : NamedPlaces) (items : List Item) (place : ℕ) (item : Item) (progress : Progress) (unsettles : Bool) → AreSettled old items → item ≡ get_or items place item → progress ≡ progress_changed change item.progress → unsettles ≡ is_unsettled change item.progress → ((k : ℕ) → IsNamedPlace named k → (unsettles ≡ false) × IsNamedPlace old k) → AreSettled named (set items place (record item { progress = progress }))
 settled_replaced change old named items place item progress unsettles settled is e test keeps k is_named =
     let kept = keeps k is_named in
     let was = settled k kept.1 in
@@ -198,7 +198,7 @@ settled_pushed named items new settled k is_named =
     let was = settled k is_named in
     record { item = was.item; at = get_pushed items k new was.item was.at; is = was.is }
 
-settled_behind : (item : Item) (items : List Item) (k : ℕ) → IsSettledAt (item ∷ items) (k + 1) → IsSettledAt items k
+settled_behind : (item : Item) (items : List Item) (k : ℕ) → IsSettledItem (item ∷ items) (k + 1) → IsSettledItem items k
 settled_behind item items k was = record { item = was.item; at = rw add-one at was.at; is = was.is }
 
 -- the first item is removed
@@ -247,14 +247,14 @@ acknowledging_keeps start end items k y h settled =
       | inr e ↦ ap (λ (x : Item). is_settled x.progress) e ∙ acknowledged_is_settled from.0.progress
     ]
 
-reporting_keeps : (count : ℕ) (blocks : List GapAckBlock) (items : List Item) (k : ℕ) (y : Item) → slice_get (reported count blocks items) k ≡ Some y → ((x : Item) → slice_get items k ≡ Some x → is_settled x.progress ≡ true) → is_settled y.progress ≡ true
+reporting_keeps : (count : ℕ) (blocks : List GapAckBlock) (items : List Item) (k : ℕ) (y : Item) → slice_get (reported_items count blocks items) k ≡ Some y → ((x : Item) → slice_get items k ≡ Some x → is_settled x.progress ≡ true) → is_settled y.progress ≡ true
 reporting_keeps count [] items k y h settled = settled y h
 reporting_keeps count (block ∷ blocks) items k y h settled =
     reporting_keeps count blocks (changed_between Acknowledge (count + block.start - 1) (count + block.end) items) k y h
     (λ x at. acknowledging_keeps (count + block.start - 1) (count + block.end) items k x at settled)
 
 -- what the blocks name is settled, once it is acknowledged
-pub reported_is_settled : (count : ℕ) (blocks : List GapAckBlock) (items : List Item) → BlocksAreSettled count blocks (reported count blocks items)
+pub reported_is_settled : (count : ℕ) (blocks : List GapAckBlock) (items : List Item) → BlocksAreSettled count blocks (reported_items count blocks items)
 reported_is_settled count [] items k y named h = absurd named
 reported_is_settled count (block ∷ blocks) items k y (inl here) h =
     reporting_keeps count blocks (changed_between Acknowledge (count + block.start - 1) (count + block.end) items) k y h (λ x at. go x at)
@@ -287,7 +287,7 @@ pub none_awaited : (items : List Item) (start : ℕ) → IsLastPlace (IsAwaitedW
 none_awaited items start k item at awaited = let a = awaited.0.0 in let b = awaited.0.1 in absurd (omega arith)
 
 -- a row of one place
-pub awaited_here : (items : List Item) (place : ℕ) (item : Item) → slice_get items place ≡ Some item → is_unacknowledged item.progress.state ≡ true → IsLastAt (IsAwaitedWithin place (place + 1)) items place
+pub awaited_here : (items : List Item) (place : ℕ) (item : Item) → slice_get items place ≡ Some item → is_unacknowledged item.progress.state ≡ true → IsLastItem (IsAwaitedWithin place (place + 1)) items place
 awaited_here items place item at awaited =
     record { item = item; at = at; holds = ((omega arith, omega arith), awaited); last = λ k x behind there holds. let to = holds.0.1 in absurd (omega arith) }
 

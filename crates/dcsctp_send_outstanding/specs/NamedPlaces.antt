@@ -19,14 +19,14 @@ pub record IsNamedPlace (named : NamedPlaces) (place : ℕ) : Type 0 where
   pub fits : row.end < 2 ^ 64
 
 -- the item at this place is settled
-pub record IsSettledAt (items : List Item) (place : ℕ) : Type 0 where
+pub record IsSettledItem (items : List Item) (place : ℕ) : Type 0 where
   pub item : Item
   pub at : slice_get items place ≡ Some item
   pub is : is_settled item.progress ≡ true
 
 -- There is an item at each place that is named, and it is settled.
 abbrev pub AreSettled : NamedPlaces → List Item → Type 0
-AreSettled named items = (place : ℕ) → IsNamedPlace named place → IsSettledAt items place
+AreSettled named items = (place : ℕ) → IsNamedPlace named place → IsSettledItem items place
 
 -- the items from place `start` to before place `end` are settled
 abbrev pub AreSettledBetween : ℕ → ℕ → List Item → Type 0

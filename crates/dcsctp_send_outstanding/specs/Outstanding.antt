@@ -11,7 +11,7 @@ use Rattle.dcsctp_send_outstanding.specs.declared.totals.Totals.{Totals}
 use Rattle.dcsctp_send_outstanding.specs.NamedPlaces.{AreSettled}
 use Rattle.dcsctp_api.specs.spec.queues.Outstanding.{OutstandingState, header_of, tsn_at, next_tsn, distance_to, acknowledged_count}
 use Rattle.dcsctp_api.specs.types.queues.Progress.{just_sent, is_marked}
-use Rattle.dcsctp_api.specs.spec.queues.NextItem.{NoneMarkedBefore, IsMarkedAt}
+use Rattle.dcsctp_api.specs.spec.queues.NextItem.{NoneMarkedBefore, IsMarkedItem}
 use Rattle.dcsctp_api.specs.spec.Soundness.{HasBytes}
 
 -- The TSN of each item leads to its place.
@@ -52,7 +52,7 @@ KeepsAbandoned Abandon = Unit {0}
 
 -- Only an item that waits for it is sent again.
 abbrev pub MayChange : Change → ℕ → List Item → Type 0
-MayChange (SendAgain next) place items = IsMarkedAt place items
+MayChange (SendAgain next) place items = IsMarkedItem place items
 MayChange (Miss newest) place items = Unit {0}
 MayChange Mark place items = Unit {0}
 MayChange Acknowledge place items = Unit {0}

@@ -18,17 +18,17 @@ leaves_settled Acknowledge = true
 leaves_settled Abandon = false
 
 -- The change is known to leave it as it is.
-abbrev pub is_left_by : Change → Progress → Bool
-is_left_by (SendAgain next) progress = false
-is_left_by (Miss newest) progress = if is_in_flight progress.state then not (nat_lt progress.misses 3) else true
-is_left_by Mark progress = not (is_in_flight progress.state)
-is_left_by Acknowledge progress = is_settled progress
-is_left_by Abandon progress = false
+abbrev pub is_left_unchanged : Change → Progress → Bool
+is_left_unchanged (SendAgain next) progress = false
+is_left_unchanged (Miss newest) progress = if is_in_flight progress.state then not (nat_lt progress.misses 3) else true
+is_left_unchanged Mark progress = not (is_in_flight progress.state)
+is_left_unchanged Acknowledge progress = is_settled progress
+is_left_unchanged Abandon progress = false
 
 -- what is settled is so no more after the change
-abbrev pub is_unsettled_by : Change → Progress → Bool
-is_unsettled_by (SendAgain next) progress = is_settled progress
-is_unsettled_by (Miss newest) progress = false
-is_unsettled_by Mark progress = false
-is_unsettled_by Acknowledge progress = false
-is_unsettled_by Abandon progress = false
+abbrev pub is_unsettled : Change → Progress → Bool
+is_unsettled (SendAgain next) progress = is_settled progress
+is_unsettled (Miss newest) progress = false
+is_unsettled Mark progress = false
+is_unsettled Acknowledge progress = false
+is_unsettled Abandon progress = false

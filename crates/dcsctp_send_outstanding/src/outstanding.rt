@@ -65,7 +65,7 @@ impl Outstanding {
     ghost use Rattle.dcsctp_api.specs.types.declared.progress.Change.TheVariants.{SendAgain};
     ghost use Rattle.dcsctp_api.specs.spec.queues.Items.{item_size, bytes_in_flight, unacknowledged_bytes, unacknowledged_items, never_acknowledged_items, marked_items, changed_between};
     ghost use Rattle.dcsctp_api.specs.types.queues.Progress.{is_marked};
-    ghost use Rattle.dcsctp_api.specs.spec.queues.NextItem.{IsNextMarked, HasNone, IsMarkedAt};
+    ghost use Rattle.dcsctp_api.specs.spec.queues.NextItem.{IsNextMarked, HasNone, IsMarkedItem};
     ghost use Rattle.dcsctp_send_outstanding.specs.Outstanding.{FindsPlaces, KeepsAbandoned, MayChange, TriesNext, NoneMarkedBetween};
     ghost use Rattle.dcsctp_api.specs.spec.queues.Outstanding.{header, next_tsn, tsn_at, distance_to, is_untouched};
     ghost use Rattle.dcsctp_send_outstanding.specs.Handing.{TriesItem};
@@ -302,7 +302,7 @@ impl Outstanding {
     /// Sends the item at the place again, before the TSN that is sent next for the first time.
     #[inline(always)]
     pub fn send_again(&mut self, place: usize, next: u32)
-        requires { IsMarkedAt place self.old.items }
+        requires { IsMarkedItem place self.old.items }
         ensures { self.new
             ≡ record self.old {
               items = changed_between (SendAgain next) place (place + 1)
@@ -333,7 +333,7 @@ impl Outstanding {
     // The first place from `start` on with an item that waits to be sent again.
     fn marked_from(&self, start: usize) -> Option<usize>
         ensures some { IfSome result
-            (λ place. IsMarkedAt place self.now.items
+            (λ place. IsMarkedItem place self.now.items
             × NoneMarkedBetween start place self.now.items) }
         ensures none { IfNone result
             (NoneMarkedBetween start (length self.now.items) self.now.items) }

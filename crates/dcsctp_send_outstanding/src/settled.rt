@@ -1,7 +1,7 @@
 //! What is settled: acknowledged by a SACK, and not to be acknowledged again. Blocks of later SACKs name it again.
 
 ghost use Rattle.std.specs.Prelude.{◌≡◌};
-ghost use Rattle.dcsctp_send_outstanding.specs.Settled.{is_settled, leaves_settled, is_left_by, is_unsettled_by};
+ghost use Rattle.dcsctp_send_outstanding.specs.Settled.{is_settled, leaves_settled, is_left_unchanged, is_unsettled};
 
 use dcsctp_api::types::{Change, Progress};
 
@@ -28,7 +28,7 @@ pub fn is_settled(progress: Progress) -> bool
 
 /// Does the change leave it as it is? Not each such change is known.
 pub fn is_left_by(change: Change, progress: Progress) -> bool
-    ensures { result ≡ is_left_by change progress }
+    ensures { result ≡ is_left_unchanged change progress }
 {
     match change {
         Change::Miss(_) => {
@@ -46,7 +46,7 @@ pub fn is_left_by(change: Change, progress: Progress) -> bool
 
 /// Is it settled, and not after the change?
 pub fn is_unsettled_by(change: Change, progress: Progress) -> bool
-    ensures { result ≡ is_unsettled_by change progress }
+    ensures { result ≡ is_unsettled change progress }
 {
     match change {
         Change::SendAgain(_) => is_settled(progress),

@@ -1,7 +1,7 @@
 //! The sums over all items that are asked for with each packet.
 
 ghost use Rattle.std.specs.Prelude.{◌≡◌};
-ghost use Rattle.dcsctp_api.specs.spec.queues.Items.{number_where};
+ghost use Rattle.dcsctp_api.specs.spec.queues.Items.{number_or_zero};
 
 use dcsctp_api::types::Progress;
 
@@ -25,7 +25,7 @@ pub struct Totals {
 }
 
 fn counted(test: bool, number: usize) -> usize
-    ensures { result ≡ number_where test number }
+    ensures { result ≡ number_or_zero test number }
 {
     if test { number } else { 0 }
 }

@@ -1,10 +1,10 @@
 -- Lemmas on the first part of a list of events.
 use Rattle.std.proofs.Common.{◌≡◌, ◌∙◌, ℕ, List, ◌++◌, append_assoc, sym, ap}
 use Rattle.dcsctp_api.specs.spec.endpoint.Event.{Event}
-use Rattle.dcsctp_send_streams.specs.Telling.{TellsFront}
+use Rattle.dcsctp_send_streams.specs.Telling.{AddsFront}
 
 -- more was to follow
-pub front_left : (before whole more after : List (Event (List ℕ))) → TellsFront before whole after → TellsFront before (whole ++ more) after
+pub front_left : (before whole more after : List (Event (List ℕ))) → AddsFront before whole after → AddsFront before (whole ++ more) after
 front_left before whole more after tells =
     record {
       front = tells.front;
@@ -14,7 +14,7 @@ front_left before whole more after tells =
     }
 
 -- some events came before
-pub front_right : (before first between whole after : List (Event (List ℕ))) → between ≡ before ++ first → TellsFront between whole after → TellsFront before (first ++ whole) after
+pub front_right : (before first between whole after : List (Event (List ℕ))) → between ≡ before ++ first → AddsFront between whole after → AddsFront before (first ++ whole) after
 front_right before first between whole after is tells =
     record {
       front = first ++ tells.front;
@@ -23,6 +23,6 @@ front_right before first between whole after is tells =
       told = tells.told ∙ (ap (λ (es : List (Event (List ℕ))). es ++ tells.front) is ∙ append_assoc before first tells.front);
     }
 
-pub front_from : (before other whole after : List (Event (List ℕ))) → before ≡ other → TellsFront before whole after → TellsFront other whole after
+pub front_from : (before other whole after : List (Event (List ℕ))) → before ≡ other → AddsFront before whole after → AddsFront other whole after
 front_from before other whole after is tells =
     record { front = tells.front; rest = tells.rest; parts = tells.parts; told = tells.told ∙ ap (λ (es : List (Event (List ℕ))). es ++ tells.front) is }

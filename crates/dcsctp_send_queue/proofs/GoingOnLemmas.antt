@@ -3,11 +3,11 @@ use Rattle.std.proofs.Common.{◌≡◌, ◌≢◌, ◌==◌, ◌%◌, nat_le, �
 use Rattle.std.proofs.lemmas.Bool.Decides.{nat_tests}
 use Rattle.std.specs.List.{insert}
 use Rattle.dcsctp_api.specs.spec.endpoint.Event.{Event}
-use Rattle.dcsctp_api.specs.spec.queues.SendQueue.{SendQueueState, stream_changed, with_stream, used, IsUnderWay, CanGoOn}
+use Rattle.dcsctp_api.specs.spec.queues.SendQueue.{SendQueueState, stream_changed, with_stream, used_streams, IsUnderWay, CanGoOn}
 use Rattle.dcsctp_api.specs.types.declared.sending.UnderWay.{UnderWay}
-use Rattle.dcsctp_api.specs.types.queues.SendStreams.{Waiting, Stream, unused, front_of, stream_counted, served, stream_at, IsAscending}
+use Rattle.dcsctp_api.specs.types.queues.SendStreams.{Waiting, Stream, unused_stream, front_of, stream_counted, served_stream, stream_at, IsAscending}
 use Rattle.dcsctp_send_streams.specs.Ranking.{IsFound}
-use Rattle.dcsctp_api.specs.spec.queues.Sending.{Chooses, IsMessageUnderWay, Drops, none, more, reduced, next_turn, begun_message_counted, after_part, after_last, produced, is_last}
+use Rattle.dcsctp_api.specs.spec.queues.Sending.{Chooses, IsMessageUnderWay, Drops, none, more, reduced_queue, next_turn, begun_message_counted, after_part, after_last, queue_after_producing, is_last}
 use Rattle.dcsctp_send_streams.proofs.StreamLemmas.{stream_at-set, length-set_at}
 use Rattle.dcsctp_send_streams.proofs.NextLemmas.{same_place}
 use Rattle.dcsctp_send_queue.proofs.QueueLemmas.{less_test, not_less_test, changed_at, used_found, lost_after, used_lost, changed_insert, stream_at-either, under_way_set}
@@ -68,13 +68,13 @@ counted-number true true s = refl
 pub part_at : (streams : List Stream) (p size amount turn : ℕ) (i b first : Bool) (u next : UnderWay) (message : Waiting)
     → p < length streams → (stream_at streams p).id ≡ u.stream_id.0 → front_of (stream_at streams p).messages ≡ Some message
     → next.stream_id.0 ≡ u.stream_id.0 → 0 < next.sent → next.sent < length message.payload
-    → let reduced = set streams p (record (stream_at streams p) { amount = amount }) in
-    IsUnderWay (if first then set reduced p (served turn (stream_counted i b (stream_at reduced p))) else reduced) next
+    → let reduced_queue = set streams p (record (stream_at streams p) { amount = amount }) in
+    IsUnderWay (if first then set reduced_queue p (served_stream turn (stream_counted i b (stream_at reduced_queue p))) else reduced_queue) next
 part_at streams p size amount turn i b true u next message lt is front same some less =
     let s = record (stream_at streams p) { amount = amount } in
     let len = length-set_at streams p s in
     let at = stream_at-set streams p s lt in
-    let last : Stream = served turn (stream_counted i b (stream_at (set streams p s) p)) in
+    let last : Stream = served_stream turn (stream_counted i b (stream_at (set streams p s) p)) in
     let again = stream_at-set (set streams p s) p last (omega (arith, len)) in
     let more = length-set_at (set streams p s) p last in
     record {
@@ -103,7 +103,7 @@ part_at streams p size amount turn i b false u next message lt is front same som
 pub part_goes : (queue : SendQueueState) (place size : ℕ) (first : Bool) (u next : UnderWay) (message : Waiting)
     → place < length queue.streams → (stream_at queue.streams place).id ≡ u.stream_id.0 → front_of (stream_at queue.streams place).messages ≡ Some message
     → next.stream_id.0 ≡ u.stream_id.0 → 0 < next.sent → next.sent < length message.payload
-    → IsUnderWay (if first then begun_message_counted place message.is_unordered (reduced place size queue) else reduced place size queue).streams next
+    → IsUnderWay (if first then begun_message_counted place message.is_unordered (reduced_queue place size queue) else reduced_queue place size queue).streams next
 part_goes queue place size true u next message lt is front same some less =
     part_at queue.streams place size ((stream_at queue.streams place).amount - size) (next_turn queue) queue.is_interleaved message.is_unordered true u next message lt is front same some less
 part_goes queue place size false u next message lt is front same some less =
@@ -123,17 +123,17 @@ produced_goes queue place max message u false e lt is front some =
 -- the message of a fragment can continue, if it isn't fully sent
 pub can_go_on-produced : (queue : SendQueueState) (place max : ℕ) (message : Waiting) (u : UnderWay) → place < length queue.streams → (stream_at queue.streams place).id ≡ u.stream_id.0
     → front_of (stream_at queue.streams place).messages ≡ Some message → 0 < max
-    → CanGoOn (produced place max message u queue).streams (produced place max message u queue).under_way
+    → CanGoOn (queue_after_producing place max message u queue).streams (queue_after_producing place max message u queue).under_way
 can_go_on-produced queue place max message u lt is front some = produced_goes queue place max message u (is_last max message u) refl lt is front some
 
 -- the message under way is taken on
 pub chosen_going : (now : ℕ) (old : SendQueueState) (place : ℕ) (message : Waiting) (u : UnderWay) (w : Option UnderWay) → w ≡ Some u → (stream_at old.streams place).id ≡ u.stream_id.0 → Chooses now old w old place message u
 chosen_going now old place message u w e is = rw e (refl, refl, is)
 
-pub used-found : (queue : SendQueueState) (p id : ℕ) → IsAscending queue.streams → IsFound queue.streams id (Ok p) → used queue id ≡ queue.streams
+pub used-found : (queue : SendQueueState) (p id : ℕ) → IsAscending queue.streams → IsFound queue.streams id (Ok p) → used_streams queue id ≡ queue.streams
 used-found queue p id ascending found = let e = used_found queue.streams p id ascending found in rw e refl
 
-pub used-lost : (queue : SendQueueState) (p id : ℕ) → IsFound queue.streams id (Err p) → used queue id ≡ with_stream (unused id queue.default_priority queue.default_threshold) queue.streams
+pub used-lost : (queue : SendQueueState) (p id : ℕ) → IsFound queue.streams id (Err p) → used_streams queue id ≡ with_stream (unused_stream id queue.default_priority queue.default_threshold) queue.streams
 used-lost queue p id lost = let e = used_lost queue.streams p id lost in rw e refl
 
 pub insert-with_stream : (streams : List Stream) (p : ℕ) (u : Stream) → IsFound streams u.id (Err p) → insert streams p u ≡ with_stream u streams
@@ -149,16 +149,16 @@ insert-with_stream (x ∷ xs) (suc p) u lost =
     rw g (ap (λ ts. x ∷ ts) (insert-with_stream xs p u (lost_after x xs p u.id lost)))
 
 -- a stream that is put in, as it is used first
-pub insert-used : (queue : SendQueueState) (p id : ℕ) → IsFound queue.streams id (Err p) → insert queue.streams p (unused id queue.default_priority queue.default_threshold) ≡ used queue id
-insert-used queue p id lost = insert-with_stream queue.streams p (unused id queue.default_priority queue.default_threshold) lost ∙ sym (used-lost queue p id lost)
+pub insert-used : (queue : SendQueueState) (p id : ℕ) → IsFound queue.streams id (Err p) → insert queue.streams p (unused_stream id queue.default_priority queue.default_threshold) ≡ used_streams queue id
+insert-used queue p id lost = insert-with_stream queue.streams p (unused_stream id queue.default_priority queue.default_threshold) lost ∙ sym (used-lost queue p id lost)
 
 -- a changed stream that is put in, as it is used first
-pub insert-changed : (queue : SendQueueState) (p id : ℕ) (f : Stream → Stream) → IsFound queue.streams id (Err p) → insert queue.streams p (f (unused id queue.default_priority queue.default_threshold)) ≡ stream_changed id f (used queue id)
+pub insert-changed : (queue : SendQueueState) (p id : ℕ) (f : Stream → Stream) → IsFound queue.streams id (Err p) → insert queue.streams p (f (unused_stream id queue.default_priority queue.default_threshold)) ≡ stream_changed id f (used_streams queue id)
 insert-changed queue p id f lost =
-    changed_insert queue.streams p id (unused id queue.default_priority queue.default_threshold) f lost refl ∙ ap (λ ts. stream_changed id f ts) (sym (used-lost queue p id lost))
+    changed_insert queue.streams p id (unused_stream id queue.default_priority queue.default_threshold) f lost refl ∙ ap (λ ts. stream_changed id f ts) (sym (used-lost queue p id lost))
 
 -- a change of a stream that was used
-pub set-changed : (queue : SendQueueState) (p id : ℕ) (f : Stream → Stream) → IsAscending queue.streams → IsFound queue.streams id (Ok p) → set queue.streams p (f (stream_at queue.streams p)) ≡ stream_changed id f (used queue id)
+pub set-changed : (queue : SendQueueState) (p id : ℕ) (f : Stream → Stream) → IsAscending queue.streams → IsFound queue.streams id (Ok p) → set queue.streams p (f (stream_at queue.streams p)) ≡ stream_changed id f (used_streams queue id)
 set-changed queue p id f ascending found =
     changed_at queue.streams p id f ascending found ∙ ap (λ ts. stream_changed id f ts) (sym (used-found queue p id ascending found))
 

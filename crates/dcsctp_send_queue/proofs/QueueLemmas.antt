@@ -5,7 +5,7 @@ use Rattle.std.specs.List.{insert}
 use Rattle.dcsctp_api.specs.types.declared.sending.UnderWay.{UnderWay}
 use Rattle.dcsctp_api.specs.types.queues.SendStreams.{Waiting, Stream, front_of, stream_at, IsBelow, IsAscending}
 use Rattle.dcsctp_send_streams.specs.Ranking.{IsFound}
-use Rattle.dcsctp_api.specs.spec.queues.SendQueue.{stream_changed, with_stream, is_used, found_in, IsUnderWay}
+use Rattle.dcsctp_api.specs.spec.queues.SendQueue.{stream_changed, with_stream, is_used, stream_found, IsUnderWay}
 use Rattle.dcsctp_send_streams.proofs.StreamLemmas.{length-set_at}
 
 pub same_test : (a b : ℕ) → a ≡ b → (a == b) ≡ true
@@ -82,22 +82,22 @@ changed_insert (x ∷ xs) (suc p) id u f lost is =
     let g = less_test x.id u.id (omega (arith, b, is)) in
     rw (g, e) (ap (λ ts. x ∷ ts) (changed_insert xs p id u f (lost_after x xs p id lost) is))
 
-pub found_in-at : (default : Stream) (streams : List Stream) (p id : ℕ) → IsAscending streams → IsFound streams id (Ok p) → found_in default id streams ≡ stream_at streams p
-found_in-at default [] p id ascending found = absurd (let b = found.0 in omega arith)
-found_in-at default (x ∷ xs) zero id ascending found = let e = same_test x.id id found.1 in rw e refl
-found_in-at default (x ∷ xs) (suc p) id ascending found =
+pub stream_found-at : (default : Stream) (streams : List Stream) (p id : ℕ) → IsAscending streams → IsFound streams id (Ok p) → stream_found default id streams ≡ stream_at streams p
+stream_found-at default [] p id ascending found = absurd (let b = found.0 in omega arith)
+stream_found-at default (x ∷ xs) zero id ascending found = let e = same_test x.id id found.1 in rw e refl
+stream_found-at default (x ∷ xs) (suc p) id ascending found =
     let within = found.0 in
     let e = other_test x.id id (let b = IsBelow-out x.id xs ascending.0 p (omega arith) in let s = found.1 in omega (arith, b, s)) in
-    rw e (found_in-at default xs p id ascending.1 (omega arith, found.1))
+    rw e (stream_found-at default xs p id ascending.1 (omega arith, found.1))
 
-pub found_in-none : (default : Stream) (streams : List Stream) (p id : ℕ) → IsFound streams id (Err p) → found_in default id streams ≡ default
-found_in-none default [] p id lost = refl
-found_in-none default (x ∷ xs) zero id lost =
+pub stream_found-none : (default : Stream) (streams : List Stream) (p id : ℕ) → IsFound streams id (Err p) → stream_found default id streams ≡ default
+stream_found-none default [] p id lost = refl
+stream_found-none default (x ∷ xs) zero id lost =
     let e = other_test x.id id (let b = lost.2 zero (omega arith) (omega arith) in omega (arith, b)) in
-    rw e (found_in-none default xs zero id (lost_all x xs id lost))
-found_in-none default (x ∷ xs) (suc p) id lost =
+    rw e (stream_found-none default xs zero id (lost_all x xs id lost))
+stream_found-none default (x ∷ xs) (suc p) id lost =
     let e = other_test x.id id (let b = lost.1 zero (omega arith) in omega (arith, b)) in
-    rw e (found_in-none default xs p id (lost_after x xs p id lost))
+    rw e (stream_found-none default xs p id (lost_after x xs p id lost))
 
 -- what a stream is after another was changed, or it
 pub stream_at-either : (streams : List Stream) (p k : ℕ) (s : Stream) → k < length streams → ((k ≡ p) × (stream_at (set streams p s) k ≡ s)) ⊎ (stream_at (set streams p s) k ≡ stream_at streams k)

@@ -1,19 +1,19 @@
 -- What a reset does to streams.
 use Rattle.std.proofs.Common.{◌≡◌, ◌≢◌, ◌==◌, ℕ, zero, suc, ◌-◌, ◌+◌, ◌^◌, ◌<◌, min, true, false, Option, None, Some, Result, Ok, Err, OnOk, OnErr, ◌⊎◌, inl, inr, List, [], ◌∷◌, length, set, map, take, refl, sym, ap, subst, ◌∙◌, arith}
 use Rattle.std.proofs.lemmas.Bool.Decides.{nat_tests}
-use Rattle.dcsctp_api.specs.spec.queues.SendQueue.{SendQueueState, stream_changed, used, queue_stream, put_back, IsUnderWay, CanGoOn}
+use Rattle.dcsctp_api.specs.spec.queues.SendQueue.{SendQueueState, stream_changed, used_streams, queue_stream, put_back, IsUnderWay, CanGoOn}
 use Rattle.dcsctp_api.specs.types.declared.sending.UnderWay.{UnderWay}
-use Rattle.dcsctp_api.specs.types.queues.SendStreams.{Waiting, Stream, unused, front_of, amount_raised, paused, committed, rolled_back, stream_at, IsAscending}
+use Rattle.dcsctp_api.specs.types.queues.SendStreams.{Waiting, Stream, unused_stream, front_of, amount_raised, paused_stream, committed_stream, rolled_back, stream_at, IsAscending}
 use Rattle.dcsctp_api.specs.types.declared.sending.Pause.{Pause}
 use Rattle.dcsctp_api.specs.types.declared.sending.Pause.TheVariants.{Open, Pausing, HandedOut}
 use Rattle.dcsctp_send_streams.specs.Ranking.{IsFound}
 use Rattle.dcsctp_send_queue.specs.declared.backlog.Backlog.{Backlog}
 use Rattle.dcsctp_send_queue.specs.Backlog.{queue_of}
-use Rattle.dcsctp_api.specs.spec.queues.OwnResets.{prepared_stream, prepared_open, prepared_in, prepare_events_in, is_open_pause, dropped_size, count_under_way}
+use Rattle.dcsctp_api.specs.spec.queues.OwnResets.{prepared_stream, prepared_open, prepared_queue, prepare_events_of, is_open_pause, dropped_size, count_under_way}
 use Rattle.dcsctp_send_queue.specs.Leaving.{DropsSome, pause_events, after_pause, size_not_begun}
 use Rattle.dcsctp_api.specs.spec.queues.Sending.{none}
 use Rattle.dcsctp_send_streams.proofs.StreamLemmas.{stream_at-set, length-set_at}
-use Rattle.dcsctp_send_queue.proofs.QueueLemmas.{same_test, other_test, changed_at, found_in-at, stream_at-either, under_way_set}
+use Rattle.dcsctp_send_queue.proofs.QueueLemmas.{same_test, other_test, changed_at, stream_found-at, stream_at-either, under_way_set}
 use Rattle.dcsctp_send_queue.proofs.GoingOnLemmas.{map_at, map_length}
 
 -- a change of all streams that keeps their numbers and messages
@@ -33,13 +33,13 @@ can_go_on-map f streams (Some u) same kept can =
       unfinished = can.unfinished;
     }
 
-pub committed_kept_if : (pause : Pause) (s : Stream) → s.pause ≡ pause → (committed s).messages ≡ s.messages
+pub committed_kept_if : (pause : Pause) (s : Stream) → s.pause ≡ pause → (committed_stream s).messages ≡ s.messages
 committed_kept_if Open s e = rw e refl
 committed_kept_if Pausing s e = rw e refl
 committed_kept_if HandedOut s e = rw e refl
 
-pub committed-kept : (s : Stream) → (committed s).messages ≡ s.messages
-committed-kept s = committed_kept_if s.pause s refl
+pub committed_stream-kept : (s : Stream) → (committed_stream s).messages ≡ s.messages
+committed_stream-kept s = committed_kept_if s.pause s refl
 
 pub rolled_kept_if : (pause : Pause) (s : Stream) → s.pause ≡ pause → (rolled_back s).messages ≡ s.messages
 rolled_kept_if Open s e = rw e refl
@@ -50,8 +50,8 @@ pub rolled_back-kept : (s : Stream) → (rolled_back s).messages ≡ s.messages
 rolled_back-kept s = rolled_kept_if s.pause s refl
 
 -- a change of a stream that is used
-pub change_used : (old mid : SendQueueState) (p id : ℕ) (f : Stream → Stream) (streams : List Stream) → mid ≡ record old { streams = used old id } → IsAscending mid.streams → IsFound mid.streams id (Ok p)
-    → streams ≡ set mid.streams p (f (stream_at mid.streams p)) → record mid { streams = streams } ≡ record old { streams = stream_changed id f (used old id) }
+pub change_used : (old mid : SendQueueState) (p id : ℕ) (f : Stream → Stream) (streams : List Stream) → mid ≡ record old { streams = used_streams old id } → IsAscending mid.streams → IsFound mid.streams id (Ok p)
+    → streams ≡ set mid.streams p (f (stream_at mid.streams p)) → record mid { streams = streams } ≡ record old { streams = stream_changed id f (used_streams old id) }
 change_used old mid p id f streams ok ascending found is =
     ap {A = List Stream} (λ (s : List Stream). record mid { streams = s }) (is ∙ changed_at mid.streams p id f ascending found) ∙ ap {A = SendQueueState} (λ (q : SendQueueState). record q { streams = stream_changed id f q.streams }) ok
 
@@ -79,15 +79,15 @@ set-set (x ∷ xs) (suc p) a b = ap (λ ts. x ∷ ts) (set-set xs p a b)
 
 pub paused_set : (streams : List Stream) (p size kept : ℕ) → p < length streams
     → let less = set streams p (record (stream_at streams p) { amount = (stream_at streams p).amount - size }) in
-    set less p (paused kept (stream_at less p)) ≡ set streams p (prepared_stream size kept (stream_at streams p))
+    set less p (paused_stream kept (stream_at less p)) ≡ set streams p (prepared_stream size kept (stream_at streams p))
 paused_set streams p size kept lt =
     let s : Stream = record (stream_at streams p) { amount = (stream_at streams p).amount - size } in
-    set-set streams p s (paused kept (stream_at (set streams p s) p)) ∙ ap (λ x. set streams p (paused kept x)) (stream_at-set streams p s lt)
+    set-set streams p s (paused_stream kept (stream_at (set streams p s) p)) ∙ ap (λ x. set streams p (paused_stream kept x)) (stream_at-set streams p s lt)
 
 -- a stream that is paused at its place
 pub paused_is : (queue : SendQueueState) (p id : ℕ) → IsAscending queue.streams → IsFound queue.streams id (Ok p) → after_pause p queue ≡ prepared_open id queue
 paused_is queue p id ascending found =
-    let at = found_in-at (unused id queue.default_priority queue.default_threshold) queue.streams p id ascending found in
+    let at = stream_found-at (unused_stream id queue.default_priority queue.default_threshold) queue.streams p id ascending found in
     let size : size_not_begun p queue ≡ dropped_size id queue = rw (found.1, at) refl in
     let kept = ap (λ n. count_under_way n queue.under_way) found.1 in
     let streams = paused_set queue.streams p (size_not_begun p queue) (count_under_way (stream_at queue.streams p).id queue.under_way) found.0 in
@@ -99,18 +99,18 @@ pub on_ok_map : {P Q : Type 0} {T E : Type 0} (r : Result T E) → (P → Q) →
 on_ok_map (Ok v) f h = f h
 on_ok_map (Err e) f h = tt
 
-pub open_is : (queue : SendQueueState) (id : ℕ) → is_open_pause (queue_stream queue id).pause ≡ true → prepared_open id queue ≡ prepared_in id queue
+pub open_is : (queue : SendQueueState) (id : ℕ) → is_open_pause (queue_stream queue id).pause ≡ true → prepared_open id queue ≡ prepared_queue id queue
 open_is queue id e = rw e refl
 
-pub closed_is : (queue : SendQueueState) (id : ℕ) → is_open_pause (queue_stream queue id).pause ≡ false → queue ≡ prepared_in id queue
+pub closed_is : (queue : SendQueueState) (id : ℕ) → is_open_pause (queue_stream queue id).pause ≡ false → queue ≡ prepared_queue id queue
 closed_is queue id e = rw e refl
 
-pub open_events : (queue : SendQueueState) (p id : ℕ) → IsAscending queue.streams → IsFound queue.streams id (Ok p) → is_open_pause (queue_stream queue id).pause ≡ true → pause_events p queue ≡ prepare_events_in id queue
+pub open_events : (queue : SendQueueState) (p id : ℕ) → IsAscending queue.streams → IsFound queue.streams id (Ok p) → is_open_pause (queue_stream queue id).pause ≡ true → pause_events p queue ≡ prepare_events_of id queue
 open_events queue p id ascending found e =
-    let at = found_in-at (unused id queue.default_priority queue.default_threshold) queue.streams p id ascending found in
+    let at = stream_found-at (unused_stream id queue.default_priority queue.default_threshold) queue.streams p id ascending found in
     rw e (rw (at, found.1) refl)
 
-pub closed_events : {P : Type 0} (queue : SendQueueState) (id : ℕ) → is_open_pause (queue_stream queue id).pause ≡ false → prepare_events_in {P = P} id queue ≡ []
+pub closed_events : {P : Type 0} (queue : SendQueueState) (id : ℕ) → is_open_pause (queue_stream queue id).pause ≡ false → prepare_events_of {P = P} id queue ≡ []
 closed_events queue id e = rw e refl
 
 pub front_kept : (messages : List Waiting) (m : Waiting) → front_of messages ≡ Some m → front_of (take 1 messages) ≡ Some m

@@ -7,8 +7,8 @@ use Rattle.dcsctp_api.specs.types.declared.snapshot.HandoverStreamMessage.{Hando
 use Rattle.dcsctp_api.specs.types.Snapshot.{has_bytes, has_unsent_bytes, is_valid_queued}
 use Rattle.dcsctp_api.specs.types.SnapshotItems.{QueuedPart, queued_part}
 use Rattle.dcsctp_api.specs.spec.queues.QueuedParts.{with_rest, is_part_continued, waiting_again, progress_again}
-use Rattle.dcsctp_api.specs.spec.queues.SendQueue.{SendQueueState, stream_changed, with_stream, is_used, used, found_in, queue_stream, IsUnderWay}
-use Rattle.dcsctp_api.specs.types.queues.SendStreams.{Waiting, Stream, unused, front_of}
+use Rattle.dcsctp_api.specs.spec.queues.SendQueue.{SendQueueState, stream_changed, with_stream, is_used, used_streams, stream_found, queue_stream, IsUnderWay}
+use Rattle.dcsctp_api.specs.types.queues.SendStreams.{Waiting, Stream, unused_stream, front_of}
 use Rattle.dcsctp_send_queue.proofs.QueueLemmas.{same_test}
 
 same_number : (m n : ℕ) → (m == n) ≡ true → m ≡ n
@@ -44,14 +44,14 @@ behind stream streams u can =
     record { place = suc can.place; within = omega (arith, lt); is = can.is; message = can.message; front = can.front; begun = can.begun; unfinished = can.unfinished }
 
 again_by : (b : Bool) (d x : Stream) (xs : List Stream) (id rest : ℕ) (message : Waiting) (u : UnderWay) → (x.id == id) ≡ b → (b || is_used id xs) ≡ true
-    → is_some (front_of (if b then x else found_in d id xs).messages) ≡ false
+    → is_some (front_of (if b then x else stream_found d id xs).messages) ≡ false
     → u.stream_id.0 ≡ id → 0 < u.sent → u.sent < length message.payload
-    → (is_used id xs ≡ true → is_some (front_of (found_in d id xs).messages) ≡ false → IsUnderWay (stream_changed id (with_rest message rest) xs) u)
+    → (is_used id xs ≡ true → is_some (front_of (stream_found d id xs).messages) ≡ false → IsUnderWay (stream_changed id (with_rest message rest) xs) u)
     → IsUnderWay ((if b then with_rest message rest x else x) ∷ stream_changed id (with_rest message rest) xs) u
 again_by true d x xs id rest message u e is none same begun less more = first_of x (stream_changed id (with_rest message rest) xs) id rest message u (same_number x.id id e) none same begun less
 again_by false d x xs id rest message u e is none same begun less more = behind x (stream_changed id (with_rest message rest) xs) u (more is none)
 
-again_used : (d : Stream) (streams : List Stream) (id rest : ℕ) (message : Waiting) (u : UnderWay) → is_used id streams ≡ true → is_some (front_of (found_in d id streams).messages) ≡ false
+again_used : (d : Stream) (streams : List Stream) (id rest : ℕ) (message : Waiting) (u : UnderWay) → is_used id streams ≡ true → is_some (front_of (stream_found d id streams).messages) ≡ false
     → u.stream_id.0 ≡ id → 0 < u.sent → u.sent < length message.payload → IsUnderWay (stream_changed id (with_rest message rest) streams) u
 again_used d [] id rest message u is none same begun less = absurd (cc)
 again_used d (x ∷ xs) id rest message u is none same begun less =
@@ -78,18 +78,18 @@ again_new d (x ∷ xs) id rest message u is none same begun less =
 
 -- A message that is the first of its stream can continue.
 under_way_again : (queue : SendQueueState) (id rest : ℕ) (message : Waiting) (u : UnderWay) → is_some (front_of (queue_stream queue id).messages) ≡ false
-    → u.stream_id.0 ≡ id → 0 < u.sent → u.sent < length message.payload → IsUnderWay (stream_changed id (with_rest message rest) (used queue id)) u
+    → u.stream_id.0 ≡ id → 0 < u.sent → u.sent < length message.payload → IsUnderWay (stream_changed id (with_rest message rest) (used_streams queue id)) u
 under_way_again queue id rest message u none same begun less = go (is_used id queue.streams) refl
   where
     go : (b : Bool) → is_used id queue.streams ≡ b
-        → IsUnderWay (stream_changed id (with_rest message rest) (if b then queue.streams else with_stream (unused id queue.default_priority queue.default_threshold) queue.streams)) u
-    go true e = again_used (unused id queue.default_priority queue.default_threshold) queue.streams id rest message u e none same begun less
-    go false e = again_new (unused id queue.default_priority queue.default_threshold) queue.streams id rest message u refl refl same begun less
+        → IsUnderWay (stream_changed id (with_rest message rest) (if b then queue.streams else with_stream (unused_stream id queue.default_priority queue.default_threshold) queue.streams)) u
+    go true e = again_used (unused_stream id queue.default_priority queue.default_threshold) queue.streams id rest message u e none same begun less
+    go false e = again_new (unused_stream id queue.default_priority queue.default_threshold) queue.streams id rest message u refl refl same begun less
 
 -- A message of the snapshot that is to continue can do so.
 pub restored_goes : (now rest : ℕ) (part : QueuedPart) (queue : SendQueueState) (message : Waiting) (u : UnderWay) (streams : List Stream) → is_part_continued part queue ≡ true
     → part.remaining_offset < length part.payload → message ≡ waiting_again now part → u ≡ progress_again part
-    → streams ≡ stream_changed part.stream_id (with_rest message rest) (used queue part.stream_id) → IsUnderWay streams u
+    → streams ≡ stream_changed part.stream_id (with_rest message rest) (used_streams queue part.stream_id) → IsUnderWay streams u
 restored_goes now rest part queue message u streams on less same is they =
     let sent = goes_on-sent part.remaining_offset (is_some queue.under_way) (is_some (front_of (queue_stream queue part.stream_id).messages)) on in
     rw (they, same, is) (under_way_again queue part.stream_id rest (waiting_again now part) (progress_again part) sent.1 refl sent.0 less)

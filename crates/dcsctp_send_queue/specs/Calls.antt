@@ -5,7 +5,7 @@ use Rattle.dcsctp_api.specs.types.declared.sending.UnderWay.{UnderWay}
 use Rattle.dcsctp_api.specs.types.queues.SendStreams.{Waiting, front_of, is_expired, stream_at, IsNext}
 use Rattle.dcsctp_api.specs.spec.queues.SendQueue.{SendQueueState}
 use Rattle.dcsctp_api.specs.spec.queues.Sending.{Chooses, Drops, drop_events, produced_events, IsMessageUnderWay}
-use Rattle.dcsctp_send_streams.specs.Telling.{TellsFront}
+use Rattle.dcsctp_send_streams.specs.Telling.{AddsFront}
 
 -- The message that is dropped next, and the events about it. No message is under way.
 pub record DropsNext (now : ℕ) (queue : SendQueueState) (events : List (Event (List ℕ))) : Type 0 where
@@ -32,9 +32,9 @@ pub record StopsTaking (now max : ℕ) (old : SendQueueState) (told_before : Lis
   pub drops : Drops now old events new
   pub coming : List (Event (List ℕ))
   pub next : DropsNext now new coming ⊎ PartNext now max old new coming
-  pub tells : TellsFront (told_before ++ events) coming told_after
+  pub tells : AddsFront (told_before ++ events) coming told_after
 
 -- An allocation fails, and the first of the events about what would be dropped are added.
 pub record StopsDiscarding (queue : SendQueueState) (stream message_id : ℕ) (told_before told_after : List (Event (List ℕ))) : Type 0 where
   pub named : IsMessageUnderWay queue stream message_id
-  pub tells : TellsFront told_before (drop_events named.place named.under_way.sent named.message queue) told_after
+  pub tells : AddsFront told_before (drop_events named.place named.under_way.sent named.message queue) told_after

@@ -1,10 +1,10 @@
 -- What leaves a send queue, step by step.
 use Rattle.std.specs.Prelude.{◌≡◌, ◌<◌, ◌≤◌, ℕ, ◌-◌, ◌^◌, min, false, Option, None, Some, List, [], ◌++◌, length, drop, slice_set}
 use Rattle.dcsctp_api.specs.spec.endpoint.Event.{Event}
-use Rattle.dcsctp_api.specs.types.queues.SendStreams.{Waiting, Stream, front_of, is_expired, paused, payload_size, stream_at, turns_of, IsNext}
+use Rattle.dcsctp_api.specs.types.queues.SendStreams.{Waiting, Stream, front_of, is_expired, paused_stream, payload_size, stream_at, turns_of, IsNext}
 use Rattle.dcsctp_api.specs.spec.queues.SendEvents.{expiries}
 use Rattle.dcsctp_api.specs.spec.queues.SendQueue.{SendQueueState}
-use Rattle.dcsctp_api.specs.spec.queues.Sending.{reduced, part_events, Drops}
+use Rattle.dcsctp_api.specs.spec.queues.Sending.{reduced_queue, part_events, Drops}
 use Rattle.dcsctp_api.specs.spec.queues.OwnResets.{count_under_way}
 
 -- the messages of the stream at the place that haven't been started
@@ -16,12 +16,12 @@ abbrev pub size_not_begun : ℕ → SendQueueState → ℕ
 size_not_begun place queue = min (payload_size (not_begun place queue)) (2 ^ 64 - 1)
 
 -- the stream at the place is paused, without the messages that haven't been started
-abbrev pub paused_at : ℕ → ℕ → SendQueueState → SendQueueState
-paused_at place kept queue = record queue { streams = slice_set queue.streams place (paused kept (stream_at queue.streams place)) }
+abbrev pub queue_paused : ℕ → ℕ → SendQueueState → SendQueueState
+queue_paused place kept queue = record queue { streams = slice_set queue.streams place (paused_stream kept (stream_at queue.streams place)) }
 
 abbrev pub after_pause : ℕ → SendQueueState → SendQueueState
 after_pause place queue =
-    paused_at place (count_under_way (stream_at queue.streams place).id queue.under_way) (reduced place (size_not_begun place queue) queue)
+    queue_paused place (count_under_way (stream_at queue.streams place).id queue.under_way) (reduced_queue place (size_not_begun place queue) queue)
 
 abbrev pub pause_events : ℕ → SendQueueState → List (Event (List ℕ))
 pause_events place queue = part_events place (size_not_begun place queue) queue ++ expiries (not_begun place queue)

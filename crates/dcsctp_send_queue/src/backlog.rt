@@ -47,20 +47,20 @@ pub struct Backlog {
 
 impl Backlog {
     ghost use Rattle.dcsctp_send_queue.specs.Backlog.{queue_of};
-    ghost use Rattle.dcsctp_api.specs.spec.queues.SendQueue.{CanGoOn, IsUnderWay, has_queued_data, waits_at, stream_changed, used, put_back, with_threshold, with_priority, may_send};
+    ghost use Rattle.dcsctp_api.specs.spec.queues.SendQueue.{CanGoOn, IsUnderWay, has_queued_data, has_waiting_message, stream_changed, used_streams, put_back, with_threshold, with_priority, may_send};
     ghost use Rattle.dcsctp_api.specs.spec.queues.OwnResets.{with_used, count_under_way, waits_for_reset};
     ghost use Rattle.dcsctp_api.specs.types.Setting.{stream_priority, stream_low_threshold};
     ghost use Rattle.dcsctp_api.specs.spec.endpoint.SettingOutcomes.{set_in_queue};
     ghost use Rattle.std.specs.Prelude.{◌≡◌, ◌==◌, ◌+◌, ◌-◌, ◌<◌, ◌++◌, length, Some, None, Ok, Err, OnOk, OnErr, IfOk, IfSome};
-    ghost use Rattle.dcsctp_api.specs.types.queues.SendStreams.{Waiting, unused, front_of, with_message, stream_at, IsAscending};
-    ghost use Rattle.dcsctp_send_streams.specs.Telling.{contents, TellsFront};
+    ghost use Rattle.dcsctp_api.specs.types.queues.SendStreams.{Waiting, unused_stream, front_of, with_message, stream_at, IsAscending};
+    ghost use Rattle.dcsctp_send_streams.specs.Telling.{contents, AddsFront};
     ghost use Rattle.dcsctp_send_streams.specs.Ranking.{IsFound};
-    ghost use Rattle.dcsctp_api.specs.spec.queues.Sending.{reduced, without_rest, drop_events, part_events};
+    ghost use Rattle.dcsctp_api.specs.spec.queues.Sending.{reduced_queue, without_rest, drop_events, part_events};
     ghost use Rattle.dcsctp_send_queue.specs.Leaving.{HasMore, HasUnsentBytes};
 
     /// A stream that was never used.
     pub fn new_stream(&self, stream_id: StreamId) -> OutgoingStream
-        ensures { result ≡ unused stream_id.0 self.now.default_priority self.now.default_threshold }
+        ensures { result ≡ unused_stream stream_id.0 self.now.default_priority self.now.default_threshold }
     {
         OutgoingStream::new(
             self.alloc,
@@ -76,7 +76,7 @@ impl Backlog {
             (queue_of self.new
             ≡ record (queue_of self.old) {
               streams = stream_changed stream_id.0
-                  (with_message message) (used (queue_of self.old) stream_id.0);
+                  (with_message message) (used_streams (queue_of self.old) stream_id.0);
             }) }
         ensures was_ascending { IsAscending self.old.streams }
         ensures can { CanGoOn self.old.streams self.old.under_way
@@ -160,7 +160,7 @@ impl Backlog {
 
     /// Does a message wait at the moment `now` that can be sent?
     pub fn waits_at(&self, now: SocketTime) -> bool
-        ensures { result ≡ waits_at now (queue_of self.now) }
+        ensures { result ≡ has_waiting_message now (queue_of self.now) }
     {
         self.under_way.is_some() || self.streams.waits_at(now)
     }
@@ -194,7 +194,7 @@ impl Backlog {
             (contents events.new
             ≡ contents events.old ++ part_events place size (queue_of self.now)) }
         ensures err { OnErr result
-            (TellsFront (contents events.old) (part_events place size (queue_of self.now))
+            (AddsFront (contents events.old) (part_events place size (queue_of self.now))
             (contents events.new)) }
     {
         let stream = self.streams.at(place);
@@ -210,7 +210,7 @@ impl Backlog {
     /// Takes that much away from the amounts.
     pub fn reduce(&mut self, place: usize, size: usize)
         requires { place < length self.old.streams }
-        ensures { queue_of self.new ≡ reduced place size (queue_of self.old) }
+        ensures { queue_of self.new ≡ reduced_queue place size (queue_of self.old) }
     {
         self.streams.reduce(place, size);
         self.total_amount = self.total_amount.saturating_sub(size);
@@ -237,7 +237,7 @@ impl Backlog {
         ensures front { (message : Waiting)
             → front_of (stream_at self.old.streams place).messages ≡ Some message
             → OnErr result
-            (TellsFront (contents events.old) (drop_events place sent message (queue_of self.old))
+            (AddsFront (contents events.old) (drop_events place sent message (queue_of self.old))
             (contents events.new)) }
     {
         let Some(message) = self.streams.at(place).front() else {

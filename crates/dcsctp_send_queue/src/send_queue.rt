@@ -41,15 +41,15 @@ impl SendQueue {
     ghost use Rattle.std.specs.Option.{option_map};
     ghost use Rattle.std.specs.List.{list_all};
     ghost use Rattle.dcsctp_api.specs.types.queues.Messages.{message_content};
-    ghost use Rattle.dcsctp_api.specs.spec.queues.OwnResets.{waits_for_reset, queue_committed, queue_rolled_back, queue_handing_out, ready_streams, handing_out, prepared, prepare_events};
+    ghost use Rattle.dcsctp_api.specs.spec.queues.OwnResets.{waits_for_reset, queue_committed, queue_rolled_back, queue_handing_out, ready_streams, handing_out, queue_with_prepared, prepare_events};
     ghost use Rattle.dcsctp_send_streams.specs.Fragment.{HasSize};
     ghost use Rattle.std.specs.Prelude.{◌≡◌, ◌+◌, ◌-◌, ◌<◌, ◌++◌, vec_len, true, IfSome, OnOk, OnErr, IfOk, take, not};
-    ghost use Rattle.dcsctp_api.specs.spec.queues.SendQueue.{empty_queue, IsWellFormed, queue_restarted, has_queued_data, waits_at, stream_changed, used, queue_stream, numbered_for, queued, with_added, may_send, with_threshold, with_priority};
+    ghost use Rattle.dcsctp_api.specs.spec.queues.SendQueue.{empty_queue, IsWellFormed, queue_restarted, has_queued_data, has_waiting_message, stream_changed, used_streams, queue_stream, numbered_for, queued_message, with_added, may_send, with_threshold, with_priority};
     ghost use Rattle.dcsctp_api.specs.spec.queues.Transfer.{is_none_ready};
     ghost use Rattle.dcsctp_api.specs.types.Setting.{stream_priority, stream_low_threshold};
     ghost use Rattle.dcsctp_api.specs.spec.endpoint.SettingOutcomes.{set_in_queue};
-    ghost use Rattle.dcsctp_send_streams.specs.Telling.{contents, TellsFront};
-    ghost use Rattle.dcsctp_api.specs.types.queues.SendStreams.{paused, committed, rolled_back};
+    ghost use Rattle.dcsctp_send_streams.specs.Telling.{contents, AddsFront};
+    ghost use Rattle.dcsctp_api.specs.types.queues.SendStreams.{paused_stream, committed_stream, rolled_back};
     ghost use Rattle.dcsctp_send_queue.specs.Calls.{StopsTaking, StopsDiscarding};
     ghost use Rattle.dcsctp_api.specs.spec.queues.Sending.{TakesNextFragment, DiscardsNamed};
     ghost use Rattle.dcsctp_send_queue.specs.Leaving.{DropsSome};
@@ -92,7 +92,7 @@ impl SendQueue {
         requires { 0 < vec_len message.payload }
         ensures ok { OnOk result
             (self.new ≡ with_added message.stream_id.0
-            (queued now (message_content message) options.now self.old) self.old) }
+            (queued_message now (message_content message) options.now self.old) self.old) }
         ensures err { OnErr result (self.new ≡ self.old) }
     {
         let stream_id = message.stream_id;
@@ -163,7 +163,7 @@ impl SendQueue {
     /// Does a message wait at the moment `now` that can be sent? One on a paused stream can't, unless it is
     /// under way; nor can one whose lifetime is over.
     pub fn waits_at(&self, now: SocketTime) -> bool
-        ensures { result ≡ waits_at now self.now }
+        ensures { result ≡ has_waiting_message now self.now }
     {
         self.backlog.waits_at(now)
     }

@@ -4,24 +4,24 @@ use Rattle.std.specs.List.{sum_by, slice_get}
 use Rattle.std.proofs.lemmas.List.Sums.{sum_by-cons}
 use Rattle.std.proofs.lemmas.Bool.Decides.{nat_tests}
 use Rattle.dcsctp_api.specs.wire.declared.chunk.sack.GapAckBlock.{GapAckBlock}
-use Rattle.dcsctp_api.specs.spec.queues.Items.{Item, number_where, never_acknowledged_count, never_acknowledged_items, changed_item, changed_between, marked_items}
+use Rattle.dcsctp_api.specs.spec.queues.Items.{Item, number_or_zero, never_acknowledged_count, never_acknowledged_items, changed_item, changed_between, marked_items}
 use Rattle.dcsctp_api.specs.types.declared.progress.ItemState.{ItemState}
 use Rattle.dcsctp_api.specs.types.declared.progress.ItemState.TheVariants.{InFlight, Marked, Acknowledged, Abandoned}
 use Rattle.dcsctp_api.specs.types.declared.progress.Progress.{Progress}
 use Rattle.dcsctp_api.specs.types.declared.progress.Change.{Change}
 use Rattle.dcsctp_api.specs.types.declared.progress.Change.TheVariants.{Miss, Mark, Acknowledge}
-use Rattle.dcsctp_api.specs.types.queues.Progress.{tells_of, missed, missed_where, marked_lost, acknowledged}
+use Rattle.dcsctp_api.specs.types.queues.Progress.{tells_whether_missing, missed_progress, missed_if_told, marked_lost, acknowledged_progress}
 use Rattle.std.specs.Option.{option_map}
-use Rattle.dcsctp_api.specs.spec.queues.Outstanding.{reported, acknowledged_count, tsn_at}
+use Rattle.dcsctp_api.specs.spec.queues.Outstanding.{reported_items, acknowledged_count, tsn_at}
 use Rattle.dcsctp_api.specs.spec.queues.Reports.{NamesItem}
 use Rattle.dcsctp_send_outstanding.proofs.ItemsLemmas.{le_or_lt}
 use Rattle.dcsctp_api.specs.spec.queues.Retransmission.{RetransmissionState, outstanding_count, with_items}
-use Rattle.dcsctp_api.specs.spec.queues.Acknowledging.{covered, lossy, missed_until, exiting, has_acknowledged, opens, probes_lost, acknowledged_until, window_settled_at, AcknowledgesItems}
+use Rattle.dcsctp_api.specs.spec.queues.Acknowledging.{covered_items, lossy, missed_until, exiting, has_acknowledged, opens, probes_lost, acknowledged_until, window_after_settling, AcknowledgesItems}
 use Rattle.dcsctp_send_retransmission.specs.Answers.{AcknowledgesItem, SaysAnswer}
 
 -- ---- one item
 
-missed_stays : (progress : Progress) (state : ItemState) → (missed state (record progress { state = state })).was_acknowledged ≡ progress.was_acknowledged
+missed_stays : (progress : Progress) (state : ItemState) → (missed_progress state (record progress { state = state })).was_acknowledged ≡ progress.was_acknowledged
 missed_stays progress InFlight = go (progress.misses == 2) (nat_lt progress.misses 2)
   where
     go : (b c : Bool)
@@ -34,7 +34,7 @@ missed_stays progress Marked = refl
 missed_stays progress Acknowledged = refl
 missed_stays progress Abandoned = refl
 
-acknowledged_now : (progress : Progress) (state : ItemState) → (acknowledged state (record progress { state = state })).was_acknowledged ≡ true
+acknowledged_now : (progress : Progress) (state : ItemState) → (acknowledged_progress state (record progress { state = state })).was_acknowledged ≡ true
 acknowledged_now progress InFlight = refl
 acknowledged_now progress Marked = refl
 acknowledged_now progress Acknowledged = refl
@@ -42,9 +42,9 @@ acknowledged_now progress Abandoned = refl
 
 -- a miss leaves whether a SACK has acknowledged it
 pub miss_keeps : (newest : Option ℕ) (item : Item) → (changed_item (Miss newest) item).progress.was_acknowledged ≡ item.progress.was_acknowledged
-miss_keeps newest item = go (tells_of item.progress.sent_before newest)
+miss_keeps newest item = go (tells_whether_missing item.progress.sent_before newest)
   where
-    go : (b : Bool) → (missed_where b item.progress).was_acknowledged ≡ item.progress.was_acknowledged
+    go : (b : Bool) → (missed_if_told b item.progress).was_acknowledged ≡ item.progress.was_acknowledged
     go true = missed_stays item.progress item.progress.state
     go false = refl
 
@@ -62,10 +62,10 @@ pub acknowledge_notes : (item : Item) → (changed_item Acknowledge item).progre
 acknowledge_notes item = acknowledged_now item.progress item.progress.state
 
 pub miss_adds_none : (newest : Option ℕ) (item : Item) → never_acknowledged_count (changed_item (Miss newest) item) ≤ never_acknowledged_count item
-miss_adds_none newest item = let same = ap (λ (b : Bool). number_where (not b) 1) (miss_keeps newest item) in omega (arith, same)
+miss_adds_none newest item = let same = ap (λ (b : Bool). number_or_zero (not b) 1) (miss_keeps newest item) in omega (arith, same)
 
 pub acknowledge_adds_none : (item : Item) → never_acknowledged_count (changed_item Acknowledge item) ≤ never_acknowledged_count item
-acknowledge_adds_none item = let none = ap (λ (b : Bool). number_where (not b) 1) (acknowledge_notes item) in omega (arith, none)
+acknowledge_adds_none item = let none = ap (λ (b : Bool). number_or_zero (not b) 1) (acknowledge_notes item) in omega (arith, none)
 
 -- ---- sums that don't grow
 
@@ -86,7 +86,7 @@ lessened f change lessens (suc start) (suc end) (x ∷ xs) =
     let new = sum_by-cons f x (changed_between change start end xs) in
     omega arith
 
-pub reported_lessens : (f : Item → ℕ) → ((item : Item) → f (changed_item Acknowledge item) ≤ f item) → (count : ℕ) (blocks : List GapAckBlock) (items : List Item) → sum_by f (reported count blocks items) ≤ sum_by f items
+pub reported_lessens : (f : Item → ℕ) → ((item : Item) → f (changed_item Acknowledge item) ≤ f item) → (count : ℕ) (blocks : List GapAckBlock) (items : List Item) → sum_by f (reported_items count blocks items) ≤ sum_by f items
 reported_lessens f lessens count [] items = omega arith
 reported_lessens f lessens count (block ∷ blocks) items =
     let first = lessened f Acknowledge lessens (count + block.start - 1) (count + block.end) items in
@@ -125,16 +125,16 @@ was_so start end items k y h never =
       | inr is ↦ let noted = acknowledge_notes from.0 in let read = ap (λ (x : Item). x.progress.was_acknowledged) is in absurd (cc)
     ]
 
-was_so_reported : (count : ℕ) (blocks : List GapAckBlock) (items : List Item) (k : ℕ) (y : Item) → slice_get (reported count blocks items) k ≡ Some y → y.progress.was_acknowledged ≡ false → slice_get items k ≡ Some y
+was_so_reported : (count : ℕ) (blocks : List GapAckBlock) (items : List Item) (k : ℕ) (y : Item) → slice_get (reported_items count blocks items) k ≡ Some y → y.progress.was_acknowledged ≡ false → slice_get items k ≡ Some y
 was_so_reported count [] items k y h never = h
 was_so_reported count (block ∷ blocks) items k y h never =
     was_so (count + block.start - 1) (count + block.end) items k y (was_so_reported count blocks (changed_between Acknowledge (count + block.start - 1) (count + block.end) items) k y h never) never
 
 one : (item : Item) → item.progress.was_acknowledged ≡ false → never_acknowledged_count item ≡ 1
-one item never = ap (λ (b : Bool). number_where (not b) 1) never
+one item never = ap (λ (b : Bool). number_or_zero (not b) 1) never
 
 none : (item : Item) → never_acknowledged_count (changed_item Acknowledge item) ≡ 0
-none item = ap (λ (b : Bool). number_where (not b) 1) (acknowledge_notes item)
+none item = ap (λ (b : Bool). number_or_zero (not b) 1) (acknowledge_notes item)
 
 -- Where one is acknowledged fewer are left.
 falls : (start end : ℕ) (items : List Item) (p : ℕ) (x : Item) → start ≤ p → p < end → slice_get items p ≡ Some x → x.progress.was_acknowledged ≡ false
@@ -184,7 +184,7 @@ left_or_fewer (suc start) (suc end) (y ∷ ys) (suc p) x at never =
     elim (left_or_fewer start end ys p x at never) [ inl h ↦ inl h | inr h ↦ inr (omega (arith, h, old, new)) ]
 
 reported_falls : (count : ℕ) (blocks : List GapAckBlock) (items : List Item) (p : ℕ) (x : Item) → NamesItem count blocks p → slice_get items p ≡ Some x → x.progress.was_acknowledged ≡ false
-    → never_acknowledged_items (reported count blocks items) + 1 ≤ never_acknowledged_items items
+    → never_acknowledged_items (reported_items count blocks items) + 1 ≤ never_acknowledged_items items
 reported_falls count [] items p x named at never = absurd named
 reported_falls count (block ∷ blocks) items p x (inl h) at never =
     let from = h.0 in
@@ -222,7 +222,7 @@ fell zero (suc end) (y ∷ ys) less = go y.progress.was_acknowledged refl less (
         → Found (λ k. (zero ≤ k) × (k < suc end)) (y ∷ ys)
     go false is less later = record { place = zero; item = y; at = refl; within = (omega arith, omega arith); never = is }
     go true is less later =
-        let none_here = ap (λ (b : Bool). number_where (not b) 1) is in
+        let none_here = ap (λ (b : Bool). number_or_zero (not b) 1) is in
         let now = none y in
         let old = sum_by-cons never_acknowledged_count y ys in
         let new = sum_by-cons never_acknowledged_count (changed_item Acknowledge y) (changed_between Acknowledge zero end ys) in
@@ -239,7 +239,7 @@ fell (suc start) (suc end) (y ∷ ys) less =
     let to = found.within.1 in
     record { place = suc found.place; item = found.item; at = found.at; within = (omega (arith, from), omega (arith, to)); never = found.never }
 
-reported_fell : (count : ℕ) (blocks : List GapAckBlock) (items : List Item) → never_acknowledged_items (reported count blocks items) < never_acknowledged_items items → Found (NamesItem count blocks) items
+reported_fell : (count : ℕ) (blocks : List GapAckBlock) (items : List Item) → never_acknowledged_items (reported_items count blocks items) < never_acknowledged_items items → Found (NamesItem count blocks) items
 reported_fell count [] items less = absurd (omega arith)
 reported_fell count (block ∷ blocks) items less =
     let start : ℕ = count + block.start - 1 in
@@ -265,7 +265,7 @@ dropped_fell (suc count) (y ∷ ys) less = go y.progress.was_acknowledged refl l
         → Found (λ k. k < suc count) (y ∷ ys)
     go false is less later = record { place = zero; item = y; at = refl; within = omega arith; never = is }
     go true is less later =
-        let none_here = ap (λ (b : Bool). number_where (not b) 1) is in
+        let none_here = ap (λ (b : Bool). number_or_zero (not b) 1) is in
         let old = sum_by-cons never_acknowledged_count y ys in
         let found = later (omega (arith, less, none_here, old)) in
         let to = found.within in
@@ -275,15 +275,15 @@ dropped_fell (suc count) (y ∷ ys) less = go y.progress.was_acknowledged refl l
 
 -- what is left of the items: the first ones, so many, are gone, those that the blocks name are acknowledged, and some miss
 abbrev left_of : ℕ → ℕ → Option ℕ → List GapAckBlock → List Item → List Item
-left_of count limit newest blocks items = drop count (changed_between (Miss newest) count limit (covered count blocks items))
+left_of count limit newest blocks items = drop count (changed_between (Miss newest) count limit (covered_items count blocks items))
 
 answers_lessen : (count limit : ℕ) (newest : Option ℕ) (blocks : List GapAckBlock) (items : List Item) → AcknowledgesItem count blocks items → never_acknowledged_items (left_of count limit newest blocks items) < never_acknowledged_items items
 answers_lessen count limit newest blocks items answers =
     let passed : List Item = changed_between Acknowledge 0 count items in
     let first = lessened never_acknowledged_count Acknowledge acknowledge_adds_none 0 count items in
     let named = reported_lessens never_acknowledged_count acknowledge_adds_none count blocks passed in
-    let misses = lessened never_acknowledged_count (Miss newest) (miss_adds_none newest) count limit (covered count blocks items) in
-    let drops = dropped_lessens never_acknowledged_count count (changed_between (Miss newest) count limit (covered count blocks items)) in
+    let misses = lessened never_acknowledged_count (Miss newest) (miss_adds_none newest) count limit (covered_items count blocks items) in
+    let drops = dropped_lessens never_acknowledged_count count (changed_between (Miss newest) count limit (covered_items count blocks items)) in
     elim (answers.is.0) [
       | inl within ↦ let fewer = falls 0 count items answers.place answers.item (omega arith) within answers.at answers.is.1 in omega (arith, fewer, named, misses, drops)
       | inr names ↦ elim (left_or_fewer 0 count items answers.place answers.item answers.at answers.is.1) [
@@ -293,9 +293,9 @@ answers_lessen count limit newest blocks items answers =
     ]
 
 -- one that is passed though no SACK had acknowledged it
-passed_first : (count limit : ℕ) (newest : Option ℕ) (blocks : List GapAckBlock) (items : List Item) → Found (λ k. k < count) (changed_between (Miss newest) count limit (covered count blocks items)) → AcknowledgesItem count blocks items
+passed_first : (count limit : ℕ) (newest : Option ℕ) (blocks : List GapAckBlock) (items : List Item) → Found (λ k. k < count) (changed_between (Miss newest) count limit (covered_items count blocks items)) → AcknowledgesItem count blocks items
 passed_first count limit newest blocks items found =
-    let from = comes_of (Miss newest) count limit (covered count blocks items) found.place found.item found.at in
+    let from = comes_of (Miss newest) count limit (covered_items count blocks items) found.place found.item found.at in
     let never : from.0.progress.was_acknowledged ≡ false = elim (from.1.1) [
       | inl same ↦ ap (λ (x : Item). x.progress.was_acknowledged) (sym same) ∙ found.never
       | inr is ↦ sym (miss_keeps newest from.0) ∙ (ap (λ (x : Item). x.progress.was_acknowledged) (sym is) ∙ found.never)
@@ -311,17 +311,17 @@ passed_first count limit newest blocks items found =
 lessens_answer : (count limit : ℕ) (newest : Option ℕ) (blocks : List GapAckBlock) (items : List Item) → never_acknowledged_items (left_of count limit newest blocks items) < never_acknowledged_items items → AcknowledgesItem count blocks items
 lessens_answer count limit newest blocks items less =
     let passed : List Item = changed_between Acknowledge 0 count items in
-    let marked : List Item = changed_between (Miss newest) count limit (covered count blocks items) in
+    let marked : List Item = changed_between (Miss newest) count limit (covered_items count blocks items) in
     elim (le_or_lt (never_acknowledged_items items) (never_acknowledged_items passed)) [
       | inr fewer ↦
           let found = fell 0 count items fewer in
           record { place = found.place; item = found.item; at = found.at; is = (inl found.within.1, found.never) }
-      | inl all_passed ↦ elim (le_or_lt (never_acknowledged_items passed) (never_acknowledged_items (covered count blocks items))) [
+      | inl all_passed ↦ elim (le_or_lt (never_acknowledged_items passed) (never_acknowledged_items (covered_items count blocks items))) [
         | inr fewer ↦
             let found = reported_fell count blocks passed fewer in
             record { place = found.place; item = found.item; at = was_so 0 count items found.place found.item found.at found.never; is = (inr found.within, found.never) }
         | inl all_named ↦
-            let kept = missing_keeps count limit (covered count blocks items) in
+            let kept = missing_keeps count limit (covered_items count blocks items) in
             passed_first count limit newest blocks items (dropped_fell count marked (omega (arith, less, all_passed, all_named, kept)))
       ]
     ]
@@ -331,7 +331,7 @@ lessens_answer count limit newest blocks items less =
     missing_keeps zero (suc end) [] = omega arith
     missing_keeps zero (suc end) (x ∷ xs) =
         let later = missing_keeps zero end xs in
-        let here = ap (λ (b : Bool). number_where (not b) 1) (miss_keeps newest x) in
+        let here = ap (λ (b : Bool). number_or_zero (not b) 1) (miss_keeps newest x) in
         let old = sum_by-cons never_acknowledged_count x xs in
         let new = sum_by-cons never_acknowledged_count (changed_item (Miss newest) x) (changed_between (Miss newest) zero end xs) in
         omega (arith, later, here, old, new)
@@ -375,7 +375,7 @@ losing_keeps zero zero xs = refl
 losing_keeps zero (suc end) [] = refl
 losing_keeps zero (suc end) (x ∷ xs) =
     let later = losing_keeps zero end xs in
-    let here = ap (λ (b : Bool). number_where (not b) 1) (loss_keeps x) in
+    let here = ap (λ (b : Bool). number_or_zero (not b) 1) (loss_keeps x) in
     let old = sum_by-cons never_acknowledged_count x xs in
     let new = sum_by-cons never_acknowledged_count (changed_item Mark x) (changed_between Mark zero end xs) in
     omega (arith, later, here, old, new)
@@ -388,7 +388,7 @@ losing_keeps (suc start) (suc end) (x ∷ xs) =
     omega (arith, later, old, new)
 
 -- so does a window that opens
-settled_keeps : (now window count : ℕ) (state : RetransmissionState) → never_acknowledged_items (window_settled_at now window count state).outstanding.items ≡ never_acknowledged_items state.outstanding.items
+settled_keeps : (now window count : ℕ) (state : RetransmissionState) → never_acknowledged_items (window_after_settling now window count state).outstanding.items ≡ never_acknowledged_items state.outstanding.items
 settled_keeps now window count state = go (opens state (record state { peer_window = window }))
   where
     go : (b : Bool) → never_acknowledged_items (probes_lost b (record state { peer_window = window })).outstanding.items ≡ never_acknowledged_items state.outstanding.items
@@ -404,5 +404,5 @@ sack_answers now cumulative window blocks old new b takes counts =
     says_answer count takes.limit (option_map (tsn_at old.outstanding) takes.newest) blocks items new.outstanding.items b
     (ap (λ (q : RetransmissionState). never_acknowledged_items q.outstanding.items) takes.is
     ∙ settled_keeps now window count (acknowledged_until count blocks takes.limit (option_map (tsn_at old.outstanding) takes.newest) (exiting cumulative old))
-    ∙ ap (λ (xs : List Item). never_acknowledged_items (drop count xs)) (missed_items count takes.limit (option_map (tsn_at old.outstanding) takes.newest) (with_items (covered count blocks items) (exiting cumulative old))))
+    ∙ ap (λ (xs : List Item). never_acknowledged_items (drop count xs)) (missed_items count takes.limit (option_map (tsn_at old.outstanding) takes.newest) (with_items (covered_items count blocks items) (exiting cumulative old))))
     counts

@@ -15,7 +15,7 @@ use Rattle.dcsctp_api.specs.spec.queues.ItemMessages.{EndsDropped}
 use Rattle.dcsctp_send_outstanding.proofs.ItemsLemmas.{le_or_lt, slice_get_pushed}
 use Rattle.dcsctp_send_retransmission.specs.Queue.{MayGrow, AbandonsItems}
 use Rattle.dcsctp_api.specs.spec.queues.Retransmission.{RetransmissionState}
-use Rattle.dcsctp_api.specs.spec.queues.Filling.{Stage, ClosesMessage, GivesUpAt, StageSteps, none, more}
+use Rattle.dcsctp_api.specs.spec.queues.Filling.{Stage, ClosesMessage, GivesUpItem, StageSteps, none, more}
 use Rattle.dcsctp_api.specs.spec.queues.NextItem.{is_abandonment_due}
 use Rattle.dcsctp_send_retransmission.specs.GivingUp.{StopsGivingUp, GivesUpIf}
 use Rattle.dcsctp_api.specs.spec.queues.Abandoning.{NoneAwaitedBefore, NoneDue, GivesUpFirst}
@@ -88,7 +88,7 @@ closes_grows now last old new false (inl drops) =
 closes_grows now last old new false (inr same) = rw same.1 (record { ends = inl refl; rest = refl })
 
 -- the same in the words of the queue alone
-pub gives_up_at : (now place : ℕ) (old new : Stage) → GivesUpAt now place old new → AbandonsItems place old.queue new.queue
+pub gives_up_at : (now place : ℕ) (old new : Stage) → GivesUpItem now place old new → AbandonsItems place old.queue new.queue
 gives_up_at now place old new up =
     record {
       grown = up.closed.queue;

@@ -6,21 +6,21 @@ use Rattle.std.specs.declared.alloc.AllocError.{AllocError}
 use Rattle.std.proofs.lemmas.List.Sums.{sum_by-cons, sum_by_push}
 use Rattle.dcsctp_api.specs.spec.endpoint.Timers.{TimerModel}
 use Rattle.dcsctp_api.specs.spec.queues.SendQueue.{SendQueueState}
-use Rattle.dcsctp_api.specs.spec.queues.Items.{Item, number_where, marked_count, marked_items, changed_item, changed_between}
+use Rattle.dcsctp_api.specs.spec.queues.Items.{Item, number_or_zero, marked_count, marked_items, changed_item, changed_between}
 use Rattle.dcsctp_api.specs.types.declared.progress.ItemState.{ItemState}
 use Rattle.dcsctp_api.specs.types.declared.progress.Progress.{Progress}
 use Rattle.dcsctp_api.specs.types.declared.progress.Change.{Change}
 use Rattle.dcsctp_api.specs.types.declared.progress.Change.TheVariants.{SendAgain, Abandon}
 use Rattle.dcsctp_api.specs.types.queues.Progress.{is_marked, progress_changed}
 use Rattle.dcsctp_send_outstanding.specs.Outstanding.{MayAddEnd}
-use Rattle.dcsctp_api.specs.spec.queues.NextItem.{IsMarkedAt, IsNextMarked, FirstStays, is_abandonment_due, WaitsForRoom, HaltsAgain, HaltsNew, Halts}
+use Rattle.dcsctp_api.specs.spec.queues.NextItem.{IsMarkedItem, IsNextMarked, FirstStays, is_abandonment_due, WaitsForRoom, HaltsAgain, HaltsNew, Halts}
 use Rattle.dcsctp_api.specs.spec.queues.Outstanding.{OutstandingState, next_tsn}
 use Rattle.dcsctp_send_retransmission.specs.Queue.{AbandonsItems}
 use Rattle.dcsctp_api.specs.spec.queues.Retransmission.{RetransmissionState, counted_again}
 use Rattle.dcsctp_send_retransmission.specs.declared.packet.Packet.{Packet}
-use Rattle.dcsctp_send_retransmission.specs.Sending.{Filled, ContinuesPacket, none as none_packed}
+use Rattle.dcsctp_send_retransmission.specs.Sending.{IsFilledPacket, ContinuesPacket, none as none_packed}
 use Rattle.dcsctp_send_retransmission.specs.Halting.{SendsAgain, GoesAgain, FillsUp}
-use Rattle.dcsctp_send_retransmission.specs.States.{SendsAt}
+use Rattle.dcsctp_send_retransmission.specs.States.{SendsItemAgain}
 
 -- the change leaves no item marked
 abbrev pub Unmarks : Change → Type 0
@@ -31,7 +31,7 @@ marked_at_most change unmarks zero zero items = omega arith
 marked_at_most change unmarks zero (suc end) [] = omega arith
 marked_at_most change unmarks zero (suc end) (x ∷ xs) =
     let later = marked_at_most change unmarks zero end xs in
-    let here = ap (λ (b : Bool). number_where b 1) (unmarks x.progress) in
+    let here = ap (λ (b : Bool). number_or_zero b 1) (unmarks x.progress) in
     let old = sum_by-cons marked_count x xs in
     let new = sum_by-cons marked_count (changed_item change x) (changed_between change zero end xs) in
     omega arith
@@ -49,15 +49,15 @@ fewer_marked change unmarks zero zero place items item from to at is = absurd (o
 fewer_marked change unmarks zero (suc end) place [] item from to at is = absurd (cc)
 fewer_marked change unmarks zero (suc end) zero (x ∷ xs) item from to at is =
     let same : x ≡ item = cc in
-    let was = ap (λ (y : Item). marked_count y) same ∙ ap (λ (b : Bool). number_where b 1) is in
+    let was = ap (λ (y : Item). marked_count y) same ∙ ap (λ (b : Bool). number_or_zero b 1) is in
     let later = marked_at_most change unmarks zero end xs in
-    let here = ap (λ (b : Bool). number_where b 1) (unmarks x.progress) in
+    let here = ap (λ (b : Bool). number_or_zero b 1) (unmarks x.progress) in
     let old = sum_by-cons marked_count x xs in
     let new = sum_by-cons marked_count (changed_item change x) (changed_between change zero end xs) in
     omega arith
 fewer_marked change unmarks zero (suc end) (suc place) (x ∷ xs) item from to at is =
     let later = fewer_marked change unmarks zero end place xs item (omega arith) (omega arith) at is in
-    let here = ap (λ (b : Bool). number_where b 1) (unmarks x.progress) in
+    let here = ap (λ (b : Bool). number_or_zero b 1) (unmarks x.progress) in
     let old = sum_by-cons marked_count x xs in
     let new = sum_by-cons marked_count (changed_item change x) (changed_between change zero end xs) in
     omega arith
@@ -82,7 +82,7 @@ end_marked old new (inl same) = ap (λ (m : OutstandingState). marked_items m.it
 end_marked old new (inr ends) =
     let items = ap (λ (m : OutstandingState). marked_items m.items) ends.grows in
     let all = sum_by_push marked_count old.items ends.item in
-    let zero_more = ap (λ (s : ItemState). number_where (is_marked s) 1) ends.is_abandoned in
+    let zero_more = ap (λ (s : ItemState). number_or_zero (is_marked s) 1) ends.is_abandoned in
     omega arith
 
 end_stays : (old new : OutstandingState) (place : ℕ) (item : Item) → MayAddEnd old new → slice_get old.items place ≡ Some item → slice_get new.items place ≡ Some item
@@ -90,7 +90,7 @@ end_stays old new place item (inl same) at = ap (λ (m : OutstandingState). slic
 end_stays old new place item (inr ends) at = ap (λ (m : OutstandingState). slice_get m.items place) ends.grows ∙ slice_get_stays old.items ends.item place item at
 
 -- when a lost message is abandoned, fewer wait to be sent again
-pub gives_up_fewer : (place : ℕ) (old new : RetransmissionState) → AbandonsItems place old new → IsMarkedAt place old.outstanding.items → marked_items new.outstanding.items < marked_items old.outstanding.items
+pub gives_up_fewer : (place : ℕ) (old new : RetransmissionState) → AbandonsItems place old new → IsMarkedItem place old.outstanding.items → marked_items new.outstanding.items < marked_items old.outstanding.items
 gives_up_fewer place old new up at =
     let items = ap (λ (q : RetransmissionState). marked_items q.outstanding.items) up.is in
     let grown = end_marked old.outstanding up.grown.outstanding up.grows.ends in
@@ -105,7 +105,7 @@ waits_for_room place old new room left next again =
 -- what a try to send the first marked item again leaves
 pub goes_again : (r : Result Bool AllocError) (now place : ℕ) (old between new : RetransmissionState) (before after : Packet) → marked_items between.outstanding.items ≤ marked_items old.outstanding.items
     → (next : IsNextMarked place between.outstanding.items) → is_abandonment_due now between.partial_reliability next.marked.item ≡ false
-    → IfOk r (SendsAgain place between.outstanding before.room new.outstanding after.room) → IfOk r (SendsAt place next.marked.item between before new after) → IfOk r (GoesAgain now old new after.room)
+    → IfOk r (SendsAgain place between.outstanding before.room new.outstanding after.room) → IfOk r (SendsItemAgain place next.marked.item between before new after) → IfOk r (GoesAgain now old new after.room)
 goes_again (Ok true) now place old between new before after fewer next stays again sends =
     let items = ap (λ (m : OutstandingState). marked_items m.items) again in
     let one = fewer_marked (SendAgain (next_tsn between.outstanding)) (λ progress. refl) place (place + 1) place between.outstanding.items next.marked.item (omega arith) (omega arith) next.marked.at next.marked.is in
@@ -150,6 +150,6 @@ fills_up_timed (Err error) now bytes queue timer waiting fills = tt
 -- a packet that was empty is filled up
 pub fills_up : (now bytes : ℕ) (old new : RetransmissionState) (before after : Packet) (waiting : SendQueueState) → before.tsns.items ≡ [] → before.room ≡ bytes → ContinuesPacket old before new after → Halts now after.room new waiting → FillsUp now bytes new waiting after.tsns.items
 fills_up now bytes old new before after waiting empty room fills halts =
-    let start : Filled bytes old before = record { used = 0; packed = rw empty none_packed; sum = omega arith } in
+    let start : IsFilledPacket bytes old before = record { used = 0; packed = rw empty none_packed; sum = omega arith } in
     let filled = fills.filling bytes start in
     record { used = filled.used; packed = filled.packed; room = after.room; sum = filled.sum; halts = halts }

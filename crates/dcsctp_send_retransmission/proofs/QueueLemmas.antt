@@ -4,9 +4,9 @@ use Rattle.std.specs.List.{slice_get}
 use Rattle.std.proofs.lemmas.List.{append-nil}
 use Rattle.dcsctp_api.specs.spec.endpoint.Event.{Event}
 use Rattle.dcsctp_api.specs.spec.queues.Items.{Item, marked_items, changed_between}
-use Rattle.dcsctp_send_streams.specs.Telling.{TellsFront}
+use Rattle.dcsctp_send_streams.specs.Telling.{AddsFront}
 use Rattle.std.proofs.Math.Seq.{take-add}
-use Rattle.dcsctp_api.specs.spec.queues.Acknowledging.{ends_delivery, lifecycle_events_by, delivered_events, covered, lossy, missed_until, without_first_items, congestion_acknowledgement, grown_by, acknowledged_until}
+use Rattle.dcsctp_api.specs.spec.queues.Acknowledging.{ends_delivery, lifecycle_events_of, delivered_events, covered_items, lossy, missed_until, without_first_items, congestion_acknowledgement, grown_window, acknowledged_until}
 use Rattle.dcsctp_api.specs.wire.declared.chunk.sack.GapAckBlock.{GapAckBlock}
 use Rattle.dcsctp_api.specs.types.declared.congestion.Acknowledged.{Acknowledged}
 use Rattle.dcsctp_api.specs.types.declared.progress.Change.TheVariants.{Miss, Abandon}
@@ -26,14 +26,14 @@ length-missed_until count limit newest queue =
     go false = length-changed_between (Miss newest) count limit queue.outstanding.items
 
 -- a SACK, step by step
-pub acknowledged_is : (count : ℕ) (blocks : List GapAckBlock) (limit : ℕ) (newest : Option ℕ) (old mid left new : RetransmissionState) (ack : Acknowledged) → mid ≡ missed_until count limit newest (with_items (covered count blocks old.outstanding.items) old) → left ≡ without_first_items count mid → ack ≡ congestion_acknowledgement count old left → new ≡ grown_by ack left → new ≡ acknowledged_until count blocks limit newest old
+pub acknowledged_is : (count : ℕ) (blocks : List GapAckBlock) (limit : ℕ) (newest : Option ℕ) (old mid left new : RetransmissionState) (ack : Acknowledged) → mid ≡ missed_until count limit newest (with_items (covered_items count blocks old.outstanding.items) old) → left ≡ without_first_items count mid → ack ≡ congestion_acknowledgement count old left → new ≡ grown_window ack left → new ≡ acknowledged_until count blocks limit newest old
 acknowledged_is count blocks limit newest old mid left new ack is_mid is_left is_ack is_new =
-    let left_is : left ≡ without_first_items count (missed_until count limit newest (with_items (covered count blocks old.outstanding.items) old)) = is_left ∙ ap (without_first_items count) is_mid in
-    is_new ∙ ap (λ (a : Acknowledged). grown_by a left) is_ack ∙ ap (λ (q : RetransmissionState). grown_by (congestion_acknowledgement count old q) q) left_is
+    let left_is : left ≡ without_first_items count (missed_until count limit newest (with_items (covered_items count blocks old.outstanding.items) old)) = is_left ∙ ap (without_first_items count) is_mid in
+    is_new ∙ ap (λ (a : Acknowledged). grown_window a left) is_ack ∙ ap (λ (q : RetransmissionState). grown_window (congestion_acknowledgement count old q) q) left_is
 
 -- the events for one item
 abbrev pub told_of : Item → List (Event (List ℕ))
-told_of item = lifecycle_events_by item.fragment.lifecycle (ends_delivery item)
+told_of item = lifecycle_events_of item.fragment.lifecycle (ends_delivery item)
 
 -- the events for one more item
 pub delivered_further : (items : List Item) (k : ℕ) (item : Item) → slice_get items k ≡ Some item → delivered_events {P = List ℕ} (take (suc k) items) ≡ delivered_events (take k items) ++ told_of item
@@ -48,8 +48,8 @@ delivered_append [] rest = refl
 delivered_append (x ∷ xs) rest = ap (λ (ys : List (Event (List ℕ))). told_of x ++ ys) (delivered_append xs rest) ∙ sym (append_assoc (told_of x) (delivered_events xs) (delivered_events rest))
 
 -- The first part of an item's events were added, after all events for the items before it.
-pub front_further : (items : List Item) (k count : ℕ) (item : Item) (start told telling : List (Event (List ℕ))) → k < count → slice_get items k ≡ Some item → told ≡ start ++ delivered_events (take k items) → TellsFront told (told_of item) telling
-    → TellsFront start (delivered_events (take count items)) telling
+pub front_further : (items : List Item) (k count : ℕ) (item : Item) (start told telling : List (Event (List ℕ))) → k < count → slice_get items k ≡ Some item → told ≡ start ++ delivered_events (take k items) → AddsFront told (told_of item) telling
+    → AddsFront start (delivered_events (take count items)) telling
 front_further items k count item start told telling within at is tells =
     let before : List (Event (List ℕ)) = delivered_events (take k items) in
     let behind : List (Event (List ℕ)) = delivered_events (take (count - suc k) (drop (suc k) items)) in

@@ -10,7 +10,7 @@ use Rattle.dcsctp_send_outstanding.specs.Outstanding.{MayAddEnd, SendsNext}
 use Rattle.dcsctp_api.specs.spec.queues.Outstanding.{OutstandingState, header}
 use Rattle.dcsctp_send_retransmission.specs.Queue.{MayGrow, AbandonsItems}
 use Rattle.dcsctp_api.specs.spec.queues.Retransmission.{RetransmissionState, with_items, counted_again}
-use Rattle.dcsctp_send_retransmission.specs.Sending.{KeepsFragments, KeepsAllFragments, Packed, none, more, Filled, ContinuesPacket, HandsOut}
+use Rattle.dcsctp_send_retransmission.specs.Sending.{KeepsFragments, KeepsAllFragments, PacksItems, none, more, IsFilledPacket, ContinuesPacket, HandsOut}
 
 pub fragments_refl : (items : List Item) → KeepsFragments items items
 fragments_refl items k item at = record { item = item; at = at; is = refl }
@@ -70,14 +70,14 @@ keeps_with queue items fragments =
     record { first_tsn = refl; is_interleaved = refl; fragments = fragments; congestion = refl; timer = refl; peer_window = refl; partial_reliability = refl }
 
 -- a packet stays filled
-pub packed_kept : (first header : ℕ) (old new : List Item) (tsns : List ℕ) (used : ℕ) → KeepsFragments old new → Packed first header old tsns used → Packed first header new tsns used
+pub packed_kept : (first header : ℕ) (old new : List Item) (tsns : List ℕ) (used : ℕ) → KeepsFragments old new → PacksItems first header old tsns used → PacksItems first header new tsns used
 packed_kept first header old new [] zero kept none = none
 packed_kept first header old new tsns used kept (more tsns' used' place item tsn size packed at tsn_is size_is) =
     let here = kept place item at in
     more tsns' used' place here.item tsn size (packed_kept first header old new tsns' used' kept packed) here.at tsn_is (size_is ∙ ap (λ (f : Fragment). item_size header (record item { fragment = f })) (sym here.is))
 
 -- a packet stays filled where fragments stay
-pub filled_kept : (bytes : ℕ) (old new : RetransmissionState) (packet : Packet) → KeepsAllFragments old new → Filled bytes old packet → Filled bytes new packet
+pub filled_kept : (bytes : ℕ) (old new : RetransmissionState) (packet : Packet) → KeepsAllFragments old new → IsFilledPacket bytes old packet → IsFilledPacket bytes new packet
 filled_kept bytes old new packet keeps filled =
     record {
       used = filled.used;
@@ -86,7 +86,7 @@ filled_kept bytes old new packet keeps filled =
     }
 
 -- one more chunk of the queue goes into the packet
-pub filled_more : (bytes : ℕ) (queue : RetransmissionState) (before after : Packet) (place : ℕ) (item : Item) (tsn size : ℕ) → Filled bytes queue before → slice_get queue.outstanding.items place ≡ Some item → tsn ≡ (queue.outstanding.first_tsn + place) % 2 ^ 32 → size ≡ item_size (header queue.outstanding) item → after.tsns.items ≡ before.tsns.items ++ tsn ∷ [] → after.room + size ≡ before.room → Filled bytes queue after
+pub filled_more : (bytes : ℕ) (queue : RetransmissionState) (before after : Packet) (place : ℕ) (item : Item) (tsn size : ℕ) → IsFilledPacket bytes queue before → slice_get queue.outstanding.items place ≡ Some item → tsn ≡ (queue.outstanding.first_tsn + place) % 2 ^ 32 → size ≡ item_size (header queue.outstanding) item → after.tsns.items ≡ before.tsns.items ++ tsn ∷ [] → after.room + size ≡ before.room → IsFilledPacket bytes queue after
 filled_more bytes queue before after place item tsn size filled at tsn_is size_is tsns_are room_is =
     record {
       used = filled.used + size;
@@ -173,7 +173,7 @@ counted_keeps size queue = go (nat_lt 0 size)
 -- what a packet that was empty holds
 pub fills_hand_out : (bytes : ℕ) (old new : RetransmissionState) (before after : Packet) → before.tsns.items ≡ [] → before.room ≡ bytes → ContinuesPacket old before new after → HandsOut bytes new.outstanding after.tsns.items
 fills_hand_out bytes old new before after empty room fills =
-    let start : Filled bytes old before = record { used = 0; packed = rw empty none; sum = omega arith } in
+    let start : IsFilledPacket bytes old before = record { used = 0; packed = rw empty none; sum = omega arith } in
     let filled = fills.filling bytes start in
     let sum = filled.sum in
     record { used = filled.used; fits = omega arith; packed = filled.packed }

@@ -4,7 +4,7 @@ use Rattle.std.specs.List.{slice_get, flat_map}
 use Rattle.std.specs.Int.{w16, w32, to_be_bytes, from_be_bytes}
 use Rattle.std.proofs.Math.Seq.{drop-append-add}
 use Rattle.std.proofs.lemmas.Nat.{from_be_bytes-to_be_bytes_2, from_be_bytes-to_be_bytes_4}
-use Rattle.dcsctp_api.specs.wire.Fields.{u16_at, u32_at, lowest_bit, skipped_stream_at, skipped_messages_at}
+use Rattle.dcsctp_api.specs.wire.Fields.{u16_at, u32_at, lowest_bit, numbered_skipped_stream, numbered_skipped_messages}
 use Rattle.dcsctp_api.specs.wire.Spelling.{t_bit}
 use Rattle.dcsctp_api.specs.wire.declared.chunk.forward_tsn.SkippedStream.{SkippedStream}
 use Rattle.dcsctp_api.specs.wire.declared.chunk.forward_tsn.SkippedMessages.{SkippedMessages}
@@ -29,7 +29,7 @@ same_messages stream unordered number other_stream is_unordered other_number str
     ap (λ (x : ℕ). messages_of x unordered number) streams ∙ (ap (λ (b : Bool). messages_of other_stream b number) flags ∙ ap (messages_of other_stream is_unordered) numbers)
 
 -- an entry at the front
-stream_reads : (entry : SkippedStream) (rest : List ℕ) → FitsStream entry → skipped_stream_at 0 (skipped_stream_bytes entry ++ rest) ≡ entry
+stream_reads : (entry : SkippedStream) (rest : List ℕ) → FitsStream entry → numbered_skipped_stream 0 (skipped_stream_bytes entry ++ rest) ≡ entry
 stream_reads entry rest fits =
     let bytes : List ℕ = skipped_stream_bytes entry ++ rest in
     let stream : u16_at 0 bytes ≡ entry.stream_id = from_be_bytes-to_be_bytes_2 entry.stream_id fits.0 in
@@ -40,7 +40,7 @@ flag_reads : (bit : Bool) → lowest_bit (from_be_bytes w16 (to_be_bytes w16 (t_
 flag_reads true = refl
 flag_reads false = refl
 
-messages_reads : (entry : SkippedMessages) (rest : List ℕ) → FitsMessages entry → skipped_messages_at 0 (messages_bytes entry ++ rest) ≡ entry
+messages_reads : (entry : SkippedMessages) (rest : List ℕ) → FitsMessages entry → numbered_skipped_messages 0 (messages_bytes entry ++ rest) ≡ entry
 messages_reads entry rest fits =
     let bytes : List ℕ = messages_bytes entry ++ rest in
     let stream : u16_at 0 bytes ≡ entry.stream_id = from_be_bytes-to_be_bytes_2 entry.stream_id fits.0 in
@@ -58,30 +58,30 @@ u16_behind front rest a b is = ap (λ (xs : List ℕ). from_be_bytes w16 (take 2
 u32_behind : (front rest : List ℕ) (a b : ℕ) → a ≡ length front + b → u32_at a (front ++ rest) ≡ u32_at b rest
 u32_behind front rest a b is = ap (λ (xs : List ℕ). from_be_bytes w32 (take 4 xs)) (behind front rest a b is)
 
-later_stream : (index : ℕ) (front rest : List ℕ) → length front ≡ 4 → skipped_stream_at (suc index) (front ++ rest) ≡ skipped_stream_at index rest
+later_stream : (index : ℕ) (front rest : List ℕ) → length front ≡ 4 → numbered_skipped_stream (suc index) (front ++ rest) ≡ numbered_skipped_stream index rest
 later_stream index front rest four =
     same_stream _ _ _ _ (u16_behind front rest (4 * suc index) (4 * index) (omega arith)) (u16_behind front rest (4 * suc index + 2) (4 * index + 2) (omega arith))
 
-later_messages : (index : ℕ) (front rest : List ℕ) → length front ≡ 8 → skipped_messages_at (suc index) (front ++ rest) ≡ skipped_messages_at index rest
+later_messages : (index : ℕ) (front rest : List ℕ) → length front ≡ 8 → numbered_skipped_messages (suc index) (front ++ rest) ≡ numbered_skipped_messages index rest
 later_messages index front rest eight =
     same_messages _ _ _ _ _ _ (u16_behind front rest (8 * suc index) (8 * index) (omega arith)) (ap lowest_bit (u16_behind front rest (8 * suc index + 2) (8 * index + 2) (omega arith)))
     (u32_behind front rest (8 * suc index + 4) (8 * index + 4) (omega arith))
 
 -- ---- all entries
 
-pub streams_read : (streams : List SkippedStream) (index : ℕ) (entry : SkippedStream) → FitsStream entry → slice_get streams index ≡ Some entry → skipped_stream_at index (flat_map skipped_stream_bytes streams) ≡ entry
+pub streams_read : (streams : List SkippedStream) (index : ℕ) (entry : SkippedStream) → FitsStream entry → slice_get streams index ≡ Some entry → numbered_skipped_stream index (flat_map skipped_stream_bytes streams) ≡ entry
 streams_read [] index entry fits at = absurd (cc)
 streams_read (x ∷ xs) zero entry fits at =
     let e : x ≡ entry = cc in
-    ap (λ (y : SkippedStream). skipped_stream_at 0 (skipped_stream_bytes y ++ flat_map skipped_stream_bytes xs)) e ∙ stream_reads entry (flat_map skipped_stream_bytes xs) fits
+    ap (λ (y : SkippedStream). numbered_skipped_stream 0 (skipped_stream_bytes y ++ flat_map skipped_stream_bytes xs)) e ∙ stream_reads entry (flat_map skipped_stream_bytes xs) fits
 streams_read (x ∷ xs) (suc index) entry fits at =
     later_stream index (skipped_stream_bytes x) (flat_map skipped_stream_bytes xs) refl ∙ streams_read xs index entry fits at
 
-pub all_messages_read : (messages : List SkippedMessages) (index : ℕ) (entry : SkippedMessages) → FitsMessages entry → slice_get messages index ≡ Some entry → skipped_messages_at index (flat_map messages_bytes messages) ≡ entry
+pub all_messages_read : (messages : List SkippedMessages) (index : ℕ) (entry : SkippedMessages) → FitsMessages entry → slice_get messages index ≡ Some entry → numbered_skipped_messages index (flat_map messages_bytes messages) ≡ entry
 all_messages_read [] index entry fits at = absurd (cc)
 all_messages_read (x ∷ xs) zero entry fits at =
     let e : x ≡ entry = cc in
-    ap (λ (y : SkippedMessages). skipped_messages_at 0 (messages_bytes y ++ flat_map messages_bytes xs)) e ∙ messages_reads entry (flat_map messages_bytes xs) fits
+    ap (λ (y : SkippedMessages). numbered_skipped_messages 0 (messages_bytes y ++ flat_map messages_bytes xs)) e ∙ messages_reads entry (flat_map messages_bytes xs) fits
 all_messages_read (x ∷ xs) (suc index) entry fits at =
     later_messages index (messages_bytes x) (flat_map messages_bytes xs) refl ∙ all_messages_read xs index entry fits at
 

@@ -17,8 +17,8 @@ use Rattle.dcsctp_api.specs.spec.queues.Outstanding.{OutstandingState, header}
 use Rattle.dcsctp_api.specs.spec.queues.NextItem.{IsNextMarked, is_abandonment_due}
 use Rattle.dcsctp_api.specs.spec.queues.Retransmission.{RetransmissionState, can_send}
 use Rattle.dcsctp_send_retransmission.proofs.SendingLemmas.{last_pushed, with_outstanding}
-use Rattle.dcsctp_send_retransmission.specs.States.{stage, RefusesClosing, GoesFilling, StopsFilling, StopsBetweenSteps, Goes, SendsAt}
-use Rattle.dcsctp_api.specs.spec.queues.Filling.{Stage, DropsRestAt, ClosesMessage, payload_room, SendsNew, StepAgain, MayAdd, StepNew, resent_packet_counted, StageSteps, none, more, SendsMarked}
+use Rattle.dcsctp_send_retransmission.specs.States.{stage, RefusesClosing, GoesFilling, StopsFilling, StopsBetweenSteps, Goes, SendsItemAgain}
+use Rattle.dcsctp_api.specs.spec.queues.Filling.{Stage, DropsRestOfMessage, ClosesMessage, payload_room, SendsNew, StepAgain, MayAdd, StepNew, resent_packet_counted, StageSteps, none, more, SendsMarked}
 use Rattle.dcsctp_api.specs.spec.queues.AtOnce.{SendsFirst, is_first_marked}
 use Rattle.dcsctp_send_outstanding.specs.Handing.{SendsItem}
 
@@ -39,7 +39,7 @@ pub on_ok_map : {A E : Type 0} {P Q : Type 0} (r : Result A E) → (P → Q) →
 on_ok_map (Ok done) f p = f p
 on_ok_map (Err error) f p = tt
 
-pub closes_rest : (now : ℕ) (last : Item) (old new : Stage) (is_end : Bool) → is_end ≡ false → length old.queue.outstanding.items + 1 < 2 ^ 31 → DropsRestAt now last old new → ClosesMessage now last old new is_end
+pub closes_rest : (now : ℕ) (last : Item) (old new : Stage) (is_end : Bool) → is_end ≡ false → length old.queue.outstanding.items + 1 < 2 ^ 31 → DropsRestOfMessage now last old new → ClosesMessage now last old new is_end
 closes_rest now last old new true is_false room drops = absurd (cc)
 closes_rest now last old new false is_false room drops = inl (room, drops)
 
@@ -58,7 +58,7 @@ pub goes_at : (r : Result Bool AllocError) (now place : ℕ) (Step : Stage → S
     → ((m n : Stage) → m.queue ≡ old → SendsMarked now m n → Step m n)
     → StageSteps Step start (stage old waiting events before.tsns.items before.room)
     → is_abandonment_due now old.partial_reliability next.marked.item ≡ false
-    → IfOk r (SendsAt place next.marked.item old before new after) → OnErr r (new ≡ old)
+    → IfOk r (SendsItemAgain place next.marked.item old before new after) → OnErr r (new ≡ old)
     → Goes now Step start (stage new waiting events after.tsns.items after.room) r
 goes_at (Ok true) now place Step start old new waiting events before after next embed steps stays sends err =
     more (stage old waiting events before.tsns.items before.room) (stage new waiting events after.tsns.items after.room) steps

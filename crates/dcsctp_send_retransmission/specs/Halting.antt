@@ -6,7 +6,7 @@ use Rattle.dcsctp_api.specs.types.declared.progress.Change.TheVariants.{SendAgai
 use Rattle.dcsctp_api.specs.spec.queues.Outstanding.{OutstandingState, header, next_tsn}
 use Rattle.dcsctp_api.specs.spec.queues.NextItem.{HaltsAgain, Halts}
 use Rattle.dcsctp_api.specs.spec.queues.Retransmission.{RetransmissionState}
-use Rattle.dcsctp_send_retransmission.specs.Sending.{PackedFrom}
+use Rattle.dcsctp_send_retransmission.specs.Sending.{PacksOutstanding}
 
 -- what a try to send the item at the place again does, by whether it fits
 abbrev pub SendsAgain : ℕ → OutstandingState → ℕ → OutstandingState → ℕ → Bool → Type 0
@@ -24,7 +24,7 @@ GoesAgain now old new room false = (marked_items new.outstanding.items ≤ marke
 -- TSNs of outstanding items fill a packet of that many bytes as far as possible.
 pub record FillsUp (now bytes : ℕ) (queue : RetransmissionState) (waiting : SendQueueState) (tsns : List ℕ) : Type 0 where
   pub used : ℕ
-  pub packed : PackedFrom queue.outstanding tsns used
+  pub packed : PacksOutstanding queue.outstanding tsns used
   pub room : ℕ
   pub sum : used + room ≡ bytes
   pub halts : Halts now room queue waiting

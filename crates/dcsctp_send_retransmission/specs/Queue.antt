@@ -6,21 +6,21 @@ use Rattle.std.specs.declared.alloc.AllocError.{AllocError}
 use Rattle.dcsctp_api.specs.wire.declared.chunk.sack.GapAckBlock.{GapAckBlock}
 use Rattle.dcsctp_api.specs.types.declared.progress.Change.TheVariants.{Abandon}
 use Rattle.dcsctp_api.specs.spec.endpoint.Event.{Event}
-use Rattle.dcsctp_api.specs.spec.endpoint.Timers.{expires_at}
-use Rattle.dcsctp_api.specs.spec.queues.Acknowledging.{AcknowledgesItems, has_acknowledged, delivered_by}
+use Rattle.dcsctp_api.specs.spec.endpoint.Timers.{is_expired_timer}
+use Rattle.dcsctp_api.specs.spec.queues.Acknowledging.{AcknowledgesItems, has_acknowledged, delivered_up_to}
 use Rattle.dcsctp_api.specs.spec.queues.Items.{changed_between}
 use Rattle.dcsctp_api.specs.spec.queues.Outstanding.{acknowledged_count}
 use Rattle.dcsctp_api.specs.spec.queues.Retransmission.{RetransmissionState, after_expiry, with_items}
 use Rattle.dcsctp_api.specs.spec.queues.RoundTrip.{MeasuresRoundTrip}
-use Rattle.dcsctp_send_streams.specs.Telling.{TellsFront}
+use Rattle.dcsctp_send_streams.specs.Telling.{AddsFront}
 use Rattle.dcsctp_send_outstanding.specs.Outstanding.{MayAddEnd}
 use Rattle.dcsctp_send_retransmission.specs.declared.handle_sack_result.HandleSackResult.{HandleSackResult}
 use Rattle.dcsctp_send_retransmission.specs.declared.handle_sack_result.HandleSackResult.TheVariants.{Invalid, Valid}
 use Rattle.dcsctp_send_retransmission.specs.Answers.{SaysAnswer}
 
 -- What is left once this moment has come: if the timer expires, all that was in flight is lost.
-abbrev pub queue_at : ℕ → RetransmissionState → RetransmissionState
-queue_at now queue = if expires_at now queue.timer.running then after_expiry now queue else queue
+abbrev pub queue_come_to : ℕ → RetransmissionState → RetransmissionState
+queue_come_to now queue = if is_expired_timer now queue.timer.running then after_expiry now queue else queue
 
 -- ---- a SACK
 
@@ -31,12 +31,12 @@ HandlesSackInQueue now cumulative window blocks old told new telling (Ok Invalid
 HandlesSackInQueue now cumulative window blocks old told new telling (Ok (Valid rtt reset_error_counter)) =
     (acknowledged_count old.outstanding cumulative ≤ length old.outstanding.items)
     × AcknowledgesItems now cumulative window blocks old new
-    × (telling ≡ told ++ delivered_by cumulative old)
+    × (telling ≡ told ++ delivered_up_to cumulative old)
     × MeasuresRoundTrip now (acknowledged_count old.outstanding cumulative) blocks old.outstanding.items (option_map as_nanos rtt)
     × (reset_error_counter ≡ has_acknowledged old new)
     × SaysAnswer reset_error_counter (acknowledged_count old.outstanding cumulative) blocks old.outstanding.items
 HandlesSackInQueue now cumulative window blocks old told new telling (Err error) =
-    (acknowledged_count old.outstanding cumulative ≤ length old.outstanding.items) × (new ≡ old) × TellsFront told (delivered_by cumulative old) telling
+    (acknowledged_count old.outstanding cumulative ≤ length old.outstanding.items) × (new ≡ old) × AddsFront told (delivered_up_to cumulative old) telling
 
 -- ---- what is abandoned
 

@@ -27,34 +27,34 @@ pub record KeepsAllFragments (old new : RetransmissionState) : Type 0 where
   pub partial_reliability : new.partial_reliability ≡ old.partial_reliability
 
 -- These TSNs are those of items, and their chunks take up that many bytes.
-pub data Packed (first header : ℕ) (items : List Item) : List ℕ → ℕ → Type 0 where
-  none : Packed first header items [] 0
-  more : (tsns : List ℕ) (used place : ℕ) (item : Item) (tsn size : ℕ) → Packed first header items tsns used → slice_get items place ≡ Some item → tsn ≡ (first + place) % 2 ^ 32 → size ≡ item_size header item → Packed first header items (tsns ++ tsn ∷ []) (used + size)
+pub data PacksItems (first header : ℕ) (items : List Item) : List ℕ → ℕ → Type 0 where
+  none : PacksItems first header items [] 0
+  more : (tsns : List ℕ) (used place : ℕ) (item : Item) (tsn size : ℕ) → PacksItems first header items tsns used → slice_get items place ≡ Some item → tsn ≡ (first + place) % 2 ^ 32 → size ≡ item_size header item → PacksItems first header items (tsns ++ tsn ∷ []) (used + size)
 
 -- the same for what is outstanding
-abbrev pub PackedFrom : OutstandingState → List ℕ → ℕ → Type 0
-PackedFrom outstanding tsns used = Packed outstanding.first_tsn (header outstanding) outstanding.items tsns used
+abbrev pub PacksOutstanding : OutstandingState → List ℕ → ℕ → Type 0
+PacksOutstanding outstanding tsns used = PacksItems outstanding.first_tsn (header outstanding) outstanding.items tsns used
 
 -- A packet that had that many bytes of room holds chunks of the queue.
-pub record Filled (bytes : ℕ) (queue : RetransmissionState) (packet : Packet) : Type 0 where
+pub record IsFilledPacket (bytes : ℕ) (queue : RetransmissionState) (packet : Packet) : Type 0 where
   pub used : ℕ
-  pub packed : PackedFrom queue.outstanding packet.tsns.items used
+  pub packed : PacksOutstanding queue.outstanding packet.tsns.items used
   pub sum : used + packet.room ≡ bytes
 
 -- what a packet was filled with stays, and more may come
-abbrev pub GoesOnFilling : RetransmissionState → Packet → RetransmissionState → Packet → Type 0
-GoesOnFilling old before new after = (bytes : ℕ) → Filled bytes old before → Filled bytes new after
+abbrev pub ContinuesFilling : RetransmissionState → Packet → RetransmissionState → Packet → Type 0
+ContinuesFilling old before new after = (bytes : ℕ) → IsFilledPacket bytes old before → IsFilledPacket bytes new after
 
 -- Nothing is lost, and the packet continues to be filled.
 pub record ContinuesPacket (old : RetransmissionState) (before : Packet) (new : RetransmissionState) (after : Packet) : Type 0 where
   pub keeps : KeepsAllFragments old new
-  pub filling : GoesOnFilling old before new after
+  pub filling : ContinuesFilling old before new after
 
 -- the TSNs of outstanding items, whose chunks fit into that many bytes
 pub record HandsOut (bytes : ℕ) (outstanding : OutstandingState) (tsns : List ℕ) : Type 0 where
   pub used : ℕ
   pub fits : used ≤ bytes
-  pub packed : PackedFrom outstanding tsns used
+  pub packed : PacksOutstanding outstanding tsns used
 
 -- Nothing is lost, and the timer runs while something is outstanding.
 pub record SendsItems (now : ℕ) (old new : RetransmissionState) : Type 0 where

@@ -2,7 +2,7 @@
 use Rattle.std.specs.Prelude.{◌≡◌, ℕ, ◌*◌, ◌^◌, ◌<◌, Some, List, ◌++◌, length, slice_get}
 use Rattle.std.specs.List.{flat_map}
 use Rattle.std.specs.Int.{w16, w32, to_be_bytes}
-use Rattle.dcsctp_api.specs.wire.Fields.{skipped_stream_at, skipped_messages_at}
+use Rattle.dcsctp_api.specs.wire.Fields.{numbered_skipped_stream, numbered_skipped_messages}
 use Rattle.dcsctp_api.specs.wire.Spelling.{t_bit}
 use Rattle.dcsctp_api.specs.wire.declared.chunk.forward_tsn.SkippedStream.{SkippedStream}
 use Rattle.dcsctp_api.specs.wire.declared.chunk.forward_tsn.SkippedMessages.{SkippedMessages}
@@ -33,7 +33,7 @@ FitsMessages entry = (entry.stream_id < 2 ^ 16) × (entry.mid < 2 ^ 32)
 abbrev pub ReadsAs : Skipped → List ℕ → Type 0
 ReadsAs (Streams streams) bytes =
     (length bytes ≡ 4 * length streams.items)
-    × ((index : ℕ) (entry : SkippedStream) → FitsStream entry → slice_get streams.items index ≡ Some entry → skipped_stream_at index bytes ≡ entry)
+    × ((index : ℕ) (entry : SkippedStream) → FitsStream entry → slice_get streams.items index ≡ Some entry → numbered_skipped_stream index bytes ≡ entry)
 ReadsAs (Messages messages) bytes =
     (length bytes ≡ 8 * length messages.items)
-    × ((index : ℕ) (entry : SkippedMessages) → FitsMessages entry → slice_get messages.items index ≡ Some entry → skipped_messages_at index bytes ≡ entry)
+    × ((index : ℕ) (entry : SkippedMessages) → FitsMessages entry → slice_get messages.items index ≡ Some entry → numbered_skipped_messages index bytes ≡ entry)

@@ -32,8 +32,8 @@ pub record SkipsRow (queue : RetransmissionState) (count : ℕ) (entries : List 
   pub collects : CollectsLastNumbers queue (take count queue.outstanding.items) entries
 
 -- What a try to take one more item in does: it is collected, or there is no room for it.
-abbrev pub TakesItemIn : RetransmissionState → ℕ → List ((ℕ × Bool) × LastNumbers) → List ((ℕ × Bool) × LastNumbers) → Bool → Type 0
-TakesItemIn queue place old new true = CollectsLastNumbers queue (take (place + 1) queue.outstanding.items) new
-TakesItemIn queue place old new false =
+abbrev pub TakesItem : RetransmissionState → ℕ → List ((ℕ × Bool) × LastNumbers) → List ((ℕ × Bool) × LastNumbers) → Bool → Type 0
+TakesItem queue place old new true = CollectsLastNumbers queue (take (place + 1) queue.outstanding.items) new
+TakesItem queue place old new false =
     (new ≡ old)
     × ((item : Item) → slice_get queue.outstanding.items place ≡ Some item → LacksRoom queue.outstanding.is_interleaved (skipped_entry_limit queue) (length old) (take place queue.outstanding.items) item)

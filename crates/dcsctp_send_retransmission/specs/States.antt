@@ -8,7 +8,7 @@ use Rattle.dcsctp_api.specs.declared.events.SocketEvent.{SocketEvent}
 use Rattle.dcsctp_api.specs.spec.endpoint.Event.{Event}
 use Rattle.dcsctp_api.specs.spec.queues.SendQueue.{SendQueueState}
 use Rattle.dcsctp_send_queue.specs.Calls.{StopsTaking, StopsDiscarding}
-use Rattle.dcsctp_send_streams.specs.Telling.{contents, TellsFront}
+use Rattle.dcsctp_send_streams.specs.Telling.{contents, AddsFront}
 use Rattle.dcsctp_api.specs.spec.queues.Items.{Item, item_size, changed_between}
 use Rattle.dcsctp_send_retransmission.specs.declared.packet.Packet.{Packet}
 use Rattle.dcsctp_api.specs.types.declared.progress.Change.TheVariants.{SendAgain}
@@ -26,12 +26,12 @@ stage queue waiting events tsns room = record { queue = queue; waiting = waiting
 -- The events if an allocation fails for abandoning a message whose last item is this one: the first part of all. What waits of it
 -- is dropped only if TSNs are left.
 abbrev pub RefusesClosing : List Item → Item → SendQueueState → List (Event (List ℕ)) → List (Event (List ℕ)) → Bool → Type 0
-RefusesClosing items last waiting told telling true = TellsFront told (maybe_expired last.fragment.lifecycle) telling
+RefusesClosing items last waiting told telling true = AddsFront told (maybe_expired last.fragment.lifecycle) telling
 RefusesClosing items last waiting told telling false =
     (telling ≡ told) ⊎ ((length items + 1 < 2 ^ 31) × StopsDiscarding waiting last.fragment.stream last.fragment.message_id told telling)
 
 -- An allocation fails for abandoning the message of the item at this place.
-pub record RefusesUpAt (place : ℕ) (items : List Item) (waiting : SendQueueState) (told telling : List (Event (List ℕ))) : Type 0 where
+pub record RefusesAbandoningItem (place : ℕ) (items : List Item) (waiting : SendQueueState) (told telling : List (Event (List ℕ))) : Type 0 where
   pub last_place : ℕ
   pub message : EndsMessage place (last_place + 1) items
   pub last : Item
@@ -43,13 +43,13 @@ pub record RefusesUp (now : ℕ) (at : Stage) (left : SendQueueState) (telling :
   pub place : ℕ
   pub next : IsNextMarked place at.queue.outstanding.items
   pub due : is_abandonment_due now at.queue.partial_reliability next.marked.item ≡ true
-  pub refused : RefusesUpAt place at.queue.outstanding.items at.waiting at.told telling
+  pub refused : RefusesAbandoningItem place at.queue.outstanding.items at.waiting at.told telling
   pub stays : left ≡ at.waiting
 
 -- The send queue and the events after a further step for which an allocation failed. Nothing happened; or messages that are too
 -- old to be started were dropped, and the first part of the next events was added.
-abbrev pub Refused : ℕ → Stage → SendQueueState → List (Event (List ℕ)) → Type 0
-Refused now at left telling =
+abbrev pub RefusesStep : ℕ → Stage → SendQueueState → List (Event (List ℕ)) → Type 0
+RefusesStep now at left telling =
     ((left ≡ at.waiting) × (telling ≡ at.told))
     ⊎ (RefusesUp now at left telling
     ⊎ (MayAdd at × StopsTaking now (payload_room (header at.queue.outstanding) at.room) at.waiting at.told left telling))
@@ -59,7 +59,7 @@ pub record StopsBetweenSteps (now : ℕ) (Step : Stage → Stage → Type 0) (ol
   pub at : Stage
   pub steps : StageSteps Step old at
   pub queue : new.queue ≡ at.queue
-  pub refused : Refused now at new.waiting new.told
+  pub refused : RefusesStep now at new.waiting new.told
 
 -- some steps, by whether an allocation failed
 abbrev pub Goes : {A : Type 0} → ℕ → (Stage → Stage → Type 0) → Stage → Stage → Result A AllocError → Type 0
@@ -68,13 +68,13 @@ Goes now Step old new result = ByResult (λ done. StageSteps Step old new) (Stop
 -- ---- the whole
 
 -- A packet is filled up to where an allocation fails.
-pub record StopsAnew (now : ℕ) (old new : Stage) : Type 0 where
+pub record StopsFillingNew (now : ℕ) (old new : Stage) : Type 0 where
   pub resent : Stage
   pub again : StageSteps (StepAgain now) old resent
   pub stops : StopsBetweenSteps now (StepNew now) (resent_packet_counted old.room resent) new
 
 abbrev pub StopsFilling : ℕ → Stage → Stage → Type 0
-StopsFilling now old new = StopsBetweenSteps now (StepAgain now) old new ⊎ StopsAnew now old new
+StopsFilling now old new = StopsBetweenSteps now (StepAgain now) old new ⊎ StopsFillingNew now old new
 
 abbrev pub GoesFilling : {A : Type 0} → ℕ → Stage → Stage → Result A AllocError → Type 0
 GoesFilling now old new result = ByResult (λ done. FillsStage now old new) (StopsFilling now old new) result
@@ -99,13 +99,13 @@ pub record SendsPacket (now bytes : ℕ) (old : RetransmissionState) (waiting : 
 -- ---- one chunk
 
 -- What a try to send the item at this place again does, by whether it fits.
-abbrev pub SendsAt : ℕ → Item → RetransmissionState → Packet → RetransmissionState → Packet → Bool → Type 0
-SendsAt place item old before new after true =
+abbrev pub SendsItemAgain : ℕ → Item → RetransmissionState → Packet → RetransmissionState → Packet → Bool → Type 0
+SendsItemAgain place item old before new after true =
     (item_size (header old.outstanding) item ≤ before.room)
     × (new ≡ with_items (changed_between (SendAgain (next_tsn old.outstanding)) place (place + 1) old.outstanding.items) old)
     × (after.tsns.items ≡ before.tsns.items ++ tsn_at old.outstanding place ∷ [])
     × (after.room ≡ before.room - item_size (header old.outstanding) item)
-SendsAt place item old before new after false = (new ≡ old) × (after.tsns.items ≡ before.tsns.items) × (after.room ≡ before.room)
+SendsItemAgain place item old before new after false = (new ≡ old) × (after.tsns.items ≡ before.tsns.items) × (after.room ≡ before.room)
 
 -- ---- a fast retransmission (RFC 9260, section 7.2.4)
 

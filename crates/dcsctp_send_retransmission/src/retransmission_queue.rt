@@ -77,12 +77,12 @@ impl RetransmissionQueue {
     ghost use Rattle.std.specs.Duration.{as_nanos};
     ghost use Rattle.dcsctp_api.specs.spec.Soundness.{HasBytes};
     ghost use Rattle.dcsctp_api.specs.spec.queues.Retransmission.{new_retransmission, outstanding_count, window_left, retransmission_deadline, can_send, timer_with, is_window_closed, all_lost, with_duration, with_reset_begun, kept_for_peer, counted_again};
-    ghost use Rattle.dcsctp_api.specs.spec.endpoint.Timers.{expires_at};
+    ghost use Rattle.dcsctp_api.specs.spec.endpoint.Timers.{is_expired_timer};
     ghost use Rattle.dcsctp_api.specs.spec.queues.Readiness.{retransmission_readiness};
     ghost use Rattle.dcsctp_api.specs.spec.queues.Items.{unacknowledged_items, marked_items};
     ghost use Rattle.dcsctp_send_outstanding.specs.Outstanding.{FindsPlaces};
     ghost use Rattle.dcsctp_api.specs.spec.queues.Outstanding.{next_tsn, distance_to, is_untouched};
-    ghost use Rattle.dcsctp_send_retransmission.specs.Queue.{queue_at};
+    ghost use Rattle.dcsctp_send_retransmission.specs.Queue.{queue_come_to};
     ghost use Rattle.dcsctp_send_retransmission.specs.Sending.{HasFragment};
 
     /// Nothing was sent yet: the first TSN is `my_initial_tsn`, the peer's receive window is `a_rwnd` bytes,
@@ -307,8 +307,8 @@ impl RetransmissionQueue {
     /// finds no room isn't lost. Later on it starts again with what was measured (RFC 9260, section 6.3.3, would keep it
     /// doubled, which makes waits three times as long at 30 % loss).
     pub fn handle_timeout(&mut self, now: SocketTime) -> bool
-        ensures answer { result ≡ expires_at now self.old.timer.running }
-        ensures left { self.new ≡ queue_at now self.old }
+        ensures answer { result ≡ is_expired_timer now self.old.timer.running }
+        ensures left { self.new ≡ queue_come_to now self.old }
     {
         if !self.timer.expire(now) {
             return false;

@@ -3,7 +3,7 @@ use Rattle.std.proofs.Common.{◌≡◌, ℕ, zero, suc, ◌<◌, Bool, true, fa
 use Rattle.dcsctp_api.specs.types.declared.ids.StreamId.{StreamId}
 use Rattle.dcsctp_api.specs.types.declared.sending.Pause.{Pause}
 use Rattle.dcsctp_api.specs.types.declared.sending.Pause.TheVariants.{Open, Pausing, HandedOut}
-use Rattle.dcsctp_api.specs.types.queues.SendStreams.{Stream, committed, rolled_back, stream_at, IsAscending}
+use Rattle.dcsctp_api.specs.types.queues.SendStreams.{Stream, committed_stream, rolled_back, stream_at, IsAscending}
 use Rattle.dcsctp_send_streams.specs.Ranking.{IsFound}
 use Rattle.dcsctp_send_streams.specs.Pausing.{is_pause_handed_out, handed_out_ids}
 use Rattle.dcsctp_send_streams.proofs.NextLemmas.{same_place, absent_at}
@@ -57,29 +57,29 @@ pub none_out : (f : Stream → Stream) (streams : List Stream) → ((s : Stream)
 none_out f [] kept none = refl
 none_out f (x ∷ xs) kept none = none_out_by f x xs (is_pause_handed_out x.pause) refl kept (none_out f xs kept) none
 
-committed_again_if : (pause : Pause) (s : Stream) → s.pause ≡ pause → committed (committed s) ≡ committed s
+committed_again_if : (pause : Pause) (s : Stream) → s.pause ≡ pause → committed_stream (committed_stream s) ≡ committed_stream s
 committed_again_if Open s e = rw e refl
 committed_again_if Pausing s e = rw e refl
 committed_again_if HandedOut s e = rw e refl
 
-pub committed-again : (s : Stream) → committed (committed s) ≡ committed s
-committed-again s = committed_again_if s.pause s refl
+pub committed_stream-again : (s : Stream) → committed_stream (committed_stream s) ≡ committed_stream s
+committed_stream-again s = committed_again_if s.pause s refl
 
-committed_kept_if : (pause : Pause) (s : Stream) → s.pause ≡ pause → is_pause_handed_out pause ≡ false → committed s ≡ s
+committed_kept_if : (pause : Pause) (s : Stream) → s.pause ≡ pause → is_pause_handed_out pause ≡ false → committed_stream s ≡ s
 committed_kept_if Open s e not = rw e refl
 committed_kept_if Pausing s e not = rw e refl
 committed_kept_if HandedOut s e not = absurd (cc)
 
-pub committed-kept : (s : Stream) → is_pause_handed_out s.pause ≡ false → committed s ≡ s
-committed-kept s not = committed_kept_if s.pause s refl not
+pub committed_stream-kept : (s : Stream) → is_pause_handed_out s.pause ≡ false → committed_stream s ≡ s
+committed_stream-kept s not = committed_kept_if s.pause s refl not
 
-committed_out_if : (pause : Pause) (s : Stream) → s.pause ≡ pause → is_pause_handed_out (committed s).pause ≡ false
+committed_out_if : (pause : Pause) (s : Stream) → s.pause ≡ pause → is_pause_handed_out (committed_stream s).pause ≡ false
 committed_out_if Open s e = rw e refl
 committed_out_if Pausing s e = rw e refl
 committed_out_if HandedOut s e = rw e refl
 
-pub committed-out : (s : Stream) → is_pause_handed_out (committed s).pause ≡ false
-committed-out s = committed_out_if s.pause s refl
+pub committed_stream-out : (s : Stream) → is_pause_handed_out (committed_stream s).pause ≡ false
+committed_stream-out s = committed_out_if s.pause s refl
 
 rolled_again_if : (pause : Pause) (s : Stream) → s.pause ≡ pause → rolled_back (rolled_back s) ≡ rolled_back s
 rolled_again_if Open s e = rw e refl

@@ -6,7 +6,7 @@ use borrow.Author.Tests.{ltb-true, ltb-false}
 use Rattle.dcsctp_api.specs.types.declared.sending.Turn.{Turn}
 use Rattle.dcsctp_api.specs.types.declared.sending.Pause.{Pause}
 use Rattle.dcsctp_api.specs.types.declared.sending.Pause.TheVariants.{Open, Pausing, HandedOut}
-use Rattle.dcsctp_api.specs.types.queues.SendStreams.{comes_after, with_turn, with_optional_turn, Stream, committed, rolled_back, stream_at, turn_of, turns_of, IsNext, IsAscending}
+use Rattle.dcsctp_api.specs.types.queues.SendStreams.{comes_after, with_turn, with_optional_turn, Stream, committed_stream, rolled_back, stream_at, turn_of, turns_of, IsNext, IsAscending}
 use Rattle.dcsctp_send_streams.specs.Turns.{NoneAfter, IsOrdered}
 use Rattle.dcsctp_send_streams.specs.Ranking.{IsRanked, IsFound}
 use Rattle.dcsctp_send_streams.proofs.TurnLemmas.{itself}
@@ -139,13 +139,13 @@ not_lost streams turns room p t ranked some e lost =
     let number = turn_of-id (stream_at streams found.place) t found.is in
     absent_at streams t.stream_id.0 p found.place lost found.within (sym number)
 
-pub committed_if : (pause : Pause) (s : Stream) → s.pause ≡ pause → (committed s).id ≡ s.id
+pub committed_if : (pause : Pause) (s : Stream) → s.pause ≡ pause → (committed_stream s).id ≡ s.id
 committed_if Open s e = rw e refl
 committed_if Pausing s e = rw e refl
 committed_if HandedOut s e = rw e refl
 
-pub committed-id : (s : Stream) → (committed s).id ≡ s.id
-committed-id s = committed_if s.pause s refl
+pub committed_stream-id : (s : Stream) → (committed_stream s).id ≡ s.id
+committed_stream-id s = committed_if s.pause s refl
 
 pub rolled_back_if : (pause : Pause) (s : Stream) → s.pause ≡ pause → (rolled_back s).id ≡ s.id
 rolled_back_if Open s e = rw e refl

@@ -8,7 +8,7 @@ use Rattle.dcsctp_api.specs.types.declared.sending.Pause.TheVariants.{Open}
 use Rattle.dcsctp_api.specs.types.queues.SendStreams.{Stream, is_pausing, stream_at, IsBelow, IsAscending}
 use Rattle.dcsctp_send_streams.specs.declared.paused.PausedIds.{PausedIds}
 use Rattle.dcsctp_send_streams.specs.Ranking.{count_pausing, IsFound}
-use Rattle.dcsctp_send_streams.specs.Pausing.{is_pause_handed_out, ids_where, pausing_ids, handed_out_ids, NoneLess, AreIdsAscending, with_id_if, HoldsId, HoldsPause, ArePaused}
+use Rattle.dcsctp_send_streams.specs.Pausing.{is_pause_handed_out, ids_meeting, pausing_ids, handed_out_ids, NoneLess, AreIdsAscending, with_id_if, HoldsId, HoldsPause, ArePaused}
 use Rattle.dcsctp_send_streams.proofs.CountLemmas.{count-cons}
 use Rattle.dcsctp_send_streams.proofs.PausedLemmas.{with_id-first, with_id_if-behind}
 use Rattle.dcsctp_send_streams.proofs.StreamLemmas.{IsBelow-at, IsAscending-set, remove-set, stream_at-set, length-set_at, length_less, at_place}
@@ -20,20 +20,20 @@ id_of stream = record { 0 = stream.id }
 abbrev Test : Type 0
 Test = Pause → Bool
 
-none_less_by : (test : Test) (y : StreamId) (x : Stream) (xs : List Stream) (b : Bool) → y.0 < x.id → NoneLess y (ids_where test xs) → NoneLess y (if b then id_of x ∷ ids_where test xs else ids_where test xs)
+none_less_by : (test : Test) (y : StreamId) (x : Stream) (xs : List Stream) (b : Bool) → y.0 < x.id → NoneLess y (ids_meeting test xs) → NoneLess y (if b then id_of x ∷ ids_meeting test xs else ids_meeting test xs)
 none_less_by test y x xs true lt rest = (omega arith, rest)
 none_less_by test y x xs false lt rest = rest
 
-none_less : (test : Test) (y : StreamId) (streams : List Stream) → IsBelow y.0 streams → NoneLess y (ids_where test streams)
+none_less : (test : Test) (y : StreamId) (streams : List Stream) → IsBelow y.0 streams → NoneLess y (ids_meeting test streams)
 none_less test y [] below = tt
 none_less test y (x ∷ xs) below = none_less_by test y x xs (test x.pause) below.0 (none_less test y xs below.1)
 
-ascending_by : (test : Test) (x : Stream) (xs : List Stream) (b : Bool) → NoneLess (id_of x) (ids_where test xs) → AreIdsAscending (ids_where test xs) → AreIdsAscending (if b then id_of x ∷ ids_where test xs else ids_where test xs)
+ascending_by : (test : Test) (x : Stream) (xs : List Stream) (b : Bool) → NoneLess (id_of x) (ids_meeting test xs) → AreIdsAscending (ids_meeting test xs) → AreIdsAscending (if b then id_of x ∷ ids_meeting test xs else ids_meeting test xs)
 ascending_by test x xs true none rest = (none, rest)
 ascending_by test x xs false none rest = rest
 
 -- the numbers ascend as the streams do
-pub ids-ascending : (test : Test) (streams : List Stream) → IsAscending streams → AreIdsAscending (ids_where test streams)
+pub ids-ascending : (test : Test) (streams : List Stream) → IsAscending streams → AreIdsAscending (ids_meeting test streams)
 ids-ascending test [] ascending = tt
 ids-ascending test (x ∷ xs) ascending = ascending_by test x xs (test x.pause) (none_less test (id_of x) xs ascending.0) (ids-ascending test xs ascending.1)
 
@@ -59,21 +59,21 @@ ascending_less (x ∷ xs) (suc p) ascending = (below_less x.id xs p ascending.0,
 
 -- the numbers are those of the others with that of the stream at a place
 pub ids-split : (test : Test) (streams : List Stream) (p : ℕ) → IsAscending streams → p < length streams
-    → ids_where test streams ≡ with_id_if (test (stream_at streams p).pause) (id_of (stream_at streams p)) (ids_where test (remove streams p))
+    → ids_meeting test streams ≡ with_id_if (test (stream_at streams p).pause) (id_of (stream_at streams p)) (ids_meeting test (remove streams p))
 ids-split test [] p ascending lt = absurd (omega arith)
-ids-split test (x ∷ xs) zero ascending lt = first_by (id_of x) (ids_where test xs) (test x.pause) (none_less test (id_of x) xs ascending.0)
+ids-split test (x ∷ xs) zero ascending lt = first_by (id_of x) (ids_meeting test xs) (test x.pause) (none_less test (id_of x) xs ascending.0)
 ids-split test (x ∷ xs) (suc p) ascending lt =
     let less = IsBelow-at x.id xs p ascending.0 (omega arith) in
     ap (λ ids. if test x.pause then id_of x ∷ ids else ids) (ids-split test xs p ascending.1 (omega arith))
-    ∙ behind_by (id_of x) (id_of (stream_at xs p)) (ids_where test (remove xs p)) (test x.pause) (test (stream_at xs p).pause) less
+    ∙ behind_by (id_of x) (id_of (stream_at xs p)) (ids_meeting test (remove xs p)) (test x.pause) (test (stream_at xs p).pause) less
 
 length_by : (x : StreamId) (ids : List StreamId) (b : Bool) (n : ℕ) → length ids ≤ n → length (if b then x ∷ ids else ids) ≤ n + 1
 length_by x ids true n le = omega arith
 length_by x ids false n le = omega arith
 
-pub length-ids : (test : Test) (streams : List Stream) → length (ids_where test streams) ≤ length streams
+pub length-ids : (test : Test) (streams : List Stream) → length (ids_meeting test streams) ≤ length streams
 length-ids test [] = omega arith
-length-ids test (x ∷ xs) = let le = length_by (id_of x) (ids_where test xs) (test x.pause) (length xs) (length-ids test xs) in omega (arith, le)
+length-ids test (x ∷ xs) = let le = length_by (id_of x) (ids_meeting test xs) (test x.pause) (length xs) (length-ids test xs) in omega (arith, le)
 
 count_by_pause : (x : StreamId) (ids : List StreamId) (b : Bool) → length (if b then x ∷ ids else ids) ≡ (if b then 1 else 0) + length ids
 count_by_pause x ids true = omega arith
@@ -90,13 +90,13 @@ length-pausing (x ∷ xs) =
 
 -- ---- a stream that was read changes
 
-holds_one : (test : Test) (streams : List Stream) (ids : List StreamId) (room p : ℕ) → IsAscending streams → ids ≡ ids_where test streams → length streams ≤ room → p < length streams
+holds_one : (test : Test) (streams : List Stream) (ids : List StreamId) (room p : ℕ) → IsAscending streams → ids ≡ ids_meeting test streams → length streams ≤ room → p < length streams
     → HoldsId ids (test (stream_at streams p).pause) (id_of (stream_at streams p)) room
 holds_one test streams ids room p ascending are fits lt =
     let few = length-ids test (remove streams p) in
     let less = length_less streams p lt in
     record {
-      others = ids_where test (remove streams p);
+      others = ids_meeting test (remove streams p);
       are = are ∙ ids-split test streams p ascending lt;
       ascending = ids-ascending test (remove streams p) (ascending_less streams p ascending);
       has_room = omega (arith, few, less, fits);
@@ -114,16 +114,16 @@ holds_pause streams ids p x id pause ascending paused lt e same is =
       handed_out = holds_one is_pause_handed_out streams ids.handed_out.items _ p ascending paused.handed_out paused.has_more lt;
     })
 
-set_one : (test : Test) (streams : List Stream) (old new : List StreamId) (p : ℕ) (s : Stream) → IsAscending streams → old ≡ ids_where test streams → p < length streams → s.id ≡ (stream_at streams p).id
+set_one : (test : Test) (streams : List Stream) (old new : List StreamId) (p : ℕ) (s : Stream) → IsAscending streams → old ≡ ids_meeting test streams → p < length streams → s.id ≡ (stream_at streams p).id
     → ((others : List StreamId) → old ≡ with_id_if (test (stream_at streams p).pause) (id_of (stream_at streams p)) others → new ≡ with_id_if (test s.pause) (id_of (stream_at streams p)) others)
-    → new ≡ ids_where test (set streams p s)
+    → new ≡ ids_meeting test (set streams p s)
 set_one test streams old new p s ascending are lt same moved =
     let len = length-set_at streams p s in
     let split = ids-split test (set streams p s) p (IsAscending-set streams p s ascending lt same) (omega (arith, len)) in
-    let there = ap (λ x. with_id_if (test x.pause) (id_of x) (ids_where test (remove (set streams p s) p))) (stream_at-set streams p s lt) in
-    let others = ap (λ xs. with_id_if (test s.pause) (id_of s) (ids_where test xs)) (remove-set streams p s lt) in
-    let number = ap (λ (n : ℕ). with_id_if (test s.pause) (record { 0 = n }) (ids_where test (remove streams p))) (sym same) in
-    moved (ids_where test (remove streams p)) (are ∙ ids-split test streams p ascending lt) ∙ (number ∙ sym (split ∙ (there ∙ others)))
+    let there = ap (λ x. with_id_if (test x.pause) (id_of x) (ids_meeting test (remove (set streams p s) p))) (stream_at-set streams p s lt) in
+    let others = ap (λ xs. with_id_if (test s.pause) (id_of s) (ids_meeting test xs)) (remove-set streams p s lt) in
+    let number = ap (λ (n : ℕ). with_id_if (test s.pause) (record { 0 = n }) (ids_meeting test (remove streams p))) (sym same) in
+    moved (ids_meeting test (remove streams p)) (are ∙ ids-split test streams p ascending lt) ∙ (number ∙ sym (split ∙ (there ∙ others)))
 
 -- what is left after a change of a stream that was read, and of its pause
 pub paused_read : (streams : List Stream) (old new : PausedIds) (p : ℕ) (x s : Stream) (id : StreamId) (before after : Pause) → IsAscending streams → ArePaused streams old → p < length streams
@@ -157,17 +157,17 @@ paused_same streams ids p x s ascending paused lt e keeps same =
 
 -- ---- a stream is put in
 
-insert_one : (test : Test) (streams : List Stream) (old new : List StreamId) (p : ℕ) (s : Stream) → IsAscending streams → old ≡ ids_where test streams → IsFound streams s.id (Err p)
-    → ((others : List StreamId) → old ≡ others → new ≡ with_id_if (test s.pause) (id_of s) others) → new ≡ ids_where test (insert streams p s)
+insert_one : (test : Test) (streams : List Stream) (old new : List StreamId) (p : ℕ) (s : Stream) → IsAscending streams → old ≡ ids_meeting test streams → IsFound streams s.id (Err p)
+    → ((others : List StreamId) → old ≡ others → new ≡ with_id_if (test s.pause) (id_of s) others) → new ≡ ids_meeting test (insert streams p s)
 insert_one test streams old new p s ascending are found moved =
     let len = length-insert_at streams p s found.0 in
     let bound = found.0 in
     let split = ids-split test (insert streams p s) p (IsAscending-insert streams p s ascending found) (omega (arith, len, bound)) in
-    let there = ap (λ x. with_id_if (test x.pause) (id_of x) (ids_where test (remove (insert streams p s) p))) (stream_at-insert streams p s found.0) in
-    let others = ap (λ xs. with_id_if (test s.pause) (id_of s) (ids_where test xs)) (remove-insert streams p s found.0) in
-    moved (ids_where test streams) are ∙ sym (split ∙ (there ∙ others))
+    let there = ap (λ x. with_id_if (test x.pause) (id_of x) (ids_meeting test (remove (insert streams p s) p))) (stream_at-insert streams p s found.0) in
+    let others = ap (λ xs. with_id_if (test s.pause) (id_of s) (ids_meeting test xs)) (remove-insert streams p s found.0) in
+    moved (ids_meeting test streams) are ∙ sym (split ∙ (there ∙ others))
 
-fresh_one : (test : Test) (streams : List Stream) (ids : List StreamId) (room : ℕ) (id : StreamId) → IsAscending streams → ids ≡ ids_where test streams → length streams + 1 ≤ room → HoldsId ids false id room
+fresh_one : (test : Test) (streams : List Stream) (ids : List StreamId) (room : ℕ) (id : StreamId) → IsAscending streams → ids ≡ ids_meeting test streams → length streams + 1 ≤ room → HoldsId ids false id room
 fresh_one test streams ids room id ascending are fits =
     let few = length-ids test streams in
     let same = ap length are in

@@ -1,13 +1,13 @@
 -- Lemmas on the first part of a list of events.
 use Rattle.std.proofs.Common.{◌≡◌, ◌∙◌, ℕ, List, ◌++◌, append_assoc, sym, ap}
 use Rattle.dcsctp_api.specs.spec.endpoint.Event.{Event}
-use Rattle.dcsctp_send_streams.specs.Telling.{TellsFront}
+use Rattle.dcsctp_send_streams.specs.Telling.{AddsFront}
 
 abbrev Events : Type 0
 Events = List (Event (List ℕ))
 
 -- Some events came before, and more were to follow.
-pub front_within : (before told events whole part later after : Events) → events ≡ before ++ told → whole ≡ told ++ (part ++ later) → TellsFront events part after → TellsFront before whole after
+pub front_within : (before told events whole part later after : Events) → events ≡ before ++ told → whole ≡ told ++ (part ++ later) → AddsFront events part after → AddsFront before whole after
 front_within before told events whole part later after is parts tells =
     record {
       front = told ++ tells.front;

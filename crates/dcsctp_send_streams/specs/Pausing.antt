@@ -14,17 +14,17 @@ is_pause_handed_out Pausing = false
 is_pause_handed_out HandedOut = true
 
 -- the numbers of the streams whose pause meets a test
-abbrev pub ids_where : (Pause → Bool) → List Stream → List StreamId
-ids_where test [] = []
-ids_where test (stream ∷ streams) = if test stream.pause then (record { 0 = stream.id }) ∷ ids_where test streams else ids_where test streams
+abbrev pub ids_meeting : (Pause → Bool) → List Stream → List StreamId
+ids_meeting test [] = []
+ids_meeting test (stream ∷ streams) = if test stream.pause then (record { 0 = stream.id }) ∷ ids_meeting test streams else ids_meeting test streams
 
 -- those that are to be reset, and their reset not requested yet
 abbrev pub pausing_ids : List Stream → List StreamId
-pausing_ids streams = ids_where is_pausing streams
+pausing_ids streams = ids_meeting is_pausing streams
 
 -- those whose reset was requested
 abbrev pub handed_out_ids : List Stream → List StreamId
-handed_out_ids streams = ids_where is_pause_handed_out streams
+handed_out_ids streams = ids_meeting is_pause_handed_out streams
 
 -- ---- numbers in order
 
@@ -75,5 +75,5 @@ pub record ArePaused (streams : List Stream) (ids : PausedIds) : Type 0 where
   pub has_more : length streams ≤ deque_capacity ids.handed_out
 
 -- The stream at the place is handed out.
-abbrev pub IsHandedOutAt : List Stream → ℕ → Type 0
-IsHandedOutAt streams place = (place < length streams) × (is_pause_handed_out (stream_at streams place).pause ≡ true)
+abbrev pub IsHandedOutStream : List Stream → ℕ → Type 0
+IsHandedOutStream streams place = (place < length streams) × (is_pause_handed_out (stream_at streams place).pause ≡ true)

@@ -9,7 +9,7 @@ abbrev pub contents : List SocketEvent → List (Event (List ℕ))
 contents events = map event_content events
 
 -- If an allocation fails, the first of the events are added.
-pub record TellsFront (before whole after : List (Event (List ℕ))) : Type 0 where
+pub record AddsFront (before whole after : List (Event (List ℕ))) : Type 0 where
   pub front : List (Event (List ℕ))
   pub rest : List (Event (List ℕ))
   pub parts : whole ≡ front ++ rest

@@ -80,7 +80,7 @@ impl Model for QueuedMessage {
 
 impl QueuedMessage {
     ghost use Rattle.std.specs.Prelude.{◌≡◌, ◌+◌, ◌-◌, ◌^◌, ◌<◌, ◌≤◌, ◌++◌, min, length, vec_len, IfOk, OnOk, OnErr};
-    ghost use Rattle.dcsctp_send_streams.specs.Telling.{contents, TellsFront};
+    ghost use Rattle.dcsctp_send_streams.specs.Telling.{contents, AddsFront};
     ghost use Rattle.dcsctp_api.specs.spec.queues.SendEvents.{expiry_events, sent_events};
     ghost use Rattle.std.specs.Duration.{as_nanos, max_nanos};
     ghost use Rattle.std.specs.Option.{option_map};
@@ -197,7 +197,7 @@ impl QueuedMessage {
         ensures ok { OnOk result
             (contents events.new ≡ contents events.old ++ expiry_events self.now) }
         ensures err { OnErr result
-            (TellsFront (contents events.old) (expiry_events self.now) (contents events.new)) }
+            (AddsFront (contents events.old) (expiry_events self.now) (contents events.new)) }
     {
         if let Some(id) = self.lifecycle_id {
             events.add(SocketEvent::OnLifecycleMessageExpired(id))?;
@@ -211,7 +211,7 @@ impl QueuedMessage {
         ensures ok { OnOk result
             (contents events.new ≡ contents events.old ++ sent_events self.now) }
         ensures err { OnErr result
-            (TellsFront (contents events.old) (sent_events self.now) (contents events.new)) }
+            (AddsFront (contents events.old) (sent_events self.now) (contents events.new)) }
     {
         if let Some(id) = self.lifecycle_id {
             events.add(SocketEvent::OnLifecycleMessageFullySent(id))?;

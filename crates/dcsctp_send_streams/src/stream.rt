@@ -61,9 +61,9 @@ impl Model for OutgoingStream {
 
 impl OutgoingStream {
     ghost use Rattle.std.specs.Prelude.{◌≡◌, ◌-◌, ◌^◌, ◌++◌, min, drop, OnOk, OnErr, if◌then◌else◌};
-    ghost use Rattle.dcsctp_send_streams.specs.Telling.{contents, TellsFront};
+    ghost use Rattle.dcsctp_send_streams.specs.Telling.{contents, AddsFront};
     ghost use Rattle.dcsctp_api.specs.spec.queues.SendEvents.{expiries};
-    ghost use Rattle.dcsctp_api.specs.types.queues.SendStreams.{payload_size, unused, is_pausing, front_of, with_message, without_front, paused, resumed, handed_out, begun_anew, amount_raised, committed, rolled_back, turn_of};
+    ghost use Rattle.dcsctp_api.specs.types.queues.SendStreams.{payload_size, unused_stream, is_pausing, front_of, with_message, without_front, paused_stream, resumed_stream, handed_out, renumbered_stream, amount_raised, committed_stream, rolled_back, turn_of};
     ghost use Rattle.std.specs.Option.{option_copied};
     ghost use Rattle.dcsctp_api.specs.spec.queues.SendQueue.{HaveBytes, has_live};
     ghost use Rattle.std.specs.List.{list_any};
@@ -71,11 +71,11 @@ impl OutgoingStream {
     ghost use Rattle.dcsctp_api.specs.spec.queues.Readiness.{is_paused};
     ghost use Rattle.std.specs.Prelude.{map, IfOk};
     ghost use Rattle.dcsctp_api.specs.types.SnapshotItems.{queued_part};
-    ghost use Rattle.dcsctp_api.specs.spec.queues.QueuedParts.{whole_message, stream_given, emptied, stream_restored, with_rest};
+    ghost use Rattle.dcsctp_api.specs.spec.queues.QueuedParts.{whole_message, stream_given, emptied_stream, stream_restored, with_rest};
 
     /// A stream that was never used. Allocates nothing.
     pub fn new(alloc: Global, id: StreamId, priority: u16, threshold: usize) -> OutgoingStream
-        ensures { result ≡ unused id.0 priority threshold }
+        ensures { result ≡ unused_stream id.0 priority threshold }
     {
         OutgoingStream {
             id,
@@ -204,7 +204,7 @@ impl OutgoingStream {
         ensures ok { OnOk result
             (contents events.new ≡ contents events.old ++ expiries (drop kept self.now.messages)) }
         ensures err { OnErr result
-            (TellsFront (contents events.old) (expiries (drop kept self.now.messages))
+            (AddsFront (contents events.old) (expiries (drop kept self.now.messages))
             (contents events.new)) }
     {
         for place in kept..self.messages.len() {
@@ -274,7 +274,7 @@ impl OutgoingStream {
     /// Drops all its messages, and counts them from 0 again, as if it had had no turn. It keeps its priority
     /// and its threshold.
     pub fn empty(&mut self)
-        ensures { self.new ≡ emptied self.old }
+        ensures { self.new ≡ emptied_stream self.old }
     {
         self.messages.clear();
         self.amount = 0;
@@ -316,7 +316,7 @@ impl OutgoingStream {
 
     /// Keeps only that many of its messages, the oldest, and pauses it.
     pub fn pause(&mut self, kept: usize)
-        ensures { self.new ≡ paused kept self.old }
+        ensures { self.new ≡ paused_stream kept self.old }
     {
         self.messages.truncate(kept);
         self.pause = Pause::Pausing;
@@ -324,14 +324,14 @@ impl OutgoingStream {
 
     /// Ends its pause.
     pub fn resume(&mut self)
-        ensures { self.new ≡ resumed self.old }
+        ensures { self.new ≡ resumed_stream self.old }
     {
         self.pause = Pause::Open;
     }
 
     /// It was reset, if it was handed out: its pause ends, and its messages are counted from 0 again.
     pub fn commit(&mut self)
-        ensures { self.new ≡ committed self.old }
+        ensures { self.new ≡ committed_stream self.old }
     {
         match self.pause {
             Pause::Open | Pause::Pausing => {}
@@ -358,7 +358,7 @@ impl OutgoingStream {
 
     /// Ends its pause, and counts its messages from 0 again.
     pub fn begin_anew(&mut self)
-        ensures { self.new ≡ begun_anew self.old }
+        ensures { self.new ≡ renumbered_stream self.old }
     {
         self.next_ssn = 0;
         self.next_mid = 0;

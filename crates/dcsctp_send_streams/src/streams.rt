@@ -41,7 +41,7 @@ impl Model for Streams {
 impl Streams {
     ghost use Rattle.std.specs.List.{list_any, AllByRecursion};
     ghost use Rattle.std.specs.Prelude.{◌≡◌, ◌-◌, ◌<◌, ◌&&◌, [], length, is_some, slice_set, insert, OnOk, OnErr, IfSome, IfNone};
-    ghost use Rattle.dcsctp_api.specs.types.queues.SendStreams.{front_of, with_message, without_front, amount_raised, stream_counted, served, stream_at, turn_of, turns_of, IsNext, IsAscending};
+    ghost use Rattle.dcsctp_api.specs.types.queues.SendStreams.{front_of, with_message, without_front, amount_raised, stream_counted, served_stream, stream_at, turn_of, turns_of, IsNext, IsAscending};
     ghost use Rattle.dcsctp_api.specs.spec.queues.SendQueue.{HaveBytes, has_live};
     ghost use Rattle.dcsctp_api.specs.spec.queues.OwnResets.{is_lasting};
     ghost use Rattle.dcsctp_api.specs.spec.queues.Readiness.{has_messages, is_paused};
@@ -305,7 +305,7 @@ impl Streams {
     /// The stream has this turn.
     pub fn serve(&mut self, place: usize, turn: u64)
         requires { place < length self.old }
-        ensures { self.new ≡ slice_set self.old place (served turn (stream_at self.old place)) }
+        ensures { self.new ≡ slice_set self.old place (served_stream turn (stream_at self.old place)) }
     {
         if self.items.at(place).last_turn() != turn {
             self.give_turn(place, turn);
@@ -315,7 +315,7 @@ impl Streams {
     // The same, and the stream's turn comes later.
     fn give_turn(&mut self, place: usize, turn: u64)
         requires { place < length self.old }
-        ensures { self.new ≡ slice_set self.old place (served turn (stream_at self.old place)) }
+        ensures { self.new ≡ slice_set self.old place (served_stream turn (stream_at self.old place)) }
     {
         let stream = self.items.at_mut(place);
         let before = stream.turn();

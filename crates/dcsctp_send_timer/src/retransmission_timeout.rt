@@ -3,7 +3,7 @@
 ghost use Rattle.std.specs.Prelude.{◌≡◌, is_some, nat_lt};
 ghost use Rattle.std.specs.Duration.{as_nanos};
 ghost use Rattle.std.specs.Option.{option_map};
-ghost use Rattle.dcsctp_spec.specs.queues.Timeout.{smoothed, variance_with};
+ghost use Rattle.dcsctp_spec.specs.queues.Timeout.{smoothed_round_trip, variance_with};
 
 use crate::timer::longest_wait;
 use dcsctp_spec::types::{Options, duration_of};
@@ -13,7 +13,7 @@ use std::time::Duration;
 // The smoothed round trip with one more, where `variance` says whether one was measured before.
 fn smoothed(variance: Option<Duration>, srtt: Duration, rtt: Duration) -> Duration
     ensures { as_nanos result
-        ≡ smoothed (option_map as_nanos variance) (as_nanos srtt) (as_nanos rtt) }
+        ≡ smoothed_round_trip (option_map as_nanos variance) (as_nanos srtt) (as_nanos rtt) }
 {
     match variance {
         None => rtt,

@@ -4,7 +4,7 @@
 ghost use Rattle.std.specs.Prelude.{◌≡◌};
 ghost use Rattle.std.specs.Duration.{as_nanos};
 ghost use Rattle.std.specs.Option.{option_map};
-ghost use Rattle.dcsctp_spec.specs.endpoint.Timers.{may_restart, next_wait, bounded, longest_backoff, longest_wait};
+ghost use Rattle.dcsctp_spec.specs.endpoint.Timers.{may_restart, next_wait, bounded_wait, longest_backoff, longest_wait};
 
 use dcsctp_spec::types::{BackoffAlgorithm, Options, SocketTime};
 use std::marker::Model;
@@ -32,7 +32,7 @@ fn next_wait(backoff: BackoffAlgorithm, wait: Duration) -> Duration
 
 // No longer than the bound, if there is one.
 fn bounded(max_backoff: Option<Duration>, wait: Duration) -> Duration
-    ensures { as_nanos result ≡ bounded (option_map as_nanos max_backoff) (as_nanos wait) }
+    ensures { as_nanos result ≡ bounded_wait (option_map as_nanos max_backoff) (as_nanos wait) }
 {
     match max_backoff {
         Some(bound) if bound < wait => bound,
@@ -121,8 +121,8 @@ impl Timer {
     ghost use Rattle.std.specs.Prelude.{◌≡◌, ◌↔◌, IsTrue, IsSome};
     ghost use Rattle.std.specs.Duration.{as_nanos};
     ghost use Rattle.std.specs.Option.{option_map};
-    ghost use Rattle.dcsctp_spec.specs.endpoint.Timers.{started};
-    ghost use Rattle.dcsctp_spec.specs.endpoint.Timers.{running_deadline, expires_at, running_after, backed_off, has_expired};
+    ghost use Rattle.dcsctp_spec.specs.endpoint.Timers.{started_timer};
+    ghost use Rattle.dcsctp_spec.specs.endpoint.Timers.{running_deadline, is_expired_timer, running_after, backed_off, has_expired};
 
     /// A timer that doesn't run. Once started it runs for `duration`.
     ///
@@ -158,7 +158,7 @@ impl Timer {
     /// Starts the timer at the moment `now`, whether it runs or not. It expires a duration later, or at
     /// the last moment if that is earlier, and has not expired yet.
     pub fn start(&mut self, now: SocketTime)
-        ensures { self.new ≡ record self.old { running = started now self.old.settings } }
+        ensures { self.new ≡ record self.old { running = started_timer now self.old.settings } }
     {
         self.running = Some(Running {
             deadline: now + self.duration,
@@ -171,7 +171,7 @@ impl Timer {
     pub fn start_for(&mut self, now: SocketTime, duration: Duration)
         ensures { self.new
             ≡ record self.old {
-              running = started now
+              running = started_timer now
                   (record self.old.settings { duration = as_nanos duration });
             } }
     {
@@ -186,7 +186,7 @@ impl Timer {
     pub fn start_due(&mut self, now: SocketTime)
         ensures { self.new
             ≡ record self.old {
-              running = started now
+              running = started_timer now
                   (record self.old.settings { duration = 0 });
             } }
     {
@@ -232,7 +232,7 @@ impl Timer {
     ///
     /// A timer that expires runs again from `now`, as its backoff says; with no restart left, it stops.
     pub fn expire(&mut self, now: SocketTime) -> bool
-        ensures answer { result ≡ expires_at now self.old.running }
+        ensures answer { result ≡ is_expired_timer now self.old.running }
         ensures left { self.new ≡ record self.old { running = running_after now self.old.running } }
     {
         match self.running {

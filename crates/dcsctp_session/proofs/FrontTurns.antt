@@ -7,7 +7,7 @@ use Rattle.dcsctp_core.specs.spec.endpoint.Endpoint.{Endpoint}
 use Rattle.dcsctp_core.specs.spec.endpoint.Outcome.{Outcome, quiet, then_outcome}
 use Rattle.dcsctp_core.specs.spec.endpoint.FlushOutcomes.{Answer}
 use Rattle.dcsctp_core.specs.spec.endpoint.Turn.{Input, user_sends}
-use Rattle.dcsctp_core.specs.spec.endpoint.MessageOutcomes.{MessageRefusal, empty_payload, message_too_large, shutting_down, resource_exhaustion, message_refusal, refusal_events, Sending, sending_of, sending_refusal, lifecycle_name, queue_by, queue_one, queue_all, takes_any, RefusedMessage, refused_where, refused_from, SendAnswers, send_by, SendTurn}
+use Rattle.dcsctp_core.specs.spec.endpoint.MessageOutcomes.{MessageRefusal, empty_payload, message_too_large, shutting_down, resource_exhaustion, message_refusal, refusal_events, Sending, sending_of, sending_refusal, lifecycle_name, queue_unless_refused, queue_one, queue_all, takes_any, RefusedMessage, refused_message_at_place, refused_from, SendAnswers, flush_if_queued, SendTurn}
 use Rattle.dcsctp_core.specs.spec.endpoint.CallTurns.{Transition, transition, Turns}
 use Rattle.dcsctp_core.specs.api.declared.errors.SendError.{SendError}
 use Rattle.dcsctp_core.specs.api.declared.errors.SendError.TheVariants.{EmptyPayload, MessageTooLarge, ResourceExhaustion, ShuttingDown}
@@ -15,12 +15,12 @@ use Rattle.dcsctp_core.specs.api.Calls.{UserView, Follows, AddsFirstEvents, RanO
 use Rattle.dcsctp_core.specs.api.declared.errors.BatchSendError.{BatchSendError}
 use Rattle.dcsctp_core.specs.api.declared.errors.SocketFault.{SocketFault}
 use Rattle.dcsctp_core.specs.api.declared.errors.SocketFault.TheVariants.{OutOfMemory, Failed}
-use Rattle.dcsctp_core.specs.api.Messages.{SendsMany, IsBatchAnswer, refusal_of, refused_in}
+use Rattle.dcsctp_core.specs.api.Messages.{SendsMany, IsBatchAnswer, refusal_of, refused_messages}
 use Rattle.dcsctp_session.specs.declared.status.Status.{Status}
 use Rattle.dcsctp_session.specs.declared.status.Status.TheVariants as statuses
 use Rattle.dcsctp_session.specs.Copying.{IsFront}
 use Rattle.dcsctp_session.specs.Status.{status_number, send_error_status}
-use Rattle.dcsctp_session.specs.Answering.{IsFrontMessage, AreFronts, status_at, others_at, statuses_by, errors_in, first_status, outcome_status, results_by}
+use Rattle.dcsctp_session.specs.Answering.{IsFrontMessage, AreFronts, status_of_place, refused_later, statuses_from_place, errors_of_answer, first_status, outcome_status, results_of_answer}
 use Rattle.dcsctp_session.specs.Many.{refusal_status, statuses_of, first_refusal, ManyCall, many_status, results_after}
 
 -- ---- what the errors say of each message
@@ -34,7 +34,7 @@ error_status ShuttingDown = refl
 -- Those that are refused from a place on have no earlier place.
 later_by : (place : ℕ) (next : Endpoint) (messages : List Sending) (refusal : Option MessageRefusal) (one : RefusedMessage) (others : List RefusedMessage)
     → (one ∷ others ≡ refused_from (place + 1) next messages → place + 1 ≤ one.place)
-    → one ∷ others ≡ refused_where place refusal ++ refused_from (place + 1) next messages → place ≤ one.place
+    → one ∷ others ≡ refused_message_at_place place refusal ++ refused_from (place + 1) next messages → place ≤ one.place
 later_by place next messages None one others rest is = let after = rest is in omega arith
 later_by place next messages (Some refusal) one others rest is = grind arith
 
@@ -44,30 +44,30 @@ later place e (message ∷ messages) one others is =
     later_by place (queue_one e message).after messages (sending_refusal e message) one others (later (place + 1) (queue_one e message).after messages one others) is
 
 told_by : (place : ℕ) (next : Endpoint) (messages : List Sending) (refusal : Option MessageRefusal) (errors : List (ℕ × SendError))
-    → ((errors : List (ℕ × SendError)) → refused_in errors ≡ refused_from (place + 1) next messages → statuses_by (length messages) (place + 1) errors ≡ statuses_of next messages)
-    → refused_in errors ≡ refused_where place refusal ++ refused_from (place + 1) next messages
-    → status_at place errors ∷ statuses_by (length messages) (place + 1) (others_at place errors) ≡ refusal_status refusal ∷ statuses_of next messages
+    → ((errors : List (ℕ × SendError)) → refused_messages errors ≡ refused_from (place + 1) next messages → statuses_from_place (length messages) (place + 1) errors ≡ statuses_of next messages)
+    → refused_messages errors ≡ refused_message_at_place place refusal ++ refused_from (place + 1) next messages
+    → status_of_place place errors ∷ statuses_from_place (length messages) (place + 1) (refused_later place errors) ≡ refusal_status refusal ∷ statuses_of next messages
 told_by place next messages None [] rest is = ap (λ l. statuses.Done ∷ l) (rest [] is)
 told_by place next messages None (error ∷ errors) rest is =
-    let after : place + 1 ≤ error.0 = later (place + 1) next messages (record { place = error.0; refusal = refusal_of error.1 }) (refused_in errors) is in
+    let after : place + 1 ≤ error.0 = later (place + 1) next messages (record { place = error.0; refusal = refusal_of error.1 }) (refused_messages errors) is in
     let other : (error.0 == place) ≡ false = grind arith in
     rw other (ap (λ l. statuses.Done ∷ l) (rest (error ∷ errors) is))
 told_by place next messages (Some refusal) [] rest is = grind arith
 told_by place next messages (Some refusal) (error ∷ errors) rest is =
     let here : (error.0 == place) ≡ true = grind arith in
     let why : refusal_of error.1 ≡ refusal = grind arith in
-    let behind : refused_in errors ≡ refused_from (place + 1) next messages = grind arith in
-    rw here (ap (λ s. s ∷ statuses_by (length messages) (place + 1) errors) (error_status error.1 ∙ ap (λ r. refusal_status (Some r)) why)
+    let behind : refused_messages errors ≡ refused_from (place + 1) next messages = grind arith in
+    rw here (ap (λ s. s ∷ statuses_from_place (length messages) (place + 1) errors) (error_status error.1 ∙ ap (λ r. refusal_status (Some r)) why)
     ∙ ap (λ l. refusal_status (Some refusal) ∷ l) (rest errors behind))
 
-told_from : (place : ℕ) (e : Endpoint) (messages : List Sending) (errors : List (ℕ × SendError)) → refused_in errors ≡ refused_from place e messages
-    → statuses_by (length messages) place errors ≡ statuses_of e messages
+told_from : (place : ℕ) (e : Endpoint) (messages : List Sending) (errors : List (ℕ × SendError)) → refused_messages errors ≡ refused_from place e messages
+    → statuses_from_place (length messages) place errors ≡ statuses_of e messages
 told_from place e [] errors is = refl
 told_from place e (message ∷ messages) errors is =
     told_by place (queue_one e message).after messages (sending_refusal e message) errors (told_from (place + 1) (queue_one e message).after messages) is
 
-pub told_are : (e : Endpoint) (messages : List Sending) (errors : List (ℕ × SendError)) → refused_in errors ≡ refused_from 0 e messages
-    → statuses_by (length messages) 0 errors ≡ statuses_of e messages
+pub told_are : (e : Endpoint) (messages : List Sending) (errors : List (ℕ × SendError)) → refused_messages errors ≡ refused_from 0 e messages
+    → statuses_from_place (length messages) 0 errors ≡ statuses_of e messages
 told_are e messages errors is = told_from 0 e messages errors is
 
 first_is : (refusal : MessageRefusal) (others : List Status) → refusal_status (Some refusal) ≡ first_refusal (refusal_status (Some refusal) ∷ others)
@@ -77,8 +77,8 @@ first_is shutting_down others = refl
 first_is resource_exhaustion others = refl
 
 first_by : (next : Endpoint) (place : ℕ) (messages : List Sending) (refusal : Option MessageRefusal) (errors : List (ℕ × SendError))
-    → (refused_in errors ≡ refused_from (place + 1) next messages → first_status errors ≡ first_refusal (statuses_of next messages))
-    → refused_in errors ≡ refused_where place refusal ++ refused_from (place + 1) next messages
+    → (refused_messages errors ≡ refused_from (place + 1) next messages → first_status errors ≡ first_refusal (statuses_of next messages))
+    → refused_messages errors ≡ refused_message_at_place place refusal ++ refused_from (place + 1) next messages
     → first_status errors ≡ first_refusal (refusal_status refusal ∷ statuses_of next messages)
 first_by next place messages None errors rest is = rest is
 first_by next place messages (Some refusal) [] rest is = grind arith
@@ -86,7 +86,7 @@ first_by next place messages (Some refusal) (error ∷ errors) rest is =
     let why : refusal_of error.1 ≡ refusal = grind arith in
     error_status error.1 ∙ ap (λ r. refusal_status (Some r)) why ∙ first_is refusal (statuses_of next messages)
 
-first_from : (place : ℕ) (e : Endpoint) (messages : List Sending) (errors : List (ℕ × SendError)) → refused_in errors ≡ refused_from place e messages
+first_from : (place : ℕ) (e : Endpoint) (messages : List Sending) (errors : List (ℕ × SendError)) → refused_messages errors ≡ refused_from place e messages
     → first_status errors ≡ first_refusal (statuses_of e messages)
 first_from place e [] [] is = refl
 first_from place e [] (error ∷ errors) is = grind arith
@@ -103,7 +103,7 @@ same_events : (limit a b : ℕ) (name : Option ℕ) → refusal_events (message_
 same_events limit a b None = refl
 same_events limit a b (Some id) = refl
 
-kept_by : (e : Endpoint) (message : Sending) (refusal : Option MessageRefusal) → (queue_by e message refusal).after.options ≡ e.options
+kept_by : (e : Endpoint) (message : Sending) (refusal : Option MessageRefusal) → (queue_unless_refused e message refusal).after.options ≡ e.options
 kept_by e message None = refl
 kept_by e message (Some refusal) = refl
 
@@ -126,9 +126,9 @@ module _ (options : SendOptions) where
       let of_whole = too_large e stream (length whole) whole_long in
       record {
         queued =
-            ap (queue_by e (sent stream ppid front)) of_front
+            ap (queue_unless_refused e (sent stream ppid front)) of_front
             ∙ ap (quiet e []) (same_events e.options.max_message_size (length front) (length whole) (lifecycle_name (sent stream ppid front)))
-            ∙ sym (ap (queue_by e (sent stream ppid whole)) of_whole);
+            ∙ sym (ap (queue_unless_refused e (sent stream ppid whole)) of_whole);
         taken = ap is_none of_front ∙ sym (ap is_none of_whole);
         told = ap refusal_status of_front ∙ sym (ap refusal_status of_whole);
       }
@@ -183,7 +183,7 @@ IsTurnOf input old new = (turns : List Transition) × Turns old.endpoint (input 
 
 -- what comes of the call, by whether a message is taken and what queueing them does
 abbrev CameOf : Bool → Outcome → Outcome → Type 0
-CameOf takes queued o = (answers : List Answer) × SendAnswers takes queued.after answers × (o ≡ then_outcome queued (send_by takes queued.after answers))
+CameOf takes queued o = (answers : List Answer) × SendAnswers takes queued.after answers × (o ≡ then_outcome queued (flush_if_queued takes queued.after answers))
 
 same_turn : (options : SendOptions) (e : Endpoint) (wholes fronts : List Sending) (o : Outcome) → AllAlike options e wholes fronts → SendTurn e fronts o → SendTurn e wholes o
 same_turn options e wholes fronts o all came =
@@ -220,7 +220,7 @@ module _ (options : SendOptions) (old : UserView) (wholes fronts : List Sending)
 
 -- ---- the call
 
-answered : (refused : List RefusedMessage) (answer : Result (Unit {0}) BatchSendError) → IsBatchAnswer refused answer → refused_in (errors_in answer) ≡ refused
+answered : (refused : List RefusedMessage) (answer : Result (Unit {0}) BatchSendError) → IsBatchAnswer refused answer → refused_messages (errors_of_answer answer) ≡ refused
 answered refused (Ok done) is = sym is
 answered refused (Err error) is = is.0
 
@@ -261,16 +261,16 @@ module _ (options : SendOptions) (wholes fronts : List MessageContent) (old new 
   pub whole_status : (outcome : Result (Result (Unit {0}) BatchSendError) SocketFault) → SendsMany fronts options old outcome new
       → outcome_status outcome ≡ many_status (whole_outcome outcome)
   whole_status (Ok answer) made =
-      first_from 0 old.endpoint front_sendings (errors_in answer) (answered (refused_from 0 old.endpoint front_sendings) answer made.answers)
+      first_from 0 old.endpoint front_sendings (errors_of_answer answer) (answered (refused_from 0 old.endpoint front_sendings) answer made.answers)
       ∙ ap first_refusal all.told
   whole_status (Err fault) sends = refl
 
   pub whole_results : (outcome : Result (Result (Unit {0}) BatchSendError) SocketFault) (before : List ℤ) → SendsMany fronts options old outcome new
-      → results_by outcome (length whole_sendings) before ≡ results_after (whole_outcome outcome) before
+      → results_of_answer outcome (length whole_sendings) before ≡ results_after (whole_outcome outcome) before
   whole_results (Ok answer) before made =
-      let each : statuses_by (length whole_sendings) 0 (errors_in answer) ≡ statuses_of old.endpoint whole_sendings =
-      ap (λ n. statuses_by n 0 (errors_in answer)) (sym (fronts_length old.endpoint.options.max_message_size options wholes fronts are))
-      ∙ told_are old.endpoint front_sendings (errors_in answer) (answered (refused_from 0 old.endpoint front_sendings) answer made.answers)
+      let each : statuses_from_place (length whole_sendings) 0 (errors_of_answer answer) ≡ statuses_of old.endpoint whole_sendings =
+      ap (λ n. statuses_from_place n 0 (errors_of_answer answer)) (sym (fronts_length old.endpoint.options.max_message_size options wholes fronts are))
+      ∙ told_are old.endpoint front_sendings (errors_of_answer answer) (answered (refused_from 0 old.endpoint front_sendings) answer made.answers)
       ∙ all.told in
       ap (λ l. map status_number l ++ drop (length whole_sendings) before) each
       ∙ ap (λ n. map status_number (statuses_of old.endpoint whole_sendings) ++ drop n before) (sym (each_length old.endpoint whole_sendings))

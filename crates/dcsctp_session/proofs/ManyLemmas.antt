@@ -7,7 +7,7 @@ use Rattle.dcsctp_session.specs.declared.many.OutgoingRecord.{OutgoingRecord}
 use Rattle.dcsctp_session.specs.declared.status.Status.{Status}
 use Rattle.dcsctp_session.specs.declared.status.Status.TheVariants as statuses
 use Rattle.dcsctp_session.specs.Status.{status_number}
-use Rattle.dcsctp_session.specs.Answering.{IsFrontMessage, AreFronts, status_at, others_at, statuses_by}
+use Rattle.dcsctp_session.specs.Answering.{IsFrontMessage, AreFronts, status_of_place, refused_later, statuses_from_place}
 use Rattle.dcsctp_session.specs.Many.{outgoing_content}
 
 -- ---- copies
@@ -73,19 +73,19 @@ one_less : (n place : ℕ) → place < n → n - place ≡ suc (n - (place + 1))
 one_less n place within = omega arith
 
 pub told_more : (n place : ℕ) (results all : List ℤ) (left others : List (ℕ × SendError)) (status : Status) (x : ℤ) → place < n
-    → status ≡ status_at place left → others ≡ others_at place left → x ≡ status_number status
-    → (length results ≡ n) × (take place results ++ map status_number (statuses_by (n - place) place left) ≡ all)
+    → status ≡ status_of_place place left → others ≡ refused_later place left → x ≡ status_number status
+    → (length results ≡ n) × (take place results ++ map status_number (statuses_from_place (n - place) place left) ≡ all)
     → (length (slice_set results place (to_z w32 (of_z w32 x))) ≡ n)
-    × (take (place + 1) (slice_set results place (to_z w32 (of_z w32 x))) ++ map status_number (statuses_by (n - (place + 1)) (place + 1) others) ≡ all)
+    × (take (place + 1) (slice_set results place (to_z w32 (of_z w32 x))) ++ map status_number (statuses_from_place (n - (place + 1)) (place + 1) others) ≡ all)
 told_more n place results all left others status x within is rest number (long, so_far) =
     let y : ℤ = to_z w32 (of_z w32 x) in
-    let same : y ≡ status_number (status_at place left) = ap (λ z. to_z w32 (of_z w32 z)) number ∙ fits status ∙ ap status_number is in
-    let left_over : List ℤ = map status_number (statuses_by (n - (place + 1)) (place + 1) (others_at place left)) in (
+    let same : y ≡ status_number (status_of_place place left) = ap (λ z. to_z w32 (of_z w32 z)) number ∙ fits status ∙ ap status_number is in
+    let left_over : List ℤ = map status_number (statuses_from_place (n - (place + 1)) (place + 1) (refused_later place left)) in (
       set_length results place y ∙ long,
-      ap (λ o. take (place + 1) (slice_set results place y) ++ map status_number (statuses_by (n - (place + 1)) (place + 1) o)) rest
+      ap (λ o. take (place + 1) (slice_set results place y) ++ map status_number (statuses_from_place (n - (place + 1)) (place + 1) o)) rest
           ∙ ap (λ k. take k (slice_set results place y) ++ left_over) {x = place + 1} {y = suc place} (omega arith)
           ∙ set_taken results place y left_over (rw long within)
           ∙ ap (λ z. take place results ++ z ∷ left_over) same
-          ∙ sym (ap (λ k. take place results ++ map status_number (statuses_by k place left)) (one_less n place within))
+          ∙ sym (ap (λ k. take place results ++ map status_number (statuses_from_place k place left)) (one_less n place within))
           ∙ so_far,
     )

@@ -11,7 +11,7 @@ use Rattle.dcsctp_core.specs.wire.Spelling.{checksum_field, packet_bytes_of}
 use Rattle.dcsctp_core.specs.wire.ReadsBack.{IsByte}
 use Rattle.dcsctp_core.specs.wire.declared.packet.WireOptions.{WireOptions}
 use Rattle.dcsctp_core.specs.wire_build.Checksums.{checksum_filled}
-use Rattle.dcsctp_session.specs.Offload.{unchecked, ReadsAsChecked}
+use Rattle.dcsctp_session.specs.Offload.{options_without_checks, ReadsAsChecked}
 
 -- A header with any checksum and what follows it, with the right one: so a packet is spelled.
 filled_is : (a b c d e f g h i j k l : ℕ) (rest : List ℕ) → checksum_filled (a ∷ b ∷ c ∷ d ∷ e ∷ f ∷ g ∷ h ∷ i ∷ j ∷ k ∷ l ∷ rest) ≡ packet_bytes_of true (a ∷ b ∷ c ∷ d ∷ e ∷ f ∷ g ∷ h ∷ []) rest
@@ -21,7 +21,7 @@ filled_is a b c d e f g h i j k l rest =
     rw long refl
 
 checked : (options : WireOptions) (packet : PacketContent) (a b c d e f g h i j k l : ℕ) (rest : List ℕ) → AllByRecursion IsByte (a ∷ b ∷ c ∷ d ∷ e ∷ f ∷ g ∷ h ∷ i ∷ j ∷ k ∷ l ∷ rest)
-    → IsPacket (unchecked options) packet (a ∷ b ∷ c ∷ d ∷ e ∷ f ∷ g ∷ h ∷ i ∷ j ∷ k ∷ l ∷ rest) → IsPacket options packet (packet_bytes_of true (a ∷ b ∷ c ∷ d ∷ e ∷ f ∷ g ∷ h ∷ []) rest)
+    → IsPacket (options_without_checks options) packet (a ∷ b ∷ c ∷ d ∷ e ∷ f ∷ g ∷ h ∷ i ∷ j ∷ k ∷ l ∷ rest) → IsPacket options packet (packet_bytes_of true (a ∷ b ∷ c ∷ d ∷ e ∷ f ∷ g ∷ h ∷ []) rest)
 unfolding packet_bytes_of checksum_field
 checked options packet a b c d e f g h i j k l rest s p =
     let in_header : AllByRecursion IsByte (a ∷ b ∷ c ∷ d ∷ e ∷ f ∷ g ∷ h ∷ []) = (s.0, (s.1.0, (s.1.1.0, (s.1.1.1.0, (s.1.1.1.1.0, (s.1.1.1.1.1.0, (s.1.1.1.1.1.1.0, (s.1.1.1.1.1.1.1.0, tt)))))))) in
@@ -37,7 +37,7 @@ checked options packet a b c d e f g h i j k l rest s p =
     }
 
 not_looked_at : (options : WireOptions) (packet : PacketContent) (a b c d e f g h i j k l : ℕ) (rest : List ℕ)
-    → IsPacket options packet (packet_bytes_of true (a ∷ b ∷ c ∷ d ∷ e ∷ f ∷ g ∷ h ∷ []) rest) → IsPacket (unchecked options) packet (a ∷ b ∷ c ∷ d ∷ e ∷ f ∷ g ∷ h ∷ i ∷ j ∷ k ∷ l ∷ rest)
+    → IsPacket options packet (packet_bytes_of true (a ∷ b ∷ c ∷ d ∷ e ∷ f ∷ g ∷ h ∷ []) rest) → IsPacket (options_without_checks options) packet (a ∷ b ∷ c ∷ d ∷ e ∷ f ∷ g ∷ h ∷ i ∷ j ∷ k ∷ l ∷ rest)
 unfolding packet_bytes_of checksum_field
 not_looked_at options packet a b c d e f g h i j k l rest p =
     record {

@@ -8,7 +8,7 @@ use Rattle.dcsctp_core.specs.spec.endpoint.Endpoint.{Endpoint}
 use Rattle.dcsctp_core.specs.spec.endpoint.Outcome.{Outcome, quiet, then_outcome}
 use Rattle.dcsctp_core.specs.spec.endpoint.FlushOutcomes.{Answer}
 use Rattle.dcsctp_core.specs.spec.endpoint.Turn.{user_sends}
-use Rattle.dcsctp_core.specs.spec.endpoint.MessageOutcomes.{message_too_large, message_refusal, refusal_events, Sending, sending_of, sending_refusal, lifecycle_name, queue_by, queue_one, queue_all, takes_any, SendAnswers, send_by, SendTurn}
+use Rattle.dcsctp_core.specs.spec.endpoint.MessageOutcomes.{message_too_large, message_refusal, refusal_events, Sending, sending_of, sending_refusal, lifecycle_name, queue_unless_refused, queue_one, queue_all, takes_any, SendAnswers, flush_if_queued, SendTurn}
 use Rattle.dcsctp_core.specs.spec.endpoint.CallTurns.{Transition, transition, Turns}
 use Rattle.dcsctp_core.specs.api.declared.errors.SendError.{SendError}
 use Rattle.dcsctp_core.specs.api.declared.errors.SendError.TheVariants.{EmptyPayload, MessageTooLarge, ResourceExhaustion, ShuttingDown}
@@ -21,7 +21,7 @@ use Rattle.dcsctp_session.specs.declared.status.Status.{Status}
 use Rattle.dcsctp_session.specs.declared.options.SendOptionsRecord.{SendOptionsRecord}
 use Rattle.dcsctp_session.specs.Options.{SaysSendOptions, is_valid_sending}
 use Rattle.dcsctp_session.specs.Copying.{IsFront}
-use Rattle.dcsctp_session.specs.Calls.{Settled, SentIf, MessageSent}
+use Rattle.dcsctp_session.specs.Calls.{CallsSocket, SendsIfValid, SendsOneMessage}
 use Rattle.dcsctp_session.specs.Status.{send_status}
 use Rattle.dcsctp_session.specs.Views.{view}
 use Rattle.dcsctp_session.proofs.FrontTurns.{IsTurnOf}
@@ -51,16 +51,16 @@ module _ (old : UserView) (options : SendOptions) (stream ppid : ℕ) (front who
 
   same_queued : queue_one old.endpoint (sending front) ≡ queue_one old.endpoint (sending whole)
   same_queued =
-      ap (queue_by old.endpoint (sending front)) (refused front front_long)
+      ap (queue_unless_refused old.endpoint (sending front)) (refused front front_long)
       ∙ ap (quiet old.endpoint []) (same_events limit (length front) (length whole) (lifecycle_name (sending front)))
-      ∙ sym (ap (queue_by old.endpoint (sending whole)) (refused whole whole_long))
+      ∙ sym (ap (queue_unless_refused old.endpoint (sending whole)) (refused whole whole_long))
 
   none_taken : (payload : List ℕ) → limit < length payload → takes_any old.endpoint (sending payload ∷ []) ≡ false
   none_taken payload long = rw (refused payload long) refl
 
   -- what comes of the call, by whether a message is taken and what queueing it does
   abbrev CameOf : Bool → Outcome → Outcome → Type 0
-  CameOf takes queued o = (answers : List Answer) × SendAnswers takes queued.after answers × (o ≡ then_outcome queued (send_by takes queued.after answers))
+  CameOf takes queued o = (answers : List Answer) × SendAnswers takes queued.after answers × (o ≡ then_outcome queued (flush_if_queued takes queued.after answers))
 
   same_turn : (o : Outcome) → SendTurn old.endpoint (sending front ∷ []) o → SendTurn old.endpoint (sending whole ∷ []) o
   same_turn o came =
@@ -119,10 +119,10 @@ module _ (old : UserView) (options : SendOptions) (stream ppid : ℕ) (front who
 
 settled_whole : (options : SendOptions) (stream ppid : ℕ) (front whole : List ℕ) (old : Session) (status : Status) (new : Session)
     → IsFront (view old).endpoint.options.max_message_size whole front
-    → Settled send_status (SendsMessage (record { stream = stream; ppid = ppid; payload = front }) options) old status new
-    → Settled send_status (SendsMessage (record { stream = stream; ppid = ppid; payload = whole }) options) old status new
+    → CallsSocket send_status (SendsMessage (record { stream = stream; ppid = ppid; payload = front }) options) old status new
+    → CallsSocket send_status (SendsMessage (record { stream = stream; ppid = ppid; payload = whole }) options) old status new
 settled_whole options stream ppid front whole old status new (inl is) settled =
-    subst (λ payload. Settled send_status (SendsMessage (record { stream = stream; ppid = ppid; payload = payload }) options) old status new) is settled
+    subst (λ payload. CallsSocket send_status (SendsMessage (record { stream = stream; ppid = ppid; payload = payload }) options) old status new) is settled
 settled_whole options stream ppid front whole old status new (inr (front_long, whole_long)) settled =
     record {
       outcome = whole_answer (view old) options stream ppid front whole front_long whole_long settled.outcome;
@@ -134,8 +134,8 @@ settled_whole options stream ppid front whole old status new (inr (front_long, w
 
 pub message_sent : (numbers : SendOptionsRecord) (options : SendOptions) (stream ppid : ℕ) (front whole : List ℕ) (old : Session) (status : Status) (new : Session)
     → is_valid_sending numbers ≡ true → IsFront (view old).endpoint.options.max_message_size whole front → SaysSendOptions numbers options
-    → Settled send_status (SendsMessage (record { stream = stream; ppid = ppid; payload = front }) options) old status new
-    → MessageSent (record { stream = stream; ppid = ppid; payload = whole }) numbers old status new
+    → CallsSocket send_status (SendsMessage (record { stream = stream; ppid = ppid; payload = front }) options) old status new
+    → SendsOneMessage (record { stream = stream; ppid = ppid; payload = whole }) numbers old status new
 message_sent numbers options stream ppid front whole old status new valid front_of says settled =
-    subst (λ known. SentIf known (record { stream = stream; ppid = ppid; payload = whole }) numbers old status new) (sym valid)
+    subst (λ known. SendsIfValid known (record { stream = stream; ppid = ppid; payload = whole }) numbers old status new) (sym valid)
     (inr (options, says, settled_whole options stream ppid front whole old status new front_of settled))

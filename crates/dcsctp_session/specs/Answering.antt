@@ -25,24 +25,24 @@ AreFronts limit (whole ∷ wholes) (front ∷ fronts) = IsFrontMessage limit who
 -- ---- answers
 
 -- what is returned of the message of this place, if these and no earlier ones are refused
-abbrev pub status_at : ℕ → List (ℕ × SendError) → Status
-status_at place [] = statuses.Done
-status_at place (refused ∷ others) = if refused.0 == place then send_error_status refused.1 else statuses.Done
+abbrev pub status_of_place : ℕ → List (ℕ × SendError) → Status
+status_of_place place [] = statuses.Done
+status_of_place place (refused ∷ others) = if refused.0 == place then send_error_status refused.1 else statuses.Done
 
 -- those of these that are refused after this place
-abbrev pub others_at : ℕ → List (ℕ × SendError) → List (ℕ × SendError)
-others_at place [] = []
-others_at place (refused ∷ others) = if refused.0 == place then others else refused ∷ others
+abbrev pub refused_later : ℕ → List (ℕ × SendError) → List (ℕ × SendError)
+refused_later place [] = []
+refused_later place (refused ∷ others) = if refused.0 == place then others else refused ∷ others
 
 -- what is returned of so many messages, if the first has this place
-abbrev pub statuses_by : ℕ → ℕ → List (ℕ × SendError) → List Status
-statuses_by zero place refused = []
-statuses_by (suc count) place refused = status_at place refused ∷ statuses_by count (place + 1) (others_at place refused)
+abbrev pub statuses_from_place : ℕ → ℕ → List (ℕ × SendError) → List Status
+statuses_from_place zero place refused = []
+statuses_from_place (suc count) place refused = status_of_place place refused ∷ statuses_from_place count (place + 1) (refused_later place refused)
 
 -- the messages that an answer refuses
-abbrev pub errors_in : Result (Unit {0}) BatchSendError → List (ℕ × SendError)
-errors_in (Ok done) = []
-errors_in (Err error) = error.0.items
+abbrev pub errors_of_answer : Result (Unit {0}) BatchSendError → List (ℕ × SendError)
+errors_of_answer (Ok done) = []
+errors_of_answer (Err error) = error.0.items
 
 -- why the first of these is refused
 abbrev pub first_status : List (ℕ × SendError) → Status
@@ -50,10 +50,10 @@ first_status [] = statuses.Done
 first_status (refused ∷ others) = send_error_status refused.1
 
 abbrev pub outcome_status : Result (Result (Unit {0}) BatchSendError) SocketFault → Status
-outcome_status (Ok answer) = first_status (errors_in answer)
+outcome_status (Ok answer) = first_status (errors_of_answer answer)
 outcome_status (Err fault) = fault_status fault
 
 -- the results of so many messages, at the front of what was there before
-abbrev pub results_by : Result (Result (Unit {0}) BatchSendError) SocketFault → ℕ → List ℤ → List ℤ
-results_by (Ok answer) count before = map status_number (statuses_by count 0 (errors_in answer)) ++ drop count before
-results_by (Err fault) count before = before
+abbrev pub results_of_answer : Result (Result (Unit {0}) BatchSendError) SocketFault → ℕ → List ℤ → List ℤ
+results_of_answer (Ok answer) count before = map status_number (statuses_from_place count 0 (errors_of_answer answer)) ++ drop count before
+results_of_answer (Err fault) count before = before

@@ -73,7 +73,7 @@ Creates numbers seed moment (Err status) =
 -- ---- calls that the socket may refuse
 
 -- The socket's call takes place, and the status says its outcome.
-pub record Settled {A : Type 0} (status_of : Result A SocketFault → Status) (Call : UserView → Result A SocketFault → UserView → Type 0)
+pub record CallsSocket {A : Type 0} (status_of : Result A SocketFault → Status) (Call : UserView → Result A SocketFault → UserView → Type 0)
     (old : Session) (status : Status) (new : Session) : Type 0 where
   pub outcome : Result A SocketFault
   pub call : Call (view old) outcome (view new)
@@ -86,24 +86,24 @@ abbrev pub ConnectCall : UserView → Result (Unit {0}) SocketFault → UserView
 ConnectCall old outcome new = Connects old outcome new × (old.failed ≡ false → is_closed old.endpoint.core ≡ false → IsOk outcome)
 
 abbrev pub ConnectsSession : Session → Status → Session → Type 0
-ConnectsSession = Settled done_status ConnectCall
+ConnectsSession = CallsSocket done_status ConnectCall
 
 -- Those of `shutdown`: where there is nothing to shut down it succeeds.
 abbrev pub ShutdownCall : UserView → Result (Unit {0}) SocketFault → UserView → Type 0
 ShutdownCall old outcome new = ShutsDown old outcome new × (old.failed ≡ false → takes_shutdown old.endpoint.core ≡ false → IsOk outcome)
 
 abbrev pub ShutDown : Session → Status → Session → Type 0
-ShutDown = Settled done_status ShutdownCall
+ShutDown = CallsSocket done_status ShutdownCall
 
 -- Those of `close`: on a closed socket it succeeds.
 abbrev pub CloseCall : UserView → Result (Unit {0}) SocketFault → UserView → Type 0
 CloseCall old outcome new = ClosesSocket old outcome new × (old.failed ≡ false → is_closed old.endpoint.core ≡ true → IsOk outcome)
 
-abbrev pub Closed : Session → Status → Session → Type 0
-Closed = Settled done_status CloseCall
+abbrev pub ClosesSession : Session → Status → Session → Type 0
+ClosesSession = CallsSocket done_status CloseCall
 
-abbrev pub InputHandled : List ℕ → Session → Status → Session → Type 0
-InputHandled packet = Settled done_status (λ old outcome new. HandlesInput old packet outcome new)
+abbrev pub HandlesPacket : List ℕ → Session → Status → Session → Type 0
+HandlesPacket packet = CallsSocket done_status (λ old outcome new. HandlesInput old packet outcome new)
 
 -- Those of `advance_time`: an earlier moment succeeds, and one before the next deadline only moves the clock.
 pub record AdvanceCall (moment : ℕ) (old : UserView) (outcome : Result (Unit {0}) SocketFault) (new : UserView) : Type 0 where
@@ -111,60 +111,60 @@ pub record AdvanceCall (moment : ℕ) (old : UserView) (outcome : Result (Unit {
   pub earlier : old.failed ≡ false → moment < old.endpoint.moment → IsOk outcome
   pub waits : old.failed ≡ false → Waits old.endpoint moment → OnlyMovesClock old moment outcome new
 
-abbrev pub Advanced : ℕ → Session → Status → Session → Type 0
-Advanced moment = Settled done_status (AdvanceCall moment)
+abbrev pub AdvancesSession : ℕ → Session → Status → Session → Type 0
+AdvancesSession moment = CallsSocket done_status (AdvanceCall moment)
 
-abbrev pub SettingMade : Setting → Session → Status → Session → Type 0
-SettingMade setting = Settled done_status (Sets setting)
+abbrev pub MakesSetting : Setting → Session → Status → Session → Type 0
+MakesSetting setting = CallsSocket done_status (Sets setting)
 
 -- A copy of what the caller gave found no memory. Nothing has changed, so the socket hasn't failed by it.
-pub record CopyFailed (old : Session) (status : Status) (new : Session) : Type 0 where
+pub record FailsToCopy (old : Session) (status : Status) (new : Session) : Type 0 where
   pub told : status ≡ statuses.OutOfMemory
   pub same : new ≡ old
 
 -- A bit of the options has no meaning. Nothing has changed.
-pub record SendOptionsRefused (old : Session) (status : Status) (new : Session) : Type 0 where
+pub record RefusesSendOptions (old : Session) (status : Status) (new : Session) : Type 0 where
   pub told : status ≡ statuses.InvalidSendOptions
   pub same : new ≡ old
 
 -- By whether the options are valid: the message is sent by what they say, unless there was no memory for its copy.
-abbrev pub SentIf : Bool → MessageContent → SendOptionsRecord → Session → Status → Session → Type 0
-SentIf false message numbers old status new = SendOptionsRefused old status new
-SentIf true message numbers old status new =
-    CopyFailed old status new
-    ⊎ (options : SendOptions) × SaysSendOptions numbers options × Settled send_status (SendsMessage message options) old status new
+abbrev pub SendsIfValid : Bool → MessageContent → SendOptionsRecord → Session → Status → Session → Type 0
+SendsIfValid false message numbers old status new = RefusesSendOptions old status new
+SendsIfValid true message numbers old status new =
+    FailsToCopy old status new
+    ⊎ (options : SendOptions) × SaysSendOptions numbers options × CallsSocket send_status (SendsMessage message options) old status new
 
 -- The message is sent by the options that the numbers say, if they are valid.
-abbrev pub MessageSent : MessageContent → SendOptionsRecord → Session → Status → Session → Type 0
-MessageSent message numbers old status new = SentIf (is_valid_sending numbers) message numbers old status new
+abbrev pub SendsOneMessage : MessageContent → SendOptionsRecord → Session → Status → Session → Type 0
+SendsOneMessage message numbers old status new = SendsIfValid (is_valid_sending numbers) message numbers old status new
 
 abbrev pub StreamsReset : List ℕ → Session → Status → Session → Type 0
-StreamsReset ids old status new = CopyFailed old status new ⊎ Settled reset_status (ResetsOwn ids) old status new
+StreamsReset ids old status new = FailsToCopy old status new ⊎ CallsSocket reset_status (ResetsOwn ids) old status new
 
 -- ---- calls that the socket never refuses
 
 -- A message may have so many bytes from now on.
-pub record SizeLimited (bytes : ℕ) (old : Session) (status : Status) (new : Session) : Type 0 where
+pub record LimitsSize (bytes : ℕ) (old : Session) (status : Status) (new : Session) : Type 0 where
   pub told : status ≡ statuses.Done
   pub call : view new ≡ with_setting (longest_message bytes) (view old)
   pub taken : new.taken ≡ old.taken
   pub offload : new.checksum_offload ≡ old.checksum_offload
 
 -- The next event is taken, by whether the caller makes checksums.
-abbrev pub PollsBy : Bool → UserView → Option SocketEvent → UserView → Type 0
-PollsBy false old event new = PollsEvent old event new
-PollsBy true old event new = PollsCleared old event new
+abbrev pub PollsByOffload : Bool → UserView → Option SocketEvent → UserView → Type 0
+PollsByOffload false old event new = PollsEvent old event new
+PollsByOffload true old event new = PollsCleared old event new
 
 -- The next event is taken and kept, and the record says it.
-pub record EventTaken (old : Session) (told : Option EventRecord) (new : Session) : Type 0 where
-  pub call : PollsBy old.checksum_offload (view old) new.taken.event (view new)
+pub record GetsNextEvent (old : Session) (told : Option EventRecord) (new : Session) : Type 0 where
+  pub call : PollsByOffload old.checksum_offload (view old) new.taken.event (view new)
   pub says : told ≡ option_map event_record new.taken.event
   pub message : new.taken.message ≡ old.taken.message
   pub snapshot : new.taken.snapshot ≡ old.taken.snapshot
   pub offload : new.checksum_offload ≡ old.checksum_offload
 
 -- The next message is taken and kept, and the record says it.
-pub record MessageTaken (old : Session) (told : Option MessageRecord) (new : Session) : Type 0 where
+pub record GetsNextMessage (old : Session) (told : Option MessageRecord) (new : Session) : Type 0 where
   pub call : TakesNextMessage (view old) new.taken.message (view new)
   pub says : told ≡ option_map message_record new.taken.message
   pub event : new.taken.event ≡ old.taken.event
@@ -176,11 +176,11 @@ abbrev pub SaysShown : Option Metrics → Option MetricsRecord → Type 0
 SaysShown None told = told ≡ None
 SaysShown (Some metrics) told = (numbers : MetricsRecord) × SaysMetrics numbers metrics × (told ≡ Some numbers)
 
-abbrev pub MetricsShown : UserView → Option MetricsRecord → Type 0
-MetricsShown shown told = (metrics : Option Metrics) × ShowsMetrics shown.endpoint metrics × SaysShown metrics told
+abbrev pub ShowsMetricsRecord : UserView → Option MetricsRecord → Type 0
+ShowsMetricsRecord shown told = (metrics : Option Metrics) × ShowsMetrics shown.endpoint metrics × SaysShown metrics told
 
 -- The record says what was counted over the socket's life.
-pub record CountsShown (shown : UserView) (told : CountsRecord) : Type 0 where
+pub record ShowsCountsRecord (shown : UserView) (told : CountsRecord) : Type 0 where
   pub size : told.size ≡ counts_size
   pub received : told.rx_packets_count ≡ shown.endpoint.counts.packets_received
   pub sent : told.tx_packets_count ≡ shown.endpoint.counts.packets_sent

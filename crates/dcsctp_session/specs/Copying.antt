@@ -13,9 +13,9 @@ Copies numbers old status new told =
     ⊎ (status ≡ statuses.BufferTooSmall) × (length old < length numbers) × (new ≡ old))
 
 -- The same of what was taken, if it has anything to copy.
-abbrev pub CopiesTaken : Option (List ℕ) → List ℕ → Status → List ℕ → ℕ → Type 0
-CopiesTaken None old status new told = (status ≡ statuses.NothingToCopy) × (told ≡ 0) × (new ≡ old)
-CopiesTaken (Some numbers) old status new told = Copies numbers old status new told
+abbrev pub CopiesIfTaken : Option (List ℕ) → List ℕ → Status → List ℕ → ℕ → Type 0
+CopiesIfTaken None old status new told = (status ≡ statuses.NothingToCopy) × (told ≡ 0) × (new ≡ old)
+CopiesIfTaken (Some numbers) old status new told = Copies numbers old status new told
 
 -- A pointer to the bytes is written, and `told` is how many there are: a `Vec` owns its items where its pointer is. Without bytes
 -- the pointer stays, and `told` is 0.

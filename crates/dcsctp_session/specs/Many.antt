@@ -59,7 +59,7 @@ ManyCall messages options old outcome new =
     UserCalls (send_many_call messages options) (λ each. each ≡ statuses_of old.endpoint (map (sending_of options) messages)) old outcome new
 
 -- The socket's call takes place, and the status and the results say its outcome.
-pub record ManySettled (messages : List MessageContent) (options : SendOptions) (old : Session) (before : List ℤ) (status : Status) (after : List ℤ) (new : Session) : Type 0 where
+pub record CallsSendMany (messages : List MessageContent) (options : SendOptions) (old : Session) (before : List ℤ) (status : Status) (after : List ℤ) (new : Session) : Type 0 where
   pub outcome : Result (List Status) SocketFault
   pub call : ManyCall messages options (view old) outcome (view new)
   pub told : status ≡ many_status outcome
@@ -68,23 +68,23 @@ pub record ManySettled (messages : List MessageContent) (options : SendOptions) 
   pub offload : new.checksum_offload ≡ old.checksum_offload
 
 -- Nothing has changed, for this reason, and no result is written.
-pub record NothingSent (why : Status) (old : Session) (before : List ℤ) (status : Status) (after : List ℤ) (new : Session) : Type 0 where
+pub record SendsNothing (why : Status) (old : Session) (before : List ℤ) (status : Status) (after : List ℤ) (new : Session) : Type 0 where
   pub told : status ≡ why
   pub results : after ≡ before
   pub same : new ≡ old
 
 -- The messages are sent, unless there was no memory for their copies.
-abbrev pub CopiesSent : List OutgoingRecord → SendOptions → Session → List ℤ → Status → List ℤ → Session → Type 0
-CopiesSent messages options old before status after new =
-    NothingSent statuses.OutOfMemory old before status after new ⊎ ManySettled (map outgoing_content messages) options old before status after new
+abbrev pub SendsCopies : List OutgoingRecord → SendOptions → Session → List ℤ → Status → List ℤ → Session → Type 0
+SendsCopies messages options old before status after new =
+    SendsNothing statuses.OutOfMemory old before status after new ⊎ CallsSendMany (map outgoing_content messages) options old before status after new
 
 -- By whether there are too few results, and whether the options are valid: the messages are sent by what these say.
-abbrev pub ManySentIf : Bool → Bool → List OutgoingRecord → SendOptionsRecord → Session → List ℤ → Status → List ℤ → Session → Type 0
-ManySentIf true valid messages numbers old before status after new = NothingSent statuses.BufferTooSmall old before status after new
-ManySentIf false false messages numbers old before status after new = NothingSent statuses.InvalidSendOptions old before status after new
-ManySentIf false true messages numbers old before status after new =
-    (options : SendOptions) × SaysSendOptions numbers options × CopiesSent messages options old before status after new
+abbrev pub SendsManyIfValid : Bool → Bool → List OutgoingRecord → SendOptionsRecord → Session → List ℤ → Status → List ℤ → Session → Type 0
+SendsManyIfValid true valid messages numbers old before status after new = SendsNothing statuses.BufferTooSmall old before status after new
+SendsManyIfValid false false messages numbers old before status after new = SendsNothing statuses.InvalidSendOptions old before status after new
+SendsManyIfValid false true messages numbers old before status after new =
+    (options : SendOptions) × SaysSendOptions numbers options × SendsCopies messages options old before status after new
 
-abbrev pub ManySent : List OutgoingRecord → SendOptionsRecord → Session → List ℤ → Status → List ℤ → Session → Type 0
-ManySent messages numbers old before status after new =
-    ManySentIf (nat_lt (length before) (length messages)) (is_valid_sending numbers) messages numbers old before status after new
+abbrev pub SendsManyRecords : List OutgoingRecord → SendOptionsRecord → Session → List ℤ → Status → List ℤ → Session → Type 0
+SendsManyRecords messages numbers old before status after new =
+    SendsManyIfValid (nat_lt (length before) (length messages)) (is_valid_sending numbers) messages numbers old before status after new

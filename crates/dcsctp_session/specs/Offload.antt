@@ -8,11 +8,11 @@ use Rattle.dcsctp_core.specs.wire.declared.packet.WireOptions.{WireOptions}
 use Rattle.dcsctp_core.specs.wire_build.Checksums.{checksum_filled}
 
 -- the same options, but that no checksum is looked at
-abbrev pub unchecked : WireOptions → WireOptions
-unchecked options = record options { disable_checksum_verification = true }
+abbrev pub options_without_checks : WireOptions → WireOptions
+options_without_checks options = record options { disable_checksum_verification = true }
 
 -- Bytes are read as if their checksum were right.
 abbrev pub ReadsAsChecked : Type 0
 ReadsAsChecked =
     (options : WireOptions) (packet : PacketContent) (bytes : List ℕ) → AllByRecursion IsByte bytes
-    → IsPacket (unchecked options) packet bytes ↔ IsPacket options packet (checksum_filled bytes)
+    → IsPacket (options_without_checks options) packet bytes ↔ IsPacket options packet (checksum_filled bytes)

@@ -31,9 +31,9 @@ bytes_of_event (events.OnAborted kind text) = Some (string_bytes text)
 bytes_of_event (events.OnError kind text) = Some (string_bytes text)
 bytes_of_event event = None
 
-abbrev pub bytes_in : Option SocketEvent → Option (List ℕ)
-bytes_in None = None
-bytes_in (Some event) = bytes_of_event event
+abbrev pub bytes_of_polled : Option SocketEvent → Option (List ℕ)
+bytes_of_polled None = None
+bytes_of_polled (Some event) = bytes_of_event event
 
 -- the packet of an event, as it lies in memory
 abbrev pub packet_of_event : SocketEvent → Option (Vec ℕ)
@@ -56,11 +56,11 @@ streams_in_event None = None
 streams_in_event (Some event) = streams_of event
 
 -- the payload of a message
-abbrev pub payload_in : Option Message → Option (List ℕ)
-payload_in None = None
-payload_in (Some message) = Some message.payload.items
+abbrev pub payload_of_taken : Option Message → Option (List ℕ)
+payload_of_taken None = None
+payload_of_taken (Some message) = Some message.payload.items
 
 -- the same, as it lies in memory
-abbrev pub message_in : Option Message → Option (Vec ℕ)
-message_in None = None
-message_in (Some message) = Some message.payload
+abbrev pub message_of_taken : Option Message → Option (Vec ℕ)
+message_of_taken None = None
+message_of_taken (Some message) = Some message.payload

@@ -5,7 +5,7 @@ ghost use Rattle.dcsctp_core.specs.spec.Handover.{readiness_of};
 ghost use Rattle.dcsctp_core.specs.spec.queues.Incoming.{AreInOrder};
 ghost use Rattle.dcsctp_core.specs.api.Messages.{incoming_streams};
 ghost use Rattle.dcsctp_session.specs.Views.{view};
-ghost use Rattle.dcsctp_session.specs.Handover.{HandedOver, snapshot_sealed, IsReadBack, CopiesSnapshot, RestoredBy, BodyRestored, Restored};
+ghost use Rattle.dcsctp_session.specs.Handover.{HandsOverSession, snapshot_sealed, IsReadBack, CopiesSnapshot, RestoresIfReadable, RestoresBody, RestoresSession};
 
 use crate::copying::copy_bytes;
 use crate::session::Session;
@@ -40,7 +40,7 @@ impl Session {
 
     /// Hands the socket over: takes its snapshot, and ends the association here.
     pub fn hand_over(&mut self) -> Status
-        ensures { HandedOver self.old result self.new }
+        ensures { HandsOverSession self.old result self.new }
     {
         match self.socket.get_handover_state_and_close() {
             Ok(Ok(state)) => {
@@ -70,7 +70,7 @@ impl Session {
 
     // Restores the socket from the bytes of a snapshot, without their seal.
     fn restore_body(&mut self, body: &[u8]) -> Status
-        ensures { BodyRestored body.now self.old result self.new }
+        ensures { RestoresBody body.now self.old result self.new }
     {
         let state = match from_bytes(self.alloc, body) {
             Ok(Some(state)) => state,
@@ -90,7 +90,7 @@ impl Session {
     /// as its seal has them. `Status::OutOfMemory` if there was no memory to read them, too. In these cases
     /// nothing has changed.
     pub fn restore(&mut self, bytes: &[u8]) -> Status
-        ensures { Restored bytes.now self.old result self.new }
+        ensures { RestoresSession bytes.now self.old result self.new }
     {
         match unseal(bytes, &self.socket.options()) {
             Ok(body) => self.restore_body(body),

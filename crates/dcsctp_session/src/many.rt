@@ -3,8 +3,8 @@
 ghost use Rattle.std.specs.Prelude.{◌≡◌, ◌≤◌, map, length, drop, IfOk};
 ghost use Rattle.dcsctp_core.specs.types.queues.Messages.{message_content};
 ghost use Rattle.dcsctp_session.specs.Status.{status_number};
-ghost use Rattle.dcsctp_session.specs.Answering.{IsFrontMessage, AreFronts, status_at, others_at, statuses_by, errors_in, first_status, outcome_status, results_by};
-ghost use Rattle.dcsctp_session.specs.Many.{outgoing_content, CopiesSent, ManySent};
+ghost use Rattle.dcsctp_session.specs.Answering.{IsFrontMessage, AreFronts, status_of_place, refused_later, statuses_from_place, errors_of_answer, first_status, outcome_status, results_of_answer};
+ghost use Rattle.dcsctp_session.specs.Many.{outgoing_content, SendsCopies, SendsManyRecords};
 
 use crate::copying::front;
 use crate::options::SendOptionsRecord;
@@ -54,8 +54,8 @@ fn copied_messages(
 // What became of the message of this place, if the first ones of these are refused before it. Also how many of them
 // are refused up to it.
 fn status_at(refused: &[(usize, SendError)], before: usize, place: usize) -> (Status, usize)
-    ensures status { result.0 ≡ status_at place (drop before refused.now) }
-    ensures rest { drop result.1 refused.now ≡ others_at place (drop before refused.now) }
+    ensures status { result.0 ≡ status_of_place place (drop before refused.now) }
+    ensures rest { drop result.1 refused.now ≡ refused_later place (drop before refused.now) }
 {
     match refused.get(before) {
         Some((at, error)) if *at == place => (Status::of_send_error(*error), before + 1),
@@ -65,7 +65,7 @@ fn status_at(refused: &[(usize, SendError)], before: usize, place: usize) -> (St
 
 // Writes what became of each message, by those that are refused, in ascending order.
 fn tell_each(refused: &[(usize, SendError)], results: &mut [i32])
-    ensures { results.new ≡ map status_number (statuses_by (length results.old) 0 refused.now) }
+    ensures { results.new ≡ map status_number (statuses_from_place (length results.old) 0 refused.now) }
 {
     let mut before = 0;
     for place in 0..results.len() {
@@ -87,9 +87,9 @@ fn first_status(refused: &[(usize, SendError)]) -> Status
 
 // Writes what became of each message, by an answer, and returns why the first is refused.
 fn tell_answer(answer: &Result<(), BatchSendError>, results: &mut [i32]) -> Status
-    ensures status { result ≡ first_status (errors_in answer.now) }
-    ensures results { results.new ≡ map status_number (statuses_by (length results.old) 0
-        (errors_in answer.now)) }
+    ensures status { result ≡ first_status (errors_of_answer answer.now) }
+    ensures results { results.new ≡ map status_number (statuses_from_place (length results.old) 0
+        (errors_of_answer answer.now)) }
 {
     match answer {
         Ok(()) => {
@@ -111,7 +111,7 @@ fn tell_outcome(
 ) -> Status
     requires { count ≤ length results.old }
     ensures status { result ≡ outcome_status outcome.now }
-    ensures results { results.new ≡ results_by outcome.now count results.old }
+    ensures results { results.new ≡ results_of_answer outcome.now count results.old }
 {
     match outcome {
         Ok(answer) => {
@@ -131,7 +131,7 @@ impl Session {
         results: &mut [i32],
     ) -> Status
         requires room { length messages.now ≤ length results.old }
-        ensures { CopiesSent messages.now options.now self.old results.old result results.new
+        ensures { SendsCopies messages.now options.now self.old results.old result results.new
             self.new }
     {
         let limit = self.socket.options().max_message_size;
@@ -156,7 +156,7 @@ impl Session {
         options: &SendOptionsRecord,
         results: &mut [i32],
     ) -> Status
-        ensures { ManySent messages.now options.now self.old results.old result results.new
+        ensures { SendsManyRecords messages.now options.now self.old results.old result results.new
             self.new }
     {
         if results.len() < messages.len() {

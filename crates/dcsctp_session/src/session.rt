@@ -9,7 +9,7 @@ ghost use Rattle.dcsctp_core.specs.api.Calls.{stream_shown, socket_state_of};
 ghost use Rattle.dcsctp_core.specs.api.Messages.{ready_messages};
 ghost use Rattle.dcsctp_session.specs.Options.{ShowsOptions, never};
 ghost use Rattle.dcsctp_session.specs.Views.{view};
-ghost use Rattle.dcsctp_session.specs.Calls.{Creates, is_zero_seed, ConnectsSession, ShutDown, Closed, InputHandled, Advanced, SettingMade, SizeLimited, MessageSent, StreamsReset};
+ghost use Rattle.dcsctp_session.specs.Calls.{Creates, is_zero_seed, ConnectsSession, ShutDown, ClosesSession, HandlesPacket, AdvancesSession, MakesSetting, LimitsSize, SendsOneMessage, StreamsReset};
 
 use crate::copying::{front, stream_ids};
 use crate::options::{OptionsRecord, SendOptionsRecord};
@@ -148,21 +148,21 @@ impl Session {
 
     /// Ends the association at once.
     pub fn close(&mut self) -> Status
-        ensures { Closed self.old result self.new }
+        ensures { ClosesSession self.old result self.new }
     {
         Status::of_call(self.socket.close())
     }
 
     /// Handles a packet from the peer.
     pub fn handle_input(&mut self, packet: &[u8]) -> Status
-        ensures { InputHandled packet.now self.old result self.new }
+        ensures { HandlesPacket packet.now self.old result self.new }
     {
         Status::of_call(self.socket.handle_input(packet))
     }
 
     /// Sets the clock to `now`, in nanoseconds, and handles what is due.
     pub fn advance_time(&mut self, now: u64) -> Status
-        ensures { Advanced now self.old result self.new }
+        ensures { AdvancesSession now self.old result self.new }
     {
         Status::of_call(self.socket.advance_time(moment(now)))
     }
@@ -192,7 +192,7 @@ impl Session {
         payload: &[u8],
         options: &SendOptionsRecord,
     ) -> Status
-        ensures { MessageSent (record { stream = stream_id; ppid = ppid; payload = payload.now })
+        ensures { SendsOneMessage (record { stream = stream_id; ppid = ppid; payload = payload.now })
             options.now self.old result self.new }
     {
         if !options.is_valid() {
@@ -221,7 +221,7 @@ impl Session {
 
     /// Sets the priority of a stream.
     pub fn set_stream_priority(&mut self, stream_id: u16, priority: u16) -> Status
-        ensures { SettingMade (stream_priority stream_id priority) self.old result self.new }
+        ensures { MakesSetting (stream_priority stream_id priority) self.old result self.new }
     {
         Status::of_call(
             self.socket
@@ -231,7 +231,7 @@ impl Session {
 
     /// Sets the low threshold of a stream, in bytes.
     pub fn set_buffered_amount_low_threshold(&mut self, stream_id: u16, bytes: usize) -> Status
-        ensures { SettingMade (stream_low_threshold stream_id bytes) self.old result self.new }
+        ensures { MakesSetting (stream_low_threshold stream_id bytes) self.old result self.new }
     {
         Status::of_call(
             self.socket
@@ -241,7 +241,7 @@ impl Session {
 
     /// Sets how many bytes a message may have from now on.
     pub fn set_max_message_size(&mut self, bytes: usize) -> Status
-        ensures { SizeLimited bytes self.old result self.new }
+        ensures { LimitsSize bytes self.old result self.new }
     {
         self.socket.set_max_message_size(bytes);
         Status::Done

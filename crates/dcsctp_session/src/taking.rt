@@ -1,9 +1,9 @@
 //! Taking events, messages and metrics from a session, and copying what they hold.
 
 ghost use Rattle.dcsctp_socket.specs.SocketView.{user_view_of};
-ghost use Rattle.dcsctp_session.specs.Views.{view, words_ahead, bytes_in, packet_in_event, streams_in_event, payload_in, message_in};
-ghost use Rattle.dcsctp_session.specs.Calls.{PollsBy, EventTaken, MessageTaken, MetricsShown, CountsShown};
-ghost use Rattle.dcsctp_session.specs.Copying.{CopiesTaken, ShowsPlace};
+ghost use Rattle.dcsctp_session.specs.Views.{view, words_ahead, bytes_of_polled, packet_in_event, streams_in_event, payload_of_taken, message_of_taken};
+ghost use Rattle.dcsctp_session.specs.Calls.{PollsByOffload, GetsNextEvent, GetsNextMessage, ShowsMetricsRecord, ShowsCountsRecord};
+ghost use Rattle.dcsctp_session.specs.Copying.{CopiesIfTaken, ShowsPlace};
 
 use crate::copying::{copy_bytes, copy_streams, show_place};
 use crate::records::{CountsRecord, EventRecord, MessageRecord, MetricsRecord};
@@ -14,7 +14,7 @@ use rand_chacha::ChaCha20Rng;
 
 // Takes the event that was added first, by whether the caller makes checksums.
 fn next_event(socket: &mut Socket<ChaCha20Rng>, checksum_offload: bool) -> Option<SocketEvent>
-    ensures { PollsBy checksum_offload (user_view_of words_ahead socket.old) result
+    ensures { PollsByOffload checksum_offload (user_view_of words_ahead socket.old) result
         (user_view_of words_ahead socket.new) }
 {
     if checksum_offload {
@@ -27,7 +27,7 @@ impl Session {
     /// Takes the event that was added first; none if no event waits. The one that was taken before is
     /// dropped. A caller who makes checksums gets a packet with 0 in the place of its checksum.
     pub fn poll_event(&mut self) -> Option<EventRecord>
-        ensures { EventTaken self.old result self.new }
+        ensures { GetsNextEvent self.old result self.new }
     {
         if let Some(SocketEvent::SendPacket(packet)) = self.taken.event.take() {
             self.socket.take_back(packet);
@@ -40,7 +40,7 @@ impl Session {
     /// Copies the packet or the text of the event that was taken last, and says how many bytes it has. A
     /// buffer that is too small is unchanged.
     pub fn event_bytes(&self, buffer: &mut [u8], length: &mut usize) -> Status
-        ensures { CopiesTaken (bytes_in self.now.taken.event) buffer.old result buffer.new
+        ensures { CopiesIfTaken (bytes_of_polled self.now.taken.event) buffer.old result buffer.new
             length.new }
     {
         match &self.taken.event {
@@ -72,7 +72,7 @@ impl Session {
     /// Copies the streams of the event that was taken last, and says how many there are. A buffer that is too
     /// small is unchanged.
     pub fn event_streams(&self, buffer: &mut [u16], count: &mut usize) -> Status
-        ensures { CopiesTaken (streams_in_event self.now.taken.event) buffer.old result buffer.new
+        ensures { CopiesIfTaken (streams_in_event self.now.taken.event) buffer.old result buffer.new
             count.new }
     {
         match &self.taken.event {
@@ -95,7 +95,7 @@ impl Session {
     /// Takes the message that became ready first; none if none is ready. The one that was taken before is
     /// dropped.
     pub fn get_next_message(&mut self) -> Option<MessageRecord>
-        ensures { MessageTaken self.old result self.new }
+        ensures { GetsNextMessage self.old result self.new }
     {
         self.taken.message = self.socket.get_next_message();
         let message = self.taken.message.as_ref()?;
@@ -105,7 +105,7 @@ impl Session {
     /// Copies the payload of the message that was taken last, and says how many bytes it has. A buffer that
     /// is too small is unchanged.
     pub fn message_bytes(&self, buffer: &mut [u8], length: &mut usize) -> Status
-        ensures { CopiesTaken (payload_in self.now.taken.message) buffer.old result buffer.new
+        ensures { CopiesIfTaken (payload_of_taken self.now.taken.message) buffer.old result buffer.new
             length.new }
     {
         match &self.taken.message {
@@ -120,7 +120,7 @@ impl Session {
     /// Says where the payload of the message lies that was taken last, and how many bytes it has. It lies there
     /// until the next message is taken. `Status::NothingToCopy`: no message was taken.
     pub fn message_view(&self, bytes: &mut *const u8, length: &mut usize) -> Status
-        ensures { ShowsPlace (message_in self.now.taken.message) bytes.old result bytes.new
+        ensures { ShowsPlace (message_of_taken self.now.taken.message) bytes.old result bytes.new
             length.new }
     {
         match &self.taken.message {
@@ -134,14 +134,14 @@ impl Session {
 
     /// What the socket has counted in its life.
     pub fn counts(&self) -> CountsRecord
-        ensures { CountsShown (view self.now) result }
+        ensures { ShowsCountsRecord (view self.now) result }
     {
         CountsRecord::of(&self.socket.get_counts())
     }
 
     /// The metrics; none where the peer isn't known.
     pub fn metrics(&self) -> Option<MetricsRecord>
-        ensures { MetricsShown (view self.now) result }
+        ensures { ShowsMetricsRecord (view self.now) result }
     {
         let metrics = self.socket.get_metrics()?;
         Some(MetricsRecord::of(&metrics))

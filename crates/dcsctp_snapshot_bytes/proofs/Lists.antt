@@ -4,7 +4,7 @@ use Rattle.std.specs.List.{flat_map}
 use Rattle.std.proofs.lemmas.List.{append-nil, map_more, flat_map_more}
 use Rattle.dcsctp_snapshot_bytes.specs.declared.reader.ReadError.{ReadError}
 use Rattle.dcsctp_snapshot_bytes.specs.declared.reader.ReadError.TheVariants.{Malformed, OutOfMemory}
-use Rattle.dcsctp_snapshot_bytes.specs.Fields.{◌>>=◌, elements_at}
+use Rattle.dcsctp_snapshot_bytes.specs.Fields.{◌>>=◌, leading_elements}
 use Rattle.dcsctp_snapshot_bytes.specs.Gives.{FailsReading}
 
 -- one more element is written
@@ -23,26 +23,26 @@ regroup {A} front first (Some x) = ap (λ (parts : List A). Some (parts, x.1)) (
 regroup front first None = refl
 
 pub goes_on : {A : Type 0} (part_at : List ℕ → Option (A × List ℕ)) (front : List A) (count i : ℕ) (bytes : List ℕ) (first : A) (after : List ℕ) (total : Option (List A × List ℕ)) → i < count → part_at bytes ≡ Some (first, after)
-    → with_front front (elements_at part_at (count - i) bytes) ≡ total → with_front (front ++ first ∷ []) (elements_at part_at (count - (i + 1)) after) ≡ total
-unfolding elements_at
+    → with_front front (leading_elements part_at (count - i) bytes) ≡ total → with_front (front ++ first ∷ []) (leading_elements part_at (count - (i + 1)) after) ≡ total
+unfolding leading_elements
 goes_on part_at front count i bytes first after total lt h so_far =
     let k : count - i ≡ suc (count - (i + 1)) = omega arith in
-    let one : with_front front (elements_at part_at (count - i) bytes) ≡ with_front (front ++ first ∷ []) (elements_at part_at (count - (i + 1)) after) = rw (k, h) (regroup front first (elements_at part_at (count - (i + 1)) after)) in
+    let one : with_front front (leading_elements part_at (count - i) bytes) ≡ with_front (front ++ first ∷ []) (leading_elements part_at (count - (i + 1)) after) = rw (k, h) (regroup front first (leading_elements part_at (count - (i + 1)) after)) in
     sym one ∙ so_far
 
 pub ends : {A : Type 0} (part_at : List ℕ → Option (A × List ℕ)) (error : ReadError) (front : List A) (count i : ℕ) (bytes : List ℕ) (total : Option (List A × List ℕ)) → i < count → FailsReading error (part_at bytes)
-    → with_front front (elements_at part_at (count - i) bytes) ≡ total → FailsReading error total
-unfolding elements_at
+    → with_front front (leading_elements part_at (count - i) bytes) ≡ total → FailsReading error total
+unfolding leading_elements
 ends part_at OutOfMemory front count i bytes total lt h so_far = tt
 ends part_at Malformed front count i bytes total lt h so_far =
     let k : count - i ≡ suc (count - (i + 1)) = omega arith in
-    let one : with_front front (elements_at part_at (count - i) bytes) ≡ None = rw (k, h) refl in
+    let one : with_front front (leading_elements part_at (count - i) bytes) ≡ None = rw (k, h) refl in
     sym so_far ∙ one
 
 pub is_done : {A : Type 0} (part_at : List ℕ → Option (A × List ℕ)) (front : List A) (count i : ℕ) (bytes : List ℕ) (total : Option (List A × List ℕ)) → count ≤ i
-    → with_front front (elements_at part_at (count - i) bytes) ≡ total → total ≡ Some (front, bytes)
-unfolding elements_at
+    → with_front front (leading_elements part_at (count - i) bytes) ≡ total → total ≡ Some (front, bytes)
+unfolding leading_elements
 is_done {A} part_at front count i bytes total le so_far =
     let k : count - i ≡ 0 = omega arith in
-    let one : with_front front (elements_at part_at (count - i) bytes) ≡ Some (front, bytes) = rw k (ap (λ (parts : List A). Some (parts, bytes)) (append-nil front)) in
+    let one : with_front front (leading_elements part_at (count - i) bytes) ≡ Some (front, bytes) = rw k (ap (λ (parts : List A). Some (parts, bytes)) (append-nil front)) in
     sym so_far ∙ one

@@ -11,12 +11,12 @@ use Rattle.dcsctp_snapshot_bytes.specs.Fields.{number_bytes, signed_bytes, flag_
 use Rattle.dcsctp_snapshot_bytes.specs.Fits.{FitsOutstanding}
 use Rattle.dcsctp_snapshot_bytes.specs.Laws.{AreBytes}
 use Rattle.dcsctp_snapshot_bytes.specs.Spelling.{fragment_bytes, sending_bytes, outstanding_bytes}
-use Rattle.dcsctp_snapshot_bytes.specs.ReadingItems.{outstanding_at, fragment_numbers_at, fragment_flags_at, fragment_limits_at, fragment_fate_at}
+use Rattle.dcsctp_snapshot_bytes.specs.ReadingItems.{leading_outstanding_part, leading_fragment_numbers, leading_fragment_flags, leading_fragment_limits, leading_fragment_fate}
 use Rattle.dcsctp_snapshot_bytes.proofs.FieldLaws.{Took, IsField, step, step_by, some_is, field16, field32, field64}
 use Rattle.dcsctp_snapshot_bytes.proofs.ValueLaws.{signed_field, flag_field, payload_field, optional_field}
 
-outstanding_again : (sent : OutstandingPart) (rest : List ℕ) → FitsOutstanding sent → outstanding_at (outstanding_bytes sent ++ rest) ≡ Some (sent, rest)
-unfolding outstanding_at fragment_numbers_at fragment_flags_at fragment_limits_at fragment_fate_at outstanding_bytes fragment_bytes sending_bytes
+outstanding_again : (sent : OutstandingPart) (rest : List ℕ) → FitsOutstanding sent → leading_outstanding_part (outstanding_bytes sent ++ rest) ≡ Some (sent, rest)
+unfolding leading_outstanding_part leading_fragment_numbers leading_fragment_flags leading_fragment_limits leading_fragment_fate outstanding_bytes fragment_bytes sending_bytes
 outstanding_again sent rest fits = simp append_assoc (rw (
   field16.again _ _ fits.fragment.stream_id,
   field16.again _ _ fits.fragment.ssn,
@@ -51,8 +51,8 @@ record FitsNumbers (numbers : FragmentNumbers) : Type 0 where
   fsn : numbers.fsn < 2 ^ 32
   ppid : numbers.ppid < 2 ^ 32
 
-numbers_take : (bytes : List ℕ) (numbers : FragmentNumbers) (rest : List ℕ) → AreBytes bytes → fragment_numbers_at bytes ≡ Some (numbers, rest) → Took numbers_bytes FitsNumbers bytes numbers rest
-unfolding fragment_numbers_at
+numbers_take : (bytes : List ℕ) (numbers : FragmentNumbers) (rest : List ℕ) → AreBytes bytes → leading_fragment_numbers bytes ≡ Some (numbers, rest) → Took numbers_bytes FitsNumbers bytes numbers rest
+unfolding leading_fragment_numbers
 numbers_take bytes numbers rest fits e =
     step field16 _ bytes _ fits e (λ stream_id r1 p1 f1 b1 e1.
     step field16 _ r1 _ b1 e1 (λ ssn r2 p2 f2 b2 e2.
@@ -71,8 +71,8 @@ flags_bytes flags = flag_bytes flags.is_beginning ++ flag_bytes flags.is_end ++ 
 abbrev any_flags : FragmentFlags → Type 0
 any_flags flags = Unit {0}
 
-flags_take : (bytes : List ℕ) (flags : FragmentFlags) (rest : List ℕ) → AreBytes bytes → fragment_flags_at bytes ≡ Some (flags, rest) → Took flags_bytes any_flags bytes flags rest
-unfolding fragment_flags_at
+flags_take : (bytes : List ℕ) (flags : FragmentFlags) (rest : List ℕ) → AreBytes bytes → leading_fragment_flags bytes ≡ Some (flags, rest) → Took flags_bytes any_flags bytes flags rest
+unfolding leading_fragment_flags
 flags_take bytes flags rest fits e =
     step flag_field _ bytes _ fits e (λ is_beginning r1 p1 f1 b1 e1.
     step flag_field _ r1 _ b1 e1 (λ is_end r2 p2 f2 b2 e2.
@@ -92,8 +92,8 @@ record FitsLimits (limits : FragmentLimits) : Type 0 where
   expires_in_ms : IfSome limits.expires_in_ms (FitsSigned w32)
   max_retransmissions : limits.max_retransmissions < 2 ^ 16
 
-limits_take : (bytes : List ℕ) (limits : FragmentLimits) (rest : List ℕ) → AreBytes bytes → fragment_limits_at bytes ≡ Some (limits, rest) → Took limits_bytes FitsLimits bytes limits rest
-unfolding fragment_limits_at
+limits_take : (bytes : List ℕ) (limits : FragmentLimits) (rest : List ℕ) → AreBytes bytes → leading_fragment_limits bytes ≡ Some (limits, rest) → Took limits_bytes FitsLimits bytes limits rest
+unfolding leading_fragment_limits
 limits_take bytes limits rest fits e =
     step field64 _ bytes _ fits e (λ message_id r1 p1 f1 b1 e1.
     step field64 _ r1 _ b1 e1 (λ lifecycle_id r2 p2 f2 b2 e2.
@@ -111,8 +111,8 @@ fate_bytes fate = flag_bytes fate.acked ++ flag_bytes fate.is_abandoned ++ flag_
 abbrev any_fate : FragmentFate → Type 0
 any_fate fate = Unit {0}
 
-fate_takes : (bytes : List ℕ) (fate : FragmentFate) (rest : List ℕ) → AreBytes bytes → fragment_fate_at bytes ≡ Some (fate, rest) → Took fate_bytes any_fate bytes fate rest
-unfolding fragment_fate_at
+fate_takes : (bytes : List ℕ) (fate : FragmentFate) (rest : List ℕ) → AreBytes bytes → leading_fragment_fate bytes ≡ Some (fate, rest) → Took fate_bytes any_fate bytes fate rest
+unfolding leading_fragment_fate
 fate_takes bytes fate rest fits e =
     step flag_field _ bytes _ fits e (λ acked r1 p1 f1 b1 e1.
     step flag_field _ r1 _ b1 e1 (λ is_abandoned r2 p2 f2 b2 e2.
@@ -126,8 +126,8 @@ fate_takes bytes fate rest fits e =
 
 -- ---- the whole
 
-outstanding_takes : (bytes : List ℕ) (sent : OutstandingPart) (rest : List ℕ) → AreBytes bytes → outstanding_at bytes ≡ Some (sent, rest) → Took outstanding_bytes FitsOutstanding bytes sent rest
-unfolding outstanding_at outstanding_bytes fragment_bytes sending_bytes
+outstanding_takes : (bytes : List ℕ) (sent : OutstandingPart) (rest : List ℕ) → AreBytes bytes → leading_outstanding_part bytes ≡ Some (sent, rest) → Took outstanding_bytes FitsOutstanding bytes sent rest
+unfolding leading_outstanding_part outstanding_bytes fragment_bytes sending_bytes
 outstanding_takes bytes sent rest fits e =
     step_by numbers_take _ bytes _ fits e (λ numbers r1 p1 f1 b1 e1.
     step payload_field _ r1 _ b1 e1 (λ payload r2 p2 f2 b2 e2.
@@ -152,5 +152,5 @@ outstanding_takes bytes sent rest fits e =
       rest_fits = b7;
     }))))))))
 
-pub outstanding_field : IsField outstanding_bytes outstanding_at FitsOutstanding
+pub outstanding_field : IsField outstanding_bytes leading_outstanding_part FitsOutstanding
 outstanding_field = record { again = outstanding_again; takes = outstanding_takes }

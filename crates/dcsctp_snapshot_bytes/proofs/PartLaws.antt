@@ -10,7 +10,7 @@ use Rattle.dcsctp_snapshot_bytes.specs.Fields.{number_bytes, flag_bytes}
 use Rattle.dcsctp_snapshot_bytes.specs.Fits.{FitsSend, FitsReceived, FitsCapabilities}
 use Rattle.dcsctp_snapshot_bytes.specs.Laws.{AreBytes}
 use Rattle.dcsctp_snapshot_bytes.specs.Spelling.{send_bytes, received_bytes, capabilities_bytes}
-use Rattle.dcsctp_snapshot_bytes.specs.Reading.{windows_at, send_progress_at, send_at, receive_numbers_at, received_at, capabilities_at}
+use Rattle.dcsctp_snapshot_bytes.specs.Reading.{leading_windows, leading_send_progress, leading_send_part, leading_receive_numbers, leading_receive_part, leading_capabilities}
 use Rattle.dcsctp_snapshot_bytes.proofs.FieldLaws.{Took, IsField, step, step_by, some_is, field16, field32, field64}
 use Rattle.dcsctp_snapshot_bytes.proofs.ValueLaws.{flag_field, list_field}
 use Rattle.dcsctp_snapshot_bytes.proofs.QueuedLaws.{queued_field}
@@ -19,8 +19,8 @@ use Rattle.dcsctp_snapshot_bytes.proofs.StreamLaws.{outgoing_field, ordered_fiel
 
 -- ---- sending
 
-send_again : (tx : SendPart) (rest : List ℕ) → FitsSend tx → send_at (send_bytes tx ++ rest) ≡ Some (tx, rest)
-unfolding send_at windows_at send_progress_at send_bytes
+send_again : (tx : SendPart) (rest : List ℕ) → FitsSend tx → leading_send_part (send_bytes tx ++ rest) ≡ Some (tx, rest)
+unfolding leading_send_part leading_windows leading_send_progress send_bytes
 send_again tx rest fits = simp append_assoc (rw (
   field32.again _ _ fits.next_tsn,
   field32.again _ _ fits.next_reset_req_sn,
@@ -44,8 +44,8 @@ record FitsWindows (windows : SendWindows) : Type 0 where
   cwnd : windows.cwnd < 2 ^ 32
   rwnd : windows.rwnd < 2 ^ 32
 
-windows_take : (bytes : List ℕ) (windows : SendWindows) (rest : List ℕ) → AreBytes bytes → windows_at bytes ≡ Some (windows, rest) → Took windows_bytes FitsWindows bytes windows rest
-unfolding windows_at
+windows_take : (bytes : List ℕ) (windows : SendWindows) (rest : List ℕ) → AreBytes bytes → leading_windows bytes ≡ Some (windows, rest) → Took windows_bytes FitsWindows bytes windows rest
+unfolding leading_windows
 windows_take bytes windows rest fits e =
     step field32 _ bytes _ fits e (λ next_tsn r1 p1 f1 b1 e1.
     step field32 _ r1 _ b1 e1 (λ next_reset_req_sn r2 p2 f2 b2 e2.
@@ -67,8 +67,8 @@ record FitsProgress (progress : SendProgress) : Type 0 where
   last_cumulative_tsn_ack : progress.last_cumulative_tsn_ack < 2 ^ 32
   next_outgoing_message_id : progress.next_outgoing_message_id < 2 ^ 64
 
-progress_takes : (bytes : List ℕ) (progress : SendProgress) (rest : List ℕ) → AreBytes bytes → send_progress_at bytes ≡ Some (progress, rest) → Took progress_bytes FitsProgress bytes progress rest
-unfolding send_progress_at
+progress_takes : (bytes : List ℕ) (progress : SendProgress) (rest : List ℕ) → AreBytes bytes → leading_send_progress bytes ≡ Some (progress, rest) → Took progress_bytes FitsProgress bytes progress rest
+unfolding leading_send_progress
 progress_takes bytes progress rest fits e =
     step field32 _ bytes _ fits e (λ ssthresh r1 p1 f1 b1 e1.
     step field32 _ r1 _ b1 e1 (λ partial_bytes_acked r2 p2 f2 b2 e2.
@@ -80,8 +80,8 @@ progress_takes bytes progress rest fits e =
       rest_fits = b4;
     })))))
 
-send_takes : (bytes : List ℕ) (tx : SendPart) (rest : List ℕ) → AreBytes bytes → send_at bytes ≡ Some (tx, rest) → Took send_bytes FitsSend bytes tx rest
-unfolding send_at send_bytes
+send_takes : (bytes : List ℕ) (tx : SendPart) (rest : List ℕ) → AreBytes bytes → leading_send_part bytes ≡ Some (tx, rest) → Took send_bytes FitsSend bytes tx rest
+unfolding leading_send_part send_bytes
 send_takes bytes tx rest fits e =
     step_by windows_take _ bytes _ fits e (λ windows r1 p1 f1 b1 e1.
     step_by progress_takes _ r1 _ b1 e1 (λ progress r2 p2 f2 b2 e2.
@@ -106,13 +106,13 @@ send_takes bytes tx rest fits e =
       rest_fits = b5;
     }))))))
 
-pub send_field : IsField send_bytes send_at FitsSend
+pub send_field : IsField send_bytes leading_send_part FitsSend
 send_field = record { again = send_again; takes = send_takes }
 
 -- ---- receiving
 
-received_again : (rx : ReceivePart) (rest : List ℕ) → FitsReceived rx → received_at (received_bytes rx ++ rest) ≡ Some (rx, rest)
-unfolding received_at receive_numbers_at received_bytes
+received_again : (rx : ReceivePart) (rest : List ℕ) → FitsReceived rx → leading_receive_part (received_bytes rx ++ rest) ≡ Some (rx, rest)
+unfolding leading_receive_part leading_receive_numbers received_bytes
 received_again rx rest fits = simp append_assoc (rw (
   flag_field.again _ _ tt,
   field32.again _ _ fits.last_cumulative_acked_tsn,
@@ -134,8 +134,8 @@ record FitsNumbers (numbers : ReceiveNumbers) : Type 0 where
   last_completed_deferred_reset_req_sn : numbers.last_completed_deferred_reset_req_sn < 2 ^ 32
   last_completed_reset_req_sn : numbers.last_completed_reset_req_sn < 2 ^ 32
 
-numbers_take : (bytes : List ℕ) (numbers : ReceiveNumbers) (rest : List ℕ) → AreBytes bytes → receive_numbers_at bytes ≡ Some (numbers, rest) → Took numbers_bytes FitsNumbers bytes numbers rest
-unfolding receive_numbers_at
+numbers_take : (bytes : List ℕ) (numbers : ReceiveNumbers) (rest : List ℕ) → AreBytes bytes → leading_receive_numbers bytes ≡ Some (numbers, rest) → Took numbers_bytes FitsNumbers bytes numbers rest
+unfolding leading_receive_numbers
 numbers_take bytes numbers rest fits e =
     step flag_field _ bytes _ fits e (λ seen_packet r1 p1 f1 b1 e1.
     step field32 _ r1 _ b1 e1 (λ last_cumulative_acked_tsn r2 p2 f2 b2 e2.
@@ -153,8 +153,8 @@ numbers_take bytes numbers rest fits e =
       rest_fits = b5;
     }))))))
 
-received_takes : (bytes : List ℕ) (rx : ReceivePart) (rest : List ℕ) → AreBytes bytes → received_at bytes ≡ Some (rx, rest) → Took received_bytes FitsReceived bytes rx rest
-unfolding received_at received_bytes
+received_takes : (bytes : List ℕ) (rx : ReceivePart) (rest : List ℕ) → AreBytes bytes → leading_receive_part bytes ≡ Some (rx, rest) → Took received_bytes FitsReceived bytes rx rest
+unfolding leading_receive_part received_bytes
 received_takes bytes rx rest fits e =
     step_by numbers_take _ bytes _ fits e (λ numbers r1 p1 f1 b1 e1.
     step (list_field ordered_field) _ r1 _ b1 e1 (λ ordered_streams r2 p2 f2 b2 e2.
@@ -172,13 +172,13 @@ received_takes bytes rx rest fits e =
       rest_fits = b3;
     }))))
 
-pub received_field : IsField received_bytes received_at FitsReceived
+pub received_field : IsField received_bytes leading_receive_part FitsReceived
 received_field = record { again = received_again; takes = received_takes }
 
 -- ---- what both ends support
 
-capabilities_again : (capabilities : HandoverCapabilities) (rest : List ℕ) → FitsCapabilities capabilities → capabilities_at (capabilities_bytes capabilities ++ rest) ≡ Some (capabilities, rest)
-unfolding capabilities_at capabilities_bytes
+capabilities_again : (capabilities : HandoverCapabilities) (rest : List ℕ) → FitsCapabilities capabilities → leading_capabilities (capabilities_bytes capabilities ++ rest) ≡ Some (capabilities, rest)
+unfolding leading_capabilities capabilities_bytes
 capabilities_again capabilities rest fits = simp append_assoc (rw (
   flag_field.again capabilities.partial_reliability _ tt,
   flag_field.again capabilities.message_interleaving _ tt,
@@ -188,8 +188,8 @@ capabilities_again capabilities rest fits = simp append_assoc (rw (
   field16.again _ _ fits.negotiated_maximum_outgoing_streams,
 ) refl)
 
-capabilities_take : (bytes : List ℕ) (capabilities : HandoverCapabilities) (rest : List ℕ) → AreBytes bytes → capabilities_at bytes ≡ Some (capabilities, rest) → Took capabilities_bytes FitsCapabilities bytes capabilities rest
-unfolding capabilities_at capabilities_bytes
+capabilities_take : (bytes : List ℕ) (capabilities : HandoverCapabilities) (rest : List ℕ) → AreBytes bytes → leading_capabilities bytes ≡ Some (capabilities, rest) → Took capabilities_bytes FitsCapabilities bytes capabilities rest
+unfolding leading_capabilities capabilities_bytes
 capabilities_take bytes capabilities rest fits e =
     step flag_field _ bytes _ fits e (λ partial_reliability r1 p1 f1 b1 e1.
     step flag_field _ r1 _ b1 e1 (λ message_interleaving r2 p2 f2 b2 e2.
@@ -203,5 +203,5 @@ capabilities_take bytes capabilities rest fits e =
       rest_fits = b6;
     })))))))
 
-pub capabilities_field : IsField capabilities_bytes capabilities_at FitsCapabilities
+pub capabilities_field : IsField capabilities_bytes leading_capabilities FitsCapabilities
 capabilities_field = record { again = capabilities_again; takes = capabilities_take }

@@ -9,12 +9,12 @@ use Rattle.dcsctp_snapshot_bytes.specs.Fields.{number_bytes, signed_bytes, optio
 use Rattle.dcsctp_snapshot_bytes.specs.Fits.{FitsQueued}
 use Rattle.dcsctp_snapshot_bytes.specs.Laws.{AreBytes}
 use Rattle.dcsctp_snapshot_bytes.specs.Spelling.{queued_part_bytes}
-use Rattle.dcsctp_snapshot_bytes.specs.ReadingItems.{queued_at, limits_at, progress_at}
+use Rattle.dcsctp_snapshot_bytes.specs.ReadingItems.{leading_queued_part, leading_limits, leading_progress}
 use Rattle.dcsctp_snapshot_bytes.proofs.FieldLaws.{Took, IsField, step, step_by, some_is, field16, field32, field64}
 use Rattle.dcsctp_snapshot_bytes.proofs.ValueLaws.{signed_field, flag_field, payload_field, optional_field}
 
-queued_again : (message : QueuedPart) (rest : List ℕ) → FitsQueued message → queued_at (queued_part_bytes message ++ rest) ≡ Some (message, rest)
-unfolding queued_at limits_at progress_at queued_part_bytes
+queued_again : (message : QueuedPart) (rest : List ℕ) → FitsQueued message → leading_queued_part (queued_part_bytes message ++ rest) ≡ Some (message, rest)
+unfolding leading_queued_part leading_limits leading_progress queued_part_bytes
 queued_again message rest fits = simp append_assoc (rw (
   field16.again _ _ fits.stream_id,
   field32.again _ _ fits.ppid,
@@ -39,8 +39,8 @@ record FitsLimits (limits : QueuedLimits) : Type 0 where
   lifecycle_id : limits.lifecycle_id < 2 ^ 64
   message_id : limits.message_id < 2 ^ 64
 
-limits_takes : (bytes : List ℕ) (limits : QueuedLimits) (rest : List ℕ) → AreBytes bytes → limits_at bytes ≡ Some (limits, rest) → Took limits_bytes FitsLimits bytes limits rest
-unfolding limits_at
+limits_takes : (bytes : List ℕ) (limits : QueuedLimits) (rest : List ℕ) → AreBytes bytes → leading_limits bytes ≡ Some (limits, rest) → Took limits_bytes FitsLimits bytes limits rest
+unfolding leading_limits
 limits_takes bytes limits rest fits e =
     step (optional_field signed_field) _ bytes _ fits e (λ expires_in_ms r1 p1 f1 b1 e1.
     step field16 _ r1 _ b1 e1 (λ max_retransmissions r2 p2 f2 b2 e2.
@@ -61,8 +61,8 @@ record FitsProgress (progress : QueuedProgress) : Type 0 where
   ssn : IfSome progress.ssn (λ number. number < 2 ^ 16)
   fsn : progress.fsn < 2 ^ 32
 
-progress_takes : (bytes : List ℕ) (progress : QueuedProgress) (rest : List ℕ) → AreBytes bytes → progress_at bytes ≡ Some (progress, rest) → Took progress_bytes FitsProgress bytes progress rest
-unfolding progress_at
+progress_takes : (bytes : List ℕ) (progress : QueuedProgress) (rest : List ℕ) → AreBytes bytes → leading_progress bytes ≡ Some (progress, rest) → Took progress_bytes FitsProgress bytes progress rest
+unfolding leading_progress
 progress_takes bytes progress rest fits e =
     step field64 _ bytes _ fits e (λ remaining_offset r1 p1 f1 b1 e1.
     step (optional_field field32) _ r1 _ b1 e1 (λ mid r2 p2 f2 b2 e2.
@@ -74,8 +74,8 @@ progress_takes bytes progress rest fits e =
       rest_fits = b4;
     })))))
 
-queued_takes : (bytes : List ℕ) (message : QueuedPart) (rest : List ℕ) → AreBytes bytes → queued_at bytes ≡ Some (message, rest) → Took queued_part_bytes FitsQueued bytes message rest
-unfolding queued_at queued_part_bytes
+queued_takes : (bytes : List ℕ) (message : QueuedPart) (rest : List ℕ) → AreBytes bytes → leading_queued_part bytes ≡ Some (message, rest) → Took queued_part_bytes FitsQueued bytes message rest
+unfolding leading_queued_part queued_part_bytes
 queued_takes bytes message rest fits e =
     step field16 _ bytes _ fits e (λ stream_id r1 p1 f1 b1 e1.
     step field32 _ r1 _ b1 e1 (λ ppid r2 p2 f2 b2 e2.
@@ -101,5 +101,5 @@ queued_takes bytes message rest fits e =
       rest_fits = b6;
     })))))))
 
-pub queued_field : IsField queued_part_bytes queued_at FitsQueued
+pub queued_field : IsField queued_part_bytes leading_queued_part FitsQueued
 queued_field = record { again = queued_again; takes = queued_takes }

@@ -8,14 +8,14 @@ use Rattle.dcsctp_types.specs.declared.options.Options.{Options}
 use Rattle.dcsctp_snapshot_bytes.specs.declared.sealing.SealError.TheVariants as errors
 use Rattle.dcsctp_snapshot_bytes.specs.Fields.{number_bytes, flag_bytes}
 use Rattle.dcsctp_snapshot_bytes.specs.Laws.{AreBytes, OpensAgain, OthersAreRefused, IdentifiesOptions}
-use Rattle.dcsctp_snapshot_bytes.specs.Seal.{fingerprint, fingerprint_len, checked}
+use Rattle.dcsctp_snapshot_bytes.specs.Seal.{fingerprint, fingerprint_len, bytes_with_check}
 use Rattle.dcsctp_snapshot_bytes.proofs.FieldLaws.{IsField, some_is, field16, field32}
 use Rattle.dcsctp_snapshot_bytes.proofs.ValueLaws.{flag_field}
 
 -- ---- the check value
 
-checked_len : (front : List ℕ) → length (checked front) ≡ length front + 4
-unfolding checked number_bytes
+checked_len : (front : List ℕ) → length (bytes_with_check front) ≡ length front + 4
+unfolding bytes_with_check number_bytes
 checked_len front = length-append front (to_be_bytes w32 (crc32c_of front))
 
 -- the bytes before the check value, and the check value itself
@@ -23,8 +23,8 @@ record Cut (bytes front : List ℕ) : Type 0 where
   before : take (length bytes - 4) bytes ≡ front
   check : drop (length bytes - 4) bytes ≡ to_be_bytes w32 (crc32c_of front)
 
-cut : (bytes front : List ℕ) → bytes ≡ checked front → Cut bytes front
-unfolding checked number_bytes
+cut : (bytes front : List ℕ) → bytes ≡ bytes_with_check front → Cut bytes front
+unfolding bytes_with_check number_bytes
 cut bytes front e =
     let check = to_be_bytes w32 (crc32c_of front) in
     let n : length bytes - 4 ≡ length front = omega (arith, ap length e, checked_len front) in
@@ -33,12 +33,12 @@ cut bytes front e =
       check = rw (n, e) (drop_at front check (length front) refl);
     }
 
-pub too_short : (bytes front : List ℕ) → length bytes < 4 → bytes ≡ checked front → ⊥
+pub too_short : (bytes front : List ℕ) → length bytes < 4 → bytes ≡ bytes_with_check front → ⊥
 too_short bytes front lt e = omega (arith, ap length e, checked_len front)
 
 -- The number that was read isn't the check value of the bytes before it.
 pub not_checked : (bytes head check front : List ℕ) (read sum : ℕ) → head ≡ take (length bytes - 4) bytes → check ≡ drop (length bytes - 4) bytes
-    → read ≡ from_be_bytes w32 check → sum ≡ crc32c_of head → sum < 2 ^ 32 → (read ≡ sum → ⊥) → bytes ≡ checked front → ⊥
+    → read ≡ from_be_bytes w32 check → sum ≡ crc32c_of head → sum < 2 ^ 32 → (read ≡ sum → ⊥) → bytes ≡ bytes_with_check front → ⊥
 not_checked bytes head check front read sum head-is check-is read-is sum-is lt differs e =
     let parts = cut bytes front e in
     let of_front : crc32c_of front ≡ sum = ap crc32c_of (sym (head-is ∙ parts.before)) ∙ sym sum-is in
@@ -46,13 +46,13 @@ not_checked bytes head check front read sum head-is check-is read-is sum-is lt d
 
 -- It is.
 pub is_checked : (bytes head check : List ℕ) (read sum : ℕ) → bytes ≡ head ++ check → length check ≡ 4 → AreBytes check → read ≡ from_be_bytes w32 check
-    → read ≡ sum → sum ≡ crc32c_of head → bytes ≡ checked head
-unfolding checked number_bytes
+    → read ≡ sum → sum ≡ crc32c_of head → bytes ≡ bytes_with_check head
+unfolding bytes_with_check number_bytes
 is_checked bytes head check read sum whole len fits read-is same sum-is =
     whole ∙ ap (λ (c : List ℕ). head ++ c) (sym (be_bytes_4 check (crc32c_of head) len fits (sym sum-is ∙ sym same ∙ read-is)))
 
-same_before : (front other : List ℕ) → checked front ≡ checked other → front ≡ other
-same_before front other e = sym (cut (checked front) front refl).before ∙ (cut (checked front) other e).before
+same_before : (front other : List ℕ) → bytes_with_check front ≡ bytes_with_check other → front ≡ other
+same_before front other e = sym (cut (bytes_with_check front) front refl).before ∙ (cut (bytes_with_check front) other e).before
 
 -- ---- the fingerprint
 
@@ -83,7 +83,7 @@ same_parts body mark other its len e =
     }
 
 -- Fewer bytes come before the check value than a fingerprint has.
-pub no_room : (bytes front body mark : List ℕ) (len : ℕ) → bytes ≡ checked front → length front < len → length mark ≡ len → bytes ≡ checked (body ++ mark) → ⊥
+pub no_room : (bytes front body mark : List ℕ) (len : ℕ) → bytes ≡ bytes_with_check front → length front < len → length mark ≡ len → bytes ≡ bytes_with_check (body ++ mark) → ⊥
 no_room bytes front body mark len e lt at other =
     let same : front ≡ body ++ mark = sym (cut bytes front e).before ∙ (cut bytes (body ++ mark) other).before in
     omega (arith, ap length same, length-append body mark)

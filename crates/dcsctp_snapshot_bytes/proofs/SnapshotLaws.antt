@@ -14,7 +14,7 @@ use Rattle.dcsctp_snapshot_bytes.specs.Fields.{◌>>=◌, number_bytes, flag_byt
 use Rattle.dcsctp_snapshot_bytes.specs.Fits.{FitsSnapshot}
 use Rattle.dcsctp_snapshot_bytes.specs.Laws.{AreBytes, SnapshotReadsBack, HasOneSpelling}
 use Rattle.dcsctp_snapshot_bytes.specs.Spelling.{snapshot_magic, version, is_connected, capabilities_bytes, send_bytes, received_bytes, snapshot_bytes}
-use Rattle.dcsctp_snapshot_bytes.specs.Reading.{tags_at, state_of, content_at, after_header, read_snapshot}
+use Rattle.dcsctp_snapshot_bytes.specs.Reading.{leading_tags, state_of, leading_content, after_header, read_snapshot}
 use Rattle.dcsctp_snapshot_bytes.proofs.FieldLaws.{Took, bind_some, step, step_by, some_is, field16, field32, field64}
 use Rattle.dcsctp_snapshot_bytes.proofs.ValueLaws.{flag_field}
 use Rattle.dcsctp_snapshot_bytes.proofs.PartLaws.{send_field, received_field, capabilities_field}
@@ -56,8 +56,8 @@ content_bytes state =
     ++ number_bytes w32 state.my_verification_tag ++ number_bytes w32 state.my_initial_tsn ++ number_bytes w32 state.peer_verification_tag ++ number_bytes w32 state.peer_initial_tsn
     ++ number_bytes w64 state.tie_tag ++ capabilities_bytes state.capabilities ++ send_bytes state.tx ++ received_bytes state.rx
 
-content_again : (state : Snapshot) (rest : List ℕ) → FitsSnapshot state → content_at (content_bytes state ++ rest) ≡ Some (state, rest)
-unfolding content_at tags_at
+content_again : (state : Snapshot) (rest : List ℕ) → FitsSnapshot state → leading_content (content_bytes state ++ rest) ≡ Some (state, rest)
+unfolding leading_content leading_tags
 content_again state rest fits = simp append_assoc (rw (
   flag_field.again _ _ tt,
   field32.again _ _ fits.my_verification_tag,
@@ -82,8 +82,8 @@ record FitsTags (tags : Tags) : Type 0 where
   peer_initial_tsn : tags.peer_initial_tsn < 2 ^ 32
   tie_tag : tags.tie_tag < 2 ^ 64
 
-tags_take : (bytes : List ℕ) (tags : Tags) (rest : List ℕ) → AreBytes bytes → tags_at bytes ≡ Some (tags, rest) → Took tags_bytes FitsTags bytes tags rest
-unfolding tags_at
+tags_take : (bytes : List ℕ) (tags : Tags) (rest : List ℕ) → AreBytes bytes → leading_tags bytes ≡ Some (tags, rest) → Took tags_bytes FitsTags bytes tags rest
+unfolding leading_tags
 tags_take bytes tags rest fits e =
     step field32 _ bytes _ fits e (λ my_verification_tag r1 p1 f1 b1 e1.
     step field32 _ r1 _ b1 e1 (λ my_initial_tsn r2 p2 f2 b2 e2.
@@ -96,8 +96,8 @@ tags_take bytes tags rest fits e =
       rest_fits = b5;
     }))))))
 
-content_takes : (bytes : List ℕ) (state : Snapshot) (rest : List ℕ) → AreBytes bytes → content_at bytes ≡ Some (state, rest) → Took content_bytes FitsSnapshot bytes state rest
-unfolding content_at
+content_takes : (bytes : List ℕ) (state : Snapshot) (rest : List ℕ) → AreBytes bytes → leading_content bytes ≡ Some (state, rest) → Took content_bytes FitsSnapshot bytes state rest
+unfolding leading_content
 content_takes bytes state rest fits e =
     step flag_field _ bytes _ fits e (λ connected r1 p1 f1 b1 e1.
     step_by tags_take _ r1 _ b1 e1 (λ tags r2 p2 f2 b2 e2.
@@ -130,7 +130,7 @@ reads_back state fits =
 pub has_one_spelling : HasOneSpelling
 unfolding read_snapshot snapshot_bytes
 has_one_spelling bytes state fits e =
-    let header = bind_some (after_header bytes) (λ rest. content_at rest >>= λ content. cond (eqb (length content.1) 0) (Some content.0) None) state e in
+    let header = bind_some (after_header bytes) (λ rest. leading_content rest >>= λ content. cond (eqb (length content.1) 0) (Some content.0) None) state e in
     let took = header_takes bytes header.0 fits header.1 in
     step_by content_takes _ header.0 _ took.rest_fits header.2 (λ content rest p1 f1 b1 e1.
     let chosen = cond_some (eqb (length rest) 0) content state e1 in

@@ -10,11 +10,11 @@ use Rattle.dcsctp_types.specs.declared.options.Options.{Options}
 use Rattle.dcsctp_types.specs.SnapshotItems.{QueuedPart}
 use Rattle.dcsctp_types.specs.Snapshot.{empty_snapshot}
 use Rattle.dcsctp_wire_checksum.specs.Crc32c.{bit_step, eight_bit_steps, byte_step, register_after, crc32c_of}
-use Rattle.dcsctp_snapshot_bytes.specs.Fields.{number_bytes, number_of_width, signed_bytes, signed_at, flag_bytes, flag_byte_at, payload_bytes, payload_at, optional_bytes, optional_at, element_list_bytes, list_at, elements_at}
-use Rattle.dcsctp_snapshot_bytes.specs.Seal.{fingerprint, checked}
+use Rattle.dcsctp_snapshot_bytes.specs.Fields.{number_bytes, number_of_width, signed_bytes, leading_signed, flag_bytes, leading_flag, payload_bytes, leading_payload, optional_bytes, leading_optional, element_list_bytes, leading_list, leading_elements}
+use Rattle.dcsctp_snapshot_bytes.specs.Seal.{fingerprint, bytes_with_check}
 use Rattle.dcsctp_snapshot_bytes.specs.Spelling.{snapshot_magic, queued_part_bytes, outgoing_bytes, ordered_bytes, send_bytes, received_bytes, capabilities_bytes, snapshot_bytes}
-use Rattle.dcsctp_snapshot_bytes.specs.ReadingItems.{queued_at, limits_at, progress_at, ordered_at}
-use Rattle.dcsctp_snapshot_bytes.specs.Reading.{windows_at, send_progress_at, send_at, receive_numbers_at, received_at, capabilities_at, tags_at, content_at, after_header, read_snapshot}
+use Rattle.dcsctp_snapshot_bytes.specs.ReadingItems.{leading_queued_part, leading_limits, leading_progress, leading_ordered_stream}
+use Rattle.dcsctp_snapshot_bytes.specs.Reading.{leading_windows, leading_send_progress, leading_send_part, leading_receive_numbers, leading_receive_part, leading_capabilities, leading_tags, leading_content, after_header, read_snapshot}
 
 -- ---- fields
 
@@ -26,20 +26,20 @@ minus_two : signed_bytes (negsuc 1) ≡ 255 ∷ 255 ∷ 255 ∷ 254 ∷ []
 unfolding signed_bytes number_bytes
 minus_two = refl
 
-minus_two_is_read : signed_at (255 ∷ 255 ∷ 255 ∷ 254 ∷ 7 ∷ []) ≡ Some (negsuc 1, 7 ∷ [])
-unfolding signed_at number_of_width
+minus_two_is_read : leading_signed (255 ∷ 255 ∷ 255 ∷ 254 ∷ 7 ∷ []) ≡ Some (negsuc 1, 7 ∷ [])
+unfolding leading_signed number_of_width
 minus_two_is_read = refl
 
 text : payload_bytes (codes "hi") ≡ 0 ∷ 0 ∷ 0 ∷ 0 ∷ 0 ∷ 0 ∷ 0 ∷ 2 ∷ 104 ∷ 105 ∷ []
 unfolding payload_bytes number_bytes
 text = refl
 
-text_is_cut_off : payload_at (0 ∷ 0 ∷ 0 ∷ 0 ∷ 0 ∷ 0 ∷ 0 ∷ 2 ∷ 104 ∷ []) ≡ None
-unfolding payload_at number_of_width
+text_is_cut_off : leading_payload (0 ∷ 0 ∷ 0 ∷ 0 ∷ 0 ∷ 0 ∷ 0 ∷ 2 ∷ 104 ∷ []) ≡ None
+unfolding leading_payload number_of_width
 text_is_cut_off = refl
 
-two_is_no_flag : flag_byte_at (2 ∷ []) ≡ None
-unfolding flag_byte_at
+two_is_no_flag : leading_flag (2 ∷ []) ≡ None
+unfolding leading_flag
 two_is_no_flag = refl
 
 -- ---- elements
@@ -71,8 +71,8 @@ message_is_spelled : queued_part_bytes message ≡ message_bytes
 unfolding queued_part_bytes number_bytes signed_bytes flag_bytes payload_bytes optional_bytes message message_bytes
 message_is_spelled = refl
 
-message_is_read : queued_at message_bytes ≡ Some (message, [])
-unfolding queued_at limits_at progress_at number_of_width signed_at flag_byte_at payload_at optional_at message message_bytes
+message_is_read : leading_queued_part message_bytes ≡ Some (message, [])
+unfolding leading_queued_part leading_limits leading_progress number_of_width leading_signed leading_flag leading_payload leading_optional message message_bytes
 message_is_read = refl
 
 stream : HandoverOutgoingStream
@@ -89,8 +89,8 @@ list_is_spelled : element_list_bytes ordered_bytes (ordered ∷ []) ≡ 0 ∷ 0 
 unfolding element_list_bytes ordered_bytes number_bytes ordered
 list_is_spelled = refl
 
-list_is_read : list_at ordered_at (0 ∷ 0 ∷ 0 ∷ 0 ∷ 0 ∷ 0 ∷ 0 ∷ 1 ∷ 0 ∷ 45 ∷ 0 ∷ 0 ∷ 0 ∷ 46 ∷ []) ≡ Some (ordered ∷ [], [])
-unfolding list_at elements_at ordered_at number_of_width ordered
+list_is_read : leading_list leading_ordered_stream (0 ∷ 0 ∷ 0 ∷ 0 ∷ 0 ∷ 0 ∷ 0 ∷ 1 ∷ 0 ∷ 45 ∷ 0 ∷ 0 ∷ 0 ∷ 46 ∷ []) ≡ Some (ordered ∷ [], [])
+unfolding leading_list leading_elements leading_ordered_stream number_of_width ordered
 list_is_read = refl
 
 -- ---- the whole
@@ -104,7 +104,7 @@ unfolding snapshot_bytes capabilities_bytes send_bytes received_bytes element_li
 empty_is_spelled = refl
 
 empty_is_read : read_snapshot empty_bytes ≡ Some empty_snapshot
-unfolding read_snapshot after_header content_at tags_at capabilities_at send_at windows_at send_progress_at received_at receive_numbers_at list_at elements_at number_of_width flag_byte_at empty_bytes
+unfolding read_snapshot after_header leading_content leading_tags leading_capabilities leading_send_part leading_windows leading_send_progress leading_receive_part leading_receive_numbers leading_list leading_elements number_of_width leading_flag empty_bytes
 empty_is_read = refl
 
 other_version_is_refused : read_snapshot (0x64 ∷ 0x63 ∷ 0x53 ∷ 0x6e ∷ 0 ∷ 2 ∷ replicate 126 0) ≡ None
@@ -112,14 +112,14 @@ unfolding read_snapshot after_header number_of_width
 other_version_is_refused = refl
 
 trailing_byte_is_refused : read_snapshot (empty_bytes ++ 0 ∷ []) ≡ None
-unfolding read_snapshot after_header content_at tags_at capabilities_at send_at windows_at send_progress_at received_at receive_numbers_at list_at elements_at number_of_width flag_byte_at empty_bytes
+unfolding read_snapshot after_header leading_content leading_tags leading_capabilities leading_send_part leading_windows leading_send_progress leading_receive_part leading_receive_numbers leading_list leading_elements number_of_width leading_flag empty_bytes
 trailing_byte_is_refused = refl
 
 -- ---- the seal
 
 -- the check value of these digits that catalogues of checksums give
-digits_are_checked : checked (codes "123456789") ≡ codes "123456789" ++ 0xe3 ∷ 0x06 ∷ 0x92 ∷ 0x83 ∷ []
-unfolding checked number_bytes crc32c_of register_after byte_step eight_bit_steps bit_step
+digits_are_checked : bytes_with_check (codes "123456789") ≡ codes "123456789" ++ 0xe3 ∷ 0x06 ∷ 0x92 ∷ 0x83 ∷ []
+unfolding bytes_with_check number_bytes crc32c_of register_after byte_step eight_bit_steps bit_step
 digits_are_checked = refl
 
 offers : Options → ZeroChecksumAlternateErrorDetectionMethod → Options

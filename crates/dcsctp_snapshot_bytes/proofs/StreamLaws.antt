@@ -6,13 +6,13 @@ use Rattle.dcsctp_types.specs.declared.snapshot.HandoverUnorderedStream.{Handove
 use Rattle.dcsctp_snapshot_bytes.specs.Fits.{FitsOutgoing, FitsOrdered, FitsUnordered}
 use Rattle.dcsctp_snapshot_bytes.specs.Laws.{AreBytes}
 use Rattle.dcsctp_snapshot_bytes.specs.Spelling.{outgoing_bytes, ordered_bytes, unordered_bytes}
-use Rattle.dcsctp_snapshot_bytes.specs.ReadingItems.{outgoing_at, ordered_at, unordered_at}
+use Rattle.dcsctp_snapshot_bytes.specs.ReadingItems.{leading_outgoing_stream, leading_ordered_stream, leading_unordered_stream}
 use Rattle.dcsctp_snapshot_bytes.proofs.FieldLaws.{Took, IsField, step, some_is, field16, field32}
 
 -- ---- a stream that messages are sent by
 
-outgoing_again : (stream : HandoverOutgoingStream) (rest : List ℕ) → FitsOutgoing stream → outgoing_at (outgoing_bytes stream ++ rest) ≡ Some (stream, rest)
-unfolding outgoing_at outgoing_bytes
+outgoing_again : (stream : HandoverOutgoingStream) (rest : List ℕ) → FitsOutgoing stream → leading_outgoing_stream (outgoing_bytes stream ++ rest) ≡ Some (stream, rest)
+unfolding leading_outgoing_stream outgoing_bytes
 outgoing_again stream rest fits = simp append_assoc (rw (
   field16.again _ _ fits.id,
   field16.again _ _ fits.next_ssn,
@@ -21,8 +21,8 @@ outgoing_again stream rest fits = simp append_assoc (rw (
   field16.again _ _ fits.priority,
 ) refl)
 
-outgoing_takes : (bytes : List ℕ) (stream : HandoverOutgoingStream) (rest : List ℕ) → AreBytes bytes → outgoing_at bytes ≡ Some (stream, rest) → Took outgoing_bytes FitsOutgoing bytes stream rest
-unfolding outgoing_at outgoing_bytes
+outgoing_takes : (bytes : List ℕ) (stream : HandoverOutgoingStream) (rest : List ℕ) → AreBytes bytes → leading_outgoing_stream bytes ≡ Some (stream, rest) → Took outgoing_bytes FitsOutgoing bytes stream rest
+unfolding leading_outgoing_stream outgoing_bytes
 outgoing_takes bytes stream rest fits e =
     step field16 _ bytes _ fits e (λ id r1 p1 f1 b1 e1.
     step field16 _ r1 _ b1 e1 (λ next_ssn r2 p2 f2 b2 e2.
@@ -35,17 +35,17 @@ outgoing_takes bytes stream rest fits e =
       rest_fits = b5;
     }))))))
 
-pub outgoing_field : IsField outgoing_bytes outgoing_at FitsOutgoing
+pub outgoing_field : IsField outgoing_bytes leading_outgoing_stream FitsOutgoing
 outgoing_field = record { again = outgoing_again; takes = outgoing_takes }
 
 -- ---- a stream that ordered messages are received by
 
-ordered_again : (stream : HandoverOrderedStream) (rest : List ℕ) → FitsOrdered stream → ordered_at (ordered_bytes stream ++ rest) ≡ Some (stream, rest)
-unfolding ordered_at ordered_bytes
+ordered_again : (stream : HandoverOrderedStream) (rest : List ℕ) → FitsOrdered stream → leading_ordered_stream (ordered_bytes stream ++ rest) ≡ Some (stream, rest)
+unfolding leading_ordered_stream ordered_bytes
 ordered_again stream rest fits = simp append_assoc (rw (field16.again _ _ fits.id, field32.again _ _ fits.next_ssn) refl)
 
-ordered_takes : (bytes : List ℕ) (stream : HandoverOrderedStream) (rest : List ℕ) → AreBytes bytes → ordered_at bytes ≡ Some (stream, rest) → Took ordered_bytes FitsOrdered bytes stream rest
-unfolding ordered_at ordered_bytes
+ordered_takes : (bytes : List ℕ) (stream : HandoverOrderedStream) (rest : List ℕ) → AreBytes bytes → leading_ordered_stream bytes ≡ Some (stream, rest) → Took ordered_bytes FitsOrdered bytes stream rest
+unfolding leading_ordered_stream ordered_bytes
 ordered_takes bytes stream rest fits e =
     step field16 _ bytes _ fits e (λ id r1 p1 f1 b1 e1.
     step field32 _ r1 _ b1 e1 (λ next_ssn r2 p2 f2 b2 e2.
@@ -55,17 +55,17 @@ ordered_takes bytes stream rest fits e =
       rest_fits = b2;
     })))
 
-pub ordered_field : IsField ordered_bytes ordered_at FitsOrdered
+pub ordered_field : IsField ordered_bytes leading_ordered_stream FitsOrdered
 ordered_field = record { again = ordered_again; takes = ordered_takes }
 
 -- ---- a stream that unordered messages are received by
 
-unordered_again : (stream : HandoverUnorderedStream) (rest : List ℕ) → FitsUnordered stream → unordered_at (unordered_bytes stream ++ rest) ≡ Some (stream, rest)
-unfolding unordered_at unordered_bytes
+unordered_again : (stream : HandoverUnorderedStream) (rest : List ℕ) → FitsUnordered stream → leading_unordered_stream (unordered_bytes stream ++ rest) ≡ Some (stream, rest)
+unfolding leading_unordered_stream unordered_bytes
 unordered_again stream rest fits = rw (field16.again _ _ fits.id) refl
 
-unordered_takes : (bytes : List ℕ) (stream : HandoverUnorderedStream) (rest : List ℕ) → AreBytes bytes → unordered_at bytes ≡ Some (stream, rest) → Took unordered_bytes FitsUnordered bytes stream rest
-unfolding unordered_at unordered_bytes
+unordered_takes : (bytes : List ℕ) (stream : HandoverUnorderedStream) (rest : List ℕ) → AreBytes bytes → leading_unordered_stream bytes ≡ Some (stream, rest) → Took unordered_bytes FitsUnordered bytes stream rest
+unfolding leading_unordered_stream unordered_bytes
 unordered_takes bytes stream rest fits e =
     step field16 _ bytes _ fits e (λ id r1 p1 f1 b1 e1.
     subst (λ (x : HandoverUnorderedStream × List ℕ). Took unordered_bytes FitsUnordered bytes x.0 x.1) (some_is _ _ e1) (record {
@@ -74,5 +74,5 @@ unordered_takes bytes stream rest fits e =
       rest_fits = b1;
     }))
 
-pub unordered_field : IsField unordered_bytes unordered_at FitsUnordered
+pub unordered_field : IsField unordered_bytes leading_unordered_stream FitsUnordered
 unordered_field = record { again = unordered_again; takes = unordered_takes }

@@ -45,20 +45,20 @@ number_of_width width bytes =
     if nat_lt (length bytes) (byte_len width) then None
     else Some (from_be_bytes width (take (byte_len width) bytes), drop (byte_len width) bytes)
 
-unfoldable pub signed_at : List ℕ → Option (ℤ × List ℕ)
-signed_at bytes = do
+unfoldable pub leading_signed : List ℕ → Option (ℤ × List ℕ)
+leading_signed bytes = do
   number ← number_of_width w32 bytes
   Some (cast_signed w32 number.0, number.1)
 
 -- any byte but 0 and 1 is refused
-unfoldable pub flag_byte_at : List ℕ → Option (Bool × List ℕ)
-flag_byte_at [] = None
-flag_byte_at (zero ∷ rest) = Some (false, rest)
-flag_byte_at (suc zero ∷ rest) = Some (true, rest)
-flag_byte_at (suc (suc byte) ∷ rest) = None
+unfoldable pub leading_flag : List ℕ → Option (Bool × List ℕ)
+leading_flag [] = None
+leading_flag (zero ∷ rest) = Some (false, rest)
+leading_flag (suc zero ∷ rest) = Some (true, rest)
+leading_flag (suc (suc byte) ∷ rest) = None
 
-unfoldable pub payload_at : List ℕ → Option (List ℕ × List ℕ)
-payload_at bytes = do
+unfoldable pub leading_payload : List ℕ → Option (List ℕ × List ℕ)
+leading_payload bytes = do
   count ← number_of_width w64 bytes
   if nat_lt (length count.1) count.0 then None else Some (take count.0 count.1, drop count.0 count.1)
 
@@ -69,20 +69,20 @@ behind_flag value_at true bytes = do
   value ← value_at bytes
   Some (Some value.0, value.1)
 
-unfoldable pub optional_at : {A : Type 0} → (List ℕ → Option (A × List ℕ)) → List ℕ → Option (Option A × List ℕ)
-optional_at value_at bytes = do
-  flag ← flag_byte_at bytes
+unfoldable pub leading_optional : {A : Type 0} → (List ℕ → Option (A × List ℕ)) → List ℕ → Option (Option A × List ℕ)
+leading_optional value_at bytes = do
+  flag ← leading_flag bytes
   behind_flag value_at flag.0 flag.1
 
 -- that many elements
-unfoldable pub elements_at : {A : Type 0} → (List ℕ → Option (A × List ℕ)) → ℕ → List ℕ → Option (List A × List ℕ)
-elements_at element_at zero bytes = Some ([], bytes)
-elements_at element_at (suc count) bytes = do
+unfoldable pub leading_elements : {A : Type 0} → (List ℕ → Option (A × List ℕ)) → ℕ → List ℕ → Option (List A × List ℕ)
+leading_elements element_at zero bytes = Some ([], bytes)
+leading_elements element_at (suc count) bytes = do
   first ← element_at bytes
-  others ← elements_at element_at count first.1
+  others ← leading_elements element_at count first.1
   Some (first.0 ∷ others.0, others.1)
 
-unfoldable pub list_at : {A : Type 0} → (List ℕ → Option (A × List ℕ)) → List ℕ → Option (List A × List ℕ)
-list_at element_at bytes = do
+unfoldable pub leading_list : {A : Type 0} → (List ℕ → Option (A × List ℕ)) → List ℕ → Option (List A × List ℕ)
+leading_list element_at bytes = do
   count ← number_of_width w64 bytes
-  elements_at element_at count.0 count.1
+  leading_elements element_at count.0 count.1

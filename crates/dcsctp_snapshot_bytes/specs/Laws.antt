@@ -6,7 +6,7 @@ use Rattle.dcsctp_snapshot_bytes.specs.Fits.{FitsSnapshot}
 use Rattle.dcsctp_snapshot_bytes.specs.Spelling.{snapshot_bytes}
 use Rattle.dcsctp_snapshot_bytes.specs.declared.sealing.SealError.{SealError}
 use Rattle.dcsctp_snapshot_bytes.specs.declared.sealing.SealError.TheVariants as errors
-use Rattle.dcsctp_snapshot_bytes.specs.Seal.{fingerprint, sealed, AreBytesRefused}
+use Rattle.dcsctp_snapshot_bytes.specs.Seal.{fingerprint, sealed_snapshot, AreBytesRefused}
 use Rattle.dcsctp_snapshot_bytes.specs.Reading.{read_snapshot}
 
 -- each is below 256
@@ -25,17 +25,17 @@ HasOneSpelling = (bytes : List ℕ) (state : Snapshot) → AreBytes bytes → re
 
 -- the ways to open bytes: they have a body, or are refused
 abbrev pub OpensSeal : Options → List ℕ → Result (List ℕ) SealError → Type 0
-OpensSeal options bytes (Ok body) = bytes ≡ sealed options body
+OpensSeal options bytes (Ok body) = bytes ≡ sealed_snapshot options body
 OpensSeal options bytes (Err error) = AreBytesRefused error options bytes
 
 -- What was sealed by these options is opened by them as it was.
 abbrev pub OpensAgain : Type 0
-OpensAgain = (options : Options) (body : List ℕ) (opened : Result (List ℕ) SealError) → OpensSeal options (sealed options body) opened → opened ≡ Ok body
+OpensAgain = (options : Options) (body : List ℕ) (opened : Result (List ℕ) SealError) → OpensSeal options (sealed_snapshot options body) opened → opened ≡ Ok body
 
 -- By options with another fingerprint it is refused as that of others.
 abbrev pub OthersAreRefused : Type 0
 OthersAreRefused = (options others : Options) (body : List ℕ) (opened : Result (List ℕ) SealError)
-    → fingerprint others ≢ fingerprint options → OpensSeal options (sealed others body) opened → opened ≡ Err errors.OtherOptions
+    → fingerprint others ≢ fingerprint options → OpensSeal options (sealed_snapshot others body) opened → opened ≡ Err errors.OtherOptions
 
 -- Each number of a fingerprint fits its field, as it does in `Options`.
 pub record FitsFingerprint (options : Options) : Type 0 where

@@ -9,22 +9,22 @@ use Rattle.dcsctp_snapshot_bytes.specs.declared.transmission.SendWindows.{SendWi
 use Rattle.dcsctp_snapshot_bytes.specs.declared.transmission.SendProgress.{SendProgress}
 use Rattle.dcsctp_snapshot_bytes.specs.declared.receive.ReceiveNumbers.{ReceiveNumbers}
 use Rattle.dcsctp_snapshot_bytes.specs.declared.state.Tags.{Tags}
-use Rattle.dcsctp_snapshot_bytes.specs.Fields.{◌>>=◌, number_of_width, flag_byte_at, list_at}
+use Rattle.dcsctp_snapshot_bytes.specs.Fields.{◌>>=◌, number_of_width, leading_flag, leading_list}
 use Rattle.dcsctp_snapshot_bytes.specs.Spelling.{snapshot_magic, version}
-use Rattle.dcsctp_snapshot_bytes.specs.ReadingItems.{queued_at, outstanding_at, outgoing_at, ordered_at, unordered_at}
+use Rattle.dcsctp_snapshot_bytes.specs.ReadingItems.{leading_queued_part, leading_outstanding_part, leading_outgoing_stream, leading_ordered_stream, leading_unordered_stream}
 
 -- ---- sending
 
-unfoldable pub windows_at : List ℕ → Option (SendWindows × List ℕ)
-windows_at bytes = do
+unfoldable pub leading_windows : List ℕ → Option (SendWindows × List ℕ)
+leading_windows bytes = do
   next_tsn ← number_of_width w32 bytes
   next_reset_req_sn ← number_of_width w32 next_tsn.1
   cwnd ← number_of_width w32 next_reset_req_sn.1
   rwnd ← number_of_width w32 cwnd.1
   Some (record { next_tsn = next_tsn.0; next_reset_req_sn = next_reset_req_sn.0; cwnd = cwnd.0; rwnd = rwnd.0 }, rwnd.1)
 
-unfoldable pub send_progress_at : List ℕ → Option (SendProgress × List ℕ)
-send_progress_at bytes = do
+unfoldable pub leading_send_progress : List ℕ → Option (SendProgress × List ℕ)
+leading_send_progress bytes = do
   ssthresh ← number_of_width w32 bytes
   partial_bytes_acked ← number_of_width w32 ssthresh.1
   last_cumulative_tsn_ack ← number_of_width w32 partial_bytes_acked.1
@@ -39,13 +39,13 @@ send_progress_at bytes = do
     next_outgoing_message_id.1,
   )
 
-unfoldable pub send_at : List ℕ → Option (SendPart × List ℕ)
-send_at bytes = do
-  windows ← windows_at bytes
-  progress ← send_progress_at windows.1
-  streams ← list_at outgoing_at progress.1
-  queued_messages ← list_at queued_at streams.1
-  outstanding_data ← list_at outstanding_at queued_messages.1
+unfoldable pub leading_send_part : List ℕ → Option (SendPart × List ℕ)
+leading_send_part bytes = do
+  windows ← leading_windows bytes
+  progress ← leading_send_progress windows.1
+  streams ← leading_list leading_outgoing_stream progress.1
+  queued_messages ← leading_list leading_queued_part streams.1
+  outstanding_data ← leading_list leading_outstanding_part queued_messages.1
   Some (
     record {
       next_tsn = windows.0.next_tsn;
@@ -65,9 +65,9 @@ send_at bytes = do
 
 -- ---- receiving
 
-unfoldable pub receive_numbers_at : List ℕ → Option (ReceiveNumbers × List ℕ)
-receive_numbers_at bytes = do
-  seen_packet ← flag_byte_at bytes
+unfoldable pub leading_receive_numbers : List ℕ → Option (ReceiveNumbers × List ℕ)
+leading_receive_numbers bytes = do
+  seen_packet ← leading_flag bytes
   last_cumulative_acked_tsn ← number_of_width w32 seen_packet.1
   last_assembled_tsn ← number_of_width w32 last_cumulative_acked_tsn.1
   last_completed_deferred_reset_req_sn ← number_of_width w32 last_assembled_tsn.1
@@ -83,11 +83,11 @@ receive_numbers_at bytes = do
     last_completed_reset_req_sn.1,
   )
 
-unfoldable pub received_at : List ℕ → Option (ReceivePart × List ℕ)
-received_at bytes = do
-  numbers ← receive_numbers_at bytes
-  ordered_streams ← list_at ordered_at numbers.1
-  unordered_streams ← list_at unordered_at ordered_streams.1
+unfoldable pub leading_receive_part : List ℕ → Option (ReceivePart × List ℕ)
+leading_receive_part bytes = do
+  numbers ← leading_receive_numbers bytes
+  ordered_streams ← leading_list leading_ordered_stream numbers.1
+  unordered_streams ← leading_list leading_unordered_stream ordered_streams.1
   Some (
     record {
       seen_packet = numbers.0.seen_packet;
@@ -103,12 +103,12 @@ received_at bytes = do
 
 -- ---- the whole
 
-unfoldable pub capabilities_at : List ℕ → Option (HandoverCapabilities × List ℕ)
-capabilities_at bytes = do
-  partial_reliability ← flag_byte_at bytes
-  message_interleaving ← flag_byte_at partial_reliability.1
-  reconfig ← flag_byte_at message_interleaving.1
-  zero_checksum ← flag_byte_at reconfig.1
+unfoldable pub leading_capabilities : List ℕ → Option (HandoverCapabilities × List ℕ)
+leading_capabilities bytes = do
+  partial_reliability ← leading_flag bytes
+  message_interleaving ← leading_flag partial_reliability.1
+  reconfig ← leading_flag message_interleaving.1
+  zero_checksum ← leading_flag reconfig.1
   incoming ← number_of_width w16 zero_checksum.1
   outgoing ← number_of_width w16 incoming.1
   Some (
@@ -123,8 +123,8 @@ capabilities_at bytes = do
     outgoing.1,
   )
 
-unfoldable pub tags_at : List ℕ → Option (Tags × List ℕ)
-tags_at bytes = do
+unfoldable pub leading_tags : List ℕ → Option (Tags × List ℕ)
+leading_tags bytes = do
   my_verification_tag ← number_of_width w32 bytes
   my_initial_tsn ← number_of_width w32 my_verification_tag.1
   peer_verification_tag ← number_of_width w32 my_initial_tsn.1
@@ -146,13 +146,13 @@ state_of false = Closed
 state_of true = Connected
 
 -- what follows the magic and the version
-unfoldable pub content_at : List ℕ → Option (Snapshot × List ℕ)
-content_at bytes = do
-  connected ← flag_byte_at bytes
-  tags ← tags_at connected.1
-  capabilities ← capabilities_at tags.1
-  tx ← send_at capabilities.1
-  rx ← received_at tx.1
+unfoldable pub leading_content : List ℕ → Option (Snapshot × List ℕ)
+leading_content bytes = do
+  connected ← leading_flag bytes
+  tags ← leading_tags connected.1
+  capabilities ← leading_capabilities tags.1
+  tx ← leading_send_part capabilities.1
+  rx ← leading_receive_part tx.1
   Some (
     record {
       socket_state = state_of connected.0;
@@ -179,5 +179,5 @@ after_header bytes = do
 unfoldable pub read_snapshot : List ℕ → Option Snapshot
 read_snapshot bytes = do
   rest ← after_header bytes
-  content ← content_at rest
+  content ← leading_content rest
   if length content.1 == 0 then Some content.0 else None

@@ -11,13 +11,13 @@ use Rattle.dcsctp_snapshot_bytes.specs.declared.outstanding.FragmentNumbers.{Fra
 use Rattle.dcsctp_snapshot_bytes.specs.declared.outstanding.FragmentFlags.{FragmentFlags}
 use Rattle.dcsctp_snapshot_bytes.specs.declared.outstanding.FragmentLimits.{FragmentLimits}
 use Rattle.dcsctp_snapshot_bytes.specs.declared.outstanding.FragmentFate.{FragmentFate}
-use Rattle.dcsctp_snapshot_bytes.specs.Fields.{◌>>=◌, number_of_width, signed_at, flag_byte_at, payload_at, optional_at}
+use Rattle.dcsctp_snapshot_bytes.specs.Fields.{◌>>=◌, number_of_width, leading_signed, leading_flag, leading_payload, leading_optional}
 
 -- ---- a message that waits, or of which a part was sent
 
-unfoldable pub limits_at : List ℕ → Option (QueuedLimits × List ℕ)
-limits_at bytes = do
-  expires_in_ms ← optional_at signed_at bytes
+unfoldable pub leading_limits : List ℕ → Option (QueuedLimits × List ℕ)
+leading_limits bytes = do
+  expires_in_ms ← leading_optional leading_signed bytes
   max_retransmissions ← number_of_width w16 expires_in_ms.1
   lifecycle_id ← number_of_width w64 max_retransmissions.1
   message_id ← number_of_width w64 lifecycle_id.1
@@ -31,22 +31,22 @@ limits_at bytes = do
     message_id.1,
   )
 
-unfoldable pub progress_at : List ℕ → Option (QueuedProgress × List ℕ)
-progress_at bytes = do
+unfoldable pub leading_progress : List ℕ → Option (QueuedProgress × List ℕ)
+leading_progress bytes = do
   remaining_offset ← number_of_width w64 bytes
-  mid ← optional_at (number_of_width w32) remaining_offset.1
-  ssn ← optional_at (number_of_width w16) mid.1
+  mid ← leading_optional (number_of_width w32) remaining_offset.1
+  ssn ← leading_optional (number_of_width w16) mid.1
   fsn ← number_of_width w32 ssn.1
   Some (record { remaining_offset = remaining_offset.0; mid = mid.0; ssn = ssn.0; fsn = fsn.0 }, fsn.1)
 
-unfoldable pub queued_at : List ℕ → Option (QueuedPart × List ℕ)
-queued_at bytes = do
+unfoldable pub leading_queued_part : List ℕ → Option (QueuedPart × List ℕ)
+leading_queued_part bytes = do
   stream_id ← number_of_width w16 bytes
   ppid ← number_of_width w32 stream_id.1
-  payload ← payload_at ppid.1
-  unordered ← flag_byte_at payload.1
-  limits ← limits_at unordered.1
-  progress ← progress_at limits.1
+  payload ← leading_payload ppid.1
+  unordered ← leading_flag payload.1
+  limits ← leading_limits unordered.1
+  progress ← leading_progress limits.1
   Some (
     record {
       stream_id = stream_id.0;
@@ -67,8 +67,8 @@ queued_at bytes = do
 
 -- ---- what was sent under one TSN
 
-unfoldable pub fragment_numbers_at : List ℕ → Option (FragmentNumbers × List ℕ)
-fragment_numbers_at bytes = do
+unfoldable pub leading_fragment_numbers : List ℕ → Option (FragmentNumbers × List ℕ)
+leading_fragment_numbers bytes = do
   stream_id ← number_of_width w16 bytes
   ssn ← number_of_width w16 stream_id.1
   mid ← number_of_width w32 ssn.1
@@ -76,18 +76,18 @@ fragment_numbers_at bytes = do
   ppid ← number_of_width w32 fsn.1
   Some (record { stream_id = stream_id.0; ssn = ssn.0; mid = mid.0; fsn = fsn.0; ppid = ppid.0 }, ppid.1)
 
-unfoldable pub fragment_flags_at : List ℕ → Option (FragmentFlags × List ℕ)
-fragment_flags_at bytes = do
-  is_beginning ← flag_byte_at bytes
-  is_end ← flag_byte_at is_beginning.1
-  is_unordered ← flag_byte_at is_end.1
+unfoldable pub leading_fragment_flags : List ℕ → Option (FragmentFlags × List ℕ)
+leading_fragment_flags bytes = do
+  is_beginning ← leading_flag bytes
+  is_end ← leading_flag is_beginning.1
+  is_unordered ← leading_flag is_end.1
   Some (record { is_beginning = is_beginning.0; is_end = is_end.0; is_unordered = is_unordered.0 }, is_unordered.1)
 
-unfoldable pub fragment_limits_at : List ℕ → Option (FragmentLimits × List ℕ)
-fragment_limits_at bytes = do
+unfoldable pub leading_fragment_limits : List ℕ → Option (FragmentLimits × List ℕ)
+leading_fragment_limits bytes = do
   message_id ← number_of_width w64 bytes
   lifecycle_id ← number_of_width w64 message_id.1
-  expires_in_ms ← optional_at signed_at lifecycle_id.1
+  expires_in_ms ← leading_optional leading_signed lifecycle_id.1
   max_retransmissions ← number_of_width w16 expires_in_ms.1
   Some (
     record {
@@ -99,12 +99,12 @@ fragment_limits_at bytes = do
     max_retransmissions.1,
   )
 
-unfoldable pub fragment_fate_at : List ℕ → Option (FragmentFate × List ℕ)
-fragment_fate_at bytes = do
-  acked ← flag_byte_at bytes
-  is_abandoned ← flag_byte_at acked.1
-  is_nacked ← flag_byte_at is_abandoned.1
-  is_to_be_retransmitted ← flag_byte_at is_nacked.1
+unfoldable pub leading_fragment_fate : List ℕ → Option (FragmentFate × List ℕ)
+leading_fragment_fate bytes = do
+  acked ← leading_flag bytes
+  is_abandoned ← leading_flag acked.1
+  is_nacked ← leading_flag is_abandoned.1
+  is_to_be_retransmitted ← leading_flag is_nacked.1
   Some (
     record {
       acked = acked.0;
@@ -115,15 +115,15 @@ fragment_fate_at bytes = do
     is_to_be_retransmitted.1,
   )
 
-unfoldable pub outstanding_at : List ℕ → Option (OutstandingPart × List ℕ)
-outstanding_at bytes = do
-  numbers ← fragment_numbers_at bytes
-  payload ← payload_at numbers.1
-  flags ← fragment_flags_at payload.1
-  limits ← fragment_limits_at flags.1
+unfoldable pub leading_outstanding_part : List ℕ → Option (OutstandingPart × List ℕ)
+leading_outstanding_part bytes = do
+  numbers ← leading_fragment_numbers bytes
+  payload ← leading_payload numbers.1
+  flags ← leading_fragment_flags payload.1
+  limits ← leading_fragment_limits flags.1
   retransmission_count ← number_of_width w16 limits.1
-  time_since_sent_ms ← signed_at retransmission_count.1
-  fate ← fragment_fate_at time_since_sent_ms.1
+  time_since_sent_ms ← leading_signed retransmission_count.1
+  fate ← leading_fragment_fate time_since_sent_ms.1
   Some (
     record {
       stream_id = numbers.0.stream_id;
@@ -151,8 +151,8 @@ outstanding_at bytes = do
 
 -- ---- streams
 
-unfoldable pub outgoing_at : List ℕ → Option (HandoverOutgoingStream × List ℕ)
-outgoing_at bytes = do
+unfoldable pub leading_outgoing_stream : List ℕ → Option (HandoverOutgoingStream × List ℕ)
+leading_outgoing_stream bytes = do
   id ← number_of_width w16 bytes
   next_ssn ← number_of_width w16 id.1
   next_unordered_mid ← number_of_width w32 next_ssn.1
@@ -169,13 +169,13 @@ outgoing_at bytes = do
     priority.1,
   )
 
-unfoldable pub ordered_at : List ℕ → Option (HandoverOrderedStream × List ℕ)
-ordered_at bytes = do
+unfoldable pub leading_ordered_stream : List ℕ → Option (HandoverOrderedStream × List ℕ)
+leading_ordered_stream bytes = do
   id ← number_of_width w16 bytes
   next_ssn ← number_of_width w32 id.1
   Some (record { id = id.0; next_ssn = next_ssn.0 }, next_ssn.1)
 
-unfoldable pub unordered_at : List ℕ → Option (HandoverUnorderedStream × List ℕ)
-unordered_at bytes = do
+unfoldable pub leading_unordered_stream : List ℕ → Option (HandoverUnorderedStream × List ℕ)
+leading_unordered_stream bytes = do
   id ← number_of_width w16 bytes
   Some (record { id = id.0 }, id.1)

@@ -25,27 +25,27 @@ abbrev pub fingerprint_len : ℕ
 fingerprint_len = 14
 
 -- bytes, and their check value
-unfoldable pub checked : List ℕ → List ℕ
-checked bytes =
+unfoldable pub bytes_with_check : List ℕ → List ℕ
+bytes_with_check bytes =
     bytes
     ++ number_bytes w32 (crc32c_of bytes)  -- 4
 
 -- a snapshot's bytes with their seal
-abbrev pub sealed : Options → List ℕ → List ℕ
-sealed options body = checked (body ++ fingerprint options)
+abbrev pub sealed_snapshot : Options → List ℕ → List ℕ
+sealed_snapshot options body = bytes_with_check (body ++ fingerprint options)
 
 -- ---- read
 
 -- The bytes don't end with a fingerprint and the check value of all before it.
 abbrev pub IsBroken : List ℕ → Type 0
-IsBroken bytes = (body mark : List ℕ) → length mark ≡ fingerprint_len → bytes ≢ checked (body ++ mark)
+IsBroken bytes = (body mark : List ℕ) → length mark ≡ fingerprint_len → bytes ≢ bytes_with_check (body ++ mark)
 
 -- The seal is whole, and its fingerprint isn't that of these options.
 pub record IsOfOthers (options : Options) (bytes : List ℕ) : Type 0 where
   pub body : List ℕ
   pub mark : List ℕ
   pub len : length mark ≡ fingerprint_len
-  pub whole : bytes ≡ checked (body ++ mark)
+  pub whole : bytes ≡ bytes_with_check (body ++ mark)
   pub differs : mark ≢ fingerprint options
 
 -- why the bytes are refused

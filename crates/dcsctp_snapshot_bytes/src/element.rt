@@ -2,7 +2,7 @@
 
 ghost use Rattle.std.specs.Prelude.{◌≡◌, ℕ, ◌++◌, OnOk, List, Option, map};
 ghost use Rattle.std.specs.List.{flat_map, AllByRecursion};
-ghost use Rattle.dcsctp_snapshot_bytes.specs.Fields.{element_list_bytes, list_at, elements_at};
+ghost use Rattle.dcsctp_snapshot_bytes.specs.Fields.{element_list_bytes, leading_list, leading_elements};
 ghost use Rattle.dcsctp_snapshot_bytes.specs.Fits.{FitsElements};
 ghost use Rattle.dcsctp_snapshot_bytes.specs.Gives.{ReadsValue};
 
@@ -69,7 +69,7 @@ fn read_elements<T: Element>(
     count: u64,
     reader: &mut Reader,
 ) -> Result<Vec<T>, ReadError>
-    ensures { ReadsValue (λ elements. map T.part_of elements.items) (elements_at T.part_at count)
+    ensures { ReadsValue (λ elements. map T.part_of elements.items) (leading_elements T.part_at count)
         reader.old.rest.now result reader.new.rest.now }
 {
     let mut elements = Vec::new(alloc);
@@ -80,9 +80,9 @@ fn read_elements<T: Element>(
 }
 
 /// Reads a list from the front of bytes: its length, and its elements.
-#[tactic(auto, unfolding(crate::specs::Fields::list_at))]
+#[tactic(auto, unfolding(crate::specs::Fields::leading_list))]
 pub(crate) fn read_list<T: Element>(alloc: Global, reader: &mut Reader) -> Result<Vec<T>, ReadError>
-    ensures { ReadsValue (λ elements. map T.part_of elements.items) (list_at T.part_at)
+    ensures { ReadsValue (λ elements. map T.part_of elements.items) (leading_list T.part_at)
         reader.old.rest.now result reader.new.rest.now }
 {
     let count = reader.u64()?;

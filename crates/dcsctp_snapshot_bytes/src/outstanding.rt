@@ -3,7 +3,7 @@
 ghost use Rattle.std.specs.Prelude.{◌≡◌, ◌++◌, OnOk};
 ghost use Rattle.dcsctp_types.specs.SnapshotItems.{OutstandingPart, outstanding_part};
 ghost use Rattle.dcsctp_snapshot_bytes.specs.Spelling.{fragment_bytes, sending_bytes, outstanding_bytes};
-ghost use Rattle.dcsctp_snapshot_bytes.specs.ReadingItems.{fragment_numbers_at, fragment_flags_at, fragment_limits_at, fragment_fate_at, outstanding_at};
+ghost use Rattle.dcsctp_snapshot_bytes.specs.ReadingItems.{leading_fragment_numbers, leading_fragment_flags, leading_fragment_limits, leading_fragment_fate, leading_outstanding_part};
 ghost use Rattle.dcsctp_snapshot_bytes.specs.Fits.{FitsFragment, FitsSending, FitsOutstanding};
 ghost use Rattle.dcsctp_snapshot_bytes.specs.Gives.{ReadsValue};
 
@@ -51,9 +51,9 @@ struct FragmentFate {
     is_to_be_retransmitted: bool,
 }
 
-#[tactic(auto, unfolding(crate::specs::ReadingItems::fragment_numbers_at))]
+#[tactic(auto, unfolding(crate::specs::ReadingItems::leading_fragment_numbers))]
 fn read_numbers(reader: &mut Reader) -> Result<FragmentNumbers, ReadError>
-    ensures { ReadsValue (λ numbers. numbers) fragment_numbers_at reader.old.rest.now result
+    ensures { ReadsValue (λ numbers. numbers) leading_fragment_numbers reader.old.rest.now result
         reader.new.rest.now }
 {
     Ok(FragmentNumbers {
@@ -65,9 +65,9 @@ fn read_numbers(reader: &mut Reader) -> Result<FragmentNumbers, ReadError>
     })
 }
 
-#[tactic(auto, unfolding(crate::specs::ReadingItems::fragment_flags_at))]
+#[tactic(auto, unfolding(crate::specs::ReadingItems::leading_fragment_flags))]
 fn read_flags(reader: &mut Reader) -> Result<FragmentFlags, ReadError>
-    ensures { ReadsValue (λ flags. flags) fragment_flags_at reader.old.rest.now result
+    ensures { ReadsValue (λ flags. flags) leading_fragment_flags reader.old.rest.now result
         reader.new.rest.now }
 {
     Ok(FragmentFlags {
@@ -77,9 +77,9 @@ fn read_flags(reader: &mut Reader) -> Result<FragmentFlags, ReadError>
     })
 }
 
-#[tactic(auto, unfolding(crate::specs::ReadingItems::fragment_limits_at))]
+#[tactic(auto, unfolding(crate::specs::ReadingItems::leading_fragment_limits))]
 fn read_limits(reader: &mut Reader) -> Result<FragmentLimits, ReadError>
-    ensures { ReadsValue (λ limits. limits) fragment_limits_at reader.old.rest.now result
+    ensures { ReadsValue (λ limits. limits) leading_fragment_limits reader.old.rest.now result
         reader.new.rest.now }
 {
     Ok(FragmentLimits {
@@ -90,9 +90,9 @@ fn read_limits(reader: &mut Reader) -> Result<FragmentLimits, ReadError>
     })
 }
 
-#[tactic(auto, unfolding(crate::specs::ReadingItems::fragment_fate_at))]
+#[tactic(auto, unfolding(crate::specs::ReadingItems::leading_fragment_fate))]
 fn read_fate(reader: &mut Reader) -> Result<FragmentFate, ReadError>
-    ensures { ReadsValue (λ fate. fate) fragment_fate_at reader.old.rest.now result
+    ensures { ReadsValue (λ fate. fate) leading_fragment_fate reader.old.rest.now result
         reader.new.rest.now }
 {
     Ok(FragmentFate {
@@ -147,7 +147,7 @@ impl Element for HandoverOutstandingData {
 
     ghost bytes_of = { outstanding_bytes };
 
-    ghost part_at = { outstanding_at };
+    ghost part_at = { leading_outstanding_part };
 
     ghost fits = { FitsOutstanding };
 
@@ -157,7 +157,7 @@ impl Element for HandoverOutstandingData {
         write_sending(out, self)
     }
 
-    #[tactic(auto, unfolding(crate::specs::ReadingItems::outstanding_at))]
+    #[tactic(auto, unfolding(crate::specs::ReadingItems::leading_outstanding_part))]
     fn read(alloc: Global, reader: &mut Reader) -> Result<HandoverOutstandingData, ReadError> {
         let numbers = read_numbers(reader)?;
         let payload = reader.payload()?;

@@ -3,7 +3,7 @@
 ghost use Rattle.std.specs.Prelude.{◌≡◌, ◌++◌, OnOk};
 ghost use Rattle.dcsctp_types.specs.SnapshotItems.{QueuedPart, queued_part};
 ghost use Rattle.dcsctp_snapshot_bytes.specs.Spelling.{queued_part_bytes};
-ghost use Rattle.dcsctp_snapshot_bytes.specs.ReadingItems.{limits_at, progress_at, queued_at};
+ghost use Rattle.dcsctp_snapshot_bytes.specs.ReadingItems.{leading_limits, leading_progress, leading_queued_part};
 ghost use Rattle.dcsctp_snapshot_bytes.specs.Fits.{FitsQueued};
 ghost use Rattle.dcsctp_snapshot_bytes.specs.Gives.{ReadsValue};
 
@@ -34,9 +34,9 @@ struct QueuedProgress {
     fsn: u32,
 }
 
-#[tactic(auto, unfolding(crate::specs::ReadingItems::limits_at))]
+#[tactic(auto, unfolding(crate::specs::ReadingItems::leading_limits))]
 fn read_limits(reader: &mut Reader) -> Result<QueuedLimits, ReadError>
-    ensures { ReadsValue (λ limits. limits) limits_at reader.old.rest.now result
+    ensures { ReadsValue (λ limits. limits) leading_limits reader.old.rest.now result
         reader.new.rest.now }
 {
     Ok(QueuedLimits {
@@ -47,9 +47,9 @@ fn read_limits(reader: &mut Reader) -> Result<QueuedLimits, ReadError>
     })
 }
 
-#[tactic(auto, unfolding(crate::specs::ReadingItems::progress_at))]
+#[tactic(auto, unfolding(crate::specs::ReadingItems::leading_progress))]
 fn read_progress(reader: &mut Reader) -> Result<QueuedProgress, ReadError>
-    ensures { ReadsValue (λ progress. progress) progress_at reader.old.rest.now result
+    ensures { ReadsValue (λ progress. progress) leading_progress reader.old.rest.now result
         reader.new.rest.now }
 {
     Ok(QueuedProgress {
@@ -67,7 +67,7 @@ impl Element for HandoverStreamMessage {
 
     ghost bytes_of = { queued_part_bytes };
 
-    ghost part_at = { queued_at };
+    ghost part_at = { leading_queued_part };
 
     ghost fits = { FitsQueued };
 
@@ -87,7 +87,7 @@ impl Element for HandoverStreamMessage {
         write_u32(out, self.fsn)
     }
 
-    #[tactic(auto, unfolding(crate::specs::ReadingItems::queued_at))]
+    #[tactic(auto, unfolding(crate::specs::ReadingItems::leading_queued_part))]
     fn read(alloc: Global, reader: &mut Reader) -> Result<HandoverStreamMessage, ReadError> {
         let stream_id = reader.u16()?;
         let ppid = reader.u32()?;

@@ -2,7 +2,7 @@
 
 ghost use Rattle.std.specs.Prelude.{◌≡◌};
 ghost use Rattle.std.specs.Int.{w16, w32, w64};
-ghost use Rattle.dcsctp_snapshot_bytes.specs.Fields.{number_of_width, signed_at, flag_byte_at, payload_at, optional_at};
+ghost use Rattle.dcsctp_snapshot_bytes.specs.Fields.{number_of_width, leading_signed, leading_flag, leading_payload, leading_optional};
 ghost use Rattle.dcsctp_snapshot_bytes.specs.Gives.{ReadsValue};
 ghost use Rattle.dcsctp_snapshot_bytes.specs.declared.reader.ReadError.TheVariants.{OutOfMemory};
 
@@ -87,18 +87,18 @@ impl<'a> Reader<'a> {
     }
 
     /// A number of four bytes with a sign.
-    #[tactic(auto, unfolding(crate::specs::Fields::signed_at))]
+    #[tactic(auto, unfolding(crate::specs::Fields::leading_signed))]
     pub(crate) fn i32(&mut self) -> Result<i32, ReadError>
-        ensures { ReadsValue (λ number. number) signed_at self.old.rest.now result
+        ensures { ReadsValue (λ number. number) leading_signed self.old.rest.now result
             self.new.rest.now }
     {
         Ok(self.u32()?.cast_signed())
     }
 
     /// A byte, 0 or 1.
-    #[tactic(auto, unfolding(crate::specs::Fields::flag_byte_at))]
+    #[tactic(auto, unfolding(crate::specs::Fields::leading_flag))]
     pub(crate) fn flag(&mut self) -> Result<bool, ReadError>
-        ensures { ReadsValue (λ flag. flag) flag_byte_at self.old.rest.now result
+        ensures { ReadsValue (λ flag. flag) leading_flag self.old.rest.now result
             self.new.rest.now }
     {
         match self.rest {
@@ -115,9 +115,9 @@ impl<'a> Reader<'a> {
     }
 
     /// A count, and that many bytes.
-    #[tactic(auto, unfolding(crate::specs::Fields::payload_at))]
+    #[tactic(auto, unfolding(crate::specs::Fields::leading_payload))]
     pub(crate) fn payload(&mut self) -> Result<&'a [u8], ReadError>
-        ensures { ReadsValue (λ bytes. bytes.now) payload_at self.old.rest.now result
+        ensures { ReadsValue (λ bytes. bytes.now) leading_payload self.old.rest.now result
             self.new.rest.now }
     {
         let count = self.u64()? as usize;
@@ -130,9 +130,9 @@ impl<'a> Reader<'a> {
     }
 
     /// A number of two bytes after a flag.
-    #[tactic(auto, unfolding(crate::specs::Fields::optional_at))]
+    #[tactic(auto, unfolding(crate::specs::Fields::leading_optional))]
     pub(crate) fn optional_u16(&mut self) -> Result<Option<u16>, ReadError>
-        ensures { ReadsValue (λ value. value) (optional_at (number_of_width w16)) self.old.rest.now
+        ensures { ReadsValue (λ value. value) (leading_optional (number_of_width w16)) self.old.rest.now
             result self.new.rest.now }
     {
         if self.flag()? {
@@ -143,9 +143,9 @@ impl<'a> Reader<'a> {
     }
 
     /// A number of four bytes after a flag.
-    #[tactic(auto, unfolding(crate::specs::Fields::optional_at))]
+    #[tactic(auto, unfolding(crate::specs::Fields::leading_optional))]
     pub(crate) fn optional_u32(&mut self) -> Result<Option<u32>, ReadError>
-        ensures { ReadsValue (λ value. value) (optional_at (number_of_width w32)) self.old.rest.now
+        ensures { ReadsValue (λ value. value) (leading_optional (number_of_width w32)) self.old.rest.now
             result self.new.rest.now }
     {
         if self.flag()? {
@@ -156,9 +156,9 @@ impl<'a> Reader<'a> {
     }
 
     /// A number of four bytes with a sign, after a flag.
-    #[tactic(auto, unfolding(crate::specs::Fields::optional_at))]
+    #[tactic(auto, unfolding(crate::specs::Fields::leading_optional))]
     pub(crate) fn optional_i32(&mut self) -> Result<Option<i32>, ReadError>
-        ensures { ReadsValue (λ value. value) (optional_at signed_at) self.old.rest.now result
+        ensures { ReadsValue (λ value. value) (leading_optional leading_signed) self.old.rest.now result
             self.new.rest.now }
     {
         if self.flag()? {

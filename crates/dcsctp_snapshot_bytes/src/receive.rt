@@ -3,7 +3,7 @@
 ghost use Rattle.std.specs.Prelude.{◌≡◌, ◌++◌, OnOk};
 ghost use Rattle.dcsctp_types.specs.Snapshot.{received_part};
 ghost use Rattle.dcsctp_snapshot_bytes.specs.Spelling.{received_bytes};
-ghost use Rattle.dcsctp_snapshot_bytes.specs.Reading.{receive_numbers_at, received_at};
+ghost use Rattle.dcsctp_snapshot_bytes.specs.Reading.{leading_receive_numbers, leading_receive_part};
 ghost use Rattle.dcsctp_snapshot_bytes.specs.Fits.{FitsReceived};
 ghost use Rattle.dcsctp_snapshot_bytes.specs.Gives.{ReadsValue};
 
@@ -23,9 +23,9 @@ struct ReceiveNumbers {
     last_completed_reset_req_sn: u32,
 }
 
-#[tactic(auto, unfolding(crate::specs::Reading::receive_numbers_at))]
+#[tactic(auto, unfolding(crate::specs::Reading::leading_receive_numbers))]
 fn read_numbers(reader: &mut Reader) -> Result<ReceiveNumbers, ReadError>
-    ensures { ReadsValue (λ numbers. numbers) receive_numbers_at reader.old.rest.now result
+    ensures { ReadsValue (λ numbers. numbers) leading_receive_numbers reader.old.rest.now result
         reader.new.rest.now }
 {
     Ok(ReceiveNumbers {
@@ -54,9 +54,9 @@ pub(crate) fn write_receive(out: &mut Vec<u8>, rx: &HandoverReceive) -> Result<(
 }
 
 /// Reads all that concerns receiving from the front of bytes.
-#[tactic(auto, unfolding(crate::specs::Reading::received_at))]
+#[tactic(auto, unfolding(crate::specs::Reading::leading_receive_part))]
 pub(crate) fn read_receive(alloc: Global, reader: &mut Reader) -> Result<HandoverReceive, ReadError>
-    ensures { ReadsValue received_part received_at reader.old.rest.now result reader.new.rest.now }
+    ensures { ReadsValue received_part leading_receive_part reader.old.rest.now result reader.new.rest.now }
 {
     let numbers = read_numbers(reader)?;
     let ordered_streams = read_list(alloc, reader)?;

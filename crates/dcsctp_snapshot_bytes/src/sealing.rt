@@ -2,7 +2,7 @@
 //! check value of all before it.
 
 ghost use Rattle.std.specs.Prelude.{◌≡◌, ◌≢◌, ℕ, List, ◌++◌, OnOk, MatchOption, MatchResult};
-ghost use Rattle.dcsctp_snapshot_bytes.specs.Seal.{fingerprint, checked, sealed, AreBytesRefused};
+ghost use Rattle.dcsctp_snapshot_bytes.specs.Seal.{fingerprint, bytes_with_check, sealed_snapshot, AreBytesRefused};
 
 use dcsctp_types::Options;
 use dcsctp_wire_checksum::crc32c;
@@ -65,9 +65,9 @@ fn fingerprint(options: &Options) -> [u8; FINGERPRINT_LEN]
 /// | 4 | the CRC32c of all bytes before it (RFC 9260, appendix A) |
 ///
 /// `Err`: an allocation failed, and what was added may be a part of it.
-#[tactic(auto, unfolding(crate::specs::Seal::checked, crate::specs::Fields::number_bytes))]
+#[tactic(auto, unfolding(crate::specs::Seal::bytes_with_check, crate::specs::Fields::number_bytes))]
 pub fn seal(bytes: &mut Vec<u8>, options: &Options) -> Result<(), AllocError>
-    ensures { OnOk result (bytes.new.items ≡ sealed options.now bytes.old.items) }
+    ensures { OnOk result (bytes.new.items ≡ sealed_snapshot options.now bytes.old.items) }
 {
     bytes.extend_from_slice(&fingerprint(options))?;
     let check = crc32c(bytes.as_slice());
@@ -77,8 +77,8 @@ pub fn seal(bytes: &mut Vec<u8>, options: &Options) -> Result<(), AllocError>
 // The bytes before the check value, if that is right.
 fn before_check(bytes: &[u8]) -> Option<&[u8]>
     ensures { MatchOption result
-        ((front : List ℕ) → bytes.now ≢ checked front)
-        (λ front. bytes.now ≡ checked front.now) }
+        ((front : List ℕ) → bytes.now ≢ bytes_with_check front)
+        (λ front. bytes.now ≡ bytes_with_check front.now) }
 {
     if bytes.len() < CHECK_LEN {
         return None;
@@ -93,7 +93,7 @@ fn before_check(bytes: &[u8]) -> Option<&[u8]>
 /// The bytes of a snapshot, without the seal that `seal` has added by these options.
 pub fn unseal<'a>(bytes: &'a [u8], options: &Options) -> Result<&'a [u8], SealError>
     ensures { MatchResult result
-        (λ body. bytes.now ≡ sealed options.now body.now)
+        (λ body. bytes.now ≡ sealed_snapshot options.now body.now)
         (λ error. AreBytesRefused error options.now bytes.now) }
 {
     let Some(front) = before_check(bytes) else {

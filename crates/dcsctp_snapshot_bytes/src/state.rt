@@ -4,7 +4,7 @@ ghost use Rattle.std.specs.Prelude.{◌≡◌, ◌++◌, OnOk, IfOk, IfSome, Mat
 ghost use Rattle.std.specs.Option.{option_map};
 ghost use Rattle.dcsctp_types.specs.Snapshot.{snapshot};
 ghost use Rattle.dcsctp_snapshot_bytes.specs.Spelling.{capabilities_bytes, snapshot_bytes};
-ghost use Rattle.dcsctp_snapshot_bytes.specs.Reading.{capabilities_at, tags_at, content_at, after_header, read_snapshot};
+ghost use Rattle.dcsctp_snapshot_bytes.specs.Reading.{leading_capabilities, leading_tags, leading_content, after_header, read_snapshot};
 ghost use Rattle.dcsctp_snapshot_bytes.specs.Fits.{FitsCapabilities, FitsSnapshot};
 ghost use Rattle.dcsctp_snapshot_bytes.specs.Gives.{FailsReading, ReadsValue, ReadsAll};
 
@@ -127,9 +127,9 @@ fn read_header(reader: &mut Reader) -> Result<(), ReadError>
     }
 }
 
-#[tactic(auto, unfolding(crate::specs::Reading::tags_at))]
+#[tactic(auto, unfolding(crate::specs::Reading::leading_tags))]
 fn read_tags(reader: &mut Reader) -> Result<Tags, ReadError>
-    ensures { ReadsValue (λ tags. tags) tags_at reader.old.rest.now result reader.new.rest.now }
+    ensures { ReadsValue (λ tags. tags) leading_tags reader.old.rest.now result reader.new.rest.now }
 {
     Ok(Tags {
         my_verification_tag: reader.u32()?,
@@ -140,9 +140,9 @@ fn read_tags(reader: &mut Reader) -> Result<Tags, ReadError>
     })
 }
 
-#[tactic(auto, unfolding(crate::specs::Reading::capabilities_at))]
+#[tactic(auto, unfolding(crate::specs::Reading::leading_capabilities))]
 fn read_capabilities(reader: &mut Reader) -> Result<HandoverCapabilities, ReadError>
-    ensures { ReadsValue (λ capabilities. capabilities) capabilities_at
+    ensures { ReadsValue (λ capabilities. capabilities) leading_capabilities
         reader.old.rest.now result reader.new.rest.now }
 {
     Ok(HandoverCapabilities {
@@ -156,9 +156,9 @@ fn read_capabilities(reader: &mut Reader) -> Result<HandoverCapabilities, ReadEr
 }
 
 // What follows the header.
-#[tactic(auto, unfolding(crate::specs::Reading::content_at))]
+#[tactic(auto, unfolding(crate::specs::Reading::leading_content))]
 fn read_content(alloc: Global, reader: &mut Reader) -> Result<SocketHandoverState, ReadError>
-    ensures { ReadsValue snapshot content_at reader.old.rest.now result reader.new.rest.now }
+    ensures { ReadsValue snapshot leading_content reader.old.rest.now result reader.new.rest.now }
 {
     let connected = reader.flag()?;
     let tags = read_tags(reader)?;

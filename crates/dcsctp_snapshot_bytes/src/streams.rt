@@ -5,7 +5,7 @@ ghost use Rattle.dcsctp_types.specs.declared.snapshot.HandoverOutgoingStream.{Ha
 ghost use Rattle.dcsctp_types.specs.declared.snapshot.HandoverOrderedStream.{HandoverOrderedStream as OrderedPart};
 ghost use Rattle.dcsctp_types.specs.declared.snapshot.HandoverUnorderedStream.{HandoverUnorderedStream as UnorderedPart};
 ghost use Rattle.dcsctp_snapshot_bytes.specs.Spelling.{outgoing_bytes, ordered_bytes, unordered_bytes};
-ghost use Rattle.dcsctp_snapshot_bytes.specs.ReadingItems.{outgoing_at, ordered_at, unordered_at};
+ghost use Rattle.dcsctp_snapshot_bytes.specs.ReadingItems.{leading_outgoing_stream, leading_ordered_stream, leading_unordered_stream};
 ghost use Rattle.dcsctp_snapshot_bytes.specs.Fits.{FitsOutgoing, FitsOrdered, FitsUnordered};
 ghost use Rattle.dcsctp_snapshot_bytes.specs.Gives.{ReadsValue};
 
@@ -22,7 +22,7 @@ impl Element for HandoverOutgoingStream {
 
     ghost bytes_of = { outgoing_bytes };
 
-    ghost part_at = { outgoing_at };
+    ghost part_at = { leading_outgoing_stream };
 
     ghost fits = { FitsOutgoing };
 
@@ -35,7 +35,7 @@ impl Element for HandoverOutgoingStream {
         write_u16(out, self.priority)
     }
 
-    #[tactic(auto, unfolding(crate::specs::ReadingItems::outgoing_at))]
+    #[tactic(auto, unfolding(crate::specs::ReadingItems::leading_outgoing_stream))]
     fn read(_alloc: Global, reader: &mut Reader) -> Result<HandoverOutgoingStream, ReadError> {
         Ok(HandoverOutgoingStream {
             id: reader.u16()?,
@@ -54,7 +54,7 @@ impl Element for HandoverOrderedStream {
 
     ghost bytes_of = { ordered_bytes };
 
-    ghost part_at = { ordered_at };
+    ghost part_at = { leading_ordered_stream };
 
     ghost fits = { FitsOrdered };
 
@@ -64,7 +64,7 @@ impl Element for HandoverOrderedStream {
         write_u32(out, self.next_ssn)
     }
 
-    #[tactic(auto, unfolding(crate::specs::ReadingItems::ordered_at))]
+    #[tactic(auto, unfolding(crate::specs::ReadingItems::leading_ordered_stream))]
     fn read(_alloc: Global, reader: &mut Reader) -> Result<HandoverOrderedStream, ReadError> {
         Ok(HandoverOrderedStream {
             id: reader.u16()?,
@@ -80,7 +80,7 @@ impl Element for HandoverUnorderedStream {
 
     ghost bytes_of = { unordered_bytes };
 
-    ghost part_at = { unordered_at };
+    ghost part_at = { leading_unordered_stream };
 
     ghost fits = { FitsUnordered };
 
@@ -89,7 +89,7 @@ impl Element for HandoverUnorderedStream {
         write_u16(out, self.id)
     }
 
-    #[tactic(auto, unfolding(crate::specs::ReadingItems::unordered_at))]
+    #[tactic(auto, unfolding(crate::specs::ReadingItems::leading_unordered_stream))]
     fn read(_alloc: Global, reader: &mut Reader) -> Result<HandoverUnorderedStream, ReadError> {
         Ok(HandoverUnorderedStream { id: reader.u16()? })
     }

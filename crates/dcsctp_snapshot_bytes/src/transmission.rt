@@ -3,7 +3,7 @@
 ghost use Rattle.std.specs.Prelude.{◌≡◌, ◌++◌, OnOk};
 ghost use Rattle.dcsctp_types.specs.Snapshot.{send_part};
 ghost use Rattle.dcsctp_snapshot_bytes.specs.Spelling.{send_bytes};
-ghost use Rattle.dcsctp_snapshot_bytes.specs.Reading.{windows_at, send_progress_at, send_at};
+ghost use Rattle.dcsctp_snapshot_bytes.specs.Reading.{leading_windows, leading_send_progress, leading_send_part};
 ghost use Rattle.dcsctp_snapshot_bytes.specs.Fits.{FitsSend};
 ghost use Rattle.dcsctp_snapshot_bytes.specs.Gives.{ReadsValue};
 
@@ -31,9 +31,9 @@ struct SendProgress {
     next_outgoing_message_id: u64,
 }
 
-#[tactic(auto, unfolding(crate::specs::Reading::windows_at))]
+#[tactic(auto, unfolding(crate::specs::Reading::leading_windows))]
 fn read_windows(reader: &mut Reader) -> Result<SendWindows, ReadError>
-    ensures { ReadsValue (λ windows. windows) windows_at reader.old.rest.now result
+    ensures { ReadsValue (λ windows. windows) leading_windows reader.old.rest.now result
         reader.new.rest.now }
 {
     Ok(SendWindows {
@@ -44,9 +44,9 @@ fn read_windows(reader: &mut Reader) -> Result<SendWindows, ReadError>
     })
 }
 
-#[tactic(auto, unfolding(crate::specs::Reading::send_progress_at))]
+#[tactic(auto, unfolding(crate::specs::Reading::leading_send_progress))]
 fn read_progress(reader: &mut Reader) -> Result<SendProgress, ReadError>
-    ensures { ReadsValue (λ progress. progress) send_progress_at reader.old.rest.now result
+    ensures { ReadsValue (λ progress. progress) leading_send_progress reader.old.rest.now result
         reader.new.rest.now }
 {
     Ok(SendProgress {
@@ -80,12 +80,12 @@ pub(crate) fn write_transmission(
 }
 
 /// Reads all that concerns sending from the front of bytes.
-#[tactic(auto, unfolding(crate::specs::Reading::send_at))]
+#[tactic(auto, unfolding(crate::specs::Reading::leading_send_part))]
 pub(crate) fn read_transmission(
     alloc: Global,
     reader: &mut Reader,
 ) -> Result<HandoverTransmission, ReadError>
-    ensures { ReadsValue send_part send_at reader.old.rest.now result reader.new.rest.now }
+    ensures { ReadsValue send_part leading_send_part reader.old.rest.now result reader.new.rest.now }
 {
     let windows = read_windows(reader)?;
     let progress = read_progress(reader)?;

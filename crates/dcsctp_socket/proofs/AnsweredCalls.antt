@@ -14,7 +14,7 @@ use Rattle.dcsctp_core.specs.api.Calls.{UserView, NoAnswer, Calls, UserCalls, Co
 use Rattle.dcsctp_core.specs.api.Handover.{IsHandoverAnswer, IsRestoreAnswer, HandsOver, RestoresSocket}
 use Rattle.dcsctp_core.specs.declared.context.Context.{Context}
 use Rattle.dcsctp_core.specs.View.{View, view_of, call_start}
-use Rattle.dcsctp_socket_calls.specs.Parts.{TurnsOf, InputTurns, CutTurns, RestoringTurns, CutRestoring, CallMoved, CutCall, DrewAlone, BeganAlone, WorksCall, WorksUserCall, WorksSetting, set_view}
+use Rattle.dcsctp_socket_calls.specs.Parts.{TurnsOf, InputTurns, FirstOfInput, RestoringTurns, FirstOfRestore, MovesByCall, CutsCall, DrewAlone, BeganAlone, MakesAnsweredCall, MakesCallOfUser, ChangesSetting, set_view}
 use Rattle.dcsctp_socket.specs.SocketView.{SettlesCall, user_view_of}
 
 module _ {R : Type 0} (stream : R → Stream) (old new : Context R) (failed fails : Bool) (runs : failed ≡ false) where
@@ -27,7 +27,7 @@ module _ {R : Type 0} (stream : R → Stream) (old new : Context R) (failed fail
 
   -- ---- what a call leaves
 
-  follows : (AreTurns : Endpoint → List Transition → Type 0) (moved : CallMoved stream AreTurns (view_of old) (view_of new)) → fails ≡ failed → Follows was moved.turns now
+  follows : (AreTurns : Endpoint → List Transition → Type 0) (moved : MovesByCall stream AreTurns (view_of old) (view_of new)) → fails ≡ failed → Follows was moved.turns now
   follows AreTurns moved same =
       record {
         runs = runs;
@@ -39,7 +39,7 @@ module _ {R : Type 0} (stream : R → Stream) (old new : Context R) (failed fail
         drawn = moved.moves.drawn;
       }
 
-  ran_out : (AreTurns : Endpoint → List Transition → Type 0) → CutCall AreTurns (view_of old) (view_of new) → fails ≡ true → RanOutOfMemory (AreTurns was.endpoint) was now
+  ran_out : (AreTurns : Endpoint → List Transition → Type 0) → CutsCall AreTurns (view_of old) (view_of new) → fails ≡ true → RanOutOfMemory (AreTurns was.endpoint) was now
   ran_out AreTurns cut stops = record { runs = runs; fails = stops; turns = cut.turns; are = cut.are; events = cut.adds }
 
   -- the same view, of a socket that has failed
@@ -65,7 +65,7 @@ module _ {R : Type 0} (stream : R → Stream) (old new : Context R) (failed fail
 
   answered : {A E : Type 0} (IsAnswer : A → Type 0) (AreTurns : Endpoint → List Transition → Type 0) (Leaves : View R → View R → Type 0) (LeavesUser : UserView → UserView → Type 0)
       (result : Result A E) (answer : Result A SocketFault) → (Leaves (view_of old) (view_of new) → fails ≡ true → LeavesUser was now)
-      → WorksCall stream IsAnswer AreTurns Leaves old result new → SettlesCall failed result answer fails → Calls IsAnswer (AreTurns was.endpoint) LeavesUser was answer now
+      → MakesAnsweredCall stream IsAnswer AreTurns Leaves old result new → SettlesCall failed result answer fails → Calls IsAnswer (AreTurns was.endpoint) LeavesUser was answer now
   answered IsAnswer AreTurns Leaves LeavesUser (Ok value) answer leaves worked settled =
       subst (λ a. Calls IsAnswer (AreTurns was.endpoint) LeavesUser was a now) (sym settled.0)
       (record { answers = worked.0; turns = worked.1.turns; are = worked.1.are; follows = follows AreTurns worked.1 settled.1 })
@@ -75,30 +75,30 @@ module _ {R : Type 0} (stream : R → Stream) (old new : Context R) (failed fail
   -- ---- the calls
 
   pub user_calls : {A E : Type 0} (call : CallContent) (IsAnswer : A → Type 0) (result : Result A E) (answer : Result A SocketFault)
-      → WorksUserCall stream call IsAnswer old result new → SettlesCall failed result answer fails → UserCalls call IsAnswer was answer now
+      → MakesCallOfUser stream call IsAnswer old result new → SettlesCall failed result answer fails → UserCalls call IsAnswer was answer now
   user_calls call IsAnswer result answer worked settled =
-      answered IsAnswer (TurnsOf call) (CutCall (TurnsOf call)) (RanOutOfMemory (TurnsOf call was.endpoint)) result answer (ran_out (TurnsOf call)) worked settled
+      answered IsAnswer (TurnsOf call) (CutsCall (TurnsOf call)) (RanOutOfMemory (TurnsOf call was.endpoint)) result answer (ran_out (TurnsOf call)) worked settled
 
   pub handles_input : {E : Type 0} (bytes : List ℕ) (result : Result (Unit {0}) E) (answer : Result (Unit {0}) SocketFault)
-      → WorksCall stream NoAnswer (InputTurns bytes) (CutCall (CutTurns bytes)) old result new → SettlesCall failed result answer fails → HandlesInput was bytes answer now
+      → MakesAnsweredCall stream NoAnswer (InputTurns bytes) (CutsCall (FirstOfInput bytes)) old result new → SettlesCall failed result answer fails → HandlesInput was bytes answer now
   handles_input bytes result answer worked settled =
-      answered NoAnswer (InputTurns bytes) (CutCall (CutTurns bytes)) (RanOutOfMemory (CutTurns bytes was.endpoint)) result answer (ran_out (CutTurns bytes)) worked settled
+      answered NoAnswer (InputTurns bytes) (CutsCall (FirstOfInput bytes)) (RanOutOfMemory (FirstOfInput bytes was.endpoint)) result answer (ran_out (FirstOfInput bytes)) worked settled
 
   pub connects : {E : Type 0} (result : Result (Unit {0}) E) (answer : Result (Unit {0}) SocketFault)
-      → WorksCall stream NoAnswer (TurnsOf connect_call) DrewAlone old result new → SettlesCall failed result answer fails → Connects was answer now
+      → MakesAnsweredCall stream NoAnswer (TurnsOf connect_call) DrewAlone old result new → SettlesCall failed result answer fails → Connects was answer now
   connects result answer worked settled = answered NoAnswer (TurnsOf connect_call) DrewAlone FailsWhole result answer drew worked settled
 
   pub hands_over : {E : Type 0} (result : Result (Result SocketHandoverState HandoverError) E) (answer : Result (Result SocketHandoverState HandoverError) SocketFault)
-      → WorksCall stream (IsHandoverAnswer was.endpoint) (TurnsOf hand_over_call) BeganAlone old result new → SettlesCall failed result answer fails → HandsOver was answer now
+      → MakesAnsweredCall stream (IsHandoverAnswer was.endpoint) (TurnsOf hand_over_call) BeganAlone old result new → SettlesCall failed result answer fails → HandsOver was answer now
   hands_over result answer worked settled = answered (IsHandoverAnswer was.endpoint) (TurnsOf hand_over_call) BeganAlone FailsWhole result answer began worked settled
 
   pub restores : {E : Type 0} (state : Snapshot) (result : Result (Result (Unit {0}) RestoreError) E) (answer : Result (Result (Unit {0}) RestoreError) SocketFault)
-      → WorksCall stream (IsRestoreAnswer was.endpoint.core) (RestoringTurns state) (CutCall (CutRestoring state)) old result new → SettlesCall failed result answer fails → RestoresSocket state was answer now
+      → MakesAnsweredCall stream (IsRestoreAnswer was.endpoint.core) (RestoringTurns state) (CutsCall (FirstOfRestore state)) old result new → SettlesCall failed result answer fails → RestoresSocket state was answer now
   restores state result answer worked settled =
-      answered (IsRestoreAnswer was.endpoint.core) (RestoringTurns state) (CutCall (CutRestoring state)) (RanOutOfMemory (CutRestoring state was.endpoint)) result answer (ran_out (CutRestoring state)) worked settled
+      answered (IsRestoreAnswer was.endpoint.core) (RestoringTurns state) (CutsCall (FirstOfRestore state)) (RanOutOfMemory (FirstOfRestore state was.endpoint)) result answer (ran_out (FirstOfRestore state)) worked settled
 
   pub sets : {E : Type 0} (setting : Setting) (result : Result (Unit {0}) E) (answer : Result (Unit {0}) SocketFault)
-      → WorksSetting setting old result new → SettlesCall failed result answer fails → Sets setting was answer now
+      → ChangesSetting setting old result new → SettlesCall failed result answer fails → Sets setting was answer now
   sets setting (Ok done) answer is settled =
       let set : View R = set_view setting (view_of old) in
       subst (λ a. Sets setting was a now) (sym settled.0)

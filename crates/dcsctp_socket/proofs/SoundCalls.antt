@@ -3,7 +3,7 @@
 use Rattle.std.proofs.Common.{◌≡◌, ℕ, max, Bool, true, false, Result, Ok, Err, Option, List, [], ◌∷◌, refl, sym, subst}
 use Rattle.rand_core.specs.Stream.{Stream}
 use Rattle.dcsctp_core.specs.spec.endpoint.CallTurns.{Transition, transition, after_all}
-use Rattle.dcsctp_core.specs.spec.endpoint.Turn.{clock_at, user_sets, user_takes}
+use Rattle.dcsctp_core.specs.spec.endpoint.Turn.{with_clock, user_sets, user_takes}
 use Rattle.dcsctp_core.specs.types.declared.message.Message.{Message}
 use Rattle.dcsctp_core.specs.spec.endpoint.Endpoint.{Endpoint}
 use Rattle.dcsctp_core.specs.types.Schedule.{CallContent, advance_call, set_call, take_call}
@@ -16,7 +16,7 @@ use Rattle.dcsctp_core.specs.api.declared.errors.SocketFault.{SocketFault}
 use Rattle.dcsctp_core.specs.declared.context.Context.{Context}
 use Rattle.dcsctp_core.specs.View.{View, view_of, endpoint_of, call_start, CallMoves}
 use Rattle.dcsctp_socket.specs.SocketView.{SettlesCall}
-use Rattle.dcsctp_socket_calls.specs.Parts.{TurnsOf, InputTurns, RestoringTurns, CallMoved, WorksCall, WorksSetting, WorksTake, set_view}
+use Rattle.dcsctp_socket_calls.specs.Parts.{TurnsOf, InputTurns, RestoringTurns, MovesByCall, MakesAnsweredCall, ChangesSetting, TakesFirstMessage, set_view}
 use Rattle.dcsctp_core.specs.declared.deadlines.Entry.{Entry}
 use Rattle.dcsctp_core.specs.Timeout.{ListsDeadlines}
 use Rattle.dcsctp_core.proofs.TimeoutLemmas.{told_kept}
@@ -36,22 +36,22 @@ failed_sound new failed fails error answer settled goes_on = let has : fails ≡
 -- a call whose turns keep it
 call_sound : {R E A : Type 0} (stream : R → Stream) (old new : Context R) (failed fails : Bool) (IsAnswer : A → Type 0) (AreTurns : Endpoint → List Transition → Type 0) (Leaves : View R → View R → Type 0)
     → fails ≡ false → ((turns : List Transition) → AreTurns (view_of old).endpoint turns → IsSound (after_all (view_of old).endpoint turns))
-    → (outcome : Result A E) (answer : Result A SocketFault) → SettlesCall failed outcome answer fails → WorksCall stream IsAnswer AreTurns Leaves old outcome new → SoundContext new
+    → (outcome : Result A E) (answer : Result A SocketFault) → SettlesCall failed outcome answer fails → MakesAnsweredCall stream IsAnswer AreTurns Leaves old outcome new → SoundContext new
 call_sound stream old new failed fails IsAnswer AreTurns Leaves goes_on keeps (Ok value) answer settled worked =
     turns_sound stream (view_of old) (view_of new) worked.1.turns worked.1.moves (keeps worked.1.turns worked.1.are)
 call_sound stream old new failed fails IsAnswer AreTurns Leaves goes_on keeps (Err error) answer settled worked = failed_sound new failed fails error answer settled goes_on
 
 module _ (law : CallsKeepSoundness) {R E A : Type 0} (stream : R → Stream) (old new : Context R) (failed fails : Bool) (sound : SoundContext old) (goes_on : fails ≡ false)
     (outcome : Result A E) (answer : Result A SocketFault) (settled : SettlesCall failed outcome answer fails) (IsAnswer : A → Type 0) (Leaves : View R → View R → Type 0) where
-  pub user_call_sound : (call : CallContent) → WorksCall stream IsAnswer (TurnsOf call) Leaves old outcome new → SoundContext new
+  pub user_call_sound : (call : CallContent) → MakesAnsweredCall stream IsAnswer (TurnsOf call) Leaves old outcome new → SoundContext new
   user_call_sound call worked =
       call_sound stream old new failed fails IsAnswer (TurnsOf call) Leaves goes_on (λ turns are. law.calls (view_of old).endpoint call turns are sound) outcome answer settled worked
 
-  pub input_sound : (bytes : List ℕ) → WorksCall stream IsAnswer (InputTurns bytes) Leaves old outcome new → SoundContext new
+  pub input_sound : (bytes : List ℕ) → MakesAnsweredCall stream IsAnswer (InputTurns bytes) Leaves old outcome new → SoundContext new
   input_sound bytes worked =
       call_sound stream old new failed fails IsAnswer (InputTurns bytes) Leaves goes_on (λ turns are. law.input (view_of old).endpoint bytes turns are sound) outcome answer settled worked
 
-  pub restore_sound : (state : Snapshot) → is_valid_snapshot (view_of old).endpoint.options state ≡ true → WorksCall stream IsAnswer (RestoringTurns state) Leaves old outcome new → SoundContext new
+  pub restore_sound : (state : Snapshot) → is_valid_snapshot (view_of old).endpoint.options state ≡ true → MakesAnsweredCall stream IsAnswer (RestoringTurns state) Leaves old outcome new → SoundContext new
   restore_sound state valid worked =
       call_sound stream old new failed fails IsAnswer (RestoringTurns state) Leaves goes_on (λ turns are. law.restores (view_of old).endpoint state turns valid are sound) outcome answer settled worked
 
@@ -66,12 +66,12 @@ setting_sound {R} law setting old new sound is = subst (λ (v : View R). IsSound
 
 -- the same, if an allocation can fail
 pub may_set_sound : {R E : Type 0} → CallsKeepSoundness → (setting : Setting) (old new : Context R) (failed fails : Bool) (outcome : Result (Unit {0}) E) (answer : Result (Unit {0}) SocketFault)
-    → SoundContext old → WorksSetting setting old outcome new → SettlesCall failed outcome answer fails → fails ≡ false → SoundContext new
+    → SoundContext old → ChangesSetting setting old outcome new → SettlesCall failed outcome answer fails → fails ≡ false → SoundContext new
 may_set_sound law setting old new failed fails (Ok done) answer sound is settled goes_on = setting_sound law setting old new sound is
 may_set_sound law setting old new failed fails (Err error) answer sound is settled goes_on = failed_sound new failed fails error answer settled goes_on
 
 -- a message is taken
-pub take_sound : {R : Type 0} → CallsKeepSoundness → (old new : Context R) (result : Option Message) → SoundContext old → WorksTake (view_of old) result (view_of new) → SoundContext new
+pub take_sound : {R : Type 0} → CallsKeepSoundness → (old new : Context R) (result : Option Message) → SoundContext old → TakesFirstMessage (view_of old) result (view_of new) → SoundContext new
 take_sound {R} law old new result sound taken =
     subst (λ (v : View R). IsSound v.endpoint) (sym taken.is)
     (law.calls (view_of old).endpoint take_call (transition user_takes taken.outcome ∷ []) (record { is = refl; comes = taken.turn }, tt) sound)
@@ -79,16 +79,16 @@ take_sound {R} law old new result sound taken =
 -- ---- a moment at which nothing is due
 
 pub clock_sound : {R : Type 0} → CallsKeepSoundness → (stream : R → Stream) (old new : Context R) → SoundContext old → (moment : ℕ)
-    → CallMoved stream (TurnsOf (advance_call moment)) (view_of old) (view_of new) → SoundContext new
+    → MovesByCall stream (TurnsOf (advance_call moment)) (view_of old) (view_of new) → SoundContext new
 clock_sound law stream old new sound moment moved =
     turns_sound stream (view_of old) (view_of new) moved.turns moved.moves (law.calls (view_of old).endpoint (advance_call moment) moved.turns moved.are sound)
 
 -- The clock has moved, and nothing else.
 abbrev pub OnlyClock : {R : Type 0} → Context R → ℕ → Context R → Type 0
-OnlyClock old moment new = view_of new ≡ record (call_start (view_of old)) { endpoint = clock_at (max old.moment moment) (endpoint_of old) }
+OnlyClock old moment new = view_of new ≡ record (call_start (view_of old)) { endpoint = with_clock (max old.moment moment) (endpoint_of old) }
 
 -- So the list keeps what counts.
 pub clock_told : {R : Type 0} (old new : Context R) (moment : ℕ) (entries : List Entry) → OnlyClock old moment new → ListsDeadlines (endpoint_of old) entries → ListsDeadlines (endpoint_of new) entries
 clock_told {R} old new moment entries only told =
     subst (λ (v : View R). ListsDeadlines v.endpoint entries) (sym only)
-    (told_kept (endpoint_of old) (clock_at (max old.moment moment) (endpoint_of old)) entries refl refl refl refl told)
+    (told_kept (endpoint_of old) (with_clock (max old.moment moment) (endpoint_of old)) entries refl refl refl refl told)

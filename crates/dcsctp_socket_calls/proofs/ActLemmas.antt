@@ -11,16 +11,16 @@ use Rattle.dcsctp_core.specs.spec.association.Acts.{Act}
 use Rattle.dcsctp_core.specs.spec.endpoint.CallTurns.{Transition, transition, Turns}
 use Rattle.dcsctp_core.specs.spec.endpoint.Endpoint.{Endpoint}
 use Rattle.dcsctp_core.specs.api.Calls.{user_event}
-use Rattle.dcsctp_core.specs.View.{View, call_start, Moves, CutTurn}
+use Rattle.dcsctp_core.specs.View.{View, call_start, Moves, CutsTurn}
 use Rattle.dcsctp_core.proofs.Moving.{moves_one}
-use Rattle.dcsctp_socket_calls.specs.Parts.{CallMoved, TurnsCut}
+use Rattle.dcsctp_socket_calls.specs.Parts.{MovesByCall, CutsTurns}
 
 -- the turns of a call that is one act
 abbrev pub ActTurns : Act → Endpoint → List Transition → Type 0
 ActTurns act e turns = Turns e (act_input act ∷ []) turns
 
 pub act_done : {R : Type 0} (stream : R → Stream) (act : Act) (turn : View R → Outcome) (old start new : View R) → start ≡ call_start old
-    → ((view : View R) → ActTurn view.endpoint act (turn view)) → Moves stream start (turn start) new → CallMoved stream (ActTurns act) old new
+    → ((view : View R) → ActTurn view.endpoint act (turn view)) → Moves stream start (turn start) new → MovesByCall stream (ActTurns act) old new
 act_done {R = R} stream act turn old start new begins is moves =
     let one : Transition = transition (act_input act) (turn (call_start old)) in
     record {
@@ -30,7 +30,7 @@ act_done {R = R} stream act turn old start new begins is moves =
     }
 
 cut_at : {R : Type 0} (act : Act) (turn : View R → Outcome) (old : View R) (events : List (Event (List ℕ)))
-    → ((view : View R) → ActTurn view.endpoint act (turn view)) → CutTurn (call_start old) (turn (call_start old)) events → TurnsCut (ActTurns act) old events
+    → ((view : View R) → ActTurn view.endpoint act (turn view)) → CutsTurn (call_start old) (turn (call_start old)) events → CutsTurns (ActTurns act) old events
 cut_at act turn old events is cut =
     let o : Outcome = turn (call_start old) in
     let all : List (Event (List ℕ)) = map (user_event (ports_of old.endpoint.options)) o.events in
@@ -46,6 +46,6 @@ cut_at act turn old events is cut =
     }
 
 pub act_cut : {R : Type 0} (act : Act) (turn : View R → Outcome) (old start : View R) (events : List (Event (List ℕ))) → start ≡ call_start old
-    → ((view : View R) → ActTurn view.endpoint act (turn view)) → CutTurn start (turn start) events → TurnsCut (ActTurns act) old events
+    → ((view : View R) → ActTurn view.endpoint act (turn view)) → CutsTurn start (turn start) events → CutsTurns (ActTurns act) old events
 act_cut {R = R} act turn old start events begins is cut =
-    cut_at act turn old events is (subst (λ (v : View R). CutTurn v (turn v) events) begins cut)
+    cut_at act turn old events is (subst (λ (v : View R). CutsTurn v (turn v) events) begins cut)

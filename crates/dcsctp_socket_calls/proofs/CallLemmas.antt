@@ -6,18 +6,18 @@ use Rattle.dcsctp_core.specs.wire.Content.{PacketContent}
 use Rattle.dcsctp_core.specs.wire.Format.{IsPacket}
 use Rattle.dcsctp_core.specs.types.Settings.{Ports, ports_of, wire_options}
 use Rattle.dcsctp_core.specs.spec.endpoint.Event.{Event}
-use Rattle.dcsctp_core.specs.spec.Packet.{packet_in, Emission}
+use Rattle.dcsctp_core.specs.spec.Packet.{packet_of_content, Emission}
 use Rattle.dcsctp_core.specs.spec.Admission.{Admission, shutdown_acks_alone, refused, admits}
 use Rattle.dcsctp_core.specs.spec.endpoint.Endpoint.{Endpoint, Core}
 use Rattle.dcsctp_core.specs.spec.endpoint.Outcome.{Outcome}
 use Rattle.dcsctp_core.specs.spec.endpoint.Turn.{arrival, refusal, packet_ends, EndTurn, arrival_outcome, refusal_outcome, unreadable_text}
-use Rattle.dcsctp_core.specs.spec.endpoint.CallTurns.{Transition, transition, IsTurn, after_all, AdmittedTurns, HandleInput, unreadable, readable, FirstAdmitted, CutInput, unread, read, events_of}
+use Rattle.dcsctp_core.specs.spec.endpoint.CallTurns.{Transition, transition, IsTurn, after_all, AdmittedTurns, HandleInput, unreadable, readable, FirstOfAdmitted, FirstOfCall, unread, read, events_of}
 use Rattle.dcsctp_core.specs.api.Calls.{AddsFirstEvents, user_event}
 use Rattle.dcsctp_core.proofs.spec_lemmas.TurnLists.{events_of-append}
-use Rattle.dcsctp_core.specs.View.{View, call_start, Moves, MovesAll, CutTurn}
+use Rattle.dcsctp_core.specs.View.{View, call_start, Moves, MovesAll, CutsTurn}
 use Rattle.dcsctp_core.specs.wire.declared.packet.WireOptions.{WireOptions}
-use Rattle.dcsctp_socket_calls.specs.Parts.{MoveToEnd, ChunksMove, ChunksCut, AcksMove, PacketMoves, AcksCut, PacketCut, InputTurns, CutTurns, CallMoved, TurnsCut}
-use Rattle.dcsctp_core.specs.Handling.{TakesPossibleTurn, CutIn}
+use Rattle.dcsctp_socket_calls.specs.Parts.{MoveToEnd, ChunksMove, CutsChunks, AcksMove, PacketMoves, CutsAcks, CutsPacket, InputTurns, FirstOfInput, MovesByCall, CutsTurns}
+use Rattle.dcsctp_core.specs.Handling.{TakesPossibleTurn, CutsSomeTurn}
 use Rattle.dcsctp_core.proofs.Moving.{moves_one, moves_then}
 
 -- the turn of a packet that is handed in, and of one that is refused
@@ -29,31 +29,31 @@ reported e text = transition (refusal text) (refusal_outcome e text)
 
 -- A packet that isn't admitted has one turn.
 pub refused_packet : {R : Type 0} (stream : R → Stream) (a b : View R) (packet : PacketContent) (text : List ℕ)
-    → admits a.endpoint.core (packet_in packet) ≡ refused text → Moves stream a (refusal_outcome a.endpoint text) b
+    → admits a.endpoint.core (packet_of_content packet) ≡ refused text → Moves stream a (refusal_outcome a.endpoint text) b
     → PacketMoves stream packet a b
 refused_packet stream a b packet text is moves =
     record {
       turns = reported a.endpoint text ∷ [];
-      are = subst (λ (x : Admission). AdmittedTurns a.endpoint (packet_in packet) x (reported a.endpoint text ∷ [])) (sym is) (record { is = refl; comes = refl }, tt);
+      are = subst (λ (x : Admission). AdmittedTurns a.endpoint (packet_of_content packet) x (reported a.endpoint text ∷ [])) (sym is) (record { is = refl; comes = refl }, tt);
       moves = moves_one stream a b (reported a.endpoint text) moves;
     }
 
 -- A packet whose SHUTDOWN ACK chunks alone are handled has their turns.
-pub acks_worked : {R : Type 0} (stream : R → Stream) (a b : View R) (packet : PacketContent) → admits a.endpoint.core (packet_in packet) ≡ shutdown_acks_alone → AcksMove stream packet a b
+pub acks_worked : {R : Type 0} (stream : R → Stream) (a b : View R) (packet : PacketContent) → admits a.endpoint.core (packet_of_content packet) ≡ shutdown_acks_alone → AcksMove stream packet a b
     → PacketMoves stream packet a b
 acks_worked stream a b packet is worked =
     record {
       turns = worked.turns;
-      are = subst (λ (x : Admission). AdmittedTurns a.endpoint (packet_in packet) x worked.turns) (sym is) worked.are;
+      are = subst (λ (x : Admission). AdmittedTurns a.endpoint (packet_of_content packet) x worked.turns) (sym is) worked.are;
       moves = worked.moves;
     }
 
-pub acks_cut : {R : Type 0} (a : View R) (packet : PacketContent) (events : List (Event (List ℕ))) → admits a.endpoint.core (packet_in packet) ≡ shutdown_acks_alone → AcksCut packet a events
-    → PacketCut packet a events
+pub acks_cut : {R : Type 0} (a : View R) (packet : PacketContent) (events : List (Event (List ℕ))) → admits a.endpoint.core (packet_of_content packet) ≡ shutdown_acks_alone → CutsAcks packet a events
+    → CutsPacket packet a events
 acks_cut a packet events is cut =
     record {
       turns = cut.turns;
-      are = subst (λ (x : Admission). FirstAdmitted a.endpoint (packet_in packet) x cut.turns) (sym is) cut.are;
+      are = subst (λ (x : Admission). FirstOfAdmitted a.endpoint (packet_of_content packet) x cut.turns) (sym is) cut.are;
       adds = cut.adds;
     }
 
@@ -80,13 +80,13 @@ unreadable_call stream a b c bytes none counted moves =
 pub readable_call : {R : Type 0} (stream : R → Stream) (a b c : View R) (bytes : List ℕ) (packet : PacketContent) (turns : List Transition)
     → IsPacket (wire_options a.endpoint.options) packet bytes
     → Moves stream a (arrival_outcome a.endpoint) b
-    → AdmittedTurns b.endpoint (packet_in packet) (admits a.endpoint.core (packet_in packet)) turns
+    → AdmittedTurns b.endpoint (packet_of_content packet) (admits a.endpoint.core (packet_of_content packet)) turns
     → MovesAll stream b turns c
     → (all : List Transition) × HandleInput a.endpoint bytes all × MovesAll stream a all c
 readable_call stream a b c bytes packet turns found counted are moves = (
   arrived a.endpoint ∷ turns,
   readable packet (arrived a.endpoint) turns found (record { is = refl; comes = refl })
-      (subst (λ (e : Endpoint). AdmittedTurns e (packet_in packet) (admits a.endpoint.core (packet_in packet)) turns) counted.endpoint are),
+      (subst (λ (e : Endpoint). AdmittedTurns e (packet_of_content packet) (admits a.endpoint.core (packet_of_content packet)) turns) counted.endpoint are),
   counted_then stream a b c turns counted moves,
 )
 
@@ -96,7 +96,7 @@ readable_call stream a b c bytes packet turns found counted are moves = (
 abbrev Called : {R : Type 0} → (R → Stream) → List ℕ → View R → View R → Type 0
 Called stream bytes a c = (turns : List Transition) × HandleInput a.endpoint bytes turns × MovesAll stream a turns c
 
-called_input : {R : Type 0} (stream : R → Stream) (bytes : List ℕ) (old new : View R) → Called stream bytes (call_start old) new → CallMoved stream (InputTurns bytes) old new
+called_input : {R : Type 0} (stream : R → Stream) (bytes : List ℕ) (old new : View R) → Called stream bytes (call_start old) new → MovesByCall stream (InputTurns bytes) old new
 called_input stream bytes old new called = record { turns = called.0; are = called.1; moves = called.2 }
 
 -- the reader's options are those of the endpoint that counted the packet
@@ -108,18 +108,18 @@ pub readable_input : {R : Type 0} (stream : R → Stream) (old a b c : View R) (
     → IsPacket options packet bytes
     → b.endpoint.core ≡ a.endpoint.core
     → PacketMoves stream packet b c
-    → CallMoved stream (InputTurns bytes) old c
+    → MovesByCall stream (InputTurns bytes) old c
 readable_input {R = R} stream old a b c bytes packet options begins counted is found same worked =
     let here : IsPacket (wire_options a.endpoint.options) packet bytes = subst (λ (o : WireOptions). IsPacket o packet bytes) (options_of stream a b options counted is) found in
-    let are : AdmittedTurns b.endpoint (packet_in packet) (admits a.endpoint.core (packet_in packet)) worked.turns =
-    subst (λ (core : Core). AdmittedTurns b.endpoint (packet_in packet) (admits core (packet_in packet)) worked.turns) same worked.are in
+    let are : AdmittedTurns b.endpoint (packet_of_content packet) (admits a.endpoint.core (packet_of_content packet)) worked.turns =
+    subst (λ (core : Core). AdmittedTurns b.endpoint (packet_of_content packet) (admits core (packet_of_content packet)) worked.turns) same worked.are in
     called_input stream bytes old c (subst (λ (v : View R). Called stream bytes v c) begins (readable_call stream a b c bytes packet worked.turns here counted are worked.moves))
 
 pub unreadable_input : {R : Type 0} (stream : R → Stream) (old a b c : View R) (bytes : List ℕ) (options : WireOptions) (text : List ℕ)
     → a ≡ call_start old → Moves stream a (arrival_outcome a.endpoint) b → options ≡ wire_options b.endpoint.options
     → ((packet : PacketContent) → IsPacket options packet bytes → ⊥)
     → text ≡ unreadable_text → Moves stream b (refusal_outcome b.endpoint text) c
-    → CallMoved stream (InputTurns bytes) old c
+    → MovesByCall stream (InputTurns bytes) old c
 unreadable_input {R = R} stream old a b c bytes options text begins counted is none says moves =
     let here : (packet : PacketContent) → IsPacket (wire_options a.endpoint.options) packet bytes → ⊥ = λ packet found. none packet (subst (λ (o : WireOptions). IsPacket o packet bytes) (sym (options_of stream a b options counted is)) found) in
     called_input stream bytes old c (subst (λ (v : View R). Called stream bytes v c) begins (unreadable_call stream a b c bytes here counted (subst (λ (t : List ℕ). Moves stream b (refusal_outcome b.endpoint t) c) says moves)))
@@ -144,7 +144,7 @@ adds_whole stream a b turns events moves same =
 -- The turns so far were finished, and the one after them was cut.
 pub adds_cut : {R : Type 0} (stream : R → Stream) (a b : View R) (turns : List Transition) (turn : Transition) (events : List (Event (List ℕ)))
     → ports_of b.endpoint.options ≡ ports_of a.endpoint.options
-    → MovesAll stream a turns b → CutTurn b turn.outcome events → AddsFirstEvents (ports_of a.endpoint.options) (turns ++ turn ∷ []) a.events events
+    → MovesAll stream a turns b → CutsTurn b turn.outcome events → AddsFirstEvents (ports_of a.endpoint.options) (turns ++ turn ∷ []) a.events events
 adds_cut stream a b turns turn events same moves cut =
     let outcome : Outcome = turn.outcome in
     let ports = ports_of a.endpoint.options in
@@ -174,7 +174,7 @@ adds_begun ports first turns old new quiet adds =
       front = adds.front ∙ ap (λ (es : List (Event Emission)). map (user_event ports) (es ++ events_of turns)) (sym quiet);
     }
 
-pub unread_cut : {R : Type 0} (view : View R) (bytes : List ℕ) (events : List (Event (List ℕ))) → events ≡ view.events → TurnsCut (CutTurns bytes) view events
+pub unread_cut : {R : Type 0} (view : View R) (bytes : List ℕ) (events : List (Event (List ℕ))) → events ≡ view.events → CutsTurns (FirstOfInput bytes) view events
 unread_cut view bytes events same =
     record { turns = []; are = unread; adds = subst (λ (es : List (Event (List ℕ))). AddsFirstEvents (ports_of view.endpoint.options) [] view.events es) (sym same) (adds_none (ports_of view.endpoint.options) view.events) }
 
@@ -185,23 +185,23 @@ counted_events {R = R} stream old a b begins counted = counted.events ∙ append
 -- a call that was cut, with the turns that it had
 abbrev Cut : {R : Type 0} → List ℕ → View R → List (Event (List ℕ)) → Type 0
 Cut bytes view events =
-    (turns : List Transition) × CutInput view.endpoint bytes turns × AddsFirstEvents (ports_of view.endpoint.options) turns view.events events
+    (turns : List Transition) × FirstOfCall view.endpoint bytes turns × AddsFirstEvents (ports_of view.endpoint.options) turns view.events events
 
-input_cut : {R : Type 0} (bytes : List ℕ) (old : View R) (events : List (Event (List ℕ))) → Cut bytes (call_start old) events → TurnsCut (CutTurns bytes) old events
+input_cut : {R : Type 0} (bytes : List ℕ) (old : View R) (events : List (Event (List ℕ))) → Cut bytes (call_start old) events → CutsTurns (FirstOfInput bytes) old events
 input_cut bytes old events cut = record { turns = cut.0; are = cut.1; adds = cut.2 }
 
 -- the packet was counted before, which adds no event
 counted_cut : {R : Type 0} (stream : R → Stream) (a b : View R) (bytes : List ℕ) (packet : PacketContent) (events : List (Event (List ℕ)))
     → IsPacket (wire_options a.endpoint.options) packet bytes → Moves stream a (arrival_outcome a.endpoint) b
-    → b.endpoint.core ≡ a.endpoint.core → PacketCut packet b events → Cut bytes a events
+    → b.endpoint.core ≡ a.endpoint.core → CutsPacket packet b events → Cut bytes a events
 counted_cut stream a b bytes packet events found counted same cut =
-    let here : FirstAdmitted b.endpoint (packet_in packet) (admits a.endpoint.core (packet_in packet)) cut.turns =
-    subst (λ (core : Core). FirstAdmitted b.endpoint (packet_in packet) (admits core (packet_in packet)) cut.turns) same cut.are in
+    let here : FirstOfAdmitted b.endpoint (packet_of_content packet) (admits a.endpoint.core (packet_of_content packet)) cut.turns =
+    subst (λ (core : Core). FirstOfAdmitted b.endpoint (packet_of_content packet) (admits core (packet_of_content packet)) cut.turns) same cut.are in
     let ports : ports_of b.endpoint.options ≡ ports_of a.endpoint.options = ap (λ (e : Endpoint). ports_of e.options) counted.endpoint in
     let waiting : b.events ≡ a.events = counted.events ∙ append-nil a.events in (
       arrived a.endpoint ∷ cut.turns,
       read packet (arrived a.endpoint) cut.turns found (record { is = refl; comes = refl })
-          (subst (λ (e : Endpoint). FirstAdmitted e (packet_in packet) (admits a.endpoint.core (packet_in packet)) cut.turns) counted.endpoint here),
+          (subst (λ (e : Endpoint). FirstOfAdmitted e (packet_of_content packet) (admits a.endpoint.core (packet_of_content packet)) cut.turns) counted.endpoint here),
       record {
         added = cut.adds.added;
         rest = cut.adds.rest;
@@ -214,8 +214,8 @@ pub packet_cut : {R : Type 0} (stream : R → Stream) (old a b : View R) (bytes 
     → a ≡ call_start old → Moves stream a (arrival_outcome a.endpoint) b → options ≡ wire_options b.endpoint.options
     → IsPacket options packet bytes
     → b.endpoint.core ≡ a.endpoint.core
-    → PacketCut packet b events
-    → TurnsCut (CutTurns bytes) old events
+    → CutsPacket packet b events
+    → CutsTurns (FirstOfInput bytes) old events
 packet_cut {R = R} stream old a b bytes packet options events begins counted is found same cut =
     let here : IsPacket (wire_options a.endpoint.options) packet bytes = subst (λ (o : WireOptions). IsPacket o packet bytes) (options_of stream a b options counted is) found in
     input_cut bytes old events (subst (λ (v : View R). Cut bytes v events) begins (counted_cut stream a b bytes packet events here counted same cut))

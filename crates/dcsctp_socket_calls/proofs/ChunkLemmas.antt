@@ -24,7 +24,7 @@ use Rattle.dcsctp_core.proofs.Moving.{moves_one}
 use Rattle.dcsctp_core.proofs.spec_lemmas.OneAnswerLemmas.{init_by}
 use Rattle.dcsctp_core_handshake.specs.Handshake.{init_turn, connect_turn}
 use Rattle.dcsctp_core.specs.types.Schedule.{connect_call}
-use Rattle.dcsctp_socket_calls.specs.Parts.{ChunkMoves, ChunkCut, TurnsOf, CallMoved, HandlesChunk}
+use Rattle.dcsctp_socket_calls.specs.Parts.{ChunkMoves, CutsChunk, TurnsOf, MovesByCall, HandlesChunk}
 
 -- ---- a chunk's turn by what its handler says
 
@@ -35,7 +35,7 @@ works_chunk stream tag content turn old (Err error) new is cut = record { outcom
 
 -- No event of the turn was added.
 cut_before : {R : Type 0} (old : View R) (tag : ℕ) (content : Content) (outcome : Outcome) (events : List (Event (List ℕ)))
-    → ContentTurn old.endpoint tag content outcome → events ≡ old.events → ChunkCut tag content old events
+    → ContentTurn old.endpoint tag content outcome → events ≡ old.events → CutsChunk tag content old events
 cut_before old tag content outcome events turn same =
     record { outcome = outcome; turn = turn; cut = record { count = 0; added = same ∙ sym (append-nil old.events) } }
 
@@ -75,7 +75,7 @@ init_worked stream old new tag theirs moves =
       moves = moves;
     }
 
-pub init_cut : {R : Type 0} (old new : View R) (tag : ℕ) (theirs : Introduction) → OnlyDrew old new → ChunkCut tag (init theirs) old new.events
+pub init_cut : {R : Type 0} (old new : View R) (tag : ℕ) (theirs : Introduction) → OnlyDrew old new → CutsChunk tag (init theirs) old new.events
 init_cut {R = R} old new tag theirs same =
     cut_before old tag (init theirs) (init_answered (may_answer old.endpoint) old.endpoint theirs 0 0) new.events (0, 0, refl) (ap (λ (v : View R). v.events) same)
 
@@ -87,7 +87,7 @@ works_one stream tag content Took old (Err error) new is cut = record { outcome 
 -- ---- connect
 
 pub connect_moves : {R : Type 0} (stream : R → Stream) (old start new : View R) → start ≡ call_start old
-    → Moves stream start (connect_turn stream start) new → CallMoved stream (TurnsOf connect_call) old new
+    → Moves stream start (connect_turn stream start) new → MovesByCall stream (TurnsOf connect_call) old new
 connect_moves {R = R} stream old start new begins moves =
     let turn : Transition = transition (act_input connect) (connect_turn stream (call_start old)) in
     record {

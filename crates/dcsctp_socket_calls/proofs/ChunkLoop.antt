@@ -3,7 +3,7 @@ use Rattle.std.proofs.Common.{◌≡◌, ℕ, ◌+◌, ◌<◌, List, [], ◌∷
 use Rattle.std.proofs.lemmas.List.{take_more, take-map, map-append, take-append-drop}
 use Rattle.dcsctp_core.specs.wire.declared.chunk.Chunk.{Chunk}
 use Rattle.dcsctp_core.specs.wire.Content.{ChunkContent, chunk_content}
-use Rattle.dcsctp_core.specs.spec.Packet.{Content, content_in}
+use Rattle.dcsctp_core.specs.spec.Packet.{Content, content_of_chunk}
 use Rattle.dcsctp_core.specs.spec.endpoint.Endpoint.{Endpoint}
 use Rattle.dcsctp_core.specs.spec.endpoint.Outcome.{Outcome}
 use Rattle.dcsctp_core.specs.types.Settings.{ports_of}
@@ -15,27 +15,27 @@ use Rattle.dcsctp_core.proofs.spec_lemmas.TurnLists.{after_all-append}
 
 -- what the chunks of a packet say
 abbrev pub contents_of : List Chunk → List Content
-contents_of chunks = map content_in (map chunk_content chunks)
+contents_of chunks = map content_of_chunk (map chunk_content chunks)
 
 pub contents_append : (xs ys : List Chunk) → contents_of (xs ++ ys) ≡ contents_of xs ++ contents_of ys
-contents_append xs ys = ap (λ (cs : List ChunkContent). map content_in cs) (map-append chunk_content xs ys) ∙ map-append content_in (map chunk_content xs) (map chunk_content ys)
+contents_append xs ys = ap (λ (cs : List ChunkContent). map content_of_chunk cs) (map-append chunk_content xs ys) ∙ map-append content_of_chunk (map chunk_content xs) (map chunk_content ys)
 
 -- what the chunks up to one place more say
 pub contents_more : (chunks : List Chunk) (i : ℕ) (chunk : Chunk) → i < length chunks → chunk ≡ get_or chunks i chunk
-    → contents_of (take (i + 1) chunks) ≡ contents_of (take i chunks) ++ content_in (chunk_content chunk) ∷ []
+    → contents_of (take (i + 1) chunks) ≡ contents_of (take i chunks) ++ content_of_chunk (chunk_content chunk) ∷ []
 contents_more chunks i chunk below is =
     let one : take (i + 1) chunks ≡ take i chunks ++ chunk ∷ [] = take_more chunks i chunk below ∙ ap (λ (c : Chunk). take i chunks ++ c ∷ []) (sym is) in
     ap contents_of one ∙ contents_append (take i chunks) (chunk ∷ [])
 
 -- what all chunks say, from those up to one place on
 pub contents_split : (chunks : List Chunk) (i : ℕ) (chunk : Chunk) → i < length chunks → chunk ≡ get_or chunks i chunk
-    → contents_of chunks ≡ contents_of (take i chunks) ++ content_in (chunk_content chunk) ∷ contents_of (drop (i + 1) chunks)
+    → contents_of chunks ≡ contents_of (take i chunks) ++ content_of_chunk (chunk_content chunk) ∷ contents_of (drop (i + 1) chunks)
 contents_split chunks i chunk below is =
     let after = contents_of (drop (i + 1) chunks) in
     ap contents_of (sym (take-append-drop (i + 1) chunks))
     ∙ contents_append (take (i + 1) chunks) (drop (i + 1) chunks)
     ∙ ap (λ (cs : List Content). cs ++ after) (contents_more chunks i chunk below is)
-    ∙ append_assoc (contents_of (take i chunks)) (content_in (chunk_content chunk) ∷ []) after
+    ∙ append_assoc (contents_of (take i chunks)) (content_of_chunk (chunk_content chunk) ∷ []) after
 
 -- a chunk's turn
 abbrev pub worked_as : ℕ → Content → Outcome → Transition
@@ -49,10 +49,10 @@ pub turns_more : (e now : Endpoint) (tag : ℕ) (chunks : List Chunk) (i : ℕ) 
     → i < length chunks → chunk ≡ get_or chunks i chunk
     → GoOn turns → ChunkTurns e tag (contents_of (take i chunks)) [] turns
     → now ≡ after_all e turns
-    → ContentTurn now tag (content_in (chunk_content chunk)) outcome
-    → ChunkTurns e tag (contents_of (take (i + 1) chunks)) [] (turns ++ worked_as tag (content_in (chunk_content chunk)) outcome ∷ [])
+    → ContentTurn now tag (content_of_chunk (chunk_content chunk)) outcome
+    → ChunkTurns e tag (contents_of (take (i + 1) chunks)) [] (turns ++ worked_as tag (content_of_chunk (chunk_content chunk)) outcome ∷ [])
 turns_more e now tag chunks i chunk turns outcome below is goes_on are here turn =
-    let content = content_in (chunk_content chunk) in
+    let content = content_of_chunk (chunk_content chunk) in
     subst (λ (contents : List Content). ChunkTurns e tag contents [] (turns ++ worked_as tag content outcome ∷ [])) (sym (contents_more chunks i chunk below is))
     (chunk_turns-push e tag (contents_of (take i chunks)) turns content (worked_as tag content outcome) goes_on are
     (is_worked (after_all e turns) now tag content outcome here turn))
@@ -63,11 +63,11 @@ pub turns_end : (e now : Endpoint) (tag : ℕ) (chunks : List Chunk) (i : ℕ) (
     → i < length chunks → chunk ≡ get_or chunks i chunk
     → GoOn turns → ChunkTurns e tag (contents_of (take i chunks)) [] turns
     → now ≡ after_all e turns
-    → ContentTurn now tag (content_in (chunk_content chunk)) outcome
+    → ContentTurn now tag (content_of_chunk (chunk_content chunk)) outcome
     → outcome.following ≡ dropped_rest
-    → ChunkTurns e tag (contents_of chunks) ends (turns ++ worked_as tag (content_in (chunk_content chunk)) outcome ∷ [])
+    → ChunkTurns e tag (contents_of chunks) ends (turns ++ worked_as tag (content_of_chunk (chunk_content chunk)) outcome ∷ [])
 turns_end e now tag chunks i chunk turns outcome ends below is goes_on are here turn drops =
-    let content = content_in (chunk_content chunk) in
+    let content = content_of_chunk (chunk_content chunk) in
     subst (λ (contents : List Content). ChunkTurns e tag contents ends (turns ++ worked_as tag content outcome ∷ [])) (sym (contents_split chunks i chunk below is))
     (chunk_turns-end e tag (contents_of (take i chunks)) ends turns content (worked_as tag content outcome) (contents_of (drop (i + 1) chunks)) goes_on are
     (is_worked (after_all e turns) now tag content outcome here turn) drops)
@@ -82,12 +82,12 @@ pub turns_cut : (e now : Endpoint) (tag : ℕ) (chunks : List Chunk) (i : ℕ) (
     → i < length chunks → chunk ≡ get_or chunks i chunk
     → GoOn turns → ChunkTurns e tag (contents_of (take i chunks)) [] turns
     → now ≡ after_all e turns
-    → ContentTurn now tag (content_in (chunk_content chunk)) outcome
+    → ContentTurn now tag (content_of_chunk (chunk_content chunk)) outcome
     → outcome.following ≡ packet_end
-    → Turns (after_all e (turns ++ worked_as tag (content_in (chunk_content chunk)) outcome ∷ [])) ends last
-    → ChunkTurns e tag (contents_of chunks) ends ((turns ++ worked_as tag (content_in (chunk_content chunk)) outcome ∷ []) ++ last)
+    → Turns (after_all e (turns ++ worked_as tag (content_of_chunk (chunk_content chunk)) outcome ∷ [])) ends last
+    → ChunkTurns e tag (contents_of chunks) ends ((turns ++ worked_as tag (content_of_chunk (chunk_content chunk)) outcome ∷ []) ++ last)
 turns_cut e now tag chunks i chunk turns outcome ends last below is goes_on are here turn cuts come =
-    let content = content_in (chunk_content chunk) in
+    let content = content_of_chunk (chunk_content chunk) in
     let worked : Transition = worked_as tag content outcome in
     let here_come : Turns outcome.after ends last = subst (λ (x : Endpoint). Turns x ends last) (after_all-append e turns (worked ∷ [])) come in
     let all : ChunkTurns e tag (contents_of chunks) ends (turns ++ worked ∷ last) =
@@ -109,7 +109,7 @@ ports_more e now tag content turns outcome here turn same =
 
 contents_taken : (count : ℕ) (chunks : List Chunk) → contents_of (take count chunks) ≡ take count (contents_of chunks)
 contents_taken count chunks =
-    ap (λ (cs : List ChunkContent). map content_in cs) (sym (take-map chunk_content count chunks)) ∙ sym (take-map content_in count (map chunk_content chunks))
+    ap (λ (cs : List ChunkContent). map content_of_chunk cs) (sym (take-map chunk_content count chunks)) ∙ sym (take-map content_of_chunk count (map chunk_content chunks))
 
 -- These chunks are the first ones.
 pub first_turns : (e : Endpoint) (tag : ℕ) (chunks : List Chunk) (count : ℕ) (turns : List Transition)

@@ -5,13 +5,13 @@ use Rattle.std.specs.Prelude.{nat_le}
 use Rattle.rand_core.specs.Stream.{Stream}
 use Rattle.dcsctp_core.specs.spec.endpoint.Endpoint.{Endpoint}
 use Rattle.dcsctp_core.specs.spec.endpoint.Outcome.{still}
-use Rattle.dcsctp_core.specs.spec.endpoint.Turn.{time_passes, clock_at}
+use Rattle.dcsctp_core.specs.spec.endpoint.Turn.{time_passes, with_clock}
 use Rattle.dcsctp_core.specs.spec.endpoint.CallTurns.{Transition, transition}
-use Rattle.dcsctp_core.specs.spec.endpoint.TimeTurns.{Timer, timers_in, DueTurns, ExpiryThen, ExpiryTurns, TimeTurns, NoneIsDue}
+use Rattle.dcsctp_core.specs.spec.endpoint.TimeTurns.{Timer, handled_timers, DueTurns, ExpiryThen, ExpiryTurns, TimeTurns, NoneIsDue}
 use Rattle.dcsctp_core.specs.declared.context.Context.{Context}
 use Rattle.dcsctp_core.specs.View.{View, view_of, endpoint_of, core_of, call_start, MovesAll}
 use Rattle.dcsctp_core.specs.types.Schedule.{advance_call}
-use Rattle.dcsctp_socket_calls.specs.Parts.{TurnsOf, CallMoved}
+use Rattle.dcsctp_socket_calls.specs.Parts.{TurnsOf, MovesByCall}
 use Rattle.dcsctp_socket_calls.proofs.TimeLemmas.{moment_turns, moment_are, clock_moves, view_at}
 
 none_expires : (e : Endpoint) (timers : List Timer) → NoneIsDue e timers → ExpiryTurns timers false e []
@@ -21,28 +21,28 @@ none_expires e (timer ∷ timers) none =
 
 -- Nothing is due, and the clock was moved.
 pub clock_time_moves : {R : Type 0} (stream : R → Stream) (old start : Context R) (moment : ℕ) → view_of start ≡ call_start (view_of old) → start.moment ≤ moment
-    → NoneIsDue (clock_at moment (endpoint_of old)) (timers_in (core_of old.state)) → CallMoved stream (TurnsOf (advance_call moment)) (view_of old) (view_of (record start { moment = moment }))
+    → NoneIsDue (with_clock moment (endpoint_of old)) (handled_timers (core_of old.state)) → MovesByCall stream (TurnsOf (advance_call moment)) (view_of old) (view_of (record start { moment = moment }))
 clock_time_moves {R = R} stream old start moment begins later none =
     let a : View R = call_start (view_of old) in
-    let moved : CallMoved stream (TurnsOf (advance_call moment)) (view_of old) (view_at moment a) =
+    let moved : MovesByCall stream (TurnsOf (advance_call moment)) (view_of old) (view_at moment a) =
     record {
       turns = moment_turns a.endpoint moment [];
-      are = moment_are a.endpoint moment [] (subst (λ (v : View R). v.endpoint.moment ≤ moment) begins later) (none_expires (clock_at moment a.endpoint) (timers_in a.endpoint.core) none);
+      are = moment_are a.endpoint moment [] (subst (λ (v : View R). v.endpoint.moment ≤ moment) begins later) (none_expires (with_clock moment a.endpoint) (handled_timers a.endpoint.core) none);
       moves = clock_moves stream a moment;
     } in
-    subst (λ (v : View R). CallMoved stream (TurnsOf (advance_call moment)) (view_of old) (view_at moment v)) (sym begins) moved
+    subst (λ (v : View R). MovesByCall stream (TurnsOf (advance_call moment)) (view_of old) (view_at moment v)) (sym begins) moved
 
 -- The moment is an earlier one.
 pub early_time_moves : {R : Type 0} (stream : R → Stream) (old start : Context R) (moment : ℕ) → view_of start ≡ call_start (view_of old) → moment < start.moment
-    → CallMoved stream (TurnsOf (advance_call moment)) (view_of old) (view_of start)
+    → MovesByCall stream (TurnsOf (advance_call moment)) (view_of old) (view_of start)
 early_time_moves {R = R} stream old start moment begins earlier =
     let a : View R = call_start (view_of old) in
     let before : moment < a.endpoint.moment = subst (λ (v : View R). moment < v.endpoint.moment) begins earlier in
     let is : false ≡ nat_le a.endpoint.moment moment = grind arith in
-    let stays : CallMoved stream (TurnsOf (advance_call moment)) (view_of old) a =
+    let stays : MovesByCall stream (TurnsOf (advance_call moment)) (view_of old) a =
     record {
       turns = [];
       are = subst (λ (b : Bool). TimeTurns b a.endpoint moment []) is refl;
       moves = record { endpoint = refl; events = sym (append-nil a.events); words = sym (append-nil a.words); pairs = sym (append-nil a.pairs); drawn = refl };
     } in
-    subst (CallMoved stream (TurnsOf (advance_call moment)) (view_of old)) (sym begins) stays
+    subst (MovesByCall stream (TurnsOf (advance_call moment)) (view_of old)) (sym begins) stays

@@ -9,16 +9,16 @@ use Rattle.dcsctp_core.specs.spec.Reconfiguration.{ResetParameter}
 use Rattle.dcsctp_core.specs.types.declared.arrivals.SkippedTo.{SkippedTo}
 use Rattle.dcsctp_core.specs.spec.queues.Arrivals.{Arrival}
 use Rattle.dcsctp_core.specs.spec.queues.Transfer.{Transfer}
-use Rattle.dcsctp_core.specs.spec.endpoint.Endpoint.{Endpoint, Core, closed, cookie_wait, cookie_echoed, open_in, OpenPhase, established, shutdown_pending, shutdown_sent, shutdown_received, shutdown_ack_sent, held_in}
+use Rattle.dcsctp_core.specs.spec.endpoint.Endpoint.{Endpoint, Core, closed, cookie_wait, cookie_echoed, open_in, OpenPhase, established, shutdown_pending, shutdown_sent, shutdown_received, shutdown_ack_sent, held_by_core}
 use Rattle.dcsctp_core.specs.spec.endpoint.Following.{next_chunk}
 use Rattle.dcsctp_core.specs.spec.endpoint.Outcome.{Outcome, quiet, sends}
-use Rattle.dcsctp_core.specs.spec.endpoint.DataOutcomes.{no_user_data_outcome, ReceiveTurn, DataWhere, DataTurn, ForwardTurn, SackWhere, SackBy, SackTurn}
+use Rattle.dcsctp_core.specs.spec.endpoint.DataOutcomes.{no_user_data_outcome, ReceiveTurn, HandlesPayload, DataTurn, ForwardTurn, HandlesSackIfValid, HandlesSackIfConnected, SackTurn}
 use Rattle.dcsctp_core.specs.spec.queues.Acknowledging.{is_sack_valid}
 use Rattle.dcsctp_core.specs.spec.endpoint.FlushOutcomes.{Answer, first_ask, packets_allowed, draft_to, flush_answered}
-use Rattle.dcsctp_core.specs.spec.endpoint.HandshakeOutcomes.{connected_after, cookie_ack_by, CookieAckAnswers, CookieAckTurn}
-use Rattle.dcsctp_core.specs.spec.endpoint.HeardShutdown.{said_by_shutdown, heeds_shutdown, ShutdownWhere, ShutdownBy, ShutdownTurn}
-use Rattle.dcsctp_core.specs.spec.endpoint.ShutdownOutcomes.{may_go_on, step_by, phase_at, shutdown_outcome_in}
-use Rattle.dcsctp_core.specs.spec.endpoint.ResetOutcomes.{responses_outcome, responses_by, ResponseAnswers, parameters_handled_in, answered_in, resets_handled, renewable_left, reset_events_of, WorksResets, ResetTurn}
+use Rattle.dcsctp_core.specs.spec.endpoint.HandshakeOutcomes.{connected_after, cookie_ack_with_flush, CookieAckAnswers, CookieAckTurn}
+use Rattle.dcsctp_core.specs.spec.endpoint.HeardShutdown.{said_by_shutdown, acknowledges_by_shutdown, HearsValidShutdown, HearsShutdown, ShutdownTurn}
+use Rattle.dcsctp_core.specs.spec.endpoint.ShutdownOutcomes.{may_continue_shutdown, step_if_acknowledged, endpoint_in_phase, shutdown_outcome_by_phase}
+use Rattle.dcsctp_core.specs.spec.endpoint.ResetOutcomes.{responses_outcome, responses_unless_refused, ResponseAnswers, handled_parameters_of, answer_to_own, resets_handled, renewable_left, reset_events_of, HandlesResets, ResetTurn}
 use Rattle.dcsctp_core.proofs.spec_lemmas.FlushKeeps.{flush_keeps}
 
 -- The next chunk follows.
@@ -40,8 +40,8 @@ received_goes : (e : Endpoint) (transfer : Option Transfer) (arrived : Arrival) 
 received_goes e None arrived o is = goes_as o _ is refl
 received_goes e (Some transfer) arrived o turn = goes_as o _ turn.2 refl
 
-data_where : (e : Endpoint) (arrived : Arrival) (payload : List ℕ) (o : Outcome) → DataWhere e arrived payload o → GoesOn o
-data_where e arrived [] o is = goes_as o _ is (no_data_goes e (held_in e.core) arrived.tsn)
+data_where : (e : Endpoint) (arrived : Arrival) (payload : List ℕ) (o : Outcome) → HandlesPayload e arrived payload o → GoesOn o
+data_where e arrived [] o is = goes_as o _ is (no_data_goes e (held_by_core e.core) arrived.tsn)
 data_where e arrived (byte ∷ bytes) o turn = received_goes e e.queues.transfer arrived o turn
 
 pub data_goes : (e : Endpoint) (arrived : Arrival) (o : Outcome) → DataTurn e arrived o → GoesOn o
@@ -51,22 +51,22 @@ pub forward_goes : (e : Endpoint) (transfer : Option Transfer) (tsn : ℕ) (entr
 forward_goes e None tsn entries o is = goes_as o _ is refl
 forward_goes e (Some transfer) tsn entries o turn = goes_as o _ turn.2 refl
 
-sack_where : (valid : Bool) (e : Endpoint) (held : Held) (transfer : Transfer) (sack : SackContent) (o : Outcome) → SackWhere valid e held transfer sack o → GoesOn o
+sack_where : (valid : Bool) (e : Endpoint) (held : Held) (transfer : Transfer) (sack : SackContent) (o : Outcome) → HandlesSackIfValid valid e held transfer sack o → GoesOn o
 sack_where false e held transfer sack o is = goes_as o _ is refl
 sack_where true e held transfer sack o h =
     goes_as o _ h.is (flush_keeps first_ask (packets_allowed h.fast.after.options.max_burst h.fast.after.core) h.fast.after (draft_to held) h.answers h.allowed).following
 
-sack_by : (e : Endpoint) (held : Option Held) (transfer : Transfer) (sack : SackContent) (o : Outcome) → SackBy e held transfer sack o → GoesOn o
+sack_by : (e : Endpoint) (held : Option Held) (transfer : Transfer) (sack : SackContent) (o : Outcome) → HandlesSackIfConnected e held transfer sack o → GoesOn o
 sack_by e None transfer sack o is = goes_as o _ is refl
 sack_by e (Some held) transfer sack o turn = sack_where (is_sack_valid transfer.retransmission sack.cumulative_tsn_ack) e held transfer sack o turn
 
 pub sack_goes : (e : Endpoint) (transfer : Option Transfer) (sack : SackContent) (o : Outcome) → SackTurn e transfer sack o → GoesOn o
 sack_goes e None sack o is = goes_as o _ is refl
-sack_goes e (Some transfer) sack o turn = sack_by e (held_in e.core) transfer sack o turn
+sack_goes e (Some transfer) sack o turn = sack_by e (held_by_core e.core) transfer sack o turn
 
 -- ---- SHUTDOWN
 
-step_goes : (b : Bool) (e : Endpoint) (phase : OpenPhase) (my : Pair) (held : Held) → GoesOn (step_by b e phase my held)
+step_goes : (b : Bool) (e : Endpoint) (phase : OpenPhase) (my : Pair) (held : Held) → GoesOn (step_if_acknowledged b e phase my held)
 step_goes false e phase my held = refl
 step_goes true e established my held = refl
 step_goes true e shutdown_pending my held = refl
@@ -74,21 +74,21 @@ step_goes true e shutdown_sent my held = refl
 step_goes true e shutdown_received my held = refl
 step_goes true e shutdown_ack_sent my held = refl
 
-shutdown_in_goes : (e : Endpoint) (phase : OpenPhase) (my : Pair) (held : Held) → GoesOn (shutdown_outcome_in e phase my held)
-shutdown_in_goes e established my held = step_goes (may_go_on e) (phase_at e shutdown_received my held) shutdown_received my held
-shutdown_in_goes e shutdown_pending my held = step_goes (may_go_on e) (phase_at e shutdown_received my held) shutdown_received my held
+shutdown_in_goes : (e : Endpoint) (phase : OpenPhase) (my : Pair) (held : Held) → GoesOn (shutdown_outcome_by_phase e phase my held)
+shutdown_in_goes e established my held = step_goes (may_continue_shutdown e) (endpoint_in_phase e shutdown_received my held) shutdown_received my held
+shutdown_in_goes e shutdown_pending my held = step_goes (may_continue_shutdown e) (endpoint_in_phase e shutdown_received my held) shutdown_received my held
 shutdown_in_goes e shutdown_sent my held = refl
 shutdown_in_goes e shutdown_received my held = refl
 shutdown_in_goes e shutdown_ack_sent my held = refl
 
-shutdown_where : (heeds : Bool) (e : Endpoint) (phase : OpenPhase) (my : Pair) (held : Held) (transfer : Transfer) (tsn : ℕ) (o : Outcome) → ShutdownWhere heeds e phase my held transfer tsn o → GoesOn o
+shutdown_where : (heeds : Bool) (e : Endpoint) (phase : OpenPhase) (my : Pair) (held : Held) (transfer : Transfer) (tsn : ℕ) (o : Outcome) → HearsValidShutdown heeds e phase my held transfer tsn o → GoesOn o
 shutdown_where false e phase my held transfer tsn o is = goes_as o _ is (shutdown_in_goes e phase my held)
 shutdown_where true e phase my held transfer tsn o h =
-    sack_where true (phase_at e shutdown_received my held) held transfer (said_by_shutdown tsn transfer.retransmission) o h
+    sack_where true (endpoint_in_phase e shutdown_received my held) held transfer (said_by_shutdown tsn transfer.retransmission) o h
 
-shutdown_by : (e : Endpoint) (phase : OpenPhase) (my : Pair) (held : Held) (transfer : Option Transfer) (tsn : ℕ) (o : Outcome) → ShutdownBy e phase my held transfer tsn o → GoesOn o
+shutdown_by : (e : Endpoint) (phase : OpenPhase) (my : Pair) (held : Held) (transfer : Option Transfer) (tsn : ℕ) (o : Outcome) → HearsShutdown e phase my held transfer tsn o → GoesOn o
 shutdown_by e phase my held None tsn o is = goes_as o _ is (shutdown_in_goes e phase my held)
-shutdown_by e phase my held (Some transfer) tsn o turn = shutdown_where (heeds_shutdown e.options phase transfer tsn) e phase my held transfer tsn o turn
+shutdown_by e phase my held (Some transfer) tsn o turn = shutdown_where (acknowledges_by_shutdown e.options phase transfer tsn) e phase my held transfer tsn o turn
 
 pub shutdown_goes : (e : Endpoint) (core : Core) (tsn : ℕ) (o : Outcome) → ShutdownTurn e core tsn o → GoesOn o
 shutdown_goes e closed tsn o is = goes_as o _ is refl
@@ -98,7 +98,7 @@ shutdown_goes e (open_in phase my held) tsn o turn = shutdown_by e phase my held
 
 -- ---- COOKIE ACK
 
-cookie_ack_by_goes : (e : Endpoint) (core : Core) (answers : List Answer) → CookieAckAnswers e core answers → GoesOn (cookie_ack_by (flush_answered answers) e core)
+cookie_ack_by_goes : (e : Endpoint) (core : Core) (answers : List Answer) → CookieAckAnswers e core answers → GoesOn (cookie_ack_with_flush (flush_answered answers) e core)
 cookie_ack_by_goes e closed answers allowed = refl
 cookie_ack_by_goes e (cookie_wait mine) answers allowed = refl
 cookie_ack_by_goes e (cookie_echoed mine held cookie) answers allowed =
@@ -112,17 +112,17 @@ cookie_ack_goes e o turn = goes_as o _ turn.2 (cookie_ack_by_goes e e.core turn.
 -- ---- RE-CONFIG
 
 responses_go : (refused : Bool) (e : Endpoint) (told : List (Event Emission)) (held : Held) (parameters responses : List ResetParameter) (answers : List Answer)
-    → ResponseAnswers refused e held responses answers → GoesOn (responses_by refused e told held parameters responses answers)
+    → ResponseAnswers refused e held responses answers → GoesOn (responses_unless_refused refused e told held parameters responses answers)
 responses_go true e told held parameters responses answers none = refl
 responses_go false e told held parameters responses answers allowed =
     let after : Endpoint = (responses_outcome e held responses).after in
     (flush_keeps first_ask (packets_allowed after.options.max_burst after.core) after (draft_to held) answers allowed).following
 
-works_go : (e : Endpoint) (my : Pair) (held : Held) (parameters : List ResetParameter) (o : Outcome) → WorksResets e my held parameters o → GoesOn o
+works_go : (e : Endpoint) (my : Pair) (held : Held) (parameters : List ResetParameter) (o : Outcome) → HandlesResets e my held parameters o → GoesOn o
 works_go e my held parameters o h =
-    let worked = parameters_handled_in e my held parameters in
+    let worked = handled_parameters_of e my held parameters in
     goes_as o _ h.is
-    (responses_go worked.is_refused (resets_handled e (answered_in held worked parameters) worked.held h.left (renewable_left e held worked parameters))
+    (responses_go worked.is_refused (resets_handled e (answer_to_own held worked parameters) worked.held h.left (renewable_left e held worked parameters))
     (reset_events_of e parameters worked.effects) worked.held parameters worked.answers h.answers h.allowed)
 
 reset_by_goes : (e : Endpoint) (core : Core) (parameters : List ResetParameter) (o : Outcome) → ResetTurn e core parameters o → GoesOn o

@@ -7,14 +7,14 @@ use Rattle.dcsctp_core.specs.spec.endpoint.Event.{Event}
 use Rattle.dcsctp_core.specs.spec.Packet.{Emission}
 use Rattle.dcsctp_core.specs.types.declared.association.Held.{Held}
 use Rattle.dcsctp_core.specs.spec.queues.Transfer.{Transfer}
-use Rattle.dcsctp_core.specs.spec.endpoint.Endpoint.{Endpoint, Core, closed, cookie_wait, cookie_echoed, open_in, held_in}
+use Rattle.dcsctp_core.specs.spec.endpoint.Endpoint.{Endpoint, Core, closed, cookie_wait, cookie_echoed, open_in, held_by_core}
 use Rattle.dcsctp_core.specs.spec.endpoint.Outcome.{Outcome, still, fits}
 use Rattle.dcsctp_core.specs.types.declared.ends.AbortReason.TheVariants.{TooManyErrors}
 use Rattle.dcsctp_core.specs.spec.endpoint.Turn.{Input, act_input, ActTurn, Turn}
 use Rattle.dcsctp_core.specs.spec.association.Acts.{abort_with, shutdown_repeats, t1_expires, flushes}
 use Rattle.dcsctp_core.specs.spec.endpoint.CallTurns.{Transition, transition, Turns, events_of}
 use Rattle.dcsctp_core.specs.spec.endpoint.TimeTurns.{Timer, t1_timer, own_timer, t2_timer, t2_input, deadline, has_come, has_restart, expiry_input, inputs_behind, ExpiryThen, ExpiryTurns}
-use Rattle.dcsctp_core.specs.spec.endpoint.DataOutcomes.{with_transfer, flush_by, AnswersTo, FlushTurn, delay_outcome, LossTurn}
+use Rattle.dcsctp_core.specs.spec.endpoint.DataOutcomes.{with_transfer, flush_to_peer, AnswersTo, FlushTurn, delay_outcome, LossTurn}
 use Rattle.dcsctp_core.specs.spec.endpoint.EndOutcomes.{aborting_outcome}
 use Rattle.dcsctp_core.specs.spec.endpoint.FlushOutcomes.{Answer, first_ask, packets_allowed, draft_to, flush_answered}
 use Rattle.dcsctp_core.specs.spec.endpoint.HandshakeOutcomes.{echo_emission, EchoAnswers}
@@ -23,18 +23,18 @@ use Rattle.dcsctp_core.specs.spec.endpoint.OwnTimers.{OwnTimer, acknowledgement_
 use Rattle.dcsctp_core.specs.spec.endpoint.ReconfigurationOutcomes.{reconfiguration_outcome}
 use Rattle.dcsctp_core.specs.spec.endpoint.ShutdownOutcomes.{t2_again_outcome}
 use Rattle.dcsctp_core.specs.spec.endpoint.TransferMoves.{lost_all}
-use Rattle.dcsctp_core.specs.spec.endpoint.TimerOutcomes.{t1_goes_on, t1_again_by, AgainAnswers, t1_gives_up_outcome}
+use Rattle.dcsctp_core.specs.spec.endpoint.TimerOutcomes.{endpoint_with_t1_continued, t1_again_with_flush, AgainAnswers, t1_gives_up_outcome}
 use Rattle.dcsctp_core.proofs.spec_lemmas.AnswerLemmas.{any_answers}
 use Rattle.dcsctp_core.proofs.spec_lemmas.TurnLists.{events_of-append}
 use Rattle.dcsctp_spec_laws.proofs.HeartbeatLemmas.{timer_controlled}
 use Rattle.dcsctp_spec_laws.proofs.ControlLemmas.{acts_are_controlled}
 use Rattle.dcsctp_core.specs.api.Calls.{AddsFirstEvents, user_event}
 use Rattle.dcsctp_core.specs.declared.context.Context.{Context}
-use Rattle.dcsctp_core.specs.Handling.{TakesPossibleTurn, CutIn}
+use Rattle.dcsctp_core.specs.Handling.{TakesPossibleTurn, CutsSomeTurn}
 use Rattle.dcsctp_core.specs.Timing.{is_timer_due, ExpiryTurn, Expires}
-use Rattle.dcsctp_core.specs.View.{View, view_of, Moves, MovesAll, CutTurn}
+use Rattle.dcsctp_core.specs.View.{View, view_of, Moves, MovesAll, CutsTurn}
 use Rattle.dcsctp_core.proofs.Moving.{moves_one, moves_then}
-use Rattle.dcsctp_socket_calls.specs.Parts.{TurnsMove, TurnsCut, WorksTurns}
+use Rattle.dcsctp_socket_calls.specs.Parts.{TurnsMove, CutsTurns, MakesTurns}
 use Rattle.dcsctp_socket_calls.specs.TimeParts.{EndTurns}
 use Rattle.dcsctp_socket_calls.proofs.CallLemmas.{adds_cut}
 use Rattle.dcsctp_socket_calls.proofs.DispatchLemmas.{moves_none}
@@ -54,8 +54,8 @@ flush_to e (Some held) = any_answers first_ask (packets_allowed e.options.max_bu
 
 flush_comes : (e : Endpoint) → (o : Outcome) × FlushTurn e o
 flush_comes e =
-    let some : (answers : List Answer) × AnswersTo e (held_in e.core) answers = flush_to e (held_in e.core) in
-    (flush_by e (held_in e.core) some.0, (some.0, some.1, refl))
+    let some : (answers : List Answer) × AnswersTo e (held_by_core e.core) answers = flush_to e (held_by_core e.core) in
+    (flush_to_peer e (held_by_core e.core) some.0, (some.0, some.1, refl))
 
 echo_to : (b : Bool) (e : Endpoint) (tag : ℕ) (cookie : List ℕ) → (answers : List Answer) × EchoAnswers b e tag cookie answers
 echo_to true e tag cookie = any_answers first_ask (packets_allowed e.options.max_burst e.core) e (echo_emission tag cookie)
@@ -69,8 +69,8 @@ again_to e (open_in phase mine held) = ([], refl)
 
 t1_comes : (e : Endpoint) (again : Bool) → (o : Outcome) × ActTurn e (t1_expires again) o
 t1_comes e true =
-    let some : (answers : List Answer) × AgainAnswers (t1_goes_on e) e.core answers = again_to (t1_goes_on e) e.core in
-    (t1_again_by (flush_answered some.0) e e.core, (some.0, some.1, refl))
+    let some : (answers : List Answer) × AgainAnswers (endpoint_with_t1_continued e) e.core answers = again_to (endpoint_with_t1_continued e) e.core in
+    (t1_again_with_flush (flush_answered some.0) e e.core, (some.0, some.1, refl))
 t1_comes e false = (t1_gives_up_outcome e e.core, refl)
 
 loss_comes : (e : Endpoint) (transfer : Option Transfer) → (o : Outcome) × LossTurn e transfer o
@@ -83,7 +83,7 @@ own_comes e acknowledgement_delay = (delay_outcome e e.queues.transfer, refl)
 own_comes e retransmission = loss_comes e e.queues.transfer
 own_comes e heartbeat_interval = (interval_outcome e e.core, refl)
 own_comes e heartbeat_timeout = (timeout_outcome e, refl)
-own_comes e reconfiguration = (reconfiguration_outcome e (held_in e.core) e.outstanding, refl)
+own_comes e reconfiguration = (reconfiguration_outcome e (held_by_core e.core) e.outstanding, refl)
 
 t2_comes : (e : Endpoint) (restarts : Bool) → Comes e (t2_input restarts)
 t2_comes e true = (t2_again_outcome e, refl)
@@ -207,11 +207,11 @@ adds_behind stream a b turns more events same moves adds =
     }
 
 -- The one turn was cut.
-pub adds_one : {R : Type 0} (stream : R → Stream) (a : View R) (turn : Transition) (events : List (Event (List ℕ))) → CutTurn a turn.outcome events → AddsFirstEvents (ports_of a.endpoint.options) (turn ∷ []) a.events events
+pub adds_one : {R : Type 0} (stream : R → Stream) (a : View R) (turn : Transition) (events : List (Event (List ℕ))) → CutsTurn a turn.outcome events → AddsFirstEvents (ports_of a.endpoint.options) (turn ∷ []) a.events events
 adds_one stream a turn events cut = adds_cut stream a a [] turn events refl (moves_none stream a) cut
 
 pub expiry_cut : {R : Type 0} (stream : R → Stream) (a : View R) (timer : Timer) (timers : List Timer) (has_expired : Bool) (events : List (Event (List ℕ))) → is_timer_due a.endpoint timer ≡ true
-    → CutIn (ExpiryTurn timer) a events → TurnsCut (ExpiryTurns (timer ∷ timers) has_expired) a events
+    → CutsSomeTurn (ExpiryTurn timer) a events → CutsTurns (ExpiryTurns (timer ∷ timers) has_expired) a events
 expiry_cut stream a timer timers has_expired events due cut =
     let o : Outcome = cut.outcome in
     let more : SomeTurns (ExpiryTurns timers true) o.after = expiries_some timers true o.after in
@@ -222,7 +222,7 @@ expiry_cut stream a timer timers has_expired events due cut =
     }
 
 expired_adds : {R : Type 0} (stream : R → Stream) (a b : View R) (timer : Timer) (timers : List Timer) (has_expired : Bool) (events : List (Event (List ℕ))) → is_timer_due a.endpoint timer ≡ true
-    → TakesPossibleTurn stream (ExpiryTurn timer) a b → TurnsCut (ExpiryTurns timers true) b events → TurnsCut (ExpiryTurns (timer ∷ timers) has_expired) a events
+    → TakesPossibleTurn stream (ExpiryTurn timer) a b → CutsTurns (ExpiryTurns timers true) b events → CutsTurns (ExpiryTurns (timer ∷ timers) has_expired) a events
 expired_adds stream a b timer timers has_expired events due first cut =
     let o : Outcome = first.outcome in
     record {
@@ -233,17 +233,17 @@ expired_adds stream a b timer timers has_expired events due first cut =
     }
 
 rested_adds : {R : Type 0} (a b : View R) (timer : Timer) (timers : List Timer) (has_expired : Bool) (events : List (Event (List ℕ))) → is_timer_due a.endpoint timer ≡ false → b ≡ a
-    → TurnsCut (ExpiryTurns timers has_expired) b events → TurnsCut (ExpiryTurns (timer ∷ timers) has_expired) a events
+    → CutsTurns (ExpiryTurns timers has_expired) b events → CutsTurns (ExpiryTurns (timer ∷ timers) has_expired) a events
 rested_adds {R = R} a b timer timers has_expired events due same cut =
-    let here : TurnsCut (ExpiryTurns timers has_expired) a events = subst (λ (v : View R). TurnsCut (ExpiryTurns timers has_expired) v events) same cut in
+    let here : CutsTurns (ExpiryTurns timers has_expired) a events = subst (λ (v : View R). CutsTurns (ExpiryTurns timers has_expired) v events) same cut in
     record { turns = here.turns; are = rested_are a.endpoint timer timers has_expired here.turns due here.are; adds = here.adds }
 
 -- ---- both
 
 -- A timer was handled, and then the others.
 pub timer_then : {R E : Type 0} (stream : R → Stream) (old mid new : Context R) (timer : Timer) (timers : List Timer) (before has : Bool) (result : Result (Unit {0}) E)
-    → Expires {E = E} stream timer old (Ok has) mid → WorksTurns stream (ExpiryTurns timers (has || before)) mid result new
-    → WorksTurns stream (ExpiryTurns (timer ∷ timers) before) old result new
+    → Expires {E = E} stream timer old (Ok has) mid → MakesTurns stream (ExpiryTurns timers (has || before)) mid result new
+    → MakesTurns stream (ExpiryTurns (timer ∷ timers) before) old result new
 timer_then stream old mid new timer timers before true (Ok done) handled works = expired_moves stream (view_of old) (view_of mid) (view_of new) timer timers before handled.0 handled.1 works
 timer_then stream old mid new timer timers before false (Ok done) handled works = rested_moves stream (view_of old) (view_of mid) (view_of new) timer timers before handled.0 handled.1 works
 timer_then stream old mid new timer timers before true (Err error) handled works = expired_adds stream (view_of old) (view_of mid) timer timers before (view_of new).events handled.0 handled.1 works
@@ -269,7 +269,7 @@ abort_moves stream a b inputs many moves =
     }
 
 pub abort_cut : {R : Type 0} (stream : R → Stream) (a : View R) (inputs : List Input) (events : List (Event (List ℕ))) → counts_many a ≡ true
-    → CutTurn a (aborting_outcome a.endpoint a.endpoint.core TooManyErrors) events → TurnsCut (EndTurns inputs) a events
+    → CutsTurn a (aborting_outcome a.endpoint a.endpoint.core TooManyErrors) events → CutsTurns (EndTurns inputs) a events
 abort_cut stream a inputs events many cut =
     record {
       turns = abort_turned a.endpoint ∷ [];
@@ -289,8 +289,8 @@ send_moves stream a b many flush =
       moves = moves_one stream a b (flushed flush.outcome) flush.moves;
     }
 
-pub send_cut : {R : Type 0} (stream : R → Stream) (a : View R) (events : List (Event (List ℕ))) → counts_many a ≡ false → CutIn (λ v o. FlushTurn v.endpoint o) a events
-    → TurnsCut (EndTurns (act_input flushes ∷ [])) a events
+pub send_cut : {R : Type 0} (stream : R → Stream) (a : View R) (events : List (Event (List ℕ))) → counts_many a ≡ false → CutsSomeTurn (λ v o. FlushTurn v.endpoint o) a events
+    → CutsTurns (EndTurns (act_input flushes ∷ [])) a events
 send_cut stream a events many flush =
     record {
       turns = flushed flush.outcome ∷ [];

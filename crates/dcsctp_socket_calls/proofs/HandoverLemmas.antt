@@ -25,10 +25,10 @@ use Rattle.dcsctp_core.specs.api.declared.errors.RestoreError.TheVariants.{Socke
 use Rattle.dcsctp_core.specs.api.Calls.{AddsFirstEvents, is_closed}
 use Rattle.dcsctp_core.specs.api.Handover.{IsHandoverAnswer, RestoreTurns}
 use Rattle.dcsctp_core.specs.View.{View, call_start, Moves, MovesAll, CallMoves}
-use Rattle.dcsctp_core.specs.Handling.{TakesPossibleTurn, CutIn, FlushAt}
+use Rattle.dcsctp_core.specs.Handling.{TakesPossibleTurn, CutsSomeTurn, SendsQueued}
 use Rattle.dcsctp_core.proofs.Moving.{moves_one, moves_then}
 use Rattle.dcsctp_core_handover.specs.Handover.{hand_over_turn, restore_turn}
-use Rattle.dcsctp_socket_calls.specs.Parts.{CallMoved, TurnsCut, RestoringTurns, CutRestoring}
+use Rattle.dcsctp_socket_calls.specs.Parts.{MovesByCall, CutsTurns, RestoringTurns, FirstOfRestore}
 use Rattle.dcsctp_socket_calls.proofs.CallLemmas.{adds_none, adds_cut}
 use Rattle.dcsctp_socket_calls.proofs.DispatchLemmas.{moves_none}
 
@@ -43,7 +43,7 @@ no_turn_at e zero some = absurd (some refl)
 no_turn_at e (suc reasons) some = tt
 
 -- It isn't ready.
-pub handover_refused : {R : Type 0} (stream : R → Stream) (old start : View R) → start ≡ call_start old → readiness_of old.endpoint ≢ 0 → CallMoved stream HandoverTurns old start
+pub handover_refused : {R : Type 0} (stream : R → Stream) (old start : View R) → start ≡ call_start old → readiness_of old.endpoint ≢ 0 → MovesByCall stream HandoverTurns old start
 handover_refused {R} stream old start begins some =
     record {
       turns = [];
@@ -52,7 +52,7 @@ handover_refused {R} stream old start begins some =
     }
 
 pub handed_over : {R : Type 0} (stream : R → Stream) (old start new : View R) → start ≡ call_start old → readiness_of old.endpoint ≡ 0
-    → Moves stream start (hand_over_turn start) new → CallMoved stream HandoverTurns old new
+    → Moves stream start (hand_over_turn start) new → MovesByCall stream HandoverTurns old new
 handed_over {R} stream old start new begins ready moves =
     let one : Transition = transition (act_input hands_over) (hand_over_turn (call_start old)) in
     record {
@@ -76,16 +76,16 @@ no_turn_from_closed e (cookie_echoed my held cookie) connection state none is = 
 no_turn_from_closed e (open_in phase my held) connection state none is = tt
 
 unmoved : {R : Type 0} (stream : R → Stream) (old start : View R) (state : Snapshot) → start ≡ call_start old → Turns old.endpoint (inputs_of_restore old.endpoint.core state) []
-    → CallMoved stream (RestoringTurns state) old start
+    → MovesByCall stream (RestoringTurns state) old start
 unmoved {R} stream old start state begins none =
     record { turns = []; are = none; moves = subst (λ (v : View R). CallMoves stream old [] v) (sym begins) (moves_none stream (call_start old)) }
 
 pub restore_refused : {R : Type 0} (stream : R → Stream) (old start : View R) (state : Snapshot) → start ≡ call_start old → is_closed old.endpoint.core ≡ false
-    → CallMoved stream (RestoringTurns state) old start
+    → MovesByCall stream (RestoringTurns state) old start
 restore_refused stream old start state begins is_open = unmoved stream old start state begins (no_turn_open old.endpoint old.endpoint.core state is_open)
 
 pub nothing_restored : {R : Type 0} (stream : R → Stream) (old start : View R) (state : Snapshot) → start ≡ call_start old → state.socket_state ≡ states.Closed
-    → CallMoved stream (RestoringTurns state) old start
+    → MovesByCall stream (RestoringTurns state) old start
 nothing_restored stream old start state begins none = unmoved stream old start state begins (no_turn_from_closed old.endpoint old.endpoint.core state.socket_state state none refl)
 
 -- the turn of a restore, and that of the flush after it
@@ -104,19 +104,19 @@ options_stay e (cookie_echoed my held cookie) state o turn = ap (λ (x : Outcome
 options_stay e (open_in phase my held) state o turn = ap (λ (x : Outcome). ports_of x.after.options) turn
 
 turns_of_both : {R : Type 0} (stream : R → Stream) (a b : View R) (state : Snapshot) (h : TakesPossibleTurn stream (restore_turn state) a b) (o : Outcome) → a.endpoint.core ≡ closed → state.socket_state ≡ states.Connected
-    → FlushAt b o → Turns a.endpoint (inputs_of_restore a.endpoint.core state) (transition (restores state) h.outcome ∷ transition (act_input flushes) o ∷ [])
+    → SendsQueued b o → Turns a.endpoint (inputs_of_restore a.endpoint.core state) (transition (restores state) h.outcome ∷ transition (act_input flushes) o ∷ [])
 turns_of_both stream a b state h o none connected flush =
     both_at a.endpoint a.endpoint.core state state.socket_state (transition (restores state) h.outcome) (transition (act_input flushes) o) none connected
     (record { is = refl; comes = h.turn }, (record { is = refl; comes = subst (λ (e : Endpoint). FlushTurn e o) h.moves.endpoint flush }, tt)) refl
 
-both_moved : {R : Type 0} (stream : R → Stream) (a b c : View R) (state : Snapshot) (h : TakesPossibleTurn stream (restore_turn state) a b) (f : TakesPossibleTurn stream FlushAt b c)
+both_moved : {R : Type 0} (stream : R → Stream) (a b c : View R) (state : Snapshot) (h : TakesPossibleTurn stream (restore_turn state) a b) (f : TakesPossibleTurn stream SendsQueued b c)
     → MovesAll stream a (transition (restores state) h.outcome ∷ transition (act_input flushes) f.outcome ∷ []) c
 both_moved stream a b c state h f =
     moves_then stream a b c (transition (restores state) h.outcome ∷ []) (transition (act_input flushes) f.outcome ∷ []) (options_stay a.endpoint a.endpoint.core state h.outcome h.turn)
     (moves_one stream a b (transition (restores state) h.outcome) h.moves) (moves_one stream b c (transition (act_input flushes) f.outcome) f.moves)
 
 pub restored : {R : Type 0} (stream : R → Stream) (old start mid new : View R) (state : Snapshot) → start ≡ call_start old → old.endpoint.core ≡ closed → state.socket_state ≡ states.Connected
-    → TakesPossibleTurn stream (restore_turn state) start mid → TakesPossibleTurn stream FlushAt mid new → CallMoved stream (RestoringTurns state) old new
+    → TakesPossibleTurn stream (restore_turn state) start mid → TakesPossibleTurn stream SendsQueued mid new → MovesByCall stream (RestoringTurns state) old new
 restored {R} stream old start mid new state begins none connected first f =
     let h : TakesPossibleTurn stream (restore_turn state) (call_start old) mid = subst (λ (v : View R). TakesPossibleTurn stream (restore_turn state) v mid) begins first in
     record {
@@ -128,13 +128,13 @@ restored {R} stream old start mid new state begins none connected first f =
 -- ---- an allocation failed
 
 pub restore_unmade : {R : Type 0} (old : View R) (state : Snapshot) (events : List (Event (List ℕ))) → events ≡ old.events
-    → TurnsCut (CutRestoring state) old events
+    → CutsTurns (FirstOfRestore state) old events
 restore_unmade old state events same =
     record { turns = []; are = inl refl; adds = subst (λ (es : List (Event (List ℕ))). AddsFirstEvents (ports_of old.endpoint.options) [] old.events es) (sym same) (adds_none (ports_of old.endpoint.options) old.events) }
 
 pub restore_cut : {R : Type 0} (stream : R → Stream) (old start mid : View R) (state : Snapshot) (events : List (Event (List ℕ))) → start ≡ call_start old → old.endpoint.core ≡ closed
-    → state.socket_state ≡ states.Connected → TakesPossibleTurn stream (restore_turn state) start mid → CutIn FlushAt mid events
-    → TurnsCut (CutRestoring state) old events
+    → state.socket_state ≡ states.Connected → TakesPossibleTurn stream (restore_turn state) start mid → CutsSomeTurn SendsQueued mid events
+    → CutsTurns (FirstOfRestore state) old events
 restore_cut {R} stream old start mid state events begins none connected first f =
     let h : TakesPossibleTurn stream (restore_turn state) (call_start old) mid = subst (λ (v : View R). TakesPossibleTurn stream (restore_turn state) v mid) begins first in
     let ports : ports_of mid.endpoint.options ≡ ports_of old.endpoint.options = ap (λ (e : Endpoint). ports_of e.options) h.moves.endpoint ∙ options_stay old.endpoint old.endpoint.core state h.outcome h.turn in
@@ -160,7 +160,7 @@ closed_by is_closed_now (cookie_echoed my held cookie) is test = absurd (cc)
 closed_by is_closed_now (open_in phase my held) is test = absurd (cc)
 
 pub works_refused : {R : Type 0} (stream : R → Stream) (old start : View R) (is_ready : Bool) (readiness : ℕ) → start ≡ call_start old → readiness ≡ readiness_of start.endpoint
-    → is_ready ≡ (readiness == 0) → is_ready ≡ false → ((readiness_of old.endpoint ≢ 0) × (readiness ≡ readiness_of old.endpoint)) × CallMoved stream HandoverTurns old start
+    → is_ready ≡ (readiness == 0) → is_ready ≡ false → ((readiness_of old.endpoint ≢ 0) × (readiness ≡ readiness_of old.endpoint)) × MovesByCall stream HandoverTurns old start
 works_refused {R} stream old start is_ready readiness begins is ready test =
     let own : readiness ≡ readiness_of old.endpoint = is ∙ ap (λ (v : View R). readiness_of v.endpoint) begins in
     let some : readiness_of old.endpoint ≢ 0 = subst (λ (n : ℕ). n ≢ 0) own (refused_by is_ready readiness ready test) in
@@ -169,7 +169,7 @@ works_refused {R} stream old start is_ready readiness begins is ready test =
 pub works_handed_over : {R : Type 0} (stream : R → Stream) (old start new : View R) (is_ready : Bool) (readiness : ℕ) (state : Snapshot) → SnapshotsAreValid
     → IsSound old.endpoint → AreQueuesSound start.endpoint → start ≡ call_start old
     → readiness ≡ readiness_of start.endpoint → is_ready ≡ (readiness == 0) → is_ready ≡ true → state ≡ snapshot_of start.endpoint → Moves stream start (hand_over_turn start) new
-    → ((readiness_of old.endpoint ≡ 0) × (state ≡ snapshot_of old.endpoint) × (is_valid_snapshot old.endpoint.options state ≡ true)) × CallMoved stream HandoverTurns old new
+    → ((readiness_of old.endpoint ≡ 0) × (state ≡ snapshot_of old.endpoint) × (is_valid_snapshot old.endpoint.options state ≡ true)) × MovesByCall stream HandoverTurns old new
 works_handed_over {R} stream old start new is_ready readiness state law sound below begins is ready test same moves =
     let none : readiness_of old.endpoint ≡ 0 = sym (ap (λ (v : View R). readiness_of v.endpoint) begins) ∙ sym is ∙ ready_by is_ready readiness ready test in
     let own : state ≡ snapshot_of old.endpoint = same ∙ ap (λ (v : View R). snapshot_of v.endpoint) begins in
@@ -180,15 +180,15 @@ works_handed_over {R} stream old start new is_ready readiness state law sound be
 
 pub works_restored : {R : Type 0} (stream : R → Stream) (old start mid new : View R) (is_closed_now : Bool) (state : Snapshot) → start ≡ call_start old
     → is_closed_now ≡ is_closed start.endpoint.core → is_closed_now ≡ true → state.socket_state ≡ states.Connected
-    → TakesPossibleTurn stream (restore_turn state) start mid → TakesPossibleTurn stream FlushAt mid new
-    → (is_closed old.endpoint.core ≡ true) × CallMoved stream (RestoringTurns state) old new
+    → TakesPossibleTurn stream (restore_turn state) start mid → TakesPossibleTurn stream SendsQueued mid new
+    → (is_closed old.endpoint.core ≡ true) × MovesByCall stream (RestoringTurns state) old new
 works_restored {R} stream old start mid new is_closed_now state begins is test connected first f =
     let none : old.endpoint.core ≡ closed = sym (ap (λ (v : View R). v.endpoint.core) begins) ∙ closed_by is_closed_now start.endpoint.core is test in
     (ap is_closed none, restored stream old start mid new state begins none connected first f)
 
 pub works_restore_cut : {R : Type 0} (stream : R → Stream) (old start mid : View R) (is_closed_now : Bool) (state : Snapshot) (events : List (Event (List ℕ))) → start ≡ call_start old
     → is_closed_now ≡ is_closed start.endpoint.core → is_closed_now ≡ true → state.socket_state ≡ states.Connected
-    → TakesPossibleTurn stream (restore_turn state) start mid → CutIn FlushAt mid events
-    → TurnsCut (CutRestoring state) old events
+    → TakesPossibleTurn stream (restore_turn state) start mid → CutsSomeTurn SendsQueued mid events
+    → CutsTurns (FirstOfRestore state) old events
 works_restore_cut {R} stream old start mid is_closed_now state events begins is test connected first f =
     restore_cut stream old start mid state events begins (sym (ap (λ (v : View R). v.endpoint.core) begins) ∙ closed_by is_closed_now start.endpoint.core is test) connected first f

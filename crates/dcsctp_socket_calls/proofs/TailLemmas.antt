@@ -4,20 +4,20 @@ use Rattle.rand_core.specs.Stream.{Stream}
 use Rattle.dcsctp_core.specs.wire.Content.{PacketContent}
 use Rattle.dcsctp_core.specs.types.Settings.{ports_of}
 use Rattle.dcsctp_core.specs.spec.endpoint.Event.{Event}
-use Rattle.dcsctp_core.specs.spec.Packet.{packet_in}
+use Rattle.dcsctp_core.specs.spec.Packet.{packet_of_content}
 use Rattle.dcsctp_core.specs.spec.association.Acts.{shut_down}
 use Rattle.dcsctp_core.specs.spec.endpoint.Endpoint.{Endpoint}
 use Rattle.dcsctp_core.specs.spec.endpoint.MessageOutcomes.{awaits_opening}
 use Rattle.dcsctp_core.specs.spec.endpoint.Outcome.{Outcome}
 use Rattle.dcsctp_core.specs.spec.endpoint.Turn.{Input, packet_ends, act_input, EndTurn}
 use Rattle.dcsctp_core.specs.spec.endpoint.CallTurns.{Transition, transition, IsTurn, Turns, ChunkTurns, asked_again, after_all}
-use Rattle.dcsctp_core.specs.Handling.{TakesPossibleTurn, CutIn}
-use Rattle.dcsctp_core.specs.View.{View, Moves, CutTurn}
+use Rattle.dcsctp_core.specs.Handling.{TakesPossibleTurn, CutsSomeTurn}
+use Rattle.dcsctp_core.specs.View.{View, Moves, CutsTurn}
 use Rattle.dcsctp_core.proofs.Moving.{moves_one, moves_then}
-use Rattle.dcsctp_core_data.specs.Data.{EndsAt}
+use Rattle.dcsctp_core_data.specs.Data.{EndsPacket}
 use Rattle.dcsctp_core_ends.specs.Shutdown.{shut_down_turn}
 use Rattle.dcsctp_spec_laws.proofs.DataLemmas.{flushed_act, end_at}
-use Rattle.dcsctp_socket_calls.specs.Parts.{MoveToEnd, ChunksMove, ChunksCut, FirstOfTail, TurnsMove, TurnsCut}
+use Rattle.dcsctp_socket_calls.specs.Parts.{MoveToEnd, ChunksMove, CutsChunks, FirstOfTail, TurnsMove, CutsTurns}
 use Rattle.dcsctp_socket_calls.proofs.CallLemmas.{adds_cut}
 use Rattle.dcsctp_socket_calls.proofs.ExpiryLemmas.{adds_behind, adds_one}
 
@@ -39,7 +39,7 @@ abbrev AreTail : Bool → Endpoint → List Transition → Type 0
 AreTail asks_again e turns = Turns e (packet_ends ∷ asked_again asks_again) turns
 
 -- No shutdown waits, so the packet ends.
-pub tail_ended : {R : Type 0} (stream : R → Stream) (a b : View R) (asks_again : Bool) → asks_again ≡ false → TakesPossibleTurn stream EndsAt a b
+pub tail_ended : {R : Type 0} (stream : R → Stream) (a b : View R) (asks_again : Bool) → asks_again ≡ false → TakesPossibleTurn stream EndsPacket a b
     → TurnsMove stream (AreTail asks_again) a b
 tail_ended stream a b true isnt end = absurd (cc)
 tail_ended stream a b false isnt end =
@@ -57,7 +57,7 @@ asked_are a b end turn here = (
 )
 
 -- The packet ended, and then the shutdown was asked for again.
-pub tail_asked : {R : Type 0} (stream : R → Stream) (a b c : View R) (asks_again : Bool) → asks_again ≡ true → TakesPossibleTurn stream EndsAt a b → Moves stream b (shut_down_turn b) c
+pub tail_asked : {R : Type 0} (stream : R → Stream) (a b c : View R) (asks_again : Bool) → asks_again ≡ true → TakesPossibleTurn stream EndsPacket a b → Moves stream b (shut_down_turn b) c
     → TurnsMove stream (AreTail asks_again) a c
 tail_asked stream a b c false is end asked = absurd (cc)
 tail_asked stream a b c true is end asked =
@@ -69,7 +69,7 @@ tail_asked stream a b c true is end asked =
     }
 
 -- The end was cut.
-pub tail_end_cut : {R : Type 0} (stream : R → Stream) (a : View R) (asks_again : Bool) (events : List (Event (List ℕ))) → CutIn EndsAt a events → TurnsCut (FirstOfTail asks_again) a events
+pub tail_end_cut : {R : Type 0} (stream : R → Stream) (a : View R) (asks_again : Bool) (events : List (Event (List ℕ))) → CutsSomeTurn EndsPacket a events → CutsTurns (FirstOfTail asks_again) a events
 tail_end_cut stream a asks_again events end =
     record {
       turns = end_turned end.outcome ∷ [];
@@ -78,8 +78,8 @@ tail_end_cut stream a asks_again events end =
     }
 
 -- The shutdown was cut.
-pub tail_asked_cut : {R : Type 0} (stream : R → Stream) (a b : View R) (asks_again : Bool) (events : List (Event (List ℕ))) → asks_again ≡ true → TakesPossibleTurn stream EndsAt a b
-    → CutTurn b (shut_down_turn b) events → TurnsCut (FirstOfTail asks_again) a events
+pub tail_asked_cut : {R : Type 0} (stream : R → Stream) (a b : View R) (asks_again : Bool) (events : List (Event (List ℕ))) → asks_again ≡ true → TakesPossibleTurn stream EndsPacket a b
+    → CutsTurn b (shut_down_turn b) events → CutsTurns (FirstOfTail asks_again) a events
 tail_asked_cut stream a b false events is end cut = absurd (cc)
 tail_asked_cut stream a b true events is end cut =
     record {
@@ -97,7 +97,7 @@ pub ended : {R : Type 0} (stream : R → Stream) (a b c : View R) (packet : Pack
 ended stream a b c packet asks_again is first tail =
     record {
       turns = first.turns ++ tail.turns;
-      are = subst (λ (again : Bool). ChunkTurns a.endpoint packet.verification_tag (packet_in packet).contents (packet_ends ∷ asked_again again) (first.turns ++ tail.turns)) is
+      are = subst (λ (again : Bool). ChunkTurns a.endpoint packet.verification_tag (packet_of_content packet).contents (packet_ends ∷ asked_again again) (first.turns ++ tail.turns)) is
           (first.are (packet_ends ∷ asked_again asks_again) tail.turns
           (subst (λ (e : Endpoint). Turns e (packet_ends ∷ asked_again asks_again) tail.turns) first.moves.endpoint tail.are));
       moves = moves_then stream a b c first.turns tail.turns first.ports first.moves tail.moves;
@@ -105,7 +105,7 @@ ended stream a b c packet asks_again is first tail =
 
 -- What follows them was cut.
 pub ended_cut : {R : Type 0} (stream : R → Stream) (a b : View R) (packet : PacketContent) (asks_again : Bool) (events : List (Event (List ℕ))) → asks_again ≡ awaits_opening a.endpoint a.endpoint.core
-    → MoveToEnd stream packet a true b → TurnsCut (FirstOfTail asks_again) b events → ChunksCut packet a events
+    → MoveToEnd stream packet a true b → CutsTurns (FirstOfTail asks_again) b events → CutsChunks packet a events
 ended_cut stream a b packet asks_again events is first cut =
     let count : ℕ = cut.are.0 in
     let ends : Bool → List Input = λ again. take count (packet_ends ∷ asked_again again) in
@@ -113,7 +113,7 @@ ended_cut stream a b packet asks_again events is first cut =
       turns = first.turns ++ cut.turns;
       are = inr (
         count,
-        subst (λ (again : Bool). ChunkTurns a.endpoint packet.verification_tag (packet_in packet).contents (ends again) (first.turns ++ cut.turns)) is
+        subst (λ (again : Bool). ChunkTurns a.endpoint packet.verification_tag (packet_of_content packet).contents (ends again) (first.turns ++ cut.turns)) is
             (first.are (ends asks_again) cut.turns (subst (λ (e : Endpoint). Turns e (ends asks_again) cut.turns) first.moves.endpoint cut.are.1)),
       );
       adds = adds_behind stream a b first.turns cut.turns events (ap (λ (x : Endpoint). ports_of x.options) first.moves.endpoint ∙ first.ports) first.moves cut.adds;

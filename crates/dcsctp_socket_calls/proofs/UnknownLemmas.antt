@@ -13,14 +13,14 @@ use Rattle.dcsctp_core.specs.types.declared.kinds.ErrorKind.TheVariants.{ParseFa
 use Rattle.dcsctp_core.specs.types.Settings.{packet_size_limit, IsValid, ports_of}
 use Rattle.dcsctp_core.specs.spec.endpoint.Event.{error}
 use Rattle.dcsctp_core.specs.spec.Packet.{plain}
-use Rattle.dcsctp_core.specs.spec.endpoint.Endpoint.{Endpoint, Core, closed, cookie_wait, cookie_echoed, open_in, held_in}
+use Rattle.dcsctp_core.specs.spec.endpoint.Endpoint.{Endpoint, Core, closed, cookie_wait, cookie_echoed, open_in, held_by_core}
 use Rattle.dcsctp_core.specs.spec.endpoint.Outcome.{Outcome, still, reports}
 use Rattle.dcsctp_core.specs.spec.endpoint.PlainOutcomes.{unknown_text, unknown_error, unknown_chunk_outcome}
 use Rattle.dcsctp_core.specs.api.Calls.{user_event}
 use Rattle.dcsctp_core.specs.declared.state.State.{State}
 use Rattle.dcsctp_core.specs.declared.state.State.TheVariants.{Closed, CookieWait, CookieEchoed, Open}
 use Rattle.dcsctp_core.specs.declared.context.Context.{Context}
-use Rattle.dcsctp_core.specs.View.{View, core_of, endpoint_of, view_of, Moves, CutTurn}
+use Rattle.dcsctp_core.specs.View.{View, core_of, endpoint_of, view_of, Moves, CutsTurn}
 use Rattle.dcsctp_core.specs.Handling.{emitted_to}
 use Rattle.dcsctp_core.proofs.Moving.{moves_still}
 use Rattle.dcsctp_core.proofs.Composing.{behind, Adds, Draws, moves_behind, moves_as, cut_after}
@@ -54,7 +54,7 @@ report_fits options chunk valid =
 
 -- if it is known
 reported_in : {R : Type 0} (stream : R → Stream) (a b : View R) (core : Core) (chunk : List ℕ) → IsValid a.endpoint.options
-    → b ≡ emitted_to (held_in core) (error_chunk (unrecognized_chunk_type (take (packet_size_limit a.endpoint.options - 20) chunk) ∷ [])) a
+    → b ≡ emitted_to (held_by_core core) (error_chunk (unrecognized_chunk_type (take (packet_size_limit a.endpoint.options - 20) chunk) ∷ [])) a
     → Moves stream a (reported_outcome a.endpoint core chunk) b
 reported_in {R = R} stream a b closed chunk valid here =
     subst (λ (v : View R). Moves stream a (still a.endpoint) v) (sym here) (moves_still stream a)
@@ -69,11 +69,11 @@ reported_in stream a b (open_in phase my held) chunk valid here =
 
 pub report_moves : {R : Type 0} (stream : R → Stream) (old new : Context R) (chunk bytes : List ℕ) (limit : ℕ)
     → limit ≡ packet_size_limit old.options - 20 → bytes ≡ take limit chunk
-    → view_of new ≡ emitted_to (held_in (core_of old.state)) (error_chunk (unrecognized_chunk_type bytes ∷ [])) (view_of old)
+    → view_of new ≡ emitted_to (held_by_core (core_of old.state)) (error_chunk (unrecognized_chunk_type bytes ∷ [])) (view_of old)
     → Moves stream (view_of old) (reported_turn chunk (view_of old)) (view_of new)
 report_moves stream old new chunk bytes limit limits cut here =
     reported_in stream (view_of old) (view_of new) (core_of old.state) chunk old.valid
-    (here ∙ ap (λ (bs : List ℕ). emitted_to (held_in (core_of old.state)) (error_chunk (unrecognized_chunk_type bs ∷ [])) (view_of old))
+    (here ∙ ap (λ (bs : List ℕ). emitted_to (held_by_core (core_of old.state)) (error_chunk (unrecognized_chunk_type bs ∷ [])) (view_of old))
     (cut ∙ ap (λ (n : ℕ). take n chunk) limits))
 
 -- ---- a report to the user, and then to the peer
@@ -110,7 +110,7 @@ told_moves {R = R} stream old mid c type text chunk is first second =
 -- It was reported to the user alone.
 pub told_cut : {R : Type 0} (stream : R → Stream) (old mid : Context R) (c : View R) (type : ℕ) (text chunk : List ℕ) → text ≡ unknown_text type
     → Moves stream (view_of old) (reports (endpoint_of old) ParseFailed text) (view_of mid) → c ≡ view_of mid
-    → CutTurn (view_of old) (unknown_chunk_turn type chunk (view_of old)) c.events
+    → CutsTurn (view_of old) (unknown_chunk_turn type chunk (view_of old)) c.events
 told_cut {R = R} stream old mid c type text chunk is first same =
     cut_after (view_of old) (unknown_chunk_turn type chunk (view_of old)) c.events (error ParseFailed (unknown_text type) ∷ []) (reported_outcome (endpoint_of old) (core_of old.state) chunk).events
     (ap (λ (o : Outcome). o.events) (told_is (endpoint_of old) old.state type chunk))

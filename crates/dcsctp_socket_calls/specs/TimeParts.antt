@@ -9,14 +9,14 @@ use Rattle.dcsctp_socket_calls.specs.declared.timers.SocketTimer.{SocketTimer}
 use Rattle.dcsctp_socket_calls.specs.declared.timers.SocketTimer.TheVariants.{T1, AcknowledgementDelay, Retransmission, HeartbeatInterval, HeartbeatTimeout, Reconfiguration, T2}
 
 -- a timer of the code, as one of the machine
-abbrev pub timer_in : SocketTimer → Timer
-timer_in T1 = t1_timer
-timer_in AcknowledgementDelay = own_timer acknowledgement_delay
-timer_in Retransmission = own_timer retransmission
-timer_in HeartbeatInterval = own_timer heartbeat_interval
-timer_in HeartbeatTimeout = own_timer heartbeat_timeout
-timer_in Reconfiguration = own_timer reconfiguration
-timer_in T2 = t2_timer
+abbrev pub timer_of_socket : SocketTimer → Timer
+timer_of_socket T1 = t1_timer
+timer_of_socket AcknowledgementDelay = own_timer acknowledgement_delay
+timer_of_socket Retransmission = own_timer retransmission
+timer_of_socket HeartbeatInterval = own_timer heartbeat_interval
+timer_of_socket HeartbeatTimeout = own_timer heartbeat_timeout
+timer_of_socket Reconfiguration = own_timer reconfiguration
+timer_of_socket T2 = t2_timer
 
 -- What follows if one timer has expired: our own abort, if too many errors were counted, and else these inputs.
 abbrev pub EndTurns : List Input → Endpoint → List Transition → Type 0

@@ -2,8 +2,8 @@
 
 ghost use Rattle.std.specs.Prelude.{◌≡◌, ◌==◌, false, None, map, string_bytes, IfOk};
 ghost use Rattle.dcsctp_core.specs.wire.Content.{chunk_content, packet_content};
-ghost use Rattle.dcsctp_core.specs.spec.Admission.{first_abort, first_shutdown_complete, has_shutdown_ack, is_echo_in_front, is_single_init, bears_tag, admitted_where, admits_shutdown_ack, admits_by, admits, eight_hex_digits, wrong_tag_text};
-ghost use Rattle.dcsctp_core.specs.spec.Packet.{content_in, packet_in};
+ghost use Rattle.dcsctp_core.specs.spec.Admission.{first_abort, first_shutdown_complete, has_shutdown_ack, is_echo_in_front, is_single_init, bears_tag, all_chunks_or_none, admits_shutdown_ack, admission_by_answers, admits, eight_hex_digits, wrong_tag_text};
+ghost use Rattle.dcsctp_core.specs.spec.Packet.{content_of_chunk, packet_of_content};
 ghost use Rattle.dcsctp_core.specs.View.{core_of};
 ghost use Rattle.dcsctp_socket_calls.specs.Admission.{admission_of, admission_refusal_text};
 
@@ -49,7 +49,7 @@ pub enum Refusal {
 
 // The T bit of the first ABORT, if there is one.
 fn first_abort(chunks: &[Chunk<'_>]) -> Option<bool>
-    ensures { result ≡ first_abort (map content_in (map chunk_content chunks.now)) }
+    ensures { result ≡ first_abort (map content_of_chunk (map chunk_content chunks.now)) }
 {
     for chunk in chunks {
         if let Chunk::Abort(abort) = chunk {
@@ -61,7 +61,7 @@ fn first_abort(chunks: &[Chunk<'_>]) -> Option<bool>
 
 // The T bit of the first SHUTDOWN COMPLETE, if there is one.
 fn first_shutdown_complete(chunks: &[Chunk<'_>]) -> Option<bool>
-    ensures { result ≡ first_shutdown_complete (map content_in (map chunk_content chunks.now)) }
+    ensures { result ≡ first_shutdown_complete (map content_of_chunk (map chunk_content chunks.now)) }
 {
     for chunk in chunks {
         if let Chunk::ShutdownComplete(complete) = chunk {
@@ -73,7 +73,7 @@ fn first_shutdown_complete(chunks: &[Chunk<'_>]) -> Option<bool>
 
 // Is there a SHUTDOWN ACK?
 fn has_shutdown_ack(chunks: &[Chunk<'_>]) -> bool
-    ensures { result ≡ has_shutdown_ack (map content_in (map chunk_content chunks.now)) }
+    ensures { result ≡ has_shutdown_ack (map content_of_chunk (map chunk_content chunks.now)) }
 {
     for chunk in chunks {
         if let Chunk::ShutdownAck = chunk {
@@ -85,7 +85,7 @@ fn has_shutdown_ack(chunks: &[Chunk<'_>]) -> bool
 
 // Is the first chunk a COOKIE ECHO?
 fn is_echo_in_front(chunks: &[Chunk<'_>]) -> bool
-    ensures { result ≡ is_echo_in_front (map content_in (map chunk_content chunks.now)) }
+    ensures { result ≡ is_echo_in_front (map content_of_chunk (map chunk_content chunks.now)) }
 {
     match chunks {
         [Chunk::CookieEcho(_), ..] => true,
@@ -95,7 +95,7 @@ fn is_echo_in_front(chunks: &[Chunk<'_>]) -> bool
 
 // Is it one chunk, an INIT?
 fn is_single_init(chunks: &[Chunk<'_>]) -> bool
-    ensures { result ≡ is_single_init (map content_in (map chunk_content chunks.now)) }
+    ensures { result ≡ is_single_init (map content_of_chunk (map chunk_content chunks.now)) }
 {
     match chunks {
         [Chunk::Init(_)] => true,
@@ -119,7 +119,7 @@ fn bears_tag(state: &State, header: u32, tag_reflected: bool) -> bool
 
 // All chunks if this holds, else none, for this reason.
 fn admit_where(admitted: bool, refusal: Refusal) -> Admission
-    ensures { admission_of result ≡ admitted_where admitted (admission_refusal_text refusal) }
+    ensures { admission_of result ≡ all_chunks_or_none admitted (admission_refusal_text refusal) }
 {
     if admitted {
         return Admission::AllChunks;
@@ -148,9 +148,9 @@ fn admit_shutdown_ack(state: &State, header: u32) -> Admission
 // Decides for a packet without an ABORT or a chunk of shutdown that its tag speaks of.
 fn admit_other(state: &State, packet: &SctpPacket<'_>) -> Admission
     ensures { admission_of result
-        ≡ admits_by (core_of state.now) (packet_in (packet_content packet.now))
-        None None false (is_echo_in_front (packet_in (packet_content packet.now)).contents)
-        ((packet_in (packet_content packet.now)).tag == 0) }
+        ≡ admission_by_answers (core_of state.now) (packet_of_content (packet_content packet.now))
+        None None false (is_echo_in_front (packet_of_content (packet_content packet.now)).contents)
+        ((packet_of_content (packet_content packet.now)).tag == 0) }
 {
     let header = packet.common_header.verification_tag;
     if is_echo_in_front(&packet.chunks) {
@@ -167,7 +167,7 @@ fn admit_other(state: &State, packet: &SctpPacket<'_>) -> Admission
 /// judged by that chunk's T bit, one with a SHUTDOWN ACK by the state. A COOKIE ECHO in front is let in. Tag
 /// 0 is for an INIT alone, and any other packet carries our own tag.
 pub fn admit(state: &State, packet: &SctpPacket<'_>) -> Admission
-    ensures { admission_of result ≡ admits (core_of state.now) (packet_in
+    ensures { admission_of result ≡ admits (core_of state.now) (packet_of_content
         (packet_content packet.now)) }
 {
     let header = packet.common_header.verification_tag;

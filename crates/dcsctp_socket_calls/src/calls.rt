@@ -2,7 +2,7 @@
 
 ghost use Rattle.std.specs.Prelude.{◌≡◌, ◌<◌, true, false, IsOk, [], ◌∷◌, map};
 ghost use Rattle.dcsctp_core.specs.wire.Content.{chunk_content, packet_content};
-ghost use Rattle.dcsctp_core.specs.spec.Packet.{content_in};
+ghost use Rattle.dcsctp_core.specs.spec.Packet.{content_of_chunk};
 ghost use Rattle.dcsctp_core.specs.types.Schedule.{connect_call, close_call, shutdown_call, advance_call};
 ghost use Rattle.dcsctp_core.specs.types.Settings.{wire_options};
 ghost use Rattle.dcsctp_core.specs.spec.endpoint.TimeTurns.{Waits};
@@ -11,7 +11,7 @@ ghost use Rattle.dcsctp_core.specs.api.Calls.{NoAnswer, is_closed, takes_shutdow
 ghost use Rattle.dcsctp_core.specs.View.{core_of, endpoint_of};
 ghost use Rattle.dcsctp_core.specs.Handling.{Tries};
 ghost use Rattle.dcsctp_core_ends.specs.Shutdown.{is_open_core};
-ghost use Rattle.dcsctp_socket_calls.specs.Parts.{begin_turn, WorksToEnd, WorksTail, WorksChunks, HandlesWholePacket, WorksAck, WorksAcks, WorksPacket, InputTurns, CutTurns, TurnsOf, CutCall, DrewAlone, WorksCall, WorksUserCall};
+ghost use Rattle.dcsctp_socket_calls.specs.Parts.{begin_turn, HandlesToEnd, HandlesTail, HandlesChunks, HandlesWholePacket, HandlesAck, HandlesAcks, HandlesCountedPacket, InputTurns, FirstOfInput, TurnsOf, CutsCall, DrewAlone, MakesAnsweredCall, MakesCallOfUser};
 
 use crate::admission::{Admission, admit};
 use crate::dispatch::handle_chunk;
@@ -33,7 +33,7 @@ fn handle_each_chunk<R: Rng>(
     context: &mut Context<R>,
     packet: &SctpPacket<'_>,
 ) -> Result<bool, AllocError>
-    ensures { WorksToEnd R.stream (packet_content packet.now) context.old result context.new }
+    ensures { HandlesToEnd R.stream (packet_content packet.now) context.old result context.new }
 {
     let header_tag = packet.common_header.verification_tag;
     for chunk in &packet.chunks {
@@ -49,7 +49,7 @@ fn handle_each_chunk<R: Rng>(
 // What comes after the chunks of a packet: its end, and the shutdown that waited for the association to open. That
 // waits again if the association still isn't open.
 fn finish_packet<R: Rng>(context: &mut Context<R>, asks_again: bool) -> Result<(), AllocError>
-    ensures { WorksTail R.stream asks_again context.old result context.new }
+    ensures { HandlesTail R.stream asks_again context.old result context.new }
 {
     end_packet(context)?;
     if asks_again {
@@ -64,7 +64,7 @@ fn handle_chunks<R: Rng>(
     context: &mut Context<R>,
     packet: &SctpPacket<'_>,
 ) -> Result<(), AllocError>
-    ensures { WorksChunks R.stream (packet_content packet.now) context.old result context.new }
+    ensures { HandlesChunks R.stream (packet_content packet.now) context.old result context.new }
 {
     let asks_again = context.awaits_opening();
     if handle_each_chunk(context, packet)? {
@@ -75,7 +75,7 @@ fn handle_chunks<R: Rng>(
 
 // Is this DATA, or with `Options::follow_rfc` I-DATA?
 fn is_data(follows_rfc: bool, chunk: &Chunk<'_>) -> bool
-    ensures { result ≡ has_data_chunk follows_rfc (content_in (chunk_content chunk.now) ∷ []) }
+    ensures { result ≡ has_data_chunk follows_rfc (content_of_chunk (chunk_content chunk.now) ∷ []) }
 {
     if let Chunk::Data(_) = chunk {
         return true;
@@ -88,7 +88,7 @@ fn is_data(follows_rfc: bool, chunk: &Chunk<'_>) -> bool
 
 // Is there data among these? With `Options::follow_rfc` I-DATA counts, too.
 fn has_data(follows_rfc: bool, chunks: &[Chunk<'_>]) -> bool
-    ensures { result ≡ has_data_chunk follows_rfc (map content_in (map chunk_content chunks.now)) }
+    ensures { result ≡ has_data_chunk follows_rfc (map content_of_chunk (map chunk_content chunks.now)) }
 {
     for chunk in chunks {
         if is_data(follows_rfc, chunk) {
@@ -126,7 +126,7 @@ fn answer_shutdown_ack<R: Rng>(
     chunk: &Chunk<'_>,
 ) -> Result<Following, AllocError>
     requires { is_open_core (core_of context.old.state) ≡ false }
-    ensures { WorksAck R.stream header_tag (content_in (chunk_content chunk.now)) context.old result
+    ensures { HandlesAck R.stream header_tag (content_of_chunk (chunk_content chunk.now)) context.old result
         context.new }
 {
     if let Chunk::ShutdownAck = chunk {
@@ -142,7 +142,7 @@ fn handle_shutdown_acks<R: Rng>(
     packet: &SctpPacket<'_>,
 ) -> Result<(), AllocError>
     requires { is_open_core (core_of context.old.state) ≡ false }
-    ensures { WorksAcks R.stream (packet_content packet.now) context.old result context.new }
+    ensures { HandlesAcks R.stream (packet_content packet.now) context.old result context.new }
 {
     let header_tag = packet.common_header.verification_tag;
     for chunk in &packet.chunks {
@@ -159,7 +159,7 @@ fn handle_packet<R: Rng>(
     context: &mut Context<R>,
     packet: &SctpPacket<'_>,
 ) -> Result<(), AllocError>
-    ensures { WorksPacket R.stream (packet_content packet.now) context.old result context.new }
+    ensures { HandlesCountedPacket R.stream (packet_content packet.now) context.old result context.new }
 {
     match admit(&context.state, packet) {
         Admission::AllChunks => handle_whole(context, packet)?,
@@ -175,7 +175,7 @@ fn handle_packet<R: Rng>(
 /// Handles a packet (RFC 9260, section 8.5): it is counted, read, admitted or refused, and each chunk is
 /// handled.
 pub fn handle_input<R: Rng>(context: &mut Context<R>, packet: &[u8]) -> Result<(), AllocError>
-    ensures { WorksCall R.stream NoAnswer (InputTurns packet.now) (CutCall (CutTurns packet.now))
+    ensures { MakesAnsweredCall R.stream NoAnswer (InputTurns packet.now) (CutsCall (FirstOfInput packet.now))
         context.old result context.new }
 {
     context.begin_call();
@@ -195,7 +195,7 @@ pub fn handle_input<R: Rng>(context: &mut Context<R>, packet: &[u8]) -> Result<(
 /// Begins an association if there is none (RFC 9260, section 5.1). `Err`: an allocation failed, and no event
 /// was added.
 pub fn connect<R: Rng>(context: &mut Context<R>) -> Result<(), AllocError>
-    ensures turn { WorksCall R.stream NoAnswer (TurnsOf connect_call) DrewAlone context.old result
+    ensures turn { MakesAnsweredCall R.stream NoAnswer (TurnsOf connect_call) DrewAlone context.old result
         context.new }
     ensures open { is_closed (core_of context.old.state) ≡ false → IsOk result }
 {
@@ -207,7 +207,7 @@ pub fn connect<R: Rng>(context: &mut Context<R>) -> Result<(), AllocError>
 /// Ends the association at once (RFC 9260, section 9.1). `Err`: an allocation failed; the first of the call's
 /// events may already have been added.
 pub fn close<R: Rng>(context: &mut Context<R>) -> Result<(), AllocError>
-    ensures turn { WorksUserCall R.stream close_call NoAnswer context.old result context.new }
+    ensures turn { MakesCallOfUser R.stream close_call NoAnswer context.old result context.new }
     ensures closed { is_closed (core_of context.old.state) ≡ true → IsOk result }
 {
     context.begin_call();
@@ -218,7 +218,7 @@ pub fn close<R: Rng>(context: &mut Context<R>) -> Result<(), AllocError>
 /// Shuts the association down (RFC 9260, section 9.2). `Err`: an allocation failed; the first of the call's
 /// events may already have been added.
 pub fn shutdown<R: Rng>(context: &mut Context<R>) -> Result<(), AllocError>
-    ensures turn { WorksUserCall R.stream shutdown_call NoAnswer context.old result context.new }
+    ensures turn { MakesCallOfUser R.stream shutdown_call NoAnswer context.old result context.new }
     ensures idle { takes_shutdown (core_of context.old.state) ≡ false → IsOk result }
 {
     context.begin_call();
@@ -229,7 +229,7 @@ pub fn shutdown<R: Rng>(context: &mut Context<R>) -> Result<(), AllocError>
 /// Moves the clock to `now`, and handles the timers that are due (RFC 9260, sections 5.1 and 8.3). An earlier
 /// moment changes nothing.
 pub fn advance_time<R: Rng>(context: &mut Context<R>, now: SocketTime) -> Result<(), AllocError>
-    ensures turn { WorksUserCall R.stream (advance_call now) NoAnswer context.old result
+    ensures turn { MakesCallOfUser R.stream (advance_call now) NoAnswer context.old result
         context.new }
     ensures earlier { now < context.old.moment → IsOk result }
     ensures waits { Waits (endpoint_of context.old) now → IsOk result }

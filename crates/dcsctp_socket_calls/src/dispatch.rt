@@ -2,10 +2,10 @@
 
 ghost use Rattle.std.specs.Prelude.{◌≡◌, false, None};
 ghost use Rattle.dcsctp_core.specs.wire.Content.{chunk_content};
-ghost use Rattle.dcsctp_core.specs.spec.Packet.{content_in};
+ghost use Rattle.dcsctp_core.specs.spec.Packet.{content_of_chunk};
 ghost use Rattle.dcsctp_core.specs.spec.endpoint.Turn.{needs_connection, comes_early};
 ghost use Rattle.dcsctp_core.specs.View.{core_of, endpoint_of};
-ghost use Rattle.dcsctp_core_ends.specs.Ends.{violation_in};
+ghost use Rattle.dcsctp_core_ends.specs.Ends.{violation_of_content};
 ghost use Rattle.dcsctp_socket_calls.specs.Parts.{HandlesChunk};
 
 use crate::unknown::handle_unknown;
@@ -27,7 +27,7 @@ use std::alloc::AllocError;
 
 // Is this data, or does it speak of data or of streams?
 fn needs_connection(chunk: &Chunk<'_>) -> bool
-    ensures { result ≡ needs_connection (content_in (chunk_content chunk.now)) }
+    ensures { result ≡ needs_connection (content_of_chunk (chunk_content chunk.now)) }
 {
     match chunk {
         Chunk::Data(_)
@@ -42,7 +42,7 @@ fn needs_connection(chunk: &Chunk<'_>) -> bool
 
 // Does such a chunk come before the COOKIE ACK? With `Options::follow_rfc` it is dropped (RFC 9260, section 6).
 fn comes_early<R: Rng>(context: &Context<R>, chunk: &Chunk<'_>) -> bool
-    ensures { result ≡ comes_early (endpoint_of context.now) (content_in (chunk_content chunk.now)) }
+    ensures { result ≡ comes_early (endpoint_of context.now) (content_of_chunk (chunk_content chunk.now)) }
 {
     context.state.awaits_cookie_ack() && context.options.follow_rfc && needs_connection(chunk)
 }
@@ -54,7 +54,7 @@ pub(crate) fn handle_chunk<R: Rng>(
     header_tag: u32,
     chunk: &Chunk<'_>,
 ) -> Result<Following, AllocError>
-    ensures { HandlesChunk R.stream header_tag (content_in (chunk_content chunk.now)) context.old
+    ensures { HandlesChunk R.stream header_tag (content_of_chunk (chunk_content chunk.now)) context.old
         result context.new }
 {
     if comes_early(context, chunk) {
@@ -75,11 +75,11 @@ fn dispatch_chunk<R: Rng>(
     header_tag: u32,
     chunk: &Chunk<'_>,
 ) -> Result<Following, AllocError>
-    requires late { comes_early (endpoint_of context.old) (content_in (chunk_content chunk.now))
+    requires late { comes_early (endpoint_of context.old) (content_of_chunk (chunk_content chunk.now))
         ≡ false }
-    requires unbroken { violation_in (core_of context.old.state)
-        (content_in (chunk_content chunk.now)) ≡ None }
-    ensures { HandlesChunk R.stream header_tag (content_in (chunk_content chunk.now)) context.old
+    requires unbroken { violation_of_content (core_of context.old.state)
+        (content_of_chunk (chunk_content chunk.now)) ≡ None }
+    ensures { HandlesChunk R.stream header_tag (content_of_chunk (chunk_content chunk.now)) context.old
         result context.new }
 {
     match chunk {

@@ -8,7 +8,7 @@ ghost use Rattle.dcsctp_core.specs.spec.Soundness.{IsSound};
 ghost use Rattle.dcsctp_core.specs.View.{core_of, endpoint_of};
 ghost use Rattle.dcsctp_core.specs.types.Schedule.{hand_over_call};
 ghost use Rattle.dcsctp_core.specs.api.Handover.{IsHandoverAnswer, IsRestoreAnswer};
-ghost use Rattle.dcsctp_socket_calls.specs.Parts.{TurnsOf, RestoringTurns, CutRestoring, BeganAlone, CutCall, WorksCall};
+ghost use Rattle.dcsctp_socket_calls.specs.Parts.{TurnsOf, RestoringTurns, FirstOfRestore, BeganAlone, CutsCall, MakesAnsweredCall};
 
 use dcsctp_core::Context;
 use dcsctp_core::api::handover::{HandoverSocketState, SocketHandoverState};
@@ -24,7 +24,7 @@ pub fn get_handover_state_and_close<R: Rng>(
     context: &mut Context<R>,
 ) -> Result<Result<SocketHandoverState, HandoverError>, AllocError>
     requires { IsSound (endpoint_of context.old) }
-    ensures call { WorksCall R.stream (IsHandoverAnswer (endpoint_of context.old))
+    ensures call { MakesAnsweredCall R.stream (IsHandoverAnswer (endpoint_of context.old))
         (TurnsOf hand_over_call) BeganAlone context.old result context.new }
     ensures refused { readiness_of (endpoint_of context.old) ≢ 0 → IsOk result }
 {
@@ -46,8 +46,8 @@ pub fn restore_from_state<R: Rng>(
     state: &SocketHandoverState,
 ) -> Result<Result<(), RestoreError>, AllocError>
     requires { is_valid_snapshot context.old.options (snapshot state.now) ≡ true }
-    ensures call { WorksCall R.stream (IsRestoreAnswer (core_of context.old.state))
-        (RestoringTurns (snapshot state.now)) (CutCall (CutRestoring (snapshot state.now)))
+    ensures call { MakesAnsweredCall R.stream (IsRestoreAnswer (core_of context.old.state))
+        (RestoringTurns (snapshot state.now)) (CutsCall (FirstOfRestore (snapshot state.now)))
         context.old result context.new }
     ensures idle { inputs_of_restore (core_of context.old.state) (snapshot state.now) ≡ []
         → IsOk result }

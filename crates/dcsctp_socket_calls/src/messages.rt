@@ -8,7 +8,7 @@ ghost use Rattle.dcsctp_core.specs.View.{view_of, endpoint_of};
 ghost use Rattle.dcsctp_core.specs.types.Schedule.{send_call, send_many_call, reset_call};
 ghost use Rattle.dcsctp_core.specs.api.Messages.{IsSendAnswer, IsSendManyAnswer};
 ghost use Rattle.dcsctp_core.specs.api.Resets.{IsResetAnswer};
-ghost use Rattle.dcsctp_socket_calls.specs.Parts.{WorksUserCall, WorksTake};
+ghost use Rattle.dcsctp_socket_calls.specs.Parts.{MakesCallOfUser, TakesFirstMessage};
 
 use dcsctp_core::Context;
 use dcsctp_core::api::{
@@ -24,7 +24,7 @@ pub fn send<R: Rng>(
     message: Message,
     options: &SendOptions,
 ) -> Result<Result<(), SendError>, AllocError>
-    ensures { WorksUserCall R.stream (send_call (message_content message) options.now)
+    ensures { MakesCallOfUser R.stream (send_call (message_content message) options.now)
         (IsSendAnswer (endpoint_of context.old) (message_content message)) context.old result
         context.new }
 {
@@ -38,7 +38,7 @@ pub fn send_many<R: Rng>(
     messages: Vec<Message>,
     options: &SendOptions,
 ) -> Result<Result<(), BatchSendError>, AllocError>
-    ensures { WorksUserCall R.stream
+    ensures { MakesCallOfUser R.stream
         (send_many_call (map message_content messages.items) options.now)
         (IsSendManyAnswer (endpoint_of context.old) (map message_content messages.items)
         options.now) context.old result context.new }
@@ -53,7 +53,7 @@ pub fn reset_streams<R: Rng>(
     context: &mut Context<R>,
     stream_ids: &[StreamId],
 ) -> Result<Result<(), ResetStreamsError>, AllocError>
-    ensures call { WorksUserCall R.stream (reset_call (stream_numbers stream_ids.now))
+    ensures call { MakesCallOfUser R.stream (reset_call (stream_numbers stream_ids.now))
         (IsResetAnswer (endpoint_of context.old)) context.old result context.new }
     ensures refused { reset_refusal (endpoint_of context.old) ≢ None → IsOk result }
 {
@@ -63,7 +63,7 @@ pub fn reset_streams<R: Rng>(
 
 /// Takes the message that became ready first, if one is ready. Allocates nothing.
 pub fn get_next_message<R: Rng>(context: &mut Context<R>) -> Option<Message>
-    ensures { WorksTake (view_of context.old) result (view_of context.new) }
+    ensures { TakesFirstMessage (view_of context.old) result (view_of context.new) }
 {
     context.begin_call();
     dcsctp_core_messages::get_next_message(context)

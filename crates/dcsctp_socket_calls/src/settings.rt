@@ -3,7 +3,7 @@
 ghost use Rattle.std.specs.Prelude.{◌≡◌};
 ghost use Rattle.dcsctp_core.specs.types.Setting.{stream_priority, stream_low_threshold, longest_message};
 ghost use Rattle.dcsctp_core.specs.View.{view_of};
-ghost use Rattle.dcsctp_socket_calls.specs.Parts.{WorksSetting, set_view};
+ghost use Rattle.dcsctp_socket_calls.specs.Parts.{ChangesSetting, set_view};
 
 use dcsctp_core::Context;
 use dcsctp_core::api::StreamId;
@@ -16,7 +16,7 @@ pub fn set_stream_priority<R: Rng>(
     stream_id: StreamId,
     priority: u16,
 ) -> Result<(), AllocError>
-    ensures { WorksSetting (stream_priority stream_id.0 priority) context.old result context.new }
+    ensures { ChangesSetting (stream_priority stream_id.0 priority) context.old result context.new }
 {
     context.begin_call();
     context.send_queue.set_priority(stream_id, priority)?;
@@ -30,7 +30,7 @@ pub fn set_buffered_amount_low_threshold<R: Rng>(
     stream_id: StreamId,
     bytes: usize,
 ) -> Result<(), AllocError>
-    ensures { WorksSetting (stream_low_threshold stream_id.0 bytes) context.old result context.new }
+    ensures { ChangesSetting (stream_low_threshold stream_id.0 bytes) context.old result context.new }
 {
     context.begin_call();
     context

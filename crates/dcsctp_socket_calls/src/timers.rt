@@ -1,14 +1,14 @@
 //! Which timers are due, and what follows them.
 
 ghost use Rattle.std.specs.Prelude.{◌≡◌, [], ◌∷◌, max, IsOk, map};
-ghost use Rattle.dcsctp_core.specs.spec.endpoint.TimeTurns.{timers_in, NoneIsDue, DueTurns};
-ghost use Rattle.dcsctp_core.specs.spec.endpoint.Turn.{act_input, clock_at};
+ghost use Rattle.dcsctp_core.specs.spec.endpoint.TimeTurns.{handled_timers, NoneIsDue, DueTurns};
+ghost use Rattle.dcsctp_core.specs.spec.endpoint.Turn.{act_input, with_clock};
 ghost use Rattle.dcsctp_core.specs.spec.association.Acts.{flushes};
 ghost use Rattle.dcsctp_core.specs.Timing.{Expires};
 ghost use Rattle.dcsctp_core.specs.View.{call_start, core_of, endpoint_of, view_of};
 ghost use Rattle.dcsctp_core.specs.types.Schedule.{advance_call};
-ghost use Rattle.dcsctp_socket_calls.specs.Parts.{TurnsOf, CallMoved, WorksTurns};
-ghost use Rattle.dcsctp_socket_calls.specs.TimeParts.{timer_in, EndTurns, TurnsAfter};
+ghost use Rattle.dcsctp_socket_calls.specs.Parts.{TurnsOf, MovesByCall, MakesTurns};
+ghost use Rattle.dcsctp_socket_calls.specs.TimeParts.{timer_of_socket, EndTurns, TurnsAfter};
 
 use dcsctp_core::api::SocketTime;
 use dcsctp_core::types::AbortReason;
@@ -49,7 +49,7 @@ enum SocketTimer {
 // Gives up a peer that doesn't answer: aborts the association if too many errors were counted (RFC 9260,
 // section 8.1).
 fn end_by_errors<R: Rng>(context: &mut Context<R>) -> Result<(), AllocError>
-    ensures { WorksTurns R.stream (EndTurns []) context.old result context.new }
+    ensures { MakesTurns R.stream (EndTurns []) context.old result context.new }
 {
     if context.has_too_many_errors() {
         abort_association(context, AbortReason::TooManyErrors)?;
@@ -59,7 +59,7 @@ fn end_by_errors<R: Rng>(context: &mut Context<R>) -> Result<(), AllocError>
 
 // Gives up a peer that doesn't answer, as above; else what waits is sent (RFC 9260, sections 6.3.3 and 8.1).
 fn end_or_send<R: Rng>(context: &mut Context<R>) -> Result<(), AllocError>
-    ensures { WorksTurns R.stream (EndTurns (act_input flushes ∷ [])) context.old result
+    ensures { MakesTurns R.stream (EndTurns (act_input flushes ∷ [])) context.old result
         context.new }
 {
     if context.has_too_many_errors() {
@@ -72,7 +72,7 @@ fn end_or_send<R: Rng>(context: &mut Context<R>) -> Result<(), AllocError>
 
 // What follows the timers if one has expired: the association may be aborted.
 fn end_where_held<R: Rng>(context: &mut Context<R>) -> Result<(), AllocError>
-    ensures { WorksTurns R.stream TurnsAfter context.old result context.new }
+    ensures { MakesTurns R.stream TurnsAfter context.old result context.new }
 {
     match context.state {
         State::Closed => {}
@@ -85,7 +85,7 @@ fn end_where_held<R: Rng>(context: &mut Context<R>) -> Result<(), AllocError>
 
 // Advances a timer to the present moment, and does what its expiry asks for. Returns whether it has expired.
 fn handle_timer<R: Rng>(context: &mut Context<R>, timer: SocketTimer) -> Result<bool, AllocError>
-    ensures { Expires R.stream (timer_in timer) context.old result context.new }
+    ensures { Expires R.stream (timer_of_socket timer) context.old result context.new }
 {
     match timer {
         SocketTimer::T1 => handle_t1(context),
@@ -100,7 +100,7 @@ fn handle_timer<R: Rng>(context: &mut Context<R>, timer: SocketTimer) -> Result<
 
 // The timers that are handled in a phase, in their order.
 fn timers_of(state: &State) -> &'static [SocketTimer]
-    ensures { map timer_in result.now ≡ timers_in (core_of state.now) }
+    ensures { map timer_of_socket result.now ≡ handled_timers (core_of state.now) }
 {
     match state {
         State::Closed => &[],
@@ -128,8 +128,8 @@ fn timers_of(state: &State) -> &'static [SocketTimer]
 ///   to a heartbeat, our own request to reset streams, and T2. If one has expired, too many errors abort the
 ///   association; else what waits is sent.
 pub(crate) fn handle_timers<R: Rng>(context: &mut Context<R>) -> Result<(), AllocError>
-    ensures turns { WorksTurns R.stream DueTurns context.old result context.new }
-    ensures waits { NoneIsDue (endpoint_of context.old) (timers_in (core_of context.old.state))
+    ensures turns { MakesTurns R.stream DueTurns context.old result context.new }
+    ensures waits { NoneIsDue (endpoint_of context.old) (handled_timers (core_of context.old.state))
         → IsOk result }
 {
     let mut has_expired = false;
@@ -144,12 +144,12 @@ pub(crate) fn handle_timers<R: Rng>(context: &mut Context<R>) -> Result<(), Allo
 
 /// Moves the clock to `now`, where no timer is due then. An earlier moment changes nothing.
 pub fn move_clock<R: Rng>(context: &mut Context<R>, now: SocketTime)
-    requires { NoneIsDue (clock_at now (endpoint_of context.old))
-        (timers_in (core_of context.old.state)) }
-    ensures turn { CallMoved R.stream (TurnsOf (advance_call now)) (view_of context.old)
+    requires { NoneIsDue (with_clock now (endpoint_of context.old))
+        (handled_timers (core_of context.old.state)) }
+    ensures turn { MovesByCall R.stream (TurnsOf (advance_call now)) (view_of context.old)
         (view_of context.new) }
     ensures only { view_of context.new ≡ record (call_start (view_of context.old)) {
-      endpoint = clock_at (max context.old.moment now) (endpoint_of context.old);
+      endpoint = with_clock (max context.old.moment now) (endpoint_of context.old);
     } }
 {
     context.begin_call();

@@ -8,7 +8,7 @@ use Rattle.dcsctp_types.specs.declared.association.Pair.{Pair}
 use Rattle.dcsctp_types.specs.declared.association.Held.{Held}
 use Rattle.dcsctp_spec.specs.endpoint.Endpoint.{Core, closed, cookie_wait, cookie_echoed, open_in, established, shutdown_ack_sent}
 use Rattle.dcsctp_spec.specs.Packet.{Content, init, cookie_echo, cookie_ack, abort, shutdown, shutdown_ack, shutdown_complete, plain, unworked, Packet}
-use Rattle.dcsctp_spec.specs.Admission.{Admission, all_chunks, shutdown_acks_alone, refused, shutdown_acks_in, admits}
+use Rattle.dcsctp_spec.specs.Admission.{Admission, all_chunks, shutdown_acks_alone, refused, shutdown_acks_of, admits}
 
 -- ---- sockets whose own tag is 9, of which the last two hold a peer with tag 7
 
@@ -195,7 +195,7 @@ unfolding packet open_core mine shutdown_ack_is_wrong
 shutdown_ack_before_cookie_echo held = refl
 
 -- what is left of a packet that is cut
-shutdown_acks_are_left : shutdown_acks_in (a_data_chunk ∷ shutdown_ack ∷ cookie_ack ∷ shutdown 5 ∷ shutdown_ack ∷ []) ≡ shutdown_ack ∷ shutdown_ack ∷ []
+shutdown_acks_are_left : shutdown_acks_of (a_data_chunk ∷ shutdown_ack ∷ cookie_ack ∷ shutdown 5 ∷ shutdown_ack ∷ []) ≡ shutdown_ack ∷ shutdown_ack ∷ []
 unfolding a_data_chunk
 shutdown_acks_are_left = refl
 

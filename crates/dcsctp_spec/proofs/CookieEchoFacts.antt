@@ -10,7 +10,7 @@ use Rattle.dcsctp_types.specs.declared.association.Held.{Held}
 use Rattle.dcsctp_types.specs.declared.kinds.ErrorKind.TheVariants.{ParseFailed, WrongSequence}
 use Rattle.dcsctp_types.specs.declared.word.Word.TheVariants.{U64}
 use Rattle.dcsctp_spec.specs.endpoint.Event.{connected, connection_restarted, error}
-use Rattle.dcsctp_spec.specs.Cookie.{Cookie, cookie_at}
+use Rattle.dcsctp_spec.specs.Cookie.{Cookie, cookie_of_bytes}
 use Rattle.dcsctp_spec.specs.Packet.{cookie_ack, shutdown_ack, plain, unworked}
 use Rattle.dcsctp_spec.specs.queues.SendQueue.{SendQueueState}
 use Rattle.dcsctp_spec.specs.queues.Retransmission.{RetransmissionState}
@@ -50,24 +50,24 @@ made e waiting packets_sent =
 -- ---- no peer is held
 
 -- The message under way continues, under its next number. COOKIE ACK has no checksum, as both have the method.
-echo_where_closed : (e : Endpoint) → cookie_echo_outcome (socket e 1191 (pos 4) closed 4) closed 7 (cookie_at (own_cookie 0)) 55
+echo_where_closed : (e : Endpoint) → cookie_echo_outcome (socket e 1191 (pos 4) closed 4) closed 7 (cookie_of_bytes (own_cookie 0)) 55
     ≡ record { words = U64 55 ∷ []; effects = holds link ∷ connects link ∷ []; after = made e queue_renumbered 5; events = connected ∷ packet_of false 9 (cookie_ack ∷ []) ∷ []; following = next_chunk }
-unfolding cookie_at
+unfolding cookie_of_bytes
 echo_where_closed e = refl
 
 -- By the RFC's rules it begins again.
-echo_where_closed_by_rfc : (e : Endpoint) → (cookie_echo_outcome (by_rfc (socket e 1191 (pos 4) closed 4)) closed 7 (cookie_at (own_cookie 5)) 55).after.queues.queue ≡ queue_at_start
-unfolding cookie_at
+echo_where_closed_by_rfc : (e : Endpoint) → (cookie_echo_outcome (by_rfc (socket e 1191 (pos 4) closed 4)) closed 7 (cookie_of_bytes (own_cookie 5)) 55).after.queues.queue ≡ queue_at_start
+unfolding cookie_of_bytes
 echo_where_closed_by_rfc e = refl
 
-echo_under_wrong_tag : (e : Endpoint) → cookie_echo_outcome (socket e 1191 (pos 4) closed 4) closed 8 (cookie_at (own_cookie 0)) 55
+echo_under_wrong_tag : (e : Endpoint) → cookie_echo_outcome (socket e 1191 (pos 4) closed 4) closed 8 (cookie_of_bytes (own_cookie 0)) 55
     ≡ record { words = []; effects = []; after = socket e 1191 (pos 4) closed 4; events = error ParseFailed (codes "Received CookieEcho with invalid verification tag") ∷ []; following = dropped_rest }
-unfolding cookie_at
+unfolding cookie_of_bytes
 echo_under_wrong_tag e = refl
 
-echo_that_is_no_cookie : (e : Endpoint) → cookie_echo_outcome e closed 7 (cookie_at []) 55
+echo_that_is_no_cookie : (e : Endpoint) → cookie_echo_outcome e closed 7 (cookie_of_bytes []) 55
     ≡ record { words = []; effects = []; after = e; events = error ParseFailed (codes "Invalid state cookie size") ∷ []; following = dropped_rest }
-unfolding cookie_at
+unfolding cookie_of_bytes
 echo_that_is_no_cookie e = refl
 
 -- The peer's window is no greater than what may wait to be sent.
@@ -84,18 +84,18 @@ abbrev older_held : Held
 older_held = record held { peer = record { tag = 90; first_tsn = 900 } }
 
 -- Both tags are other ones, and the tie tag is the association's. The message under way begins again.
-echo_of_restart : (e : Endpoint) → cookie_echo_outcome (socket e 1191 (pos 4) (open_in established older older_held) 4) (open_in established older older_held) 7 (cookie_at (own_cookie 77)) 55
+echo_of_restart : (e : Endpoint) → cookie_echo_outcome (socket e 1191 (pos 4) (open_in established older older_held) 4) (open_in established older older_held) 7 (cookie_of_bytes (own_cookie 77)) 55
     ≡ record { words = U64 55 ∷ []; effects = holds link ∷ connects link ∷ []; after = made e queue_at_start 5; events = connection_restarted ∷ connected ∷ packet_of false 9 (cookie_ack ∷ []) ∷ []; following = next_chunk }
-unfolding cookie_at
+unfolding cookie_of_bytes
 echo_of_restart e = refl
 
-echo_of_unknown_restart : (e : Endpoint) → cookie_echo_outcome (socket e 1191 (pos 4) (open_in established older older_held) 4) (open_in established older older_held) 7 (cookie_at (own_cookie 76)) 55
+echo_of_unknown_restart : (e : Endpoint) → cookie_echo_outcome (socket e 1191 (pos 4) (open_in established older older_held) 4) (open_in established older older_held) 7 (cookie_of_bytes (own_cookie 76)) 55
     ≡ record { words = []; effects = []; after = socket e 1191 (pos 4) (open_in established older older_held) 4; events = error ParseFailed (codes "Received CookieEcho with invalid verification tag") ∷ []; following = dropped_rest }
-unfolding cookie_at
+unfolding cookie_of_bytes
 echo_of_unknown_restart e = refl
 
 -- SHUTDOWN ACK again, and an ERROR.
-echo_of_restart_in_shutdown_ack_sent : (e : Endpoint) → cookie_echo_outcome (socket e 1191 (pos 4) (open_in shutdown_ack_sent older older_held) 4) (open_in shutdown_ack_sent older older_held) 7 (cookie_at (own_cookie 77)) 55
+echo_of_restart_in_shutdown_ack_sent : (e : Endpoint) → cookie_echo_outcome (socket e 1191 (pos 4) (open_in shutdown_ack_sent older older_held) 4) (open_in shutdown_ack_sent older older_held) 7 (cookie_of_bytes (own_cookie 77)) 55
     ≡ record {
       words = [];
       effects = [];
@@ -103,13 +103,13 @@ echo_of_restart_in_shutdown_ack_sent : (e : Endpoint) → cookie_echo_outcome (s
       events = packet_of false 90 (shutdown_ack ∷ plain (unworked (error_chunk (cookie_received_while_shutting_down ∷ []))) ∷ []) ∷ error WrongSequence (codes "Received COOKIE-ECHO while shutting down") ∷ [];
       following = dropped_rest;
     }
-unfolding cookie_at
+unfolding cookie_of_bytes
 echo_of_restart_in_shutdown_ack_sent e = refl
 
 -- The own tag with another peer tag: both began at the same time.
-echo_of_both : (e : Endpoint) → cookie_echo_outcome (socket e 1191 (pos 4) (cookie_echoed mine older_held []) 4) (cookie_echoed mine older_held []) 7 (cookie_at (own_cookie 0)) 55
+echo_of_both : (e : Endpoint) → cookie_echo_outcome (socket e 1191 (pos 4) (cookie_echoed mine older_held []) 4) (cookie_echoed mine older_held []) 7 (cookie_of_bytes (own_cookie 0)) 55
     ≡ record { words = U64 55 ∷ []; effects = holds link ∷ connects link ∷ []; after = made e queue_at_start 5; events = connected ∷ packet_of false 9 (cookie_ack ∷ []) ∷ []; following = next_chunk }
-unfolding cookie_at
+unfolding cookie_of_bytes
 echo_of_both e = refl
 
 -- By the RFC's rules what was sent to the one peer goes to the other, if nothing of it was acknowledged: it isn't begun again.
@@ -120,22 +120,22 @@ collides e first_tsn =
       queues = record { queue = queue_renumbered; transfer = option_map (beginning_at first_tsn) (transfer_begun 1191 11910 4764) };
     }
 
-echo_of_both_by_rfc : (e : Endpoint) → (cookie_echo_outcome (collides e 100) (cookie_echoed mine older_held []) 7 (cookie_at (own_cookie 0)) 55).after.queues.queue ≡ queue_renumbered
-unfolding cookie_at
+echo_of_both_by_rfc : (e : Endpoint) → (cookie_echo_outcome (collides e 100) (cookie_echoed mine older_held []) 7 (cookie_of_bytes (own_cookie 0)) 55).after.queues.queue ≡ queue_renumbered
+unfolding cookie_of_bytes
 echo_of_both_by_rfc e = refl
 
-acknowledged_where_both_began : (e : Endpoint) → (cookie_echo_outcome (collides e 101) (cookie_echoed mine older_held []) 7 (cookie_at (own_cookie 0)) 55).after.queues.queue ≡ queue_at_start
-unfolding cookie_at
+acknowledged_where_both_began : (e : Endpoint) → (cookie_echo_outcome (collides e 101) (cookie_echoed mine older_held []) 7 (cookie_of_bytes (own_cookie 0)) 55).after.queues.queue ≡ queue_at_start
+unfolding cookie_of_bytes
 acknowledged_where_both_began e = refl
 
 -- Another own tag with the same peer tag, and a tie tag of 0: the cookie is of an attempt that is over.
-echo_that_is_late : (e : Endpoint) → cookie_echo_outcome (socket e 1191 (pos 4) (cookie_echoed older held []) 4) (cookie_echoed older held []) 7 (cookie_at (own_cookie 0)) 55
+echo_that_is_late : (e : Endpoint) → cookie_echo_outcome (socket e 1191 (pos 4) (cookie_echoed older held []) 4) (cookie_echoed older held []) 7 (cookie_of_bytes (own_cookie 0)) 55
     ≡ record { words = []; effects = []; after = socket e 1191 (pos 4) (cookie_echoed older held []) 4; events = []; following = dropped_rest }
-unfolding cookie_at
+unfolding cookie_of_bytes
 echo_that_is_late e = refl
 
 -- The association that is held is connected, and no word is drawn.
-echo_in_cookie_echoed : (e : Endpoint) → cookie_echo_outcome (socket e 1191 (pos 4) (cookie_echoed mine held []) 4) (cookie_echoed mine held []) 7 (cookie_at (own_cookie 0)) 55
+echo_in_cookie_echoed : (e : Endpoint) → cookie_echo_outcome (socket e 1191 (pos 4) (cookie_echoed mine held []) 4) (cookie_echoed mine held []) 7 (cookie_of_bytes (own_cookie 0)) 55
     ≡ record {
       words = [];
       effects = connects link ∷ [];
@@ -143,38 +143,38 @@ echo_in_cookie_echoed : (e : Endpoint) → cookie_echo_outcome (socket e 1191 (p
       events = connected ∷ packet_of false 9 (cookie_ack ∷ []) ∷ [];
       following = next_chunk;
     }
-unfolding cookie_at
+unfolding cookie_of_bytes
 echo_in_cookie_echoed e = refl
 
 -- COOKIE ACK alone, in any phase.
-echo_in_shutdown_received : (e : Endpoint) → cookie_echo_outcome (socket e 1191 (pos 4) (open_in shutdown_received mine held) 4) (open_in shutdown_received mine held) 7 (cookie_at (own_cookie 0)) 55
+echo_in_shutdown_received : (e : Endpoint) → cookie_echo_outcome (socket e 1191 (pos 4) (open_in shutdown_received mine held) 4) (open_in shutdown_received mine held) 7 (cookie_of_bytes (own_cookie 0)) 55
     ≡ record { words = []; effects = []; after = socket e 1191 (pos 4) (open_in shutdown_received mine held) 5; events = packet_of false 9 (cookie_ack ∷ []) ∷ []; following = next_chunk }
-unfolding cookie_at
+unfolding cookie_of_bytes
 echo_in_shutdown_received e = refl
 
-echo_under_burst_0 : (e : Endpoint) → cookie_echo_outcome (socket e 1191 (pos 0) (open_in established mine held) 4) (open_in established mine held) 7 (cookie_at (own_cookie 0)) 55
+echo_under_burst_0 : (e : Endpoint) → cookie_echo_outcome (socket e 1191 (pos 0) (open_in established mine held) 4) (open_in established mine held) 7 (cookie_of_bytes (own_cookie 0)) 55
     ≡ record { words = []; effects = []; after = socket e 1191 (pos 0) (open_in established mine held) 4; events = []; following = next_chunk }
-unfolding cookie_at
+unfolding cookie_of_bytes
 echo_under_burst_0 e = refl
 
 -- ---- the age of a cookie of 5 s, where the lifetime is 60 s
 
 -- One that is 60 s old makes an association,
-echo_in_time : (e : Endpoint) → (cookie_echo_outcome (record (socket e 1191 (pos 4) closed 4) { moment = 65_000_000_000 }) closed 7 (cookie_at (own_cookie 0)) 55).effects ≡ holds link ∷ connects link ∷ []
-unfolding cookie_at
+echo_in_time : (e : Endpoint) → (cookie_echo_outcome (record (socket e 1191 (pos 4) closed 4) { moment = 65_000_000_000 }) closed 7 (cookie_of_bytes (own_cookie 0)) 55).effects ≡ holds link ∷ connects link ∷ []
+unfolding cookie_of_bytes
 echo_in_time e = refl
 
 -- and one that is a nanosecond older doesn't.
 echo_that_is_stale : (e : Endpoint) → let late : Endpoint = record (socket e 1191 (pos 4) closed 4) { moment = 65_000_000_001 } in
-    cookie_echo_outcome late closed 7 (cookie_at (own_cookie 0)) 55
+    cookie_echo_outcome late closed 7 (cookie_of_bytes (own_cookie 0)) 55
     ≡ record { words = []; effects = []; after = late; events = error ParseFailed (codes "Stale state cookie") ∷ []; following = dropped_rest }
-unfolding cookie_at
+unfolding cookie_of_bytes
 echo_that_is_stale e = refl
 
 -- ---- one that this socket didn't make, where there is no association
 
 -- By the RFC's rules it bears another tie tag than the secret,
-forged_echo : (e : Endpoint) → cookie_echo_outcome (by_rfc (socket e 1191 (pos 4) closed 4)) closed 7 (cookie_at (own_cookie 6)) 55
+forged_echo : (e : Endpoint) → cookie_echo_outcome (by_rfc (socket e 1191 (pos 4) closed 4)) closed 7 (cookie_of_bytes (own_cookie 6)) 55
     ≡ record {
       words = [];
       effects = [];
@@ -182,17 +182,17 @@ forged_echo : (e : Endpoint) → cookie_echo_outcome (by_rfc (socket e 1191 (pos
       events = error ParseFailed (codes "Stale state cookie") ∷ packet_of true 9 (plain (unworked (error_chunk (unknown_cause 3 (0 ∷ 0 ∷ 0 ∷ 0 ∷ []) ∷ []))) ∷ []) ∷ [];
       following = dropped_rest;
     }
-unfolding cookie_at parameter_chunk_bytes parameter_bytes
+unfolding cookie_of_bytes parameter_chunk_bytes parameter_bytes
 forged_echo e = refl
 
 -- also while an INIT ACK is awaited,
-forged_while_waiting : (e : Endpoint) → (cookie_echo_outcome (by_rfc (socket e 1191 (pos 4) closed 4)) (cookie_wait older) 7 (cookie_at (own_cookie 0)) 55).effects ≡ []
-unfolding cookie_at parameter_chunk_bytes parameter_bytes
+forged_while_waiting : (e : Endpoint) → (cookie_echo_outcome (by_rfc (socket e 1191 (pos 4) closed 4)) (cookie_wait older) 7 (cookie_of_bytes (own_cookie 0)) 55).effects ≡ []
+unfolding cookie_of_bytes parameter_chunk_bytes parameter_bytes
 forged_while_waiting e = refl
 
 -- and so is any while no pair was drawn.
-forged_at_once : (e : Endpoint) → (cookie_echo_outcome (record (by_rfc (socket e 1191 (pos 4) closed 4)) { secret = 0 }) closed 7 (cookie_at (own_cookie 0)) 55).effects ≡ []
-unfolding cookie_at parameter_chunk_bytes parameter_bytes
+forged_at_once : (e : Endpoint) → (cookie_echo_outcome (record (by_rfc (socket e 1191 (pos 4) closed 4)) { secret = 0 }) closed 7 (cookie_of_bytes (own_cookie 0)) 55).effects ≡ []
+unfolding cookie_of_bytes parameter_chunk_bytes parameter_bytes
 forged_at_once e = refl
 
 -- ---- the last association had this own tag
@@ -201,7 +201,7 @@ abbrev after_7 : Endpoint → Endpoint
 after_7 e = record (socket e 1191 (pos 4) closed 4) { last_tag = Some 7 }
 
 -- By the RFC's rules a cookie under it makes no other,
-echo_of_the_last : (e : Endpoint) → cookie_echo_outcome (by_rfc (after_7 e)) closed 7 (cookie_at (own_cookie 5)) 55
+echo_of_the_last : (e : Endpoint) → cookie_echo_outcome (by_rfc (after_7 e)) closed 7 (cookie_of_bytes (own_cookie 5)) 55
     ≡ record {
       words = [];
       effects = [];
@@ -209,16 +209,16 @@ echo_of_the_last : (e : Endpoint) → cookie_echo_outcome (by_rfc (after_7 e)) c
       events = error ParseFailed (codes "Stale state cookie") ∷ packet_of true 9 (plain (unworked (error_chunk (unknown_cause 3 (0 ∷ 0 ∷ 0 ∷ 0 ∷ []) ∷ []))) ∷ []) ∷ [];
       following = dropped_rest;
     }
-unfolding cookie_at parameter_chunk_bytes parameter_bytes
+unfolding cookie_of_bytes parameter_chunk_bytes parameter_bytes
 echo_of_the_last e = refl
 
 -- nor while an INIT ACK is awaited. By the port it does.
-echo_of_the_last_while_waiting : (e : Endpoint) → (cookie_echo_outcome (by_rfc (after_7 e)) (cookie_wait older) 7 (cookie_at (own_cookie 5)) 55).effects ≡ []
-unfolding cookie_at parameter_chunk_bytes parameter_bytes
+echo_of_the_last_while_waiting : (e : Endpoint) → (cookie_echo_outcome (by_rfc (after_7 e)) (cookie_wait older) 7 (cookie_of_bytes (own_cookie 5)) 55).effects ≡ []
+unfolding cookie_of_bytes parameter_chunk_bytes parameter_bytes
 echo_of_the_last_while_waiting e = refl
 
-echo_of_the_last_by_port : (e : Endpoint) → (cookie_echo_outcome (after_7 e) closed 7 (cookie_at (own_cookie 0)) 55).effects ≡ holds link ∷ connects link ∷ []
-unfolding cookie_at
+echo_of_the_last_by_port : (e : Endpoint) → (cookie_echo_outcome (after_7 e) closed 7 (cookie_of_bytes (own_cookie 0)) 55).effects ≡ holds link ∷ connects link ∷ []
+unfolding cookie_of_bytes
 echo_of_the_last_by_port e = refl
 
 -- Which tag that is: an attempt that had no peer leaves the one before.
@@ -233,18 +233,18 @@ leaves_the_one_before e = refl
 -- No packet goes out where it is a restart and a SHUTDOWN ACK waits for its answer.
 stale_restart_in_shutdown_ack_sent : (e : Endpoint)
     → let late : Endpoint = record (socket e 1191 (pos 4) (open_in shutdown_ack_sent older older_held) 4) { moment = 65_000_000_001 } in
-    cookie_echo_outcome late (open_in shutdown_ack_sent older older_held) 7 (cookie_at (own_cookie 77)) 55
+    cookie_echo_outcome late (open_in shutdown_ack_sent older older_held) 7 (cookie_of_bytes (own_cookie 77)) 55
     ≡ record { words = []; effects = []; after = late; events = error ParseFailed (codes "Stale state cookie") ∷ []; following = dropped_rest }
-unfolding cookie_at
+unfolding cookie_of_bytes
 stale_restart_in_shutdown_ack_sent e = refl
 
 -- That of the existing association is acknowledged at any age.
-old_echo_of_existing : (e : Endpoint) → (cookie_echo_outcome (record (socket e 1191 (pos 4) (open_in shutdown_received mine held) 4) { moment = 3_600_000_000_000 }) (open_in shutdown_received mine held) 7 (cookie_at (own_cookie 0)) 55).events
+old_echo_of_existing : (e : Endpoint) → (cookie_echo_outcome (record (socket e 1191 (pos 4) (open_in shutdown_received mine held) 4) { moment = 3_600_000_000_000 }) (open_in shutdown_received mine held) 7 (cookie_of_bytes (own_cookie 0)) 55).events
     ≡ packet_of false 9 (cookie_ack ∷ []) ∷ []
-unfolding cookie_at
+unfolding cookie_of_bytes
 old_echo_of_existing e = refl
 
 -- A clock that is before the cookie's moment gives no age.
-echo_of_later_moment : (e : Endpoint) → (cookie_echo_outcome (record (socket e 1191 (pos 4) closed 4) { moment = 0 }) closed 7 (cookie_at (own_cookie 0)) 55).effects ≡ holds link ∷ connects link ∷ []
-unfolding cookie_at
+echo_of_later_moment : (e : Endpoint) → (cookie_echo_outcome (record (socket e 1191 (pos 4) closed 4) { moment = 0 }) closed 7 (cookie_of_bytes (own_cookie 0)) 55).effects ≡ holds link ∷ connects link ∷ []
+unfolding cookie_of_bytes
 echo_of_later_moment e = refl

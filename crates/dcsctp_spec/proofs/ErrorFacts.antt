@@ -8,7 +8,7 @@ use Rattle.dcsctp_types.specs.declared.association.Held.{Held}
 use Rattle.dcsctp_types.specs.declared.kinds.ErrorKind.TheVariants.{PeerReported}
 use Rattle.dcsctp_spec.specs.endpoint.Cause.{Cause}
 use Rattle.dcsctp_spec.specs.endpoint.Event.{error}
-use Rattle.dcsctp_spec.specs.Packet.{content_in, plain, error_of}
+use Rattle.dcsctp_spec.specs.Packet.{content_of_chunk, plain, error_of}
 use Rattle.dcsctp_spec.specs.endpoint.Endpoint.{Endpoint, closed, cookie_wait, cookie_echoed, open_in, established, shutdown_received}
 use Rattle.dcsctp_spec.specs.endpoint.Outcome.{Outcome, still}
 use Rattle.dcsctp_spec.specs.endpoint.Following.{next_chunk}
@@ -61,5 +61,5 @@ turn_of_error : (e : Endpoint) (my : Pair) (held : Held) → PlainTurn (record e
 unfolding told digits
 turn_of_error e my held = refl
 
-error_is_read : (causes : List Cause) → content_in (error_chunk causes) ≡ plain (error_of causes)
+error_is_read : (causes : List Cause) → content_of_chunk (error_chunk causes) ≡ plain (error_of causes)
 error_is_read causes = refl

@@ -12,10 +12,10 @@ use Rattle.dcsctp_spec.specs.endpoint.Timers.{running_deadline}
 use Rattle.dcsctp_spec.specs.queues.Reassembly.{ReassemblyState, bytes_to_watermark}
 use Rattle.dcsctp_spec.specs.queues.SendQueue.{SendQueueState, empty_queue}
 use Rattle.dcsctp_spec.specs.queues.Sending.{next_turn}
-use Rattle.dcsctp_spec.specs.queues.Tracker.{TrackerState, observed, most_blocks, duplicates_left}
+use Rattle.dcsctp_spec.specs.queues.Tracker.{TrackerState, tracker_after_data, most_blocks, duplicates_left}
 use Rattle.dcsctp_spec.specs.queues.Transfer.{Transfer, advertised_window}
 use Rattle.dcsctp_spec.specs.association.ShutdownChanges.{is_ended_by_abort}
-use Rattle.dcsctp_spec.specs.endpoint.DataOutcomes.{heeds_window, taken_to}
+use Rattle.dcsctp_spec.specs.endpoint.DataOutcomes.{counts_as_probe_answer, taken_to}
 use Rattle.dcsctp_spec.specs.endpoint.Endpoint.{Endpoint, closed, cookie_wait, errors_begun}
 use Rattle.dcsctp_spec.specs.endpoint.EndOutcomes.{closed_after}
 use Rattle.dcsctp_spec.specs.endpoint.Outcome.{Outcome, still}
@@ -30,10 +30,10 @@ gap_at_11 follows tracker =
     record tracker { cumulative = 10; ranges = record { first = 12; last = 13 } ∷ []; has_seen_data = true; acknowledgement = Idle; follows_rfc = follows }
 
 -- TSN 11 closes the gap.
-closed_gap : (tracker : TrackerState) → (observed 11 false (gap_at_11 true tracker)).acknowledgement ≡ Immediate
+closed_gap : (tracker : TrackerState) → (tracker_after_data 11 false (gap_at_11 true tracker)).acknowledgement ≡ Immediate
 closed_gap tracker = refl
 
-closed_gap_by_port : (tracker : TrackerState) → (observed 11 false (gap_at_11 false tracker)).acknowledgement ≡ BecomingDelayed
+closed_gap_by_port : (tracker : TrackerState) → (tracker_after_data 11 false (gap_at_11 false tracker)).acknowledgement ≡ BecomingDelayed
 closed_gap_by_port tracker = refl
 
 -- ---- what a SACK lists
@@ -146,13 +146,13 @@ opens_by_port options transfer = refl
 
 -- ---- a probe of a closed window
 
-answered_probe : (options : Options) → heeds_window (small options) 31 ≡ true
+answered_probe : (options : Options) → counts_as_probe_answer (small options) 31 ≡ true
 answered_probe options = refl
 
-open_window_counts : (options : Options) → heeds_window (small options) 32 ≡ false
+open_window_counts : (options : Options) → counts_as_probe_answer (small options) 32 ≡ false
 open_window_counts options = refl
 
-answered_by_port : (options : Options) → heeds_window (record (small options) { follow_rfc = false }) 0 ≡ false
+answered_by_port : (options : Options) → counts_as_probe_answer (record (small options) { follow_rfc = false }) 0 ≡ false
 answered_by_port options = refl
 
 -- ---- streams of equal priority

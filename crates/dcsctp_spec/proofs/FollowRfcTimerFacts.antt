@@ -5,7 +5,7 @@ use Rattle.dcsctp_types.specs.declared.kinds.BackoffAlgorithm.TheVariants.{Expon
 use Rattle.dcsctp_types.specs.declared.options.Options.{Options}
 use Rattle.dcsctp_spec.specs.endpoint.BegunResets.{reconfiguration_settings}
 use Rattle.dcsctp_spec.specs.endpoint.Endpoint.{Endpoint, heartbeat_wait}
-use Rattle.dcsctp_spec.specs.endpoint.HeartbeatOutcomes.{answered, beating, heartbeat_round_trip}
+use Rattle.dcsctp_spec.specs.endpoint.HeartbeatOutcomes.{endpoint_answered, beating, heartbeat_round_trip}
 use Rattle.dcsctp_spec.specs.endpoint.ShutdownOutcomes.{t2_terms}
 use Rattle.dcsctp_spec.specs.endpoint.Timers.{RunningTimer, TimerModel, backed_off, longest_backoff}
 use Rattle.dcsctp_spec.specs.queues.Acknowledging.{opens}
@@ -164,8 +164,8 @@ unmeasured_by_port : (e : Endpoint) → heartbeat_round_trip (beaten false e) �
 unmeasured_by_port e = refl
 
 -- Another answer measures nothing, until the next HEARTBEAT.
-measured_once : (e : Endpoint) → heartbeat_round_trip (answered (beaten true e)) ≡ None
+measured_once : (e : Endpoint) → heartbeat_round_trip (endpoint_answered (beaten true e)) ≡ None
 measured_once e = refl
 
-measured_anew : (e : Endpoint) → heartbeat_round_trip (beating (answered (beaten true e))) ≡ Some 0
+measured_anew : (e : Endpoint) → heartbeat_round_trip (beating (endpoint_answered (beaten true e))) ≡ Some 0
 measured_anew e = refl

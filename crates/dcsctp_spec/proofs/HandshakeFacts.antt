@@ -3,8 +3,8 @@
 use Rattle.std.proofs.Common.{◌≡◌, ℕ, Bool, true, false, None, Some, [], ◌∷◌, refl}
 use Rattle.dcsctp_types.specs.wire.Content.{state_cookie, supported_extensions, zero_checksum_acceptable, forward_tsn_supported, unknown_parameter, init_ack_chunk}
 use Rattle.dcsctp_types.specs.declared.capabilities.Capabilities.{Capabilities}
-use Rattle.dcsctp_types.specs.Offer.{Offer, agreed_method, negotiated, answering_offer, capabilities_offered, offer_in, offer_parameters, offer_announced}
-use Rattle.dcsctp_spec.specs.Packet.{Introduction, init_ack, cookie_in, introduction_in, introduction_out, chunk_out}
+use Rattle.dcsctp_types.specs.Offer.{Offer, agreed_method, negotiated_capabilities, answering_offer, capabilities_offered, offer_of_capabilities, offer_parameters, offer_announced}
+use Rattle.dcsctp_spec.specs.Packet.{Introduction, init_ack, first_cookie, introduction_of_init, introduction_out, chunk_out}
 use Rattle.dcsctp_spec.specs.endpoint.Outcome.{count_up}
 use Rattle.dcsctp_spec.specs.endpoint.HandshakeOutcomes.{tag_from, first_tsn_from, pair_from}
 
@@ -20,11 +20,11 @@ capabilities partial interleaving reconfig method incoming outgoing =
 
 -- One side alone offers each feature, and the methods differ. The one can receive on 10 streams and the
 -- other sends on 40; the one sends on 20 and the other can receive on 5.
-nothing_in_common : negotiated (offer true false true 1 10 20) (offer false true false 2 5 40) ≡ capabilities false false false 0 10 5
+nothing_in_common : negotiated_capabilities (offer true false true 1 10 20) (offer false true false 2 5 40) ≡ capabilities false false false 0 10 5
 unfolding offer capabilities
 nothing_in_common = refl
 
-all_in_common : negotiated (offer true true true 1 40 5) (offer true true true 1 20 10) ≡ capabilities true true true 1 10 5
+all_in_common : negotiated_capabilities (offer true true true 1 40 5) (offer true true true 1 20 10) ≡ capabilities true true true 1 10 5
 unfolding offer capabilities
 all_in_common = refl
 
@@ -51,7 +51,7 @@ offer_is_shown : capabilities_offered (offer true false true 7 10 20) ≡ capabi
 unfolding offer capabilities
 offer_is_shown = refl
 
-offer_is_found : offer_in (capabilities true false true 7 20 10) ≡ offer true false true 7 10 20
+offer_is_found : offer_of_capabilities (capabilities true false true 7 20 10) ≡ offer true false true 7 10 20
 unfolding offer capabilities
 offer_is_found = refl
 
@@ -97,11 +97,11 @@ init_ack_goes_out : chunk_out (init_ack introduced (Some (1 ∷ 2 ∷ []))) ≡ 
 unfolding introduced offer
 init_ack_goes_out = refl
 
-init_ack_comes_in : introduction_in (introduction_out introduced None) ≡ introduced
+init_ack_comes_in : introduction_of_init (introduction_out introduced None) ≡ introduced
 unfolding introduced offer
 init_ack_comes_in = refl
 
-first_cookie_is_taken : cookie_in (forward_tsn_supported ∷ state_cookie (1 ∷ []) ∷ state_cookie (2 ∷ []) ∷ []) ≡ Some (1 ∷ [])
+first_cookie_is_taken : first_cookie (forward_tsn_supported ∷ state_cookie (1 ∷ []) ∷ state_cookie (2 ∷ []) ∷ []) ≡ Some (1 ∷ [])
 first_cookie_is_taken = refl
 
 -- ---- random words and counts

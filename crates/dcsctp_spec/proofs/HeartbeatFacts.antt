@@ -8,7 +8,7 @@ use Rattle.dcsctp_spec.specs.endpoint.Event.{Event, sent}
 use Rattle.dcsctp_spec.specs.Packet.{Emission, heartbeat_ack, plain}
 use Rattle.dcsctp_spec.specs.endpoint.Outcome.{still, reports}
 use Rattle.dcsctp_types.specs.declared.kinds.ErrorKind.TheVariants.{ParseFailed}
-use Rattle.dcsctp_spec.specs.endpoint.HeartbeatOutcomes.{error_counted, is_exhausted, heartbeat_outcome, info_in, counter_of, invalid_info_text, heartbeat_ack_outcome}
+use Rattle.dcsctp_spec.specs.endpoint.HeartbeatOutcomes.{error_counted, is_exhausted, heartbeat_outcome, first_heartbeat_info, counter_of, invalid_info_text, heartbeat_ack_outcome}
 use Rattle.dcsctp_spec.proofs.HandshakeTurnFacts.{mine, held}
 
 -- ---- errors
@@ -68,11 +68,11 @@ unfolding parameter_chunk_bytes parameter_bytes
 second_by_port e = refl
 
 -- The first info counts, whatever its length.
-first_info : counter_of (info_in (state_cookie [] ∷ heartbeat_info (0 ∷ 0 ∷ 1 ∷ 2 ∷ []) ∷ heartbeat_info [] ∷ [])) ≡ Some 258
+first_info : counter_of (first_heartbeat_info (state_cookie [] ∷ heartbeat_info (0 ∷ 0 ∷ 1 ∷ 2 ∷ []) ∷ heartbeat_info [] ∷ [])) ≡ Some 258
 first_info = refl
 
-short_info : counter_of (info_in (heartbeat_info (1 ∷ 2 ∷ 3 ∷ []) ∷ heartbeat_info (0 ∷ 0 ∷ 1 ∷ 2 ∷ []) ∷ [])) ≡ None
+short_info : counter_of (first_heartbeat_info (heartbeat_info (1 ∷ 2 ∷ 3 ∷ []) ∷ heartbeat_info (0 ∷ 0 ∷ 1 ∷ 2 ∷ []) ∷ [])) ≡ None
 short_info = refl
 
-no_info : (e : Endpoint) → heartbeat_ack_outcome e (counter_of (info_in [])) ≡ reports e ParseFailed invalid_info_text
+no_info : (e : Endpoint) → heartbeat_ack_outcome e (counter_of (first_heartbeat_info [])) ≡ reports e ParseFailed invalid_info_text
 no_info e = refl

@@ -10,7 +10,7 @@ use Rattle.dcsctp_spec.specs.Packet.{Emission}
 use Rattle.dcsctp_types.specs.queues.SendStreams.{Waiting, Stream}
 use Rattle.dcsctp_spec.specs.queues.SendEvents.{falls_low}
 use Rattle.dcsctp_spec.specs.queues.SendQueue.{SendQueueState, has_queued_data}
-use Rattle.dcsctp_spec.specs.queues.OwnResets.{prepared, prepared_all, prepare_all_events, ready_streams}
+use Rattle.dcsctp_spec.specs.queues.OwnResets.{queue_with_prepared, prepared_all, prepare_all_events, ready_streams}
 use Rattle.dcsctp_spec.specs.endpoint.Endpoint.{Endpoint, closed, cookie_wait, open_in, established}
 use Rattle.dcsctp_spec.specs.endpoint.PreparedResets.{not_connected, not_supported, reset_refusal}
 
@@ -53,16 +53,16 @@ under_way_on id = Some (record { stream_id = record { 0 = id }; ssn = 6; mid = 7
 abbrev two : SendQueueState
 two = queue 9 None (stream 2 Open 6 (message 4 ∷ message 6 ∷ []) ∷ stream 5 Open 3 (message 8 ∷ []) ∷ [])
 
-two_leave : prepared 2 two ≡ queue 3 None (stream 2 Pausing 0 [] ∷ stream 5 Open 3 (message 8 ∷ []) ∷ [])
+two_leave : queue_with_prepared 2 two ≡ queue 3 None (stream 2 Pausing 0 [] ∷ stream 5 Open 3 (message 8 ∷ []) ∷ [])
 unfolding queue stream message
 two_leave = refl
 
-it_is_ready : ready_streams (prepared 2 two) ≡ 2 ∷ []
+it_is_ready : ready_streams (queue_with_prepared 2 two) ≡ 2 ∷ []
 unfolding queue stream message
 it_is_ready = refl
 
 -- Again changes nothing.
-again_stays : prepared 2 (prepared 2 two) ≡ prepared 2 two
+again_stays : queue_with_prepared 2 (queue_with_prepared 2 two) ≡ queue_with_prepared 2 two
 unfolding queue stream message
 again_stays = refl
 
@@ -70,21 +70,21 @@ again_stays = refl
 abbrev started : SendQueueState
 started = queue 5 (under_way_on 2) (stream 2 Open 5 (message 4 ∷ message 6 ∷ []) ∷ [])
 
-one_stays : prepared 2 started ≡ queue 2 (under_way_on 2) (stream 2 Pausing 2 (message 4 ∷ []) ∷ [])
+one_stays : queue_with_prepared 2 started ≡ queue 2 (under_way_on 2) (stream 2 Pausing 2 (message 4 ∷ []) ∷ [])
 unfolding queue stream message under_way_on
 one_stays = refl
 
-not_ready_yet : ready_streams (prepared 2 started) ≡ []
+not_ready_yet : ready_streams (queue_with_prepared 2 started) ≡ []
 unfolding queue stream message under_way_on
 not_ready_yet = refl
 
 -- A message of another stream that is under way is no hindrance.
-another_is_under_way : ready_streams (prepared 2 (queue 5 (under_way_on 1) (stream 1 Open 2 (message 4 ∷ []) ∷ stream 2 Open 3 (message 6 ∷ []) ∷ []))) ≡ 2 ∷ []
+another_is_under_way : ready_streams (queue_with_prepared 2 (queue 5 (under_way_on 1) (stream 1 Open 2 (message 4 ∷ []) ∷ stream 2 Open 3 (message 6 ∷ []) ∷ []))) ≡ 2 ∷ []
 unfolding queue stream message under_way_on
 another_is_under_way = refl
 
 -- A stream that was never used is ready at once.
-never_used : prepared 3 (queue 0 None []) ≡ queue 0 None (record (stream 3 Pausing 0 []) { next_ssn = 0; next_mid = 0; next_unordered_mid = 0 } ∷ [])
+never_used : queue_with_prepared 3 (queue 0 None []) ≡ queue 0 None (record (stream 3 Pausing 0 []) { next_ssn = 0; next_mid = 0; next_unordered_mid = 0 } ∷ [])
 unfolding queue stream
 never_used = refl
 

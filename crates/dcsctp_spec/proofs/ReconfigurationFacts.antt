@@ -8,7 +8,7 @@ use Rattle.dcsctp_types.specs.declared.kinds.BackoffAlgorithm.TheVariants.{Expon
 use Rattle.dcsctp_spec.specs.endpoint.Event.{Event}
 use Rattle.dcsctp_spec.specs.Packet.{re_config, Emission}
 use Rattle.dcsctp_spec.specs.Reconfiguration.{outgoing_reset_request}
-use Rattle.dcsctp_spec.specs.endpoint.Endpoint.{Endpoint, cookie_wait, open_in, established, OutstandingRequest, held_in}
+use Rattle.dcsctp_spec.specs.endpoint.Endpoint.{Endpoint, cookie_wait, open_in, established, OutstandingRequest, held_by_core}
 use Rattle.dcsctp_spec.specs.endpoint.Timers.{RunningTimer}
 use Rattle.dcsctp_spec.specs.association.Effect.{begins, gives_up}
 use Rattle.dcsctp_spec.specs.endpoint.Following.{next_chunk}
@@ -48,7 +48,7 @@ abbrev sent_one : Endpoint → Endpoint
 sent_one e = record e { counts = record e.counts { packets_sent = 5 } }
 
 abbrev expires : Endpoint → Outcome
-expires e = reconfiguration_outcome e (held_in e.core) e.outstanding
+expires e = reconfiguration_outcome e (held_by_core e.core) e.outstanding
 
 -- the packet, in the clear for the peer's tag 9; it has 36 bytes
 abbrev packet : Event Emission

@@ -8,24 +8,24 @@ use Rattle.dcsctp_types.specs.declared.association.Pair.{Pair}
 use Rattle.dcsctp_types.specs.declared.association.Held.{Held}
 use Rattle.dcsctp_types.specs.declared.capabilities.Capabilities.{Capabilities}
 use Rattle.dcsctp_spec.specs.endpoint.Event.{incoming_stream_reset, streams_reset_failed, streams_reset_performed, sent}
-use Rattle.dcsctp_spec.specs.Packet.{re_config, content_in}
-use Rattle.dcsctp_spec.specs.Reconfiguration.{early, due, renewed, ResetParameter, outgoing_reset_request, incoming_reset_request, reconfiguration_response, other_reset_parameter, reset_streams_in}
+use Rattle.dcsctp_spec.specs.Packet.{re_config, content_of_chunk}
+use Rattle.dcsctp_spec.specs.Reconfiguration.{early, due, renewed, ResetParameter, outgoing_reset_request, incoming_reset_request, reconfiguration_response, other_reset_parameter, streams_of_bytes}
 use Rattle.dcsctp_spec.specs.endpoint.Endpoint.{Endpoint, closed, cookie_wait}
 use Rattle.dcsctp_spec.specs.endpoint.Outcome.{still, to_peer}
 use Rattle.dcsctp_spec.specs.association.Effect.{accepts, performs, renews}
-use Rattle.dcsctp_spec.specs.association.ResetChanges.{HandledParameters, work_chunk}
-use Rattle.dcsctp_spec.specs.endpoint.ResetOutcomes.{requested_in, is_renewal, request_state, renewable_after, unanswered, retried, was_performed, has_failed, answered_in, own_moved, reset_events, their_streams, ResetTurn, responses_outcome}
+use Rattle.dcsctp_spec.specs.association.ResetChanges.{HandledParameters, reset_chunk_outcome}
+use Rattle.dcsctp_spec.specs.endpoint.ResetOutcomes.{first_reset_request, is_renewal, request_state, renewable_after, unanswered, retried, was_performed, has_failed, answer_to_own, own_moved, reset_events, their_streams, ResetTurn, responses_outcome}
 use Rattle.dcsctp_spec.specs.queues.Numbers.{is_tsn_beyond}
 
 -- ---- what is read
 
-two_streams : reset_streams_in (0 ∷ 1 ∷ 1 ∷ 2 ∷ []) ≡ 1 ∷ 258 ∷ []
+two_streams : streams_of_bytes (0 ∷ 1 ∷ 1 ∷ 2 ∷ []) ≡ 1 ∷ 258 ∷ []
 two_streams = refl
 
-no_streams : reset_streams_in [] ≡ []
+no_streams : streams_of_bytes [] ≡ []
 no_streams = refl
 
-three_kinds : content_in (re_config_chunk (outgoing_ssn_reset_request 10 3 11 (0 ∷ 1 ∷ []) ∷ wire.reconfiguration_response 4 SuccessPerformed None ∷ forward_tsn_supported ∷ []))
+three_kinds : content_of_chunk (re_config_chunk (outgoing_ssn_reset_request 10 3 11 (0 ∷ 1 ∷ []) ∷ wire.reconfiguration_response 4 SuccessPerformed None ∷ forward_tsn_supported ∷ []))
     ≡ re_config (outgoing_reset_request 10 3 (record { last_tsn = 11; streams = 1 ∷ []; is_new = false }) ∷ reconfiguration_response 4 SuccessPerformed ∷ other_reset_parameter forward_tsn_supported ∷ [])
 three_kinds = refl
 
@@ -58,13 +58,13 @@ abbrev request : ResetParameter
 request = outgoing_reset_request 10 3 (record { last_tsn = 11; streams = 1 ∷ []; is_new = false })
 
 abbrev first_time : (c : Capabilities) → HandledParameters
-first_time c = work_chunk own early (held c 9) (request ∷ [])
+first_time c = reset_chunk_outcome own early (held c 9) (request ∷ [])
 
 abbrev second_time : (c : Capabilities) → HandledParameters
-second_time c = work_chunk own due (first_time c).held (request ∷ [])
+second_time c = reset_chunk_outcome own due (first_time c).held (request ∷ [])
 
 abbrev third_time : (c : Capabilities) → HandledParameters
-third_time c = work_chunk own due (second_time c).held (request ∷ [])
+third_time c = reset_chunk_outcome own due (second_time c).held (request ∷ [])
 
 in_progress : (c : Capabilities) → (first_time c).answers ≡ reconfiguration_response 10 InProgress ∷ []
 in_progress c = refl
@@ -75,13 +75,13 @@ accepted_and_no_more c = refl
 performed_now : (c : Capabilities) → (second_time c).answers ≡ reconfiguration_response 10 SuccessPerformed ∷ []
 performed_now c = refl
 
-told_then : (c : Capabilities) → reset_events (their_streams (requested_in (request ∷ []))) [] (second_time c).effects ≡ incoming_stream_reset (1 ∷ []) ∷ []
+told_then : (c : Capabilities) → reset_events (their_streams (first_reset_request (request ∷ []))) [] (second_time c).effects ≡ incoming_stream_reset (1 ∷ []) ∷ []
 told_then c = refl
 
 answered_again : (c : Capabilities) → (third_time c).answers ≡ reconfiguration_response 10 SuccessPerformed ∷ []
 answered_again c = refl
 
-told_once : (c : Capabilities) → reset_events (their_streams (requested_in (request ∷ []))) [] (third_time c).effects ≡ []
+told_once : (c : Capabilities) → reset_events (their_streams (first_reset_request (request ∷ []))) [] (third_time c).effects ≡ []
 told_once c = refl
 
 -- ---- a request that comes again under the next number: 10 was in progress, came late and was performed, and then comes 11
@@ -109,20 +109,20 @@ is_renewed : (e : Endpoint) (c : Capabilities) → request_state (record (holdin
 is_renewed e c = refl
 
 -- It is answered as performed, and isn't reported.
-renewed_answer : (c : Capabilities) → (work_chunk own renewed (after_10 c) (request_11 ∷ [])).answers ≡ reconfiguration_response 11 SuccessPerformed ∷ []
+renewed_answer : (c : Capabilities) → (reset_chunk_outcome own renewed (after_10 c) (request_11 ∷ [])).answers ≡ reconfiguration_response 11 SuccessPerformed ∷ []
 renewed_answer c = refl
 
-renewed_effects : (c : Capabilities) → (work_chunk own renewed (after_10 c) (request_11 ∷ [])).effects ≡ accepts 11 ∷ renews theirs 11 ∷ []
+renewed_effects : (c : Capabilities) → (reset_chunk_outcome own renewed (after_10 c) (request_11 ∷ [])).effects ≡ accepts 11 ∷ renews theirs 11 ∷ []
 renewed_effects c = refl
 
-renewed_untold : (c : Capabilities) → reset_events (their_streams (requested_in (request_11 ∷ []))) [] (work_chunk own renewed (after_10 c) (request_11 ∷ [])).effects ≡ []
+renewed_untold : (c : Capabilities) → reset_events (their_streams (first_reset_request (request_11 ∷ []))) [] (reset_chunk_outcome own renewed (after_10 c) (request_11 ∷ [])).effects ≡ []
 renewed_untold c = refl
 
 -- By the port it is performed again.
 is_due_by_port : (e : Endpoint) (c : Capabilities) → request_state (record (holding_10 false e) { queues = record e.queues { transfer = None } }) (after_10 c) (request_11 ∷ []) ≡ due
 is_due_by_port e c = refl
 
-performed_by_port : (c : Capabilities) → (work_chunk own due (after_10 c) (request_11 ∷ [])).effects ≡ accepts 11 ∷ performs theirs 11 ∷ []
+performed_by_port : (c : Capabilities) → (reset_chunk_outcome own due (after_10 c) (request_11 ∷ [])).effects ≡ accepts 11 ∷ performs theirs 11 ∷ []
 performed_by_port c = refl
 
 -- Another request isn't it: of other streams, in another order, up to another TSN, or under another number.
@@ -155,11 +155,11 @@ later_number : asks_other 12 11 (1 ∷ 2 ∷ []) ≡ false
 later_number = refl
 
 -- A request that bears the number before its own says that it is new.
-says_new : content_in (re_config_chunk (outgoing_ssn_reset_request 11 10 11 (0 ∷ 1 ∷ []) ∷ []))
+says_new : content_of_chunk (re_config_chunk (outgoing_ssn_reset_request 11 10 11 (0 ∷ 1 ∷ []) ∷ []))
     ≡ re_config (outgoing_reset_request 11 10 (record { last_tsn = 11; streams = 1 ∷ []; is_new = true }) ∷ [])
 says_new = refl
 
-says_new_behind_the_greatest : content_in (re_config_chunk (outgoing_ssn_reset_request 0 (2 ^ 32 - 1) 11 (0 ∷ 1 ∷ []) ∷ []))
+says_new_behind_the_greatest : content_of_chunk (re_config_chunk (outgoing_ssn_reset_request 0 (2 ^ 32 - 1) 11 (0 ∷ 1 ∷ []) ∷ []))
     ≡ re_config (outgoing_reset_request 0 (2 ^ 32 - 1) (record { last_tsn = 11; streams = 1 ∷ []; is_new = true }) ∷ [])
 says_new_behind_the_greatest = refl
 
@@ -178,24 +178,24 @@ beyond_the_last_number = refl
 
 -- ---- requests of the other kind
 
-next_incoming : (c : Capabilities) → (work_chunk own due (held c 9) (incoming_reset_request 10 (1 ∷ []) ∷ [])).answers ≡ reconfiguration_response 10 SuccessNothingToDo ∷ []
+next_incoming : (c : Capabilities) → (reset_chunk_outcome own due (held c 9) (incoming_reset_request 10 (1 ∷ []) ∷ [])).answers ≡ reconfiguration_response 10 SuccessNothingToDo ∷ []
 next_incoming c = refl
 
-astray_incoming : (c : Capabilities) → (work_chunk own due (held c 10) (incoming_reset_request 12 (1 ∷ []) ∷ [])).answers ≡ reconfiguration_response 12 ErrorBadSequenceNumber ∷ []
+astray_incoming : (c : Capabilities) → (reset_chunk_outcome own due (held c 10) (incoming_reset_request 12 (1 ∷ []) ∷ [])).answers ≡ reconfiguration_response 12 ErrorBadSequenceNumber ∷ []
 astray_incoming c = refl
 
 -- A repeat of the number, by an outgoing request, is answered as before, and nothing is reset.
-repeated_by_outgoing : (c : Capabilities) → (work_chunk own due (held c 10) (request ∷ [])).effects ≡ []
+repeated_by_outgoing : (c : Capabilities) → (reset_chunk_outcome own due (held c 10) (request ∷ [])).effects ≡ []
 repeated_by_outgoing c = refl
 
 -- ---- what is an error
 
-no_parameters : (c : Capabilities) → (work_chunk own due (held c 9) []).is_refused ≡ true
+no_parameters : (c : Capabilities) → (reset_chunk_outcome own due (held c 9) []).is_refused ≡ true
 no_parameters c = refl
 
 -- The first of two was handled, and no answer is sent.
 abbrev twice : (c : Capabilities) → HandledParameters
-twice c = work_chunk own due (held c 9) (request ∷ outgoing_reset_request 11 3 (record { last_tsn = 11; streams = 2 ∷ []; is_new = false }) ∷ [])
+twice c = reset_chunk_outcome own due (held c 9) (request ∷ outgoing_reset_request 11 3 (record { last_tsn = 11; streams = 2 ∷ []; is_new = false }) ∷ [])
 
 second_is_refused : (c : Capabilities) → (twice c).is_refused ≡ true
 second_is_refused c = refl
@@ -209,21 +209,21 @@ abbrev asking : (c : Capabilities) → Held
 asking c = record (held c 9) { own_next = 4; own_outstanding = Some 3 }
 
 abbrev after_answer : (c : Capabilities) → ResetParameter → HandledParameters
-after_answer c answer = work_chunk own due (asking c) (answer ∷ [])
+after_answer c answer = reset_chunk_outcome own due (asking c) (answer ∷ [])
 
 performed : (c : Capabilities) → reset_events [] (4 ∷ []) (after_answer c (reconfiguration_response 3 SuccessPerformed)).effects ≡ streams_reset_performed (4 ∷ []) ∷ []
 performed c = refl
 
-performed_is_answered : (c : Capabilities) → answered_in (asking c) (after_answer c (reconfiguration_response 3 SuccessPerformed)) (reconfiguration_response 3 SuccessPerformed ∷ []) ≡ was_performed
+performed_is_answered : (c : Capabilities) → answer_to_own (asking c) (after_answer c (reconfiguration_response 3 SuccessPerformed)) (reconfiguration_response 3 SuccessPerformed ∷ []) ≡ was_performed
 performed_is_answered c = refl
 
 denied : (c : Capabilities) → reset_events [] (4 ∷ []) (after_answer c (reconfiguration_response 3 Denied)).effects ≡ streams_reset_failed (4 ∷ []) ∷ []
 denied c = refl
 
-denied_is_answered : (c : Capabilities) → answered_in (asking c) (after_answer c (reconfiguration_response 3 Denied)) (reconfiguration_response 3 Denied ∷ []) ≡ has_failed
+denied_is_answered : (c : Capabilities) → answer_to_own (asking c) (after_answer c (reconfiguration_response 3 Denied)) (reconfiguration_response 3 Denied ∷ []) ≡ has_failed
 denied_is_answered c = refl
 
-in_progress_is_retried : (c : Capabilities) → answered_in (asking c) (after_answer c (reconfiguration_response 3 InProgress)) (reconfiguration_response 3 InProgress ∷ []) ≡ retried
+in_progress_is_retried : (c : Capabilities) → answer_to_own (asking c) (after_answer c (reconfiguration_response 3 InProgress)) (reconfiguration_response 3 InProgress ∷ []) ≡ retried
 in_progress_is_retried c = refl
 
 -- With the option each answer clears the count of errors.
@@ -248,10 +248,10 @@ performed_keeps_errors_by_port e = refl
 no_answer_keeps_errors : (e : Endpoint) → (own_moved unanswered (with_errors true e)).error_count ≡ 2
 no_answer_keeps_errors e = refl
 
-of_another_number : (c : Capabilities) → answered_in (asking c) (after_answer c (reconfiguration_response 2 SuccessPerformed)) (reconfiguration_response 2 SuccessPerformed ∷ []) ≡ unanswered
+of_another_number : (c : Capabilities) → answer_to_own (asking c) (after_answer c (reconfiguration_response 2 SuccessPerformed)) (reconfiguration_response 2 SuccessPerformed ∷ []) ≡ unanswered
 of_another_number c = refl
 
-none_is_asked : (c : Capabilities) → answered_in (held c 9) (work_chunk own due (held c 9) (reconfiguration_response 3 SuccessPerformed ∷ [])) (reconfiguration_response 3 SuccessPerformed ∷ []) ≡ unanswered
+none_is_asked : (c : Capabilities) → answer_to_own (held c 9) (reset_chunk_outcome own due (held c 9) (reconfiguration_response 3 SuccessPerformed ∷ [])) (reconfiguration_response 3 SuccessPerformed ∷ []) ≡ unanswered
 none_is_asked c = refl
 
 -- ---- a second RE-CONFIG of a packet

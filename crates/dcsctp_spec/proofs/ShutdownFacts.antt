@@ -10,7 +10,7 @@ use Rattle.dcsctp_spec.specs.endpoint.Event as events
 use Rattle.dcsctp_spec.specs.Packet.{Emission, shutdown, shutdown_ack, shutdown_complete}
 use Rattle.dcsctp_spec.specs.queues.Items.{Item}
 use Rattle.dcsctp_spec.specs.queues.Transfer.{Transfer}
-use Rattle.dcsctp_spec.specs.queues.SendQueue.{waits_at}
+use Rattle.dcsctp_spec.specs.queues.SendQueue.{has_waiting_message}
 use Rattle.dcsctp_types.specs.queues.SendStreams.{Waiting, Stream}
 use Rattle.dcsctp_types.specs.declared.sending.Pause.TheVariants.{Pausing, HandedOut}
 use Rattle.dcsctp_spec.specs.endpoint.Endpoint.{Endpoint, Core, closed, cookie_wait, cookie_echoed, open_in, OpenPhase, established, shutdown_pending, shutdown_sent, shutdown_received, shutdown_ack_sent}
@@ -22,8 +22,8 @@ use Rattle.dcsctp_spec.specs.endpoint.TimeTurns.{t2_timer, deadline, has_come, e
 use Rattle.dcsctp_spec.specs.association.Acts.{shutdown_repeats, abort_with}
 use Rattle.dcsctp_types.specs.declared.options.Options.{Options}
 use Rattle.dcsctp_spec.specs.queues.Retransmission.{RetransmissionState}
-use Rattle.dcsctp_spec.specs.endpoint.HeardShutdown.{said_by_shutdown, heeds_shutdown}
-use Rattle.dcsctp_spec.specs.endpoint.ShutdownOutcomes.{may_go_on, step_outcome, shut_down_outcome, shutdown_outcome, shutdown_ack_outcome, shutdown_complete_outcome, t2_again_outcome, shutdown_repeated}
+use Rattle.dcsctp_spec.specs.endpoint.HeardShutdown.{said_by_shutdown, acknowledges_by_shutdown}
+use Rattle.dcsctp_spec.specs.endpoint.ShutdownOutcomes.{may_continue_shutdown, step_outcome, shut_down_outcome, shutdown_outcome, shutdown_ack_outcome, shutdown_complete_outcome, t2_again_outcome, shutdown_repeated}
 use Rattle.dcsctp_spec.proofs.HandshakeTurnFacts.{mine, held, queue, packet_of}
 
 -- an item of three bytes in flight
@@ -151,13 +151,13 @@ waits_for_no_packet : (e : Endpoint) (transfer : Transfer) → (step_outcome (by
 waits_for_no_packet e transfer = refl
 
 -- What was abandoned is waited for, too, until the peer's cumulative TSN ack has passed it.
-abandoned_waits : (e : Endpoint) (transfer : Transfer) → may_go_on (by_rfc (abandoning e transfer) 0) ≡ false
+abandoned_waits : (e : Endpoint) (transfer : Transfer) → may_continue_shutdown (by_rfc (abandoning e transfer) 0) ≡ false
 abandoned_waits e transfer = refl
 
-abandoned_by_port : (e : Endpoint) (transfer : Transfer) → may_go_on (abandoning e transfer) ≡ true
+abandoned_by_port : (e : Endpoint) (transfer : Transfer) → may_continue_shutdown (abandoning e transfer) ≡ true
 abandoned_by_port e transfer = refl
 
-passed_goes_on : (e : Endpoint) (transfer : Transfer) → may_go_on (by_rfc (at e (in_phase shutdown_pending) transfer 0) 0) ≡ true
+passed_goes_on : (e : Endpoint) (transfer : Transfer) → may_continue_shutdown (by_rfc (at e (in_phase shutdown_pending) transfer 0) 0) ≡ true
 passed_goes_on e transfer = refl
 
 -- What waits for a reset is waited for, too,
@@ -166,42 +166,42 @@ awaiting_reset e transfer burst mtu of_stream =
     let by : Endpoint = by_rfc (at e (in_phase shutdown_pending) transfer 0) burst in
     record by { options = record by.options { mtu = mtu }; queues = record by.queues { queue = record queue { streams = map of_stream queue.streams; under_way = None } } }
 
-reset_waits : (e : Endpoint) (transfer : Transfer) → may_go_on (awaiting_reset e transfer 4 1191 pausing) ≡ false
+reset_waits : (e : Endpoint) (transfer : Transfer) → may_continue_shutdown (awaiting_reset e transfer 4 1191 pausing) ≡ false
 reset_waits e transfer = refl
 
-requested_reset_waits : (e : Endpoint) (transfer : Transfer) → may_go_on (awaiting_reset e transfer 4 1191 requested) ≡ false
+requested_reset_waits : (e : Endpoint) (transfer : Transfer) → may_continue_shutdown (awaiting_reset e transfer 4 1191 requested) ≡ false
 requested_reset_waits e transfer = refl
 
 -- but for messages with a lifetime,
-lifetime_goes_on : (e : Endpoint) (transfer : Transfer) → may_go_on (awaiting_reset e transfer 4 1191 (λ stream. pausing (expired_at_9 stream))) ≡ true
+lifetime_goes_on : (e : Endpoint) (transfer : Transfer) → may_continue_shutdown (awaiting_reset e transfer 4 1191 (λ stream. pausing (expired_at_9 stream))) ≡ true
 lifetime_goes_on e transfer = refl
 
 -- and unless no request can be sent.
-no_packet_goes_on : (e : Endpoint) (transfer : Transfer) → may_go_on (awaiting_reset e transfer 0 1191 pausing) ≡ true
+no_packet_goes_on : (e : Endpoint) (transfer : Transfer) → may_continue_shutdown (awaiting_reset e transfer 0 1191 pausing) ≡ true
 no_packet_goes_on e transfer = refl
 
-request_of_36_waits : (e : Endpoint) (transfer : Transfer) → may_go_on (awaiting_reset e transfer 4 36 pausing) ≡ false
+request_of_36_waits : (e : Endpoint) (transfer : Transfer) → may_continue_shutdown (awaiting_reset e transfer 4 36 pausing) ≡ false
 request_of_36_waits e transfer = refl
 
-request_of_35_goes_on : (e : Endpoint) (transfer : Transfer) → may_go_on (awaiting_reset e transfer 4 35 pausing) ≡ true
+request_of_35_goes_on : (e : Endpoint) (transfer : Transfer) → may_continue_shutdown (awaiting_reset e transfer 4 35 pausing) ≡ true
 request_of_35_goes_on e transfer = refl
 
 -- By the port's rules nothing that is queued is.
-reset_by_port : (e : Endpoint) (transfer : Transfer) → may_go_on (record (at e (in_phase shutdown_pending) transfer 0) { queues = (awaiting_reset e transfer 4 1191 pausing).queues }) ≡ true
+reset_by_port : (e : Endpoint) (transfer : Transfer) → may_continue_shutdown (record (at e (in_phase shutdown_pending) transfer 0) { queues = (awaiting_reset e transfer 4 1191 pausing).queues }) ≡ true
 reset_by_port e transfer = refl
 
 -- On a paused stream nothing can be sent, nor can what is past its lifetime.
-nothing_waits_by_rfc : waits_at 10 (record queue { streams = map pausing queue.streams; under_way = None }) ≡ false
+nothing_waits_by_rfc : has_waiting_message 10 (record queue { streams = map pausing queue.streams; under_way = None }) ≡ false
 nothing_waits_by_rfc = refl
 
-no_live_message : waits_at 10 (record queue { streams = map expired_at_9 queue.streams; under_way = None }) ≡ false
+no_live_message : has_waiting_message 10 (record queue { streams = map expired_at_9 queue.streams; under_way = None }) ≡ false
 no_live_message = refl
 
-a_live_message : waits_at 8 (record queue { streams = map expired_at_9 queue.streams; under_way = None }) ≡ true
+a_live_message : has_waiting_message 8 (record queue { streams = map expired_at_9 queue.streams; under_way = None }) ≡ true
 a_live_message = refl
 
 -- The rest of a message that was begun is, whatever its age.
-a_message_under_way : waits_at 10 (record queue { streams = map expired_at_9 queue.streams }) ≡ true
+a_message_under_way : has_waiting_message 10 (record queue { streams = map expired_at_9 queue.streams }) ≡ true
 a_message_under_way = refl
 
 -- Without a peer the association ends.
@@ -254,17 +254,17 @@ abbrev one_out : Transfer → Transfer
 one_out transfer =
     record transfer { retransmission = record transfer.retransmission { outstanding = record { first_tsn = 10; is_interleaved = false; items = items_of 1 } } }
 
-heeds_it : (e : Endpoint) (transfer : Transfer) → heeds_shutdown (by_rfc e 4).options shutdown_pending (one_out transfer) 10 ≡ true
+heeds_it : (e : Endpoint) (transfer : Transfer) → acknowledges_by_shutdown (by_rfc e 4).options shutdown_pending (one_out transfer) 10 ≡ true
 heeds_it e transfer = refl
 
 -- One that was never sent doesn't, nor does any where nothing can be in flight.
-never_sent : (e : Endpoint) (transfer : Transfer) → heeds_shutdown (by_rfc e 4).options shutdown_pending (one_out transfer) 11 ≡ false
+never_sent : (e : Endpoint) (transfer : Transfer) → acknowledges_by_shutdown (by_rfc e 4).options shutdown_pending (one_out transfer) 11 ≡ false
 never_sent e transfer = refl
 
-nothing_out : (e : Endpoint) (transfer : Transfer) → heeds_shutdown (by_rfc e 4).options shutdown_sent (one_out transfer) 10 ≡ false
+nothing_out : (e : Endpoint) (transfer : Transfer) → acknowledges_by_shutdown (by_rfc e 4).options shutdown_sent (one_out transfer) 10 ≡ false
 nothing_out e transfer = refl
 
-unheeded_by_port : (options : Options) (transfer : Transfer) → heeds_shutdown (record options { follow_rfc = false }) shutdown_pending (one_out transfer) 10 ≡ false
+unheeded_by_port : (options : Options) (transfer : Transfer) → acknowledges_by_shutdown (record options { follow_rfc = false }) shutdown_pending (one_out transfer) 10 ≡ false
 unheeded_by_port options transfer = refl
 
 says_so : (state : RetransmissionState) → (said_by_shutdown 10 (record state { peer_window = 3000 })) ≡ record { cumulative_tsn_ack = 10; a_rwnd = 3000; gap_ack_blocks = []; duplicate_tsns = [] }

@@ -2,7 +2,7 @@
 use Rattle.std.proofs.Common.{◌≡◌, ℕ, true, false, List, [], ◌∷◌, refl, Ok, Err}
 use Rattle.std.specs.Prelude.{replicate}
 use Rattle.dcsctp_types.specs.wire.Fields.{u32_at}
-use Rattle.dcsctp_spec.specs.Cookie.{Cookie, cookie_magic, cookie_bytes, cookie_at, size_text, magic_text}
+use Rattle.dcsctp_spec.specs.Cookie.{Cookie, cookie_magic, cookie_bytes, cookie_of_bytes, size_text, magic_text}
 use Rattle.dcsctp_spec.specs.endpoint.BegunResets.{request_size}
 use Rattle.dcsctp_spec.specs.endpoint.PlainOutcomes.{reported_offset}
 use Rattle.dcsctp_spec.specs.queues.Skipping.{entries_offset}
@@ -28,8 +28,8 @@ every_field_is_spelled : cookie_bytes every_field ≡ every_field_bytes
 unfolding cookie_bytes every_field every_field_bytes
 every_field_is_spelled = refl
 
-every_field_is_read : cookie_at every_field_bytes ≡ Ok every_field
-unfolding cookie_at every_field every_field_bytes
+every_field_is_read : cookie_of_bytes every_field_bytes ≡ Ok every_field
+unfolding cookie_of_bytes every_field every_field_bytes
 every_field_is_read = refl
 
 -- the cookie of two sockets with default options: tags 7 and 9, first TSNs 100 and 200
@@ -51,16 +51,16 @@ unfolding cookie_bytes default_cookie
 default_cookie_is_spelled = refl
 
 -- 56 bytes of 0 have the size and no magic.
-zeros_have_no_magic : cookie_at (replicate 56 0) ≡ Err magic_text
-unfolding cookie_at
+zeros_have_no_magic : cookie_of_bytes (replicate 56 0) ≡ Err magic_text
+unfolding cookie_of_bytes
 zeros_have_no_magic = refl
 
-one_byte_short : cookie_at (replicate 55 0) ≡ Err size_text
-unfolding cookie_at
+one_byte_short : cookie_of_bytes (replicate 55 0) ≡ Err size_text
+unfolding cookie_of_bytes
 one_byte_short = refl
 
-one_byte_too_many : cookie_at (replicate 57 0) ≡ Err size_text
-unfolding cookie_at
+one_byte_too_many : cookie_of_bytes (replicate 57 0) ≡ Err size_text
+unfolding cookie_of_bytes
 one_byte_too_many = refl
 
 -- the magic as two numbers

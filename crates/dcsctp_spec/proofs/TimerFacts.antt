@@ -10,7 +10,7 @@ use Rattle.dcsctp_types.specs.declared.kinds.ErrorKind.TheVariants.{TooManyRetri
 use Rattle.dcsctp_spec.specs.endpoint.Event.{aborted}
 use Rattle.dcsctp_spec.specs.queues.Transfer.{empty_queues}
 use Rattle.dcsctp_spec.specs.endpoint.Endpoint.{Endpoint, Core, closed, cookie_wait, cookie_echoed, open_in, established}
-use Rattle.dcsctp_spec.specs.endpoint.Timers.{RunningTimer, started, expired, is_timer_expired}
+use Rattle.dcsctp_spec.specs.endpoint.Timers.{RunningTimer, started_timer, timer_after_expiry, is_timer_expired}
 use Rattle.dcsctp_spec.specs.association.Acts.{t1_expires, abort_with, flushes}
 use Rattle.dcsctp_types.specs.declared.ends.AbortReason.TheVariants.{TooManyErrors}
 use Rattle.dcsctp_spec.specs.endpoint.Turn.{act_input}
@@ -21,29 +21,29 @@ use Rattle.dcsctp_spec.specs.endpoint.TimeTurns.{t1_timer, deadline, next_moment
 second : Option ℕ → ℕ → ℕ → ℕ → RunningTimer
 second restarts deadline wait expiries = record { deadline = deadline; wait = wait; expiries = expiries; terms = record { backoff = Exponential; max_restarts = restarts; max_backoff = None } }
 
-starts_for_a_second : started 5 (record { duration = 1_000_000_000; terms = record { backoff = Exponential; max_restarts = Some 8; max_backoff = None } }) ≡ Some (second (Some 8) 1_000_000_005 1_000_000_000 0)
+starts_for_a_second : started_timer 5 (record { duration = 1_000_000_000; terms = record { backoff = Exponential; max_restarts = Some 8; max_backoff = None } }) ≡ Some (second (Some 8) 1_000_000_005 1_000_000_000 0)
 unfolding second
 starts_for_a_second = refl
 
 -- Two seconds, then four, each from the moment of the call, which may be late.
-then_two : expired 1_000_000_000 (second (Some 8) 1_000_000_000 1_000_000_000 0) ≡ Some (second (Some 8) 3_000_000_000 2_000_000_000 1)
+then_two : timer_after_expiry 1_000_000_000 (second (Some 8) 1_000_000_000 1_000_000_000 0) ≡ Some (second (Some 8) 3_000_000_000 2_000_000_000 1)
 unfolding second
 then_two = refl
 
-then_four_and_late : expired 3_500_000_000 (second (Some 8) 3_000_000_000 2_000_000_000 1) ≡ Some (second (Some 8) 7_500_000_000 4_000_000_000 2)
+then_four_and_late : timer_after_expiry 3_500_000_000 (second (Some 8) 3_000_000_000 2_000_000_000 1) ≡ Some (second (Some 8) 7_500_000_000 4_000_000_000 2)
 unfolding second
 then_four_and_late = refl
 
 -- Eight restarts, and no ninth.
-eighth_restart : expired 255_000_000_000 (second (Some 8) 255_000_000_000 128_000_000_000 7) ≡ Some (second (Some 8) 511_000_000_000 256_000_000_000 8)
+eighth_restart : timer_after_expiry 255_000_000_000 (second (Some 8) 255_000_000_000 128_000_000_000 7) ≡ Some (second (Some 8) 511_000_000_000 256_000_000_000 8)
 unfolding second
 eighth_restart = refl
 
-no_ninth_restart : expired 511_000_000_000 (second (Some 8) 511_000_000_000 256_000_000_000 8) ≡ None
+no_ninth_restart : timer_after_expiry 511_000_000_000 (second (Some 8) 511_000_000_000 256_000_000_000 8) ≡ None
 unfolding second
 no_ninth_restart = refl
 
-no_restart_at_all : expired 1_000_000_000 (second (Some 0) 1_000_000_000 1_000_000_000 0) ≡ None
+no_restart_at_all : timer_after_expiry 1_000_000_000 (second (Some 0) 1_000_000_000 1_000_000_000 0) ≡ None
 unfolding second
 no_restart_at_all = refl
 
@@ -51,18 +51,18 @@ no_restart_at_all = refl
 fixed : ℕ → ℕ → RunningTimer
 fixed deadline expiries = record { deadline = deadline; wait = 30; expiries = expiries; terms = record { backoff = Fixed; max_restarts = None; max_backoff = None } }
 
-waits_as_long : expired 100 (fixed 100 900) ≡ Some (fixed 130 901)
+waits_as_long : timer_after_expiry 100 (fixed 100 900) ≡ Some (fixed 130 901)
 unfolding fixed
 waits_as_long = refl
 
 cut : ℕ → ℕ → ℕ → RunningTimer
 cut deadline wait expiries = record { deadline = deadline; wait = wait; expiries = expiries; terms = record { backoff = Exponential; max_restarts = None; max_backoff = Some 50 } }
 
-bound_cuts : expired 100 (cut 100 40 1) ≡ Some (cut 150 80 2)
+bound_cuts : timer_after_expiry 100 (cut 100 40 1) ≡ Some (cut 150 80 2)
 unfolding cut
 bound_cuts = refl
 
-last_moment : expired max_nanos (cut max_nanos 40 1) ≡ Some (cut max_nanos 80 2)
+last_moment : timer_after_expiry max_nanos (cut max_nanos 40 1) ≡ Some (cut max_nanos 80 2)
 unfolding cut
 last_moment = refl
 

@@ -13,7 +13,7 @@ use Rattle.dcsctp_types.specs.declared.word.Word.TheVariants.{U32}
 use Rattle.dcsctp_types.specs.Settings.{packet_size_limit, IsValid, ports_of, wire_options}
 use Rattle.dcsctp_spec.specs.endpoint.Event.{Event, sent, connected, closed as is_closed, error}
 use Rattle.dcsctp_types.specs.Offer.{offer_of}
-use Rattle.dcsctp_spec.specs.Cookie.{cookie_bytes, cookie_at}
+use Rattle.dcsctp_spec.specs.Cookie.{cookie_bytes, cookie_of_bytes}
 use Rattle.dcsctp_spec.specs.Packet.{Introduction, Content, init_ack, shutdown_ack, Emission, emission_bytes}
 use Rattle.dcsctp_spec.specs.queues.SendQueue.{empty_queue}
 use Rattle.dcsctp_spec.specs.queues.Transfer.{new_transfer}
@@ -80,24 +80,24 @@ ports_and_tag options = refl
 
 -- ---- cookies that are refused
 
-wrong_first_word : cookie_at (codes "dcSXTPr0" ++ replicate 48 1) ≡ Err (codes "Invalid state cookie magic")
-unfolding cookie_at
+wrong_first_word : cookie_of_bytes (codes "dcSXTPr0" ++ replicate 48 1) ≡ Err (codes "Invalid state cookie magic")
+unfolding cookie_of_bytes
 wrong_first_word = refl
 
-wrong_second_word : cookie_at (codes "dcSCTPr1" ++ replicate 48 1) ≡ Err (codes "Invalid state cookie magic")
-unfolding cookie_at
+wrong_second_word : cookie_of_bytes (codes "dcSCTPr1" ++ replicate 48 1) ≡ Err (codes "Invalid state cookie magic")
+unfolding cookie_of_bytes
 wrong_second_word = refl
 
-no_addressee_tag : cookie_at (codes "dcSCTPr0" ++ replicate 4 0 ++ replicate 44 1) ≡ Err (codes "Invalid verification tag in state cookie")
-unfolding cookie_at
+no_addressee_tag : cookie_of_bytes (codes "dcSCTPr0" ++ replicate 4 0 ++ replicate 44 1) ≡ Err (codes "Invalid verification tag in state cookie")
+unfolding cookie_of_bytes
 no_addressee_tag = refl
 
-no_maker_tag : cookie_at (codes "dcSCTPr0" ++ replicate 4 1 ++ replicate 4 0 ++ replicate 40 1) ≡ Err (codes "Invalid verification tag in state cookie")
-unfolding cookie_at
+no_maker_tag : cookie_of_bytes (codes "dcSCTPr0" ++ replicate 4 1 ++ replicate 4 0 ++ replicate 40 1) ≡ Err (codes "Invalid verification tag in state cookie")
+unfolding cookie_of_bytes
 no_maker_tag = refl
 
-size_comes_first : cookie_at [] ≡ Err (codes "Invalid state cookie size")
-unfolding cookie_at
+size_comes_first : cookie_of_bytes [] ≡ Err (codes "Invalid state cookie size")
+unfolding cookie_of_bytes
 size_comes_first = refl
 
 -- ---- an INIT (RFC 9260, sections 5.1 and 5.2)

@@ -32,10 +32,10 @@ has_shutdown_ack (shutdown_ack ∷ contents) = true
 has_shutdown_ack (content ∷ contents) = has_shutdown_ack contents
 
 -- its SHUTDOWN ACK chunks
-abbrev pub shutdown_acks_in : List Content → List Content
-shutdown_acks_in [] = []
-shutdown_acks_in (shutdown_ack ∷ contents) = shutdown_ack ∷ shutdown_acks_in contents
-shutdown_acks_in (content ∷ contents) = shutdown_acks_in contents
+abbrev pub shutdown_acks_of : List Content → List Content
+shutdown_acks_of [] = []
+shutdown_acks_of (shutdown_ack ∷ contents) = shutdown_ack ∷ shutdown_acks_of contents
+shutdown_acks_of (content ∷ contents) = shutdown_acks_of contents
 
 -- is the first chunk a COOKIE ECHO?
 abbrev pub is_echo_in_front : List Content → Bool
@@ -107,43 +107,43 @@ wrong_tag_text header expected = codes "Packet has invalid verification tag: " +
 -- ---- the table
 
 -- all chunks if the test holds, else none, for this reason
-abbrev pub admitted_where : Bool → List ℕ → Admission
-admitted_where true text = all_chunks
-admitted_where false text = refused text
+abbrev pub all_chunks_or_none : Bool → List ℕ → Admission
+all_chunks_or_none true text = all_chunks
+all_chunks_or_none false text = refused text
 
 -- all chunks if the test holds, else the SHUTDOWN ACK chunks
-abbrev pub uncut_where : Bool → Admission
-uncut_where true = all_chunks
-uncut_where false = shutdown_acks_alone
+abbrev pub all_chunks_or_acks : Bool → Admission
+all_chunks_or_acks true = all_chunks
+all_chunks_or_acks false = shutdown_acks_alone
 
 -- Before the association is open a SHUTDOWN ACK is handled under any tag, as it may belong to an earlier one. Under another tag
 -- than its own, nothing else of its packet is handled (RFC 9260, sections 8.4 and 8.5.1, E).
 abbrev pub admits_shutdown_ack : Core → ℕ → Admission
-admits_shutdown_ack closed header = uncut_where (is_own_nonzero_tag closed header)
-admits_shutdown_ack (cookie_wait my) header = uncut_where (is_own_nonzero_tag (cookie_wait my) header)
-admits_shutdown_ack (cookie_echoed my held cookie) header = uncut_where (is_own_nonzero_tag (cookie_echoed my held cookie) header)
-admits_shutdown_ack (open_in phase my held) header = admitted_where (is_own_tag (open_in phase my held) header) shutdown_ack_text
+admits_shutdown_ack closed header = all_chunks_or_acks (is_own_nonzero_tag closed header)
+admits_shutdown_ack (cookie_wait my) header = all_chunks_or_acks (is_own_nonzero_tag (cookie_wait my) header)
+admits_shutdown_ack (cookie_echoed my held cookie) header = all_chunks_or_acks (is_own_nonzero_tag (cookie_echoed my held cookie) header)
+admits_shutdown_ack (open_in phase my held) header = all_chunks_or_none (is_own_tag (open_in phase my held) header) shutdown_ack_text
 
 -- The table, by five answers: the T bit of the first ABORT, and that of the first SHUTDOWN COMPLETE. Is there a SHUTDOWN ACK, is
 -- a COOKIE ECHO in front, and is the tag 0?
-abbrev pub admits_by : Core → Packet → Option Bool → Option Bool → Bool → Bool → Bool → Admission
+abbrev pub admission_by_answers : Core → Packet → Option Bool → Option Bool → Bool → Bool → Bool → Admission
 -- ABORT (RFC 9260, section 8.5.1, B)
-admits_by core packet (Some reflected) completes acks echo zero = admitted_where (bears_tag core packet.tag reflected) abort_text
+admission_by_answers core packet (Some reflected) completes acks echo zero = all_chunks_or_none (bears_tag core packet.tag reflected) abort_text
 -- SHUTDOWN COMPLETE (RFC 9260, section 8.5.1, C)
-admits_by core packet None (Some reflected) acks echo zero = admitted_where (bears_tag core packet.tag reflected) shutdown_complete_text
+admission_by_answers core packet None (Some reflected) acks echo zero = all_chunks_or_none (bears_tag core packet.tag reflected) shutdown_complete_text
 -- SHUTDOWN ACK (RFC 9260, section 8.5.1, E)
-admits_by core packet None None true echo zero = admits_shutdown_ack core packet.tag
+admission_by_answers core packet None None true echo zero = admits_shutdown_ack core packet.tag
 -- COOKIE ECHO in front (RFC 9260, section 8.5.1, D): the turn of the chunk looks at the tag
-admits_by core packet None None false true zero = all_chunks
+admission_by_answers core packet None None false true zero = all_chunks
 -- tag 0 (RFC 9260, section 8.5.1, A)
-admits_by core packet None None false false true = admitted_where (is_single_init packet.contents) single_init_text
+admission_by_answers core packet None None false false true = all_chunks_or_none (is_single_init packet.contents) single_init_text
 -- all else (RFC 9260, section 8.5)
-admits_by core packet None None false false false = admitted_where (is_own_tag core packet.tag) (wrong_tag_text packet.tag (own_tag core))
+admission_by_answers core packet None None false false false = all_chunks_or_none (is_own_tag core packet.tag) (wrong_tag_text packet.tag (own_tag core))
 
 -- The first line that applies decides.
 abbrev pub admits : Core → Packet → Admission
 admits core packet =
-    admits_by core packet
+    admission_by_answers core packet
     (first_abort packet.contents)
     (first_shutdown_complete packet.contents)
     (has_shutdown_ack packet.contents)

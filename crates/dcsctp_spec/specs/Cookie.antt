@@ -89,8 +89,8 @@ abbrev pub has_zero_tag : List ℕ → Bool
 has_zero_tag bytes = u32_at 8 bytes == 0 || u32_at 12 bytes == 0
 
 -- The cookie that the bytes spell, or why they spell none: the size, the magic, the tags, in this order.
-unfoldable pub cookie_at : List ℕ → Result Cookie (List ℕ)
-cookie_at bytes =
+unfoldable pub cookie_of_bytes : List ℕ → Result Cookie (List ℕ)
+cookie_of_bytes bytes =
     if not (length bytes == cookie_size) then Err size_text
     else (if not (has_magic bytes) then Err magic_text
     else (if has_zero_tag bytes then Err tag_text
@@ -99,12 +99,12 @@ cookie_at bytes =
 -- ---- age
 
 -- A moment as a cookie has it: nanoseconds, at most the greatest number of 64 bits.
-abbrev pub cut : ℕ → ℕ
-cut moment = min moment (2 ^ 64 - 1)
+abbrev pub cookie_moment : ℕ → ℕ
+cookie_moment moment = min moment (2 ^ 64 - 1)
 
 -- how old it is at this moment of its maker's clock; 0 if it is of a later one
 abbrev pub age : ℕ → Cookie → ℕ
-age now cookie = cut now - cookie.moment
+age now cookie = cookie_moment now - cookie.moment
 
 -- It is stale if it is older than this (RFC 9260, section 5.1.5).
 abbrev pub is_stale : ℕ → ℕ → Cookie → Bool

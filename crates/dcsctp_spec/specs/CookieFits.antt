@@ -2,7 +2,7 @@
 use Rattle.std.specs.Prelude.{◌≡◌, ◌≤◌, ◌<◌, ◌^◌, Ok}
 use Rattle.dcsctp_types.specs.declared.association.Pair.{Pair}
 use Rattle.dcsctp_types.specs.Offer.{Offer}
-use Rattle.dcsctp_spec.specs.Cookie.{Cookie, cookie_bytes, cookie_at}
+use Rattle.dcsctp_spec.specs.Cookie.{Cookie, cookie_bytes, cookie_of_bytes}
 
 -- tags that aren't 0, and numbers within their fields
 pub record FitsPair (pair : Pair) : Type 0 where
@@ -28,4 +28,4 @@ pub record FitsCookie (cookie : Cookie) : Type 0 where
   pub moment : cookie.moment < 2 ^ 64
 
 abbrev pub CookieReadsBack : Type 0
-CookieReadsBack = (cookie : Cookie) → FitsCookie cookie → cookie_at (cookie_bytes cookie) ≡ Ok cookie
+CookieReadsBack = (cookie : Cookie) → FitsCookie cookie → cookie_of_bytes (cookie_bytes cookie) ≡ Ok cookie

@@ -6,7 +6,7 @@ use Rattle.dcsctp_types.specs.Offer.{Offer, offer_parameters, offer_announced}
 use Rattle.dcsctp_types.specs.wire.Content.{ParameterContent, state_cookie, InitContent, ChunkContent, data_chunk, i_data_chunk, init_chunk, init_ack_chunk, heartbeat_chunk, heartbeat_ack_chunk, abort_chunk, shutdown_chunk, shutdown_ack_chunk, error_chunk, cookie_echo_chunk, cookie_ack_chunk, shutdown_complete_chunk, re_config_chunk, unknown_chunk, PacketContent}
 use Rattle.dcsctp_types.specs.wire.Spelling.{packet_bytes}
 use Rattle.dcsctp_spec.specs.endpoint.Cause.{Cause}
-use Rattle.dcsctp_spec.specs.Reconfiguration.{ResetParameter, reset_parameter_content, reset_parameter_in}
+use Rattle.dcsctp_spec.specs.Reconfiguration.{ResetParameter, reset_parameter_content, reset_parameter_of}
 
 -- what INIT and INIT ACK say of their sender
 pub record Introduction : Type 0 where
@@ -72,8 +72,8 @@ pub record Emission : Type 0 where
 
 -- ---- from the wire
 
-abbrev pub introduction_in : InitContent → Introduction
-introduction_in chunk =
+abbrev pub introduction_of_init : InitContent → Introduction
+introduction_of_init chunk =
     record {
       pair = record { tag = chunk.initiate_tag; first_tsn = chunk.initial_tsn };
       offer = offer_announced chunk.outbound_streams chunk.inbound_streams chunk.parameters;
@@ -81,29 +81,29 @@ introduction_in chunk =
     }
 
 -- The first State Cookie counts.
-abbrev pub cookie_in : List ParameterContent → Option (List ℕ)
-cookie_in [] = None
-cookie_in (state_cookie cookie ∷ parameters) = Some cookie
-cookie_in (parameter ∷ parameters) = cookie_in parameters
+abbrev pub first_cookie : List ParameterContent → Option (List ℕ)
+first_cookie [] = None
+first_cookie (state_cookie cookie ∷ parameters) = Some cookie
+first_cookie (parameter ∷ parameters) = first_cookie parameters
 
 -- what a chunk says
-abbrev pub content_in : ChunkContent → Content
-content_in (init_chunk chunk) = init (introduction_in chunk)
-content_in (init_ack_chunk chunk) = init_ack (introduction_in chunk) (cookie_in chunk.parameters)
-content_in (abort_chunk reflected causes) = abort reflected causes
-content_in (cookie_echo_chunk cookie) = cookie_echo cookie
-content_in cookie_ack_chunk = cookie_ack
-content_in (re_config_chunk parameters) = re_config (map reset_parameter_in parameters)
-content_in (shutdown_chunk cumulative_tsn) = shutdown cumulative_tsn
-content_in shutdown_ack_chunk = shutdown_ack
-content_in (shutdown_complete_chunk reflected) = shutdown_complete reflected
-content_in (unknown_chunk type flags value) = plain (unknown type flags value)
-content_in (heartbeat_chunk parameters) = plain (heartbeat parameters)
-content_in (heartbeat_ack_chunk parameters) = plain (heartbeat_ack parameters)
-content_in chunk = plain (unworked chunk)
+abbrev pub content_of_chunk : ChunkContent → Content
+content_of_chunk (init_chunk chunk) = init (introduction_of_init chunk)
+content_of_chunk (init_ack_chunk chunk) = init_ack (introduction_of_init chunk) (first_cookie chunk.parameters)
+content_of_chunk (abort_chunk reflected causes) = abort reflected causes
+content_of_chunk (cookie_echo_chunk cookie) = cookie_echo cookie
+content_of_chunk cookie_ack_chunk = cookie_ack
+content_of_chunk (re_config_chunk parameters) = re_config (map reset_parameter_of parameters)
+content_of_chunk (shutdown_chunk cumulative_tsn) = shutdown cumulative_tsn
+content_of_chunk shutdown_ack_chunk = shutdown_ack
+content_of_chunk (shutdown_complete_chunk reflected) = shutdown_complete reflected
+content_of_chunk (unknown_chunk type flags value) = plain (unknown type flags value)
+content_of_chunk (heartbeat_chunk parameters) = plain (heartbeat parameters)
+content_of_chunk (heartbeat_ack_chunk parameters) = plain (heartbeat_ack parameters)
+content_of_chunk chunk = plain (unworked chunk)
 
-abbrev pub packet_in : PacketContent → Packet
-packet_in packet = record { tag = packet.verification_tag; contents = map content_in packet.chunks }
+abbrev pub packet_of_content : PacketContent → Packet
+packet_of_content packet = record { tag = packet.verification_tag; contents = map content_of_chunk packet.chunks }
 
 -- ---- to the wire
 

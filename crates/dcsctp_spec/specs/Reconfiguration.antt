@@ -51,9 +51,9 @@ reset_parameter_content (reconfiguration_response number result) = wire.reconfig
 reset_parameter_content (other_reset_parameter parameter) = parameter
 
 -- the streams that these bytes name, two bytes each
-abbrev pub reset_streams_in : List ℕ → List ℕ
-reset_streams_in (first ∷ second ∷ bytes) = from_be_bytes w16 (first ∷ second ∷ []) ∷ reset_streams_in bytes
-reset_streams_in bytes = []
+abbrev pub streams_of_bytes : List ℕ → List ℕ
+streams_of_bytes (first ∷ second ∷ bytes) = from_be_bytes w16 (first ∷ second ∷ []) ∷ streams_of_bytes bytes
+streams_of_bytes bytes = []
 
 -- the number before this one
 abbrev pub previous_number : ℕ → ℕ
@@ -67,8 +67,8 @@ number_answered number true = previous_number number
 number_answered number false = number
 
 -- what a parameter of a chunk says. The next TSNs of a response aren't looked at: no request to reset them is sent.
-abbrev pub reset_parameter_in : ParameterContent → ResetParameter
-reset_parameter_in (outgoing_ssn_reset_request number answered last_tsn streams) = outgoing_reset_request number answered (record { last_tsn = last_tsn; streams = reset_streams_in streams; is_new = answered == previous_number number })
-reset_parameter_in (incoming_ssn_reset_request number streams) = incoming_reset_request number (reset_streams_in streams)
-reset_parameter_in (wire.reconfiguration_response number result next_tsns) = reconfiguration_response number result
-reset_parameter_in parameter = other_reset_parameter parameter
+abbrev pub reset_parameter_of : ParameterContent → ResetParameter
+reset_parameter_of (outgoing_ssn_reset_request number answered last_tsn streams) = outgoing_reset_request number answered (record { last_tsn = last_tsn; streams = streams_of_bytes streams; is_new = answered == previous_number number })
+reset_parameter_of (incoming_ssn_reset_request number streams) = incoming_reset_request number (streams_of_bytes streams)
+reset_parameter_of (wire.reconfiguration_response number result next_tsns) = reconfiguration_response number result
+reset_parameter_of parameter = other_reset_parameter parameter

@@ -66,11 +66,11 @@ connected_snapshot e my held =
     }
 
 -- That of a closed socket is empty. Of one that is neither closed nor open there is none.
-abbrev pub snapshot_in : Endpoint → Core → Snapshot
-snapshot_in e closed = empty_snapshot
-snapshot_in e (cookie_wait my) = empty_snapshot
-snapshot_in e (cookie_echoed my held cookie) = empty_snapshot
-snapshot_in e (open_in phase my held) = connected_snapshot e my held
+abbrev pub snapshot_by_core : Endpoint → Core → Snapshot
+snapshot_by_core e closed = empty_snapshot
+snapshot_by_core e (cookie_wait my) = empty_snapshot
+snapshot_by_core e (cookie_echoed my held cookie) = empty_snapshot
+snapshot_by_core e (open_in phase my held) = connected_snapshot e my held
 
 abbrev pub snapshot_of : Endpoint → Snapshot
-snapshot_of e = snapshot_in e e.core
+snapshot_of e = snapshot_by_core e e.core

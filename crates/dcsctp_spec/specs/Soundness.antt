@@ -5,7 +5,7 @@ use Rattle.dcsctp_types.specs.declared.association.Held.{Held}
 use Rattle.dcsctp_types.specs.declared.capabilities.Capabilities.{Capabilities}
 use Rattle.dcsctp_types.specs.declared.options.Options.{Options}
 use Rattle.dcsctp_types.specs.declared.progress.ItemState.TheVariants.{Abandoned}
-use Rattle.dcsctp_spec.specs.endpoint.Endpoint.{Endpoint, Core, closed, cookie_wait, cookie_echoed, open_in, held_in}
+use Rattle.dcsctp_spec.specs.endpoint.Endpoint.{Endpoint, Core, closed, cookie_wait, cookie_echoed, open_in, held_by_core}
 use Rattle.dcsctp_spec.specs.queues.Incoming.{AreInOrder}
 use Rattle.dcsctp_spec.specs.queues.Items.{Item}
 use Rattle.dcsctp_spec.specs.queues.SendQueue.{IsWellFormed}
@@ -55,4 +55,4 @@ IsSoundIfKnown (Some held) (Some transfer) = IsSoundTransfer transfer
 -- what lies below the association
 pub record AreQueuesSound (e : Endpoint) : Type 0 where
   pub queue : IsWellFormed e.queues.queue
-  pub transfer : IsSoundIfKnown (held_in e.core) e.queues.transfer
+  pub transfer : IsSoundIfKnown (held_by_core e.core) e.queues.transfer

@@ -7,14 +7,14 @@ use Rattle.dcsctp_spec_lemmas.specs.types.declared.ends.AbortReason.{AbortReason
 use Rattle.dcsctp_spec_lemmas.specs.types.Schedule.{CallContent, connect_call, close_call, shutdown_call, advance_call, set_call, send_call, send_many_call, reset_call, take_call, hand_over_call}
 use Rattle.dcsctp_spec_lemmas.specs.wire.Content.{ChunkContent}
 use Rattle.dcsctp_spec_lemmas.specs.wire.ReadsBack.{HasMinima}
-use Rattle.dcsctp_spec_lemmas.specs.spec.Packet.{Content, init, init_ack, cookie_echo, cookie_ack, re_config, abort, shutdown, shutdown_ack, shutdown_complete, plain, Packet, content_in, packet_in}
-use Rattle.dcsctp_spec_lemmas.specs.spec.Admission.{Admission, all_chunks, shutdown_acks_alone, refused, admits, shutdown_acks_in}
+use Rattle.dcsctp_spec_lemmas.specs.spec.Packet.{Content, init, init_ack, cookie_echo, cookie_ack, re_config, abort, shutdown, shutdown_ack, shutdown_complete, plain, Packet, content_of_chunk, packet_of_content}
+use Rattle.dcsctp_spec_lemmas.specs.spec.Admission.{Admission, all_chunks, shutdown_acks_alone, refused, admits, shutdown_acks_of}
 use Rattle.dcsctp_spec_lemmas.specs.spec.endpoint.Endpoint.{Endpoint, Core, closed, cookie_wait, cookie_echoed, open_in}
 use Rattle.dcsctp_spec_lemmas.specs.spec.endpoint.Following.{Following, next_chunk, packet_end, dropped_rest}
 use Rattle.dcsctp_spec_lemmas.specs.spec.association.Acts.{connect, abort_with, t1_expires, shut_down, shutdown_repeats, flushes}
 use Rattle.dcsctp_spec_lemmas.specs.spec.association.Acts as acts
 use Rattle.dcsctp_spec_lemmas.specs.spec.endpoint.Turn.{Input, arrival, refusal, packet_begins, chunk_input, packet_ends, act_input, user_sets, user_sends, user_resets, user_takes, timer_expires, time_passes, unreadable_text}
-use Rattle.dcsctp_spec_lemmas.specs.spec.endpoint.TimeTurns.{Timer, t1_timer, own_timer, t2_timer, timers_in, deadline, has_come, has_restart, t2_input, expiry_input, inputs_behind, after_expiries, ExpiryThen, ExpiryTurns, MomentTurns, TimeTurns}
+use Rattle.dcsctp_spec_lemmas.specs.spec.endpoint.TimeTurns.{Timer, t1_timer, own_timer, t2_timer, handled_timers, deadline, has_come, has_restart, t2_input, expiry_input, inputs_behind, after_expiries, ExpiryThen, ExpiryTurns, MomentTurns, TimeTurns}
 use Rattle.dcsctp_spec_lemmas.specs.spec.endpoint.HeartbeatOutcomes.{is_exhausted}
 use Rattle.dcsctp_spec_lemmas.specs.spec.endpoint.MessageOutcomes.{awaits_opening, Sending, sending_of}
 use Rattle.dcsctp_spec_lemmas.specs.spec.endpoint.OwnTimers.{OwnTimer}
@@ -36,7 +36,7 @@ pub record MayCome (May : Input → Type 0) : Type 0 where
   pub arrives : May arrival
   pub refuses : (text : List ℕ) → May (refusal text)
   pub begins : (contents : List Content) → May (packet_begins contents)
-  pub is_read : (tag : ℕ) (chunk : ChunkContent) → HasMinima chunk → May (chunk_input tag (content_in chunk))
+  pub is_read : (tag : ℕ) (chunk : ChunkContent) → HasMinima chunk → May (chunk_input tag (content_of_chunk chunk))
   pub ends : May packet_ends
   pub connects : May (act_input connect)
   pub aborts : (reason : AbortReason) → May (act_input (abort_with reason))
@@ -82,11 +82,11 @@ anything_may_come =
 abbrev EachMay : (Input → Type 0) → List Content → Type 0
 EachMay May contents = AllByRecursion (λ content. (tag : ℕ) → May (chunk_input tag content)) contents
 
-read_may : (May : Input → Type 0) → MayCome May → (chunks : List ChunkContent) → AllByRecursion HasMinima chunks → EachMay May (map content_in chunks)
+read_may : (May : Input → Type 0) → MayCome May → (chunks : List ChunkContent) → AllByRecursion HasMinima chunks → EachMay May (map content_of_chunk chunks)
 read_may May come [] minima = tt
 read_may May come (chunk ∷ chunks) minima = ((λ tag. come.is_read tag chunk minima.0), read_may May come chunks minima.1)
 
-acks_may : (May : Input → Type 0) (contents : List Content) → EachMay May contents → EachMay May (shutdown_acks_in contents)
+acks_may : (May : Input → Type 0) (contents : List Content) → EachMay May contents → EachMay May (shutdown_acks_of contents)
 acks_may May [] each = tt
 acks_may May (init theirs ∷ contents) each = acks_may May contents each.1
 acks_may May (init_ack theirs cookie ∷ contents) each = acks_may May contents each.1
@@ -176,14 +176,14 @@ module _ (Good : Endpoint → Transition → Type 0) (May : Input → Type 0) (c
   admitted_along : (e : Endpoint) (packet : Packet) (admission : Admission) (ts : List Transition) → EachMay May packet.contents → AdmittedTurns e packet admission ts → AlongTurns Good e ts
   admitted_along e packet all_chunks ts chunks turns = whole_along e packet ts chunks turns
   admitted_along e packet shutdown_acks_alone ts chunks turns =
-      chunks_along e packet.tag (shutdown_acks_in packet.contents) [] ts (acks_may May packet.contents chunks) tt turns
+      chunks_along e packet.tag (shutdown_acks_of packet.contents) [] ts (acks_may May packet.contents chunks) tt turns
   admitted_along e packet (refused text) ts chunks turns = turns_along e (refusal text ∷ []) ts (come.refuses text, tt) turns
 
   pub input_along_where : (e : Endpoint) (bytes : List ℕ) (ts : List Transition) → HandleInput e bytes ts → AlongTurns Good e ts
   input_along_where e bytes _ (unreadable ts none turns) = turns_along e (arrival ∷ refusal unreadable_text ∷ []) ts (come.arrives, (come.refuses unreadable_text, tt)) turns
   input_along_where e bytes _ (readable packet counted ts found counts turns) = (
     each e arrival counted come.arrives counts,
-    admitted_along counted.outcome.after (packet_in packet) (admits e.core (packet_in packet)) ts (read_may May come packet.chunks (chunks_have_minima packet.chunks (drop 12 bytes) found.chunks)) turns,
+    admitted_along counted.outcome.after (packet_of_content packet) (admits e.core (packet_of_content packet)) ts (read_may May come packet.chunks (chunks_have_minima packet.chunks (drop 12 bytes) found.chunks)) turns,
   )
 
   -- a timer that may be due, and what follows it
@@ -203,7 +203,7 @@ module _ (Good : Endpoint → Transition → Type 0) (May : Input → Type 0) (c
   moment_along e moment [] turns = absurd turns
   moment_along e moment (t ∷ ts) turns = (
     each e (time_passes moment) t (come.passes moment) turns.0,
-    expiries_along (timers_in t.outcome.after.core) false t.outcome.after ts turns.1,
+    expiries_along (handled_timers t.outcome.after.core) false t.outcome.after ts turns.1,
   )
 
   time_along : (later : Bool) (e : Endpoint) (moment : ℕ) (ts : List Transition) → TimeTurns later e moment ts → AlongTurns Good e ts

@@ -7,12 +7,12 @@ use Rattle.dcsctp_spec_lemmas.specs.spec.Reconfiguration.{ResetParameter}
 use Rattle.dcsctp_spec_lemmas.specs.spec.endpoint.Endpoint.{Endpoint, Core, closed, cookie_wait, cookie_echoed, open_in, may_answer}
 use Rattle.dcsctp_spec_lemmas.specs.spec.endpoint.HandshakeOutcomes.{init_answered}
 use Rattle.dcsctp_spec_lemmas.specs.spec.endpoint.HeartbeatOutcomes.{heartbeat_outcome}
-use Rattle.dcsctp_spec_lemmas.specs.spec.endpoint.Outcome.{still, to_peer, answered_where, answers_with}
+use Rattle.dcsctp_spec_lemmas.specs.spec.endpoint.Outcome.{still, to_peer, answered_if_allowed, answers_with}
 use Rattle.dcsctp_spec_lemmas.specs.spec.endpoint.ResetOutcomes.{responses_outcome}
 use Rattle.dcsctp_spec_laws.specs.AnswerLaws.{OneIsAnswered}
 
 answer_rests : (e : Endpoint) (emission : Emission) → may_answer e ≡ false → answers_with e emission ≡ still e
-answer_rests e emission is = ap (λ (b : Bool). answered_where b e emission) is
+answer_rests e emission is = ap (λ (b : Bool). answered_if_allowed b e emission) is
 
 heartbeat_rests : (e : Endpoint) (core : Core) (parameters : List ParameterContent) → may_answer e ≡ false → heartbeat_outcome e core parameters ≡ still e
 heartbeat_rests e closed parameters is = refl

@@ -4,7 +4,7 @@ use Rattle.std.proofs.lemmas.Bool.Decides.{nat_tests}
 use Rattle.dcsctp_spec_lemmas.specs.types.declared.congestion.Acknowledged.{Acknowledged}
 use Rattle.dcsctp_spec_lemmas.specs.types.declared.congestion.CongestionControl.{CongestionControl}
 use Rattle.dcsctp_spec_lemmas.specs.types.queues.Congestion.{capped_u64, after_acknowledgement, after_loss, slow_start, avoidance, window_grown}
-use Rattle.dcsctp_spec_laws.specs.CongestionLaws.{acknowledged_by, lost_at, IsBounded, WindowIsBounded}
+use Rattle.dcsctp_spec_laws.specs.CongestionLaws.{control_acknowledged, control_after_loss, IsBounded, WindowIsBounded}
 
 -- what an acknowledgement does to the window, and what it leaves
 record Bounds (ack : Acknowledged) (control new : CongestionControl) : Type 0 where
@@ -102,16 +102,16 @@ bounds_by ack control None =
     bounds_settled ack control (window_grown ack control) ack.is_last
     (bounds_grown ack control (nat_le control.cwnd control.ssthresh) refl)
 
-bounds : (ack : Acknowledged) (control : CongestionControl) → Bounds ack control (acknowledged_by ack control)
+bounds : (ack : Acknowledged) (control : CongestionControl) → Bounds ack control (control_acknowledged ack control)
 bounds ack control = bounds_by ack control control.recovery_exit
 
 -- ---- loss
 
 in_recovery_stays : (ack : Acknowledged) (exit : ℕ) (control : CongestionControl) → control.recovery_exit ≡ Some exit
-    → acknowledged_by ack control ≡ control
+    → control_acknowledged ack control ≡ control
 in_recovery_stays ack exit control is = ap (λ found. after_acknowledgement ack found control) is
 
-in_recovery_lost : (exit later : ℕ) (control : CongestionControl) → control.recovery_exit ≡ Some exit → lost_at later control ≡ control
+in_recovery_lost : (exit later : ℕ) (control : CongestionControl) → control.recovery_exit ≡ Some exit → control_after_loss later control ≡ control
 in_recovery_lost exit later control is = ap (λ found. after_loss found later control) is
 
 loss_bounded : (exit : ℕ) (control : CongestionControl) (found : Option ℕ) → IsBounded control → IsBounded (after_loss found exit control)
@@ -119,7 +119,7 @@ loss_bounded exit control (Some under_way) bounded = bounded
 loss_bounded exit control None bounded =
     record { cwnd = omega (arith, bounded.cwnd, bounded.least); mtu = bounded.mtu; least = bounded.least; low = omega arith }
 
-acknowledgement_bounded : (ack : Acknowledged) (control : CongestionControl) → IsBounded control → IsBounded (acknowledged_by ack control)
+acknowledgement_bounded : (ack : Acknowledged) (control : CongestionControl) → IsBounded control → IsBounded (control_acknowledged ack control)
 acknowledgement_bounded ack control bounded =
     let b = bounds ack control in
     record {

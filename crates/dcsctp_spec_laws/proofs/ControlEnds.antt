@@ -10,10 +10,10 @@ use Rattle.dcsctp_spec_lemmas.specs.spec.endpoint.Endpoint.{Endpoint, Core, clos
 use Rattle.dcsctp_spec_lemmas.specs.spec.endpoint.Outcome.{Outcome, quiet, sends, fits}
 use Rattle.dcsctp_spec_lemmas.specs.spec.endpoint.EndOutcomes.{ended_outcome, end_of, abort_to, aborting_outcome}
 use Rattle.dcsctp_spec_lemmas.specs.spec.endpoint.HandoverOutcomes.{hand_over_outcome}
-use Rattle.dcsctp_spec_lemmas.specs.spec.association.Effect.{ended, emitted_alone}
+use Rattle.dcsctp_spec_lemmas.specs.spec.association.Effect.{ending_change, emitted_alone}
 use Rattle.dcsctp_spec_lemmas.specs.spec.association.Choices.{Choices}
 use Rattle.dcsctp_spec_lemmas.specs.spec.association.Acts.{abort_with, hands_over, act_change}
-use Rattle.dcsctp_spec_lemmas.specs.spec.association.Controlled.{Observation, packet_sent, has_ended, observations_of_events, IsControlled, ControlledAct}
+use Rattle.dcsctp_spec_lemmas.specs.spec.association.Controlled.{Observation, packet_sent, has_ended, observations_of_events, IsControlled, IsControlledAct}
 use Rattle.dcsctp_spec_lemmas.proofs.ControlHandshake.{no_choices, still_controlled}
 
 -- ---- our abort
@@ -25,7 +25,7 @@ told_end reasons.TooManyErrors = refl
 
 pub aborts_where : (b : Bool) (e : Endpoint) (held : Held) (reason : AbortReason)
     → IsControlled e (ended_outcome (if b then sends e [] [] (abort_to held reason) else quiet e [] []) (end_of reason))
-    (ended (emitted_alone b held.peer.tag (abort false (causes_of reason))))
+    (ending_change (emitted_alone b held.peer.tag (abort false (causes_of reason))))
 aborts_where true e held reason =
     record { core = refl; options = refl; observations = ap (λ (observations : List Observation). packet_sent (abort_to held reason).packet ∷ observations) (told_end reason); effects = refl; following = refl }
 aborts_where false e held reason = record { core = refl; options = refl; observations = told_end reason; effects = refl; following = refl }
@@ -37,8 +37,8 @@ aborting_at e (cookie_wait my) reason is = (no_choices e true, record { core = r
 aborting_at e (cookie_echoed my held cookie) reason is = (no_choices e (fits e (abort_to held reason)), aborts_where (fits e (abort_to held reason)) e held reason)
 aborting_at e (open_in phase my held) reason is = (no_choices e (fits e (abort_to held reason)), aborts_where (fits e (abort_to held reason)) e held reason)
 
-pub aborting_controlled : (e : Endpoint) (o : Outcome) (reason : AbortReason) → o ≡ aborting_outcome e e.core reason → ControlledAct e (abort_with reason) o
-aborting_controlled e o reason turn = subst (ControlledAct e (abort_with reason)) (sym turn) (aborting_at e e.core reason refl)
+pub aborting_controlled : (e : Endpoint) (o : Outcome) (reason : AbortReason) → o ≡ aborting_outcome e e.core reason → IsControlledAct e (abort_with reason) o
+aborting_controlled e o reason turn = subst (IsControlledAct e (abort_with reason)) (sym turn) (aborting_at e e.core reason refl)
 
 -- ---- a handover
 
@@ -53,5 +53,5 @@ hand_over_at e (open_in shutdown_sent my held) is = (no_choices e true, still_co
 hand_over_at e (open_in shutdown_received my held) is = (no_choices e true, still_controlled e (open_in shutdown_received my held) is)
 hand_over_at e (open_in shutdown_ack_sent my held) is = (no_choices e true, still_controlled e (open_in shutdown_ack_sent my held) is)
 
-pub hand_over_controlled : (e : Endpoint) (o : Outcome) → o ≡ hand_over_outcome e e.core → ControlledAct e hands_over o
-hand_over_controlled e o turn = subst (ControlledAct e hands_over) (sym turn) (hand_over_at e e.core refl)
+pub hand_over_controlled : (e : Endpoint) (o : Outcome) → o ≡ hand_over_outcome e e.core → IsControlledAct e hands_over o
+hand_over_controlled e o turn = subst (IsControlledAct e hands_over) (sym turn) (hand_over_at e e.core refl)

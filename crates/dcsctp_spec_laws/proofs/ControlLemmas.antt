@@ -16,11 +16,11 @@ use Rattle.dcsctp_spec_lemmas.specs.spec.endpoint.Event.{sent}
 use Rattle.dcsctp_spec_lemmas.specs.types.declared.options.Options.{Options}
 use Rattle.dcsctp_spec_lemmas.specs.spec.endpoint.Turn.{BeginTurn}
 use Rattle.dcsctp_spec_lemmas.specs.spec.endpoint.HandshakeOutcomes.{pair_from, renewed_pair, renewed_pair_outcome, cookie_for, init_ack_for, init_ack_emission, answer_outcome, init_outcome}
-use Rattle.dcsctp_spec_lemmas.specs.spec.association.Effect.{Change, Effect, draws, unchanged, emitted_alone}
+use Rattle.dcsctp_spec_lemmas.specs.spec.association.Effect.{Change, Effect, draws, no_change, emitted_alone}
 use Rattle.dcsctp_spec_lemmas.specs.spec.association.Choices.{Choices}
 use Rattle.dcsctp_spec_lemmas.specs.spec.association.HandshakeChanges.{IsCookieOf}
 use Rattle.dcsctp_spec_lemmas.specs.spec.association.Acts.{act_change, connect, t1_expires, shut_down, step_of_shutdown, shutdown_repeats, abort_with, hands_over, flushes, request_again, request_renewed}
-use Rattle.dcsctp_spec_lemmas.specs.spec.association.Controlled.{IsControlled, ControlledChunk, ControlledAct}
+use Rattle.dcsctp_spec_lemmas.specs.spec.association.Controlled.{IsControlled, IsControlledChunk, IsControlledAct}
 use Rattle.dcsctp_spec_lemmas.specs.spec.CookieFits.{FitsPair}
 use Rattle.dcsctp_spec_laws.specs.TurnLaws.{FitsOwn, FitsAnswer, ChunksAreControlled, ActsAreControlled, StandsBefore}
 use Rattle.dcsctp_spec_laws.proofs.DataLemmas.{flushed_act, flush_turn_at}
@@ -142,7 +142,7 @@ init_controlled e tag theirs (open_in shutdown_ack_sent my held) word next is ow
 
 -- One that isn't answered leaves all as it is.
 ignored_controlled : (e : Endpoint) (tag : ℕ) (theirs : Introduction) (o : Outcome) → ControlledAt e e.core tag (init theirs) o → ControlledAt e e.core tag (init theirs) (still e)
-ignored_controlled e tag theirs o at = (unchanged e.core, (record at.1.0 { may_answer = false }, at.1.1, refl), still_controlled e e.core refl)
+ignored_controlled e tag theirs o at = (no_change e.core, (record at.1.0 { may_answer = false }, at.1.1, refl), still_controlled e e.core refl)
 
 counted_controlled : (e : Endpoint) (tag : ℕ) (theirs : Introduction) (o : Outcome) → ControlledAt e e.core tag (init theirs) o → ControlledAt e e.core tag (init theirs) (answering o)
 counted_controlled e tag theirs o at = (at.0, at.1, answering_controlled e o at.0 at.2)
@@ -152,8 +152,8 @@ counted_controlled e tag theirs o at = (at.0, at.1, answering_controlled e o at.
 pub chunks_are_controlled : ChunksAreControlled
 chunks_are_controlled e tag (init theirs) o turn fitting =
     let at = init_controlled e tag theirs e.core turn.0 turn.1 refl fitting.own fitting in
-    subst (ControlledChunk e tag (init theirs)) (sym turn.2)
-    (init_by (ControlledChunk e tag (init theirs)) e theirs turn.0 turn.1 (ignored_controlled e tag theirs _ at) (counted_controlled e tag theirs _ at))
+    subst (IsControlledChunk e tag (init theirs)) (sym turn.2)
+    (init_by (IsControlledChunk e tag (init theirs)) e theirs turn.0 turn.1 (ignored_controlled e tag theirs _ at) (counted_controlled e tag theirs _ at))
 chunks_are_controlled e tag (init_ack theirs cookie) o turn fitting = init_ack_controlled e tag theirs cookie o turn
 chunks_are_controlled e tag (cookie_echo cookie) o turn fitting = cookie_echo_controlled e tag cookie o turn
 chunks_are_controlled e tag cookie_ack o turn fitting = cookie_ack_controlled e tag o turn
@@ -167,7 +167,7 @@ chunks_are_controlled e tag (plain chunk) o turn fitting = plain_controlled e ta
 -- ---- what comes before a packet's chunks
 
 -- Nothing happens, or a SHUTDOWN is sent again.
-pub begin_stands : (e : Endpoint) (core : Core) (has : Bool) (o : Outcome) → e.core ≡ core → BeginTurn e core has o → (o ≡ still e) ⊎ ControlledAct e shutdown_repeats o
+pub begin_stands : (e : Endpoint) (core : Core) (has : Bool) (o : Outcome) → e.core ≡ core → BeginTurn e core has o → (o ≡ still e) ⊎ IsControlledAct e shutdown_repeats o
 begin_stands e closed has o is turn = inl turn
 begin_stands e (cookie_wait my) has o is turn = inl turn
 begin_stands e (cookie_echoed my held cookie) has o is turn = inl turn
@@ -191,7 +191,7 @@ repeated_keeps options (open_in shutdown_ack_sent my held) choices = refl
 
 pub stands_before : (e : Endpoint) (has : Bool) (o : Outcome) → BeginTurn e e.core has o → StandsBefore e o
 stands_before e has o turn = elim (begin_stands e e.core has o refl turn) [
-  | inl rests ↦ record { change = unchanged e.core; is = inl refl; controlled = subst (λ (x : Outcome). IsControlled e x (unchanged e.core)) (sym rests) (still_controlled e e.core refl); keeps = refl }
+  | inl rests ↦ record { change = no_change e.core; is = inl refl; controlled = subst (λ (x : Outcome). IsControlled e x (no_change e.core)) (sym rests) (still_controlled e e.core refl); keeps = refl }
   | inr acts ↦ record { change = act_change e.options e.core shutdown_repeats acts.0; is = inr (acts.0, refl); controlled = acts.1; keeps = repeated_keeps e.options e.core acts.0 }
 ]
 

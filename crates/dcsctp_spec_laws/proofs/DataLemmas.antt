@@ -10,25 +10,25 @@ use Rattle.dcsctp_spec_lemmas.specs.spec.Packet.{Plain, plain, error_of, Content
 use Rattle.dcsctp_spec_lemmas.specs.wire.Content.{no_user_data}
 use Rattle.dcsctp_spec_lemmas.specs.types.queues.Messages.{MessageContent}
 use Rattle.dcsctp_spec_lemmas.specs.spec.queues.Transfer.{Transfer}
-use Rattle.dcsctp_spec_lemmas.specs.spec.queues.Tracker.{TrackerState, after_packet_end, is_acknowledgement_due, sacked, delay_over}
-use Rattle.dcsctp_spec_lemmas.specs.spec.endpoint.Endpoint.{Endpoint, Core, closed, cookie_wait, cookie_echoed, open_in, established, shutdown_pending, shutdown_sent, shutdown_received, shutdown_ack_sent, held_in}
+use Rattle.dcsctp_spec_lemmas.specs.spec.queues.Tracker.{TrackerState, after_packet_end, is_acknowledgement_due, tracker_after_sack, delay_over}
+use Rattle.dcsctp_spec_lemmas.specs.spec.endpoint.Endpoint.{Endpoint, Core, closed, cookie_wait, cookie_echoed, open_in, established, shutdown_pending, shutdown_sent, shutdown_received, shutdown_ack_sent, held_by_core}
 use Rattle.dcsctp_spec_lemmas.specs.spec.endpoint.Following.{next_chunk}
 use Rattle.dcsctp_spec_lemmas.specs.spec.endpoint.Outcome.{Outcome, still, quiet, sends, fits, to_peer, behind, then_outcome}
-use Rattle.dcsctp_spec_lemmas.specs.spec.association.Effect.{Effect, emitted}
+use Rattle.dcsctp_spec_lemmas.specs.spec.association.Effect.{Effect, emission_effects}
 use Rattle.dcsctp_spec_lemmas.specs.spec.association.Choices.{Choices, plain_contents}
 use Rattle.dcsctp_spec_lemmas.specs.spec.association.FlushChanges.{further_packets, flush}
 use Rattle.dcsctp_spec_lemmas.specs.spec.association.Acts.{flushes, sent_then_flushed, flush_change, plain_change}
-use Rattle.dcsctp_spec_lemmas.specs.spec.association.Controlled.{Observation, observations_of_events, observations_of_effects, IsControlled, ControlledAct}
-use Rattle.dcsctp_spec_lemmas.specs.spec.endpoint.FlushOutcomes.{own_sack, Answer, filled, draft_to, flush_of, room_in, where_fits, FlushAnswers, packets_allowed}
+use Rattle.dcsctp_spec_lemmas.specs.spec.association.Controlled.{Observation, observations_of_events, observations_of_effects, IsControlled, IsControlledAct}
+use Rattle.dcsctp_spec_lemmas.specs.spec.endpoint.FlushOutcomes.{own_sack, Answer, filled_draft, draft_to, flush_of, room_of_draft, where_fits, FlushAnswers, packets_allowed}
 use Rattle.dcsctp_spec_lemmas.specs.spec.endpoint.TransferMoves.{lost_all}
 use Rattle.dcsctp_spec_lemmas.specs.spec.endpoint.HeartbeatOutcomes.{error_counted}
 use Rattle.dcsctp_spec_lemmas.specs.spec.queues.OwnResets.{prepared_all, prepare_all_events}
 use Rattle.dcsctp_spec_lemmas.proofs.SendEventLemmas.{told_prepared}
-use Rattle.dcsctp_spec_lemmas.specs.spec.endpoint.MessageOutcomes.{sending_refusal, lifecycle_name, MessageRefusal, refusal_events, Sending, queue_by, queue_one, queue_all, takes_any, SendAnswers, send_by, SendTurn}
-use Rattle.dcsctp_spec_lemmas.specs.spec.endpoint.PreparedResets.{ResetRefusal, reset_refusal, endpoint_with_queue, PreparesResets, OwnResetsWhere, OwnResetsTurn}
+use Rattle.dcsctp_spec_lemmas.specs.spec.endpoint.MessageOutcomes.{sending_refusal, lifecycle_name, MessageRefusal, refusal_events, Sending, queue_unless_refused, queue_one, queue_all, takes_any, SendAnswers, flush_if_queued, SendTurn}
+use Rattle.dcsctp_spec_lemmas.specs.spec.endpoint.PreparedResets.{ResetRefusal, reset_refusal, endpoint_with_queue, PreparesResets, PreparesUnlessRefused, OwnResetsTurn}
 use Rattle.dcsctp_spec_lemmas.specs.types.declared.arrivals.SkippedTo.{SkippedTo}
 use Rattle.dcsctp_spec_lemmas.specs.spec.queues.Arrivals.{Arrival}
-use Rattle.dcsctp_spec_lemmas.specs.spec.endpoint.DataOutcomes.{DataWhere, with_transfer, endpoint_with_tracker, flush_by, AnswersTo, FlushTurn, no_user_data_text, no_user_data_outcome, not_connected_text, ReceiveTurn, DataTurn, ForwardTurn, acknowledging, EndWhere, EndsBy, taken_to, TakeWhere, TakeLeft, TakeTurn, delay_outcome, LossTurn}
+use Rattle.dcsctp_spec_lemmas.specs.spec.endpoint.DataOutcomes.{HandlesPayload, with_transfer, endpoint_with_tracker, flush_to_peer, AnswersTo, FlushTurn, no_user_data_text, no_user_data_outcome, not_connected_text, ReceiveTurn, DataTurn, ForwardTurn, acknowledging, AnswersPacketIfDue, AcknowledgesPacket, taken_to, TakesFirstReady, TakeLeft, TakeTurn, delay_outcome, LossTurn}
 use Rattle.dcsctp_spec_lemmas.proofs.ControlHandshake.{no_choices, ControlledAt}
 use Rattle.dcsctp_spec_lemmas.proofs.FlushKeeps.{IsPeerTag, all_chunks, begun_by, filling_of, flush_effects, IsBegun, flush_is, first_begins, Rebuilds, rebuilds_open, rebuilds_echoed, FlushesTo, flush_controlled, further_then, further_notes_then, told_signs, signs_append}
 use Rattle.dcsctp_spec_lemmas.specs.spec.endpoint.BegunResets.{BegunReset, request_contents, begun_effects, held_begun}
@@ -43,7 +43,7 @@ chosen e packets answers = record (no_choices e false) { is_acknowledged = false
 abbrev pub FlushedAt : Endpoint → Core → Outcome → Type 0
 FlushedAt e core o = (packets : List (List Plain)) × (answers : List Answer) × IsControlled e o (flush_change core (chosen e packets answers))
 
-pub flushed_act : (e : Endpoint) (o : Outcome) → FlushedAt e e.core o → ControlledAct e flushes o
+pub flushed_act : (e : Endpoint) (o : Outcome) → FlushedAt e e.core o → IsControlledAct e flushes o
 flushed_act e o h = (chosen e h.0 h.1, h.2)
 
 -- A chunk that speaks of no association may be followed by a flush.
@@ -90,7 +90,7 @@ sent_change e base rebuilt held events packets answers builds is same peer h tol
     (further_notes_then tag packets (flush_effects tag [] answers))
 
 pub sent_at : (e base : Endpoint) (core : Core) (held : Held) (events : List (Event Emission)) (packets : List (List Plain)) (answers : List Answer)
-    → held_in core ≡ Some held → base.core ≡ core → SameOptions e.options base.options → FlushAnswers base (draft_to held) answers
+    → held_by_core core ≡ Some held → base.core ≡ core → SameOptions e.options base.options → FlushAnswers base (draft_to held) answers
     → observations_of_events events ≡ observations_of_effects (further_packets held.peer.tag packets)
     → FlushedAt e core (behind [] events (flush_of base (draft_to held) answers))
 sent_at e base closed held events packets answers holds is same h told = absurd (cc)
@@ -107,13 +107,13 @@ sent_at e base (open_in phase my own) held events packets answers holds is same 
     (λ a t. (packets, answers, sent_change e base (λ (x : Held). open_in phase my x) own events packets answers (rebuilds_open phase my own) is same refl a t)) h told
 
 -- a flush by itself, where a peer is held
-flush_at : (e base : Endpoint) (core : Core) (peer : Option Held) (answers : List Answer) → held_in core ≡ peer → base.core ≡ core → SameOptions e.options base.options → AnswersTo base peer answers
-    → FlushedAt e core (flush_by base peer answers)
+flush_at : (e base : Endpoint) (core : Core) (peer : Option Held) (answers : List Answer) → held_by_core core ≡ peer → base.core ≡ core → SameOptions e.options base.options → AnswersTo base peer answers
+    → FlushedAt e core (flush_to_peer base peer answers)
 flush_at e base core None answers holds is same h = still_at e base core is same
 flush_at e base core (Some held) answers holds is same h = sent_at e base core held [] [] answers holds is same h refl
 
 pub flush_turn_at : (e : Endpoint) (o : Outcome) → FlushTurn e o → FlushedAt e e.core o
-flush_turn_at e o turn = flushed_as e e.core o (flush_by e (held_in e.core) turn.0) turn.2 (flush_at e e e.core (held_in e.core) turn.0 refl refl refl turn.1)
+flush_turn_at e o turn = flushed_as e e.core o (flush_to_peer e (held_by_core e.core) turn.0) turn.2 (flush_at e e e.core (held_by_core e.core) turn.0 refl refl refl turn.1)
 
 -- ---- DATA and FORWARD-TSN
 
@@ -122,7 +122,7 @@ reported e held tsn b =
     behind [] (error ProtocolViolation no_user_data_text ∷ [])
     (cond b (sends e [] [] (to_peer held (plain (error_of (no_user_data tsn ∷ []))))) (quiet e [] []))
 
-reported_at : (b : Bool) (e : Endpoint) (core : Core) (held : Held) (tsn : ℕ) → held_in core ≡ Some held → e.core ≡ core → FlushedAt e core (reported e held tsn b)
+reported_at : (b : Bool) (e : Endpoint) (core : Core) (held : Held) (tsn : ℕ) → held_by_core core ≡ Some held → e.core ≡ core → FlushedAt e core (reported e held tsn b)
 reported_at b e closed held tsn holds is = absurd (cc)
 reported_at b e (cookie_wait my) held tsn holds is = absurd (cc)
 reported_at true e (cookie_echoed my own cookie) held tsn holds is =
@@ -134,7 +134,7 @@ reported_at true e (open_in phase my own) held tsn holds is =
 reported_at false e (cookie_echoed my own cookie) held tsn holds is = ([], [], record { core = is; options = refl; observations = refl; effects = refl; following = refl })
 reported_at false e (open_in phase my own) held tsn holds is = ([], [], record { core = is; options = refl; observations = refl; effects = refl; following = refl })
 
-no_data_at : (e : Endpoint) (core : Core) (peer : Option Held) (tsn : ℕ) → held_in core ≡ peer → e.core ≡ core → FlushedAt e core (no_user_data_outcome e peer tsn)
+no_data_at : (e : Endpoint) (core : Core) (peer : Option Held) (tsn : ℕ) → held_by_core core ≡ peer → e.core ≡ core → FlushedAt e core (no_user_data_outcome e peer tsn)
 no_data_at e core None tsn holds is = quiet_at e e (error ProtocolViolation no_user_data_text ∷ []) core is refl refl
 no_data_at e core (Some held) tsn holds is = reported_at (fits e (to_peer held (plain (error_of (no_user_data tsn ∷ []))))) e core held tsn holds is
 
@@ -142,8 +142,8 @@ receive_at : (e : Endpoint) (transfer : Option Transfer) (arrived : Arrival) (o 
 receive_at e None arrived o turn = flushed_as e e.core o (quiet e [] (error NotConnected not_connected_text ∷ [])) turn (quiet_at e e (error NotConnected not_connected_text ∷ []) e.core refl refl refl)
 receive_at e (Some transfer) arrived o turn = flushed_as e e.core o (still (with_transfer e turn.0)) turn.2 (still_at e (with_transfer e turn.0) e.core refl refl)
 
-data_where_at : (e : Endpoint) (arrived : Arrival) (payload : List ℕ) (o : Outcome) → DataWhere e arrived payload o → FlushedAt e e.core o
-data_where_at e arrived [] o turn = flushed_as e e.core o (no_user_data_outcome e (held_in e.core) arrived.tsn) turn (no_data_at e e.core (held_in e.core) arrived.tsn refl refl)
+data_where_at : (e : Endpoint) (arrived : Arrival) (payload : List ℕ) (o : Outcome) → HandlesPayload e arrived payload o → FlushedAt e e.core o
+data_where_at e arrived [] o turn = flushed_as e e.core o (no_user_data_outcome e (held_by_core e.core) arrived.tsn) turn (no_data_at e e.core (held_by_core e.core) arrived.tsn refl refl)
 data_where_at e arrived (byte ∷ bytes) o turn = receive_at e e.queues.transfer arrived o turn
 
 pub data_at : (e : Endpoint) (arrived : Arrival) (o : Outcome) → DataTurn e arrived o → FlushedAt e e.core o
@@ -169,7 +169,7 @@ shifted front acknowledgements rest =
 same_packets : (tag : ℕ) (front : List Plain) (answers : List Answer) → flush_effects tag (plain_contents front) answers ≡ flush_effects tag [] (fronted front answers)
 same_packets tag front [] = refl
 same_packets tag front (answer ∷ answers) =
-    ap (λ (contents : List Content). begun_effects answer.begun ++ (emitted tag contents ++ further_packets tag (map all_chunks answers)))
+    ap (λ (contents : List Content). begun_effects answer.begun ++ (emission_effects tag contents ++ further_packets tag (map all_chunks answers)))
     (shifted front answer.acknowledgements (request_contents answer.begun ++ plain_contents answer.data_chunks))
 
 same_begun : (front : List Plain) (answers : List Answer) → begun_by (fronted front answers) ≡ begun_by answers
@@ -186,48 +186,48 @@ same_flush tag held front answers begun =
     ∙ sym (flush_is tag held [] (fronted front answers) (subst (λ (b : Option BegunReset). IsBegun b held) (sym (same_begun front answers)) begun))
 
 front_controlled : (e base : Endpoint) (rebuilt : Held → Core) (held : Held) (front : List Plain) (answers : List Answer) → Rebuilds rebuilt held
-    → base.core ≡ rebuilt held → SameOptions e.options base.options → IsPeerTag (rebuilt held) held.peer.tag → FlushAnswers base (filled (draft_to held) (plain_contents front)) answers
-    → IsControlled e (flush_of base (filled (draft_to held) (plain_contents front)) answers)
+    → base.core ≡ rebuilt held → SameOptions e.options base.options → IsPeerTag (rebuilt held) held.peer.tag → FlushAnswers base (filled_draft (draft_to held) (plain_contents front)) answers
+    → IsControlled e (flush_of base (filled_draft (draft_to held) (plain_contents front)) answers)
     (record { core = rebuilt (sent_then_flushed held (chosen e [] (fronted front answers))).held; effects = (sent_then_flushed held (chosen e [] (fronted front answers))).effects; following = next_chunk })
 front_controlled e base rebuilt held front answers builds is same peer h =
     let tag : ℕ = held.peer.tag in
-    let draft : Emission = filled (draft_to held) (plain_contents front) in
+    let draft : Emission = filled_draft (draft_to held) (plain_contents front) in
     let o : Outcome = flush_of base draft answers in
     subst (FlushesTo e o rebuilt [])
-    (same_flush tag held front answers (first_begins (packets_allowed base.options.max_burst base.core) base held draft answers (ap held_in is ∙ builds.holds) h))
+    (same_flush tag held front answers (first_begins (packets_allowed base.options.max_burst base.core) base held draft answers (ap held_by_core is ∙ builds.holds) h))
     (flush_controlled e base [] [] draft answers rebuilt held [] [] builds is same (subst (λ (core : Core). IsPeerTag core tag) (sym is) peer) h refl refl refl)
 
-front_at : (e base : Endpoint) (core : Core) (held : Held) (front : List Plain) (answers : List Answer) → held_in core ≡ Some held → base.core ≡ core → SameOptions e.options base.options
-    → FlushAnswers base (filled (draft_to held) (plain_contents front)) answers → FlushedAt e core (flush_of base (filled (draft_to held) (plain_contents front)) answers)
+front_at : (e base : Endpoint) (core : Core) (held : Held) (front : List Plain) (answers : List Answer) → held_by_core core ≡ Some held → base.core ≡ core → SameOptions e.options base.options
+    → FlushAnswers base (filled_draft (draft_to held) (plain_contents front)) answers → FlushedAt e core (flush_of base (filled_draft (draft_to held) (plain_contents front)) answers)
 front_at e base closed held front answers holds is same h = absurd (cc)
 front_at e base (cookie_wait my) held front answers holds is same h = absurd (cc)
 front_at e base (cookie_echoed my own cookie) held front answers holds is same h =
     let here : own ≡ held = cc in
-    subst (λ (x : Held). FlushAnswers base (filled (draft_to x) (plain_contents front)) answers
-    → FlushedAt e (cookie_echoed my own cookie) (flush_of base (filled (draft_to x) (plain_contents front)) answers)) here
+    subst (λ (x : Held). FlushAnswers base (filled_draft (draft_to x) (plain_contents front)) answers
+    → FlushedAt e (cookie_echoed my own cookie) (flush_of base (filled_draft (draft_to x) (plain_contents front)) answers)) here
     (λ a. ([], fronted front answers, front_controlled e base (λ (x : Held). cookie_echoed my x cookie) own front answers (rebuilds_echoed my cookie own) is same refl a)) h
 front_at e base (open_in phase my own) held front answers holds is same h =
     let here : own ≡ held = cc in
-    subst (λ (x : Held). FlushAnswers base (filled (draft_to x) (plain_contents front)) answers
-    → FlushedAt e (open_in phase my own) (flush_of base (filled (draft_to x) (plain_contents front)) answers)) here
+    subst (λ (x : Held). FlushAnswers base (filled_draft (draft_to x) (plain_contents front)) answers
+    → FlushedAt e (open_in phase my own) (flush_of base (filled_draft (draft_to x) (plain_contents front)) answers)) here
     (λ a. ([], fronted front answers, front_controlled e base (λ (x : Held). open_in phase my x) own front answers (rebuilds_open phase my own) is same refl a)) h
 
-end_where_at : (b : Bool) (e : Endpoint) (core : Core) (peer : Option Held) (transfer : Transfer) (tracker : TrackerState) (o : Outcome) → held_in core ≡ peer → e.core ≡ core
-    → EndWhere b e peer transfer tracker o → FlushedAt e core o
+end_where_at : (b : Bool) (e : Endpoint) (core : Core) (peer : Option Held) (transfer : Transfer) (tracker : TrackerState) (o : Outcome) → held_by_core core ≡ peer → e.core ≡ core
+    → AnswersPacketIfDue b e peer transfer tracker o → FlushedAt e core o
 end_where_at true e core (Some held) transfer tracker o holds is turn =
-    flushed_as e core o (flush_of (endpoint_with_tracker e transfer (sacked tracker)) (acknowledging e held (own_sack (room_in e (draft_to held)) (record transfer { tracker = tracker }))) turn.answers) turn.is
-    (front_at e (endpoint_with_tracker e transfer (sacked tracker)) core held (where_fits (room_in e (draft_to held)) (own_sack (room_in e (draft_to held)) (record transfer { tracker = tracker }))) turn.answers holds is refl turn.allowed)
+    flushed_as e core o (flush_of (endpoint_with_tracker e transfer (tracker_after_sack tracker)) (acknowledging e held (own_sack (room_of_draft e (draft_to held)) (record transfer { tracker = tracker }))) turn.answers) turn.is
+    (front_at e (endpoint_with_tracker e transfer (tracker_after_sack tracker)) core held (where_fits (room_of_draft e (draft_to held)) (own_sack (room_of_draft e (draft_to held)) (record transfer { tracker = tracker }))) turn.answers holds is refl turn.allowed)
 end_where_at true e core None transfer tracker o holds is turn = flushed_as e core o (still (endpoint_with_tracker e transfer tracker)) turn (still_at e (endpoint_with_tracker e transfer tracker) core is refl)
 end_where_at false e core peer transfer tracker o holds is turn = flushed_as e core o (still (endpoint_with_tracker e transfer tracker)) turn (still_at e (endpoint_with_tracker e transfer tracker) core is refl)
 
-pub end_at : (e : Endpoint) (transfer : Option Transfer) (o : Outcome) → EndsBy e transfer o → FlushedAt e e.core o
+pub end_at : (e : Endpoint) (transfer : Option Transfer) (o : Outcome) → AcknowledgesPacket e transfer o → FlushedAt e e.core o
 end_at e None o turn = flushed_as e e.core o (still e) turn (still_at e e e.core refl refl)
 end_at e (Some transfer) o turn =
-    let tracker = after_packet_end e.moment transfer.tracker in end_where_at (is_acknowledgement_due tracker) e e.core (held_in e.core) transfer tracker o refl refl turn
+    let tracker = after_packet_end e.moment transfer.tracker in end_where_at (is_acknowledgement_due tracker) e e.core (held_by_core e.core) transfer tracker o refl refl turn
 
 -- ---- what the user takes and sends
 
-take_where_at : (e : Endpoint) (transfer : Transfer) (messages : List MessageContent) (o : Outcome) → TakeWhere e transfer messages o → FlushedAt e e.core o
+take_where_at : (e : Endpoint) (transfer : Transfer) (messages : List MessageContent) (o : Outcome) → TakesFirstReady e transfer messages o → FlushedAt e e.core o
 take_where_at e transfer [] o turn = flushed_as e e.core o (still e) turn (still_at e e e.core refl refl)
 take_where_at e transfer (message ∷ messages) o turn =
     let left = with_transfer e (taken_to e.options e.moment messages transfer) in flushed_as e e.core o (still left) turn (still_at e left e.core refl refl)
@@ -253,7 +253,7 @@ refusal_signs : (refusal : MessageRefusal) (lifecycle : Option ℕ) → observat
 refusal_signs refusal None = refl
 refusal_signs refusal (Some id) = refl
 
-queues_one : (e : Endpoint) (message : Sending) (refusal : Option MessageRefusal) → Queues e (queue_by e message refusal)
+queues_one : (e : Endpoint) (message : Sending) (refusal : Option MessageRefusal) → Queues e (queue_unless_refused e message refusal)
 queues_one e message None = record { core = refl; options = refl; words = refl; effects = refl; observations = refl }
 queues_one e message (Some refusal) = record { core = refl; options = refl; words = refl; effects = refl; observations = refusal_signs refusal (lifecycle_name message) }
 
@@ -281,22 +281,22 @@ behind_messages o p words effects =
 quiet_then : (e after : Endpoint) (events : List (Event Emission)) → behind [] events (still after) ≡ quiet after [] events
 quiet_then e after events = ap (quiet after []) (append-nil events)
 
-sends_to : (e base : Endpoint) (core : Core) (peer : Option Held) (events : List (Event Emission)) (answers : List Answer) → held_in core ≡ peer → base.core ≡ core → SameOptions e.options base.options
-    → observations_of_events events ≡ [] → AnswersTo base peer answers → FlushedAt e core (behind [] events (flush_by base peer answers))
+sends_to : (e base : Endpoint) (core : Core) (peer : Option Held) (events : List (Event Emission)) (answers : List Answer) → held_by_core core ≡ peer → base.core ≡ core → SameOptions e.options base.options
+    → observations_of_events events ≡ [] → AnswersTo base peer answers → FlushedAt e core (behind [] events (flush_to_peer base peer answers))
 sends_to e base core None events answers holds is same none h = flushed_as e core _ (quiet base [] events) (quiet_then e base events) (quiet_at e base events core is same none)
 sends_to e base core (Some held) events answers holds is same none h = sent_at e base core held events [] answers holds is same h none
 
 sends_where : (b : Bool) (e base : Endpoint) (events : List (Event Emission)) (answers : List Answer) → base.core ≡ e.core → SameOptions e.options base.options → observations_of_events events ≡ []
-    → SendAnswers b base answers → FlushedAt e e.core (behind [] events (send_by b base answers))
+    → SendAnswers b base answers → FlushedAt e e.core (behind [] events (flush_if_queued b base answers))
 sends_where false e base events answers is same none h = flushed_as e e.core _ (quiet base [] events) (quiet_then e base events) (quiet_at e base events e.core is same none)
-sends_where true e base events answers is same none h = sends_to e base e.core (held_in base.core) events answers (ap held_in (sym is)) is same none h
+sends_where true e base events answers is same none h = sends_to e base e.core (held_by_core base.core) events answers (ap held_by_core (sym is)) is same none h
 
 pub send_at : (e : Endpoint) (messages : List Sending) (o : Outcome) → SendTurn e messages o → FlushedAt e e.core o
 send_at e messages o turn =
     let queued : Outcome = queue_all e messages in
     let q : Queues e queued = queues_all e messages in
-    flushed_as e e.core o (behind [] queued.events (send_by (takes_any e messages) queued.after turn.0))
-    (turn.2 ∙ behind_messages queued (send_by (takes_any e messages) queued.after turn.0) q.words q.effects)
+    flushed_as e e.core o (behind [] queued.events (flush_if_queued (takes_any e messages) queued.after turn.0))
+    (turn.2 ∙ behind_messages queued (flush_if_queued (takes_any e messages) queued.after turn.0) q.words q.effects)
     (sends_where (takes_any e messages) e queued.after queued.events turn.0 q.core (subst (SameOptions e.options) (sym q.options) refl) q.observations turn.1)
 
 -- ---- own streams that the user resets
@@ -304,13 +304,13 @@ send_at e messages o turn =
 prepares_at : (e : Endpoint) (ids : List ℕ) (o : Outcome) → PreparesResets e ids o → FlushedAt e e.core o
 prepares_at e ids o turn =
     let base : Endpoint = endpoint_with_queue e (prepared_all ids e.queues.queue) in
-    let peer : Option Held = held_in e.core in
+    let peer : Option Held = held_by_core e.core in
     let events : List (Event Emission) = prepare_all_events ids e.queues.queue in
     let told = told_prepared ids e.queues.queue in
-    flushed_as e e.core o (behind [] events (flush_by base peer turn.flushes.0)) (turn.is ∙ ap (behind [] events) turn.flushes.2)
+    flushed_as e e.core o (behind [] events (flush_to_peer base peer turn.flushes.0)) (turn.is ∙ ap (behind [] events) turn.flushes.2)
     (sends_to e base e.core peer events turn.flushes.0 refl refl refl (ap observations_of_events told.is ∙ told_signs told.told) turn.flushes.1)
 
-resets_where_at : (refusal : Option ResetRefusal) (e : Endpoint) (ids : List ℕ) (o : Outcome) → OwnResetsWhere refusal e ids o → FlushedAt e e.core o
+resets_where_at : (refusal : Option ResetRefusal) (e : Endpoint) (ids : List ℕ) (o : Outcome) → PreparesUnlessRefused refusal e ids o → FlushedAt e e.core o
 resets_where_at None e ids o turn = prepares_at e ids o turn
 resets_where_at (Some refusal) e ids o turn = flushed_as e e.core o (still e) turn (still_at e e e.core refl refl)
 

@@ -12,7 +12,7 @@ use Rattle.dcsctp_spec_lemmas.specs.spec.queues.Transfer.{Transfer, may_give, is
 use Rattle.dcsctp_spec_lemmas.specs.spec.endpoint.BegunResets.{BegunReset, streams_within, request_contents, queue_requesting, retransmission_begun}
 use Rattle.dcsctp_spec_lemmas.specs.spec.endpoint.Endpoint.{Endpoint}
 use Rattle.dcsctp_spec_lemmas.specs.spec.endpoint.Event.{Event}
-use Rattle.dcsctp_spec_lemmas.specs.spec.endpoint.FlushOutcomes.{Ask, Answer, answer_contents, filled, goes_out, filling_event, asked, next_draft, flush_of, room_in, stage_of, GivesUpWhere, FillsWhere, Gives, GivesWhere, IsAnswerOfQueues, IsFlushAnswer, AreFlushAnswers, at_limit, at_empty, after_packet}
+use Rattle.dcsctp_spec_lemmas.specs.spec.endpoint.FlushOutcomes.{Ask, Answer, answer_contents, filled_draft, goes_out, filling_event, asked_outcome, next_draft, flush_of, room_of_draft, stage_of, GivesUpThenForwards, FillsIfAllowed, Gives, GivesUnlessIdle, IsAnswerOfQueues, IsFlushAnswer, AreFlushAnswers, at_limit, at_empty, after_packet}
 use Rattle.dcsctp_spec_lemmas.proofs.FlushKeeps.{asked_keeps}
 use Rattle.dcsctp_spec_laws.specs.WindowLaws.{in_flight_of, most_of, FlushesKeepWindow}
 use Rattle.dcsctp_spec_laws.proofs.WindowLemmas.{Keeps, keeps_same, keeps_given_up, keeps_steps, keeps_packet}
@@ -20,12 +20,12 @@ use Rattle.dcsctp_spec_laws.proofs.WindowLemmas.{Keeps, keeps_same, keeps_given_
 -- ---- one packet
 
 gives_up_keeps : (b : Bool) (now : ℕ) (transfer : Transfer) (room : ℕ) (old new : Stage) (next : Option ℕ) (chunks : List Plain)
-    → GivesUpWhere b now transfer room old new next chunks → Keeps old new
+    → GivesUpThenForwards b now transfer room old new next chunks → Keeps old new
 gives_up_keeps false now transfer room old new next chunks up = keeps_same old new up.0
 gives_up_keeps true now transfer room old new next chunks up =
     keeps_steps (GivesUpFirst now) (λ from to step. keeps_given_up now step.place from to step.gives_up) old new up.0.steps
 
-fills_keeps : (b : Bool) (now : ℕ) (old new : Stage) → FillsWhere b now old new → Keeps old new
+fills_keeps : (b : Bool) (now : ℕ) (old new : Stage) → FillsIfAllowed b now old new → Keeps old new
 fills_keeps false now old new (inl same) = keeps_same old new same
 fills_keeps false now old new (inr fills) = keeps_packet now old new fills
 fills_keeps true now old new fills = keeps_packet now old new fills
@@ -54,12 +54,12 @@ gives_keeps : (ask : Ask) (e : Endpoint) (draft : Emission) (transfer : Transfer
     → KeepsBelow (packet_size_limit e.options - common_header_size) (Some transfer) answer.after.queues.transfer
 gives_keeps ask e draft transfer answer gives =
     let limit : ℕ = packet_size_limit e.options - common_header_size in
-    let room : ℕ = room_in e (filled draft (plain_contents answer.acknowledgements ++ request_contents answer.begun)) in
+    let room : ℕ = room_of_draft e (filled_draft draft (plain_contents answer.acknowledgements ++ request_contents answer.begun)) in
     let within : room ≤ limit = omega arith in
     let up = gives_up_keeps _ e.moment transfer _
     (stage_of e.queues.queue transfer.retransmission [] 0) gives.gave_up gives.next gives.forwards gives.gives_up in
     let left : SendQueueState =
-    queue_requesting (streams_within (room_in e (filled draft (plain_contents answer.acknowledgements)))) answer.begun gives.gave_up.waiting in
+    queue_requesting (streams_within (room_of_draft e (filled_draft draft (plain_contents answer.acknowledgements)))) answer.begun gives.gave_up.waiting in
     let begun : RetransmissionState = retransmission_begun answer.begun gives.gave_up.queue in
     let same = begun_same answer.begun gives.gave_up.queue in
     let filled_up = fills_keeps (may_give left begun) e.moment (stage_of left begun gives.gave_up.told room) gives.sent gives.fills in
@@ -70,7 +70,7 @@ gives_keeps ask e draft transfer answer gives =
     })
 
 where_keeps : (b : Bool) (ask : Ask) (e : Endpoint) (draft : Emission) (transfer : Transfer) (answer : Answer) → e.queues.transfer ≡ Some transfer
-    → GivesWhere b ask e draft transfer answer
+    → GivesUnlessIdle b ask e draft transfer answer
     → KeepsBelow (packet_size_limit e.options - common_header_size) e.queues.transfer answer.after.queues.transfer
 where_keeps true ask e draft transfer answer is nothing =
     below_same (packet_size_limit e.options - common_header_size) e.queues.transfer answer.after.queues.transfer
@@ -93,11 +93,11 @@ goes_out_below e told with_checksum tag [] = refl
 goes_out_below e told with_checksum tag (content ∷ contents) = refl
 
 asked_keeps_window : (ask : Ask) (e : Endpoint) (draft : Emission) (answer : Answer) → IsFlushAnswer ask e draft answer
-    → KeepsBelow (packet_size_limit e.options - common_header_size) e.queues.transfer (asked e draft answer).after.queues.transfer
+    → KeepsBelow (packet_size_limit e.options - common_header_size) e.queues.transfer (asked_outcome e draft answer).after.queues.transfer
 asked_keeps_window ask e draft answer h =
     subst (λ (t : Option Transfer). KeepsBelow (packet_size_limit e.options - common_header_size) e.queues.transfer t)
     (sym
-    (goes_out_below answer.after (map filling_event answer.told) draft.with_checksum draft.packet.tag (filled draft (answer_contents answer)).packet.contents))
+    (goes_out_below answer.after (map filling_event answer.told) draft.with_checksum draft.packet.tag (filled_draft draft (answer_contents answer)).packet.contents))
     (answered_keeps ask e draft answer e.queues.transfer refl h.by_transfer)
 
 -- ---- a flush
@@ -109,7 +109,7 @@ answers_keep ask packets e draft answers (at_limit ask' e' draft') =
     (packet_size_limit e.options - common_header_size) e.queues.transfer e.queues.transfer refl
 answers_keep ask packets e draft answers (at_empty ask' more e' draft' answer h empty) = asked_keeps_window ask e draft answer h
 answers_keep ask packets e draft answers (after_packet ask' more e' draft' answer others h some rest) =
-    let next : Endpoint = (asked e draft answer).after in
+    let next : Endpoint = (asked_outcome e draft answer).after in
     let room = ap packet_size_limit (asked_keeps ask e draft answer h).options in
     let later = answers_keep _ more next (next_draft e.core draft) others rest in
     below_then (packet_size_limit e.options - common_header_size) e.queues.transfer next.queues.transfer

@@ -9,7 +9,7 @@ use Rattle.dcsctp_spec_lemmas.specs.spec.endpoint.Endpoint.{Endpoint, Core, clos
 use Rattle.dcsctp_spec_lemmas.specs.spec.endpoint.Outcome.{Outcome, quiet, sends, fits}
 use Rattle.dcsctp_spec_lemmas.specs.spec.association.Acts.{flushes, flush_change}
 use Rattle.dcsctp_spec_lemmas.specs.spec.association.Choices.{Choices}
-use Rattle.dcsctp_spec_lemmas.specs.spec.association.Controlled.{IsControlled, ControlledAct}
+use Rattle.dcsctp_spec_lemmas.specs.spec.association.Controlled.{IsControlled, IsControlledAct}
 use Rattle.dcsctp_spec_lemmas.specs.spec.endpoint.HeartbeatOutcomes.{interval_expired, beating, heartbeat_emission, interval_outcome, timeout_outcome}
 use Rattle.dcsctp_spec_lemmas.specs.spec.endpoint.OwnTimers.{OwnTimer, acknowledgement_delay, retransmission, heartbeat_interval, heartbeat_timeout, reconfiguration, TimerTurn, timer_act}
 use Rattle.dcsctp_spec_laws.proofs.DataLemmas.{FlushedAt, flushed_act, delay_at, loss_at}
@@ -49,9 +49,9 @@ timeout_at e (cookie_wait my) is = (sending e [], record { core = is; options = 
 timeout_at e (cookie_echoed my held cookie) is = (sending e [], record { core = is; options = refl; observations = refl; effects = refl; following = refl })
 timeout_at e (open_in phase my held) is = (sending e [], record { core = is; options = refl; observations = refl; effects = refl; following = refl })
 
-pub timer_controlled : (e : Endpoint) (timer : OwnTimer) (o : Outcome) → TimerTurn e timer o → ControlledAct e (timer_act e timer) o
+pub timer_controlled : (e : Endpoint) (timer : OwnTimer) (o : Outcome) → TimerTurn e timer o → IsControlledAct e (timer_act e timer) o
 timer_controlled e acknowledgement_delay o turn = flushed_act e o (subst (FlushedAt e e.core) (sym turn) (delay_at e e.queues.transfer))
 timer_controlled e retransmission o turn = flushed_act e o (loss_at e e.queues.transfer o turn)
-timer_controlled e heartbeat_interval o turn = subst (ControlledAct e flushes) (sym turn) (interval_at e e.core refl)
-timer_controlled e heartbeat_timeout o turn = subst (ControlledAct e flushes) (sym turn) (timeout_at e e.core refl)
-timer_controlled e reconfiguration o turn = subst (ControlledAct e (timer_act e reconfiguration)) (sym turn) (reconfiguration_at e e.core e.outstanding refl)
+timer_controlled e heartbeat_interval o turn = subst (IsControlledAct e flushes) (sym turn) (interval_at e e.core refl)
+timer_controlled e heartbeat_timeout o turn = subst (IsControlledAct e flushes) (sym turn) (timeout_at e e.core refl)
+timer_controlled e reconfiguration o turn = subst (IsControlledAct e (timer_act e reconfiguration)) (sym turn) (reconfiguration_at e e.core e.outstanding refl)

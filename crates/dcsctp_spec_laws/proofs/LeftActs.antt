@@ -7,7 +7,7 @@ use Rattle.dcsctp_spec_lemmas.specs.types.declared.ends.AbortReason.{AbortReason
 use Rattle.dcsctp_spec_lemmas.specs.spec.Packet.{Content}
 use Rattle.dcsctp_spec_lemmas.specs.spec.Reconfiguration.{RequestedReset, renewed_reset}
 use Rattle.dcsctp_spec_lemmas.specs.spec.association.Acts.{Act, connect, t1_expires, shut_down, step_of_shutdown, shutdown_repeats, abort_with, hands_over, flushes, request_again, request_renewed}
-use Rattle.dcsctp_spec_lemmas.specs.spec.endpoint.Endpoint.{Endpoint, Core, OutstandingRequest, closed, cookie_wait, cookie_echoed, open_in, established, shutdown_pending, shutdown_sent, shutdown_received, shutdown_ack_sent, held_in}
+use Rattle.dcsctp_spec_lemmas.specs.spec.endpoint.Endpoint.{Endpoint, Core, OutstandingRequest, closed, cookie_wait, cookie_echoed, open_in, established, shutdown_pending, shutdown_sent, shutdown_received, shutdown_ack_sent, held_by_core}
 use Rattle.dcsctp_spec_lemmas.specs.spec.endpoint.Outcome.{Outcome, quiet, sends, fits, to_peer}
 use Rattle.dcsctp_spec_lemmas.specs.spec.endpoint.EndOutcomes.{ended_outcome, end_of, abort_to, aborting_outcome}
 use Rattle.dcsctp_spec_lemmas.specs.spec.endpoint.FlushOutcomes.{Answer, flush_answered}
@@ -15,10 +15,10 @@ use Rattle.dcsctp_spec_lemmas.specs.spec.endpoint.HandoverOutcomes.{hand_over_ou
 use Rattle.dcsctp_spec_lemmas.specs.spec.endpoint.HandshakeOutcomes.{pair_from, connect_outcome, awaits_init_ack, init_emission, echo_emission}
 use Rattle.dcsctp_spec_lemmas.specs.spec.endpoint.HeartbeatOutcomes.{is_exhausted, interval_expired, beating, heartbeat_emission, interval_outcome}
 use Rattle.dcsctp_spec_lemmas.specs.spec.endpoint.OwnTimers.{OwnTimer, TimerTurn, acknowledgement_delay, retransmission, heartbeat_interval, heartbeat_timeout, reconfiguration}
-use Rattle.dcsctp_spec_lemmas.specs.spec.endpoint.ReconfigurationOutcomes.{reset_again, request_emitted, renewed_request_where, request_renewed as renewed_outcome, is_renewed, request_unless, request_expired, reconfiguration_outcome}
+use Rattle.dcsctp_spec_lemmas.specs.spec.endpoint.ReconfigurationOutcomes.{reset_again, request_emitted, renewed_request_if_fitting, request_renewed as renewed_outcome, is_renewed, request_unless, request_expired, reconfiguration_outcome}
 use Rattle.dcsctp_spec_lemmas.specs.spec.association.FlushChanges.{reset_request}
-use Rattle.dcsctp_spec_lemmas.specs.spec.endpoint.ShutdownOutcomes.{shut_down_echoed, t1_stopped, may_go_on, shut_down_outcome, t2_goes_on, shutdown_sent_again}
-use Rattle.dcsctp_spec_lemmas.specs.spec.endpoint.TimerOutcomes.{t1_goes_on, AgainAnswers, t1_again_by, t1_gives_up_outcome}
+use Rattle.dcsctp_spec_lemmas.specs.spec.endpoint.ShutdownOutcomes.{shut_down_echoed, t1_stopped, may_continue_shutdown, shut_down_outcome, endpoint_with_t2_continued, shutdown_sent_again}
+use Rattle.dcsctp_spec_lemmas.specs.spec.endpoint.TimerOutcomes.{endpoint_with_t1_continued, AgainAnswers, t1_again_with_flush, t1_gives_up_outcome}
 use Rattle.dcsctp_spec_lemmas.specs.spec.endpoint.Turn.{act_input, ActTurn}
 use Rattle.dcsctp_spec_lemmas.specs.types.declared.word.Word.TheVariants.{U32}
 use Rattle.dcsctp_spec_laws.specs.LeftLaws.{IsOwnInput}
@@ -48,13 +48,13 @@ connect_stays e (cookie_wait my) word next = unmoved e
 connect_stays e (cookie_echoed my held cookie) word next = unmoved e
 connect_stays e (open_in phase my held) word next = unmoved e
 
-again_stays : (e : Endpoint) (core : Core) (answers : List Answer) → AgainAnswers (t1_goes_on e) core answers → StaysIn e (t1_again_by (flush_answered answers) e core)
+again_stays : (e : Endpoint) (core : Core) (answers : List Answer) → AgainAnswers (endpoint_with_t1_continued e) core answers → StaysIn e (t1_again_with_flush (flush_answered answers) e core)
 again_stays e closed answers h = record { left = refl; there = refl; last = refl }
 again_stays e (cookie_wait mine) answers h =
-    stays_then e (t1_goes_on e) _ (record { left = refl; there = refl; last = refl }) (emits_stays (t1_goes_on e) [] (init_emission (t1_goes_on e) mine))
+    stays_then e (endpoint_with_t1_continued e) _ (record { left = refl; there = refl; last = refl }) (emits_stays (endpoint_with_t1_continued e) [] (init_emission (endpoint_with_t1_continued e) mine))
 again_stays e (cookie_echoed mine held cookie) answers h =
-    stays_then e (t1_goes_on e) _ (record { left = refl; there = refl; last = refl })
-    (echo_stays (fits (t1_goes_on e) (echo_emission held.peer.tag cookie)) (t1_goes_on e) [] held.peer.tag cookie answers h)
+    stays_then e (endpoint_with_t1_continued e) _ (record { left = refl; there = refl; last = refl })
+    (echo_stays (fits (endpoint_with_t1_continued e) (echo_emission held.peer.tag cookie)) (endpoint_with_t1_continued e) [] held.peer.tag cookie answers h)
 again_stays e (open_in phase mine held) answers h = record { left = refl; there = refl; last = refl }
 
 gives_up_leaves : (e : Endpoint) (core : Core) → LeavesIn e (t1_gives_up_outcome e core)
@@ -66,19 +66,19 @@ gives_up_leaves e (open_in phase mine held) = inl (unmoved e)
 echoed_leaves : (follows : Bool) (e : Endpoint) (my : Pair) (held : Held) → LeavesIn e (shut_down_echoed follows e my held)
 echoed_leaves true e my held = inl (record { left = refl; there = refl; last = refl })
 echoed_leaves false e my held =
-    inl (stays_then e (t1_stopped e) _ (record { left = refl; there = refl; last = refl }) (step_from_stays (may_go_on (t1_stopped e)) (t1_stopped e) shutdown_pending my held))
+    inl (stays_then e (t1_stopped e) _ (record { left = refl; there = refl; last = refl }) (step_from_stays (may_continue_shutdown (t1_stopped e)) (t1_stopped e) shutdown_pending my held))
 
 shut_down_leaves : (e : Endpoint) (core : Core) → LeavesIn e (shut_down_outcome e core)
 shut_down_leaves e closed = inl (unmoved e)
 shut_down_leaves e (cookie_wait my) = inr (inr (record { left = refl; none = refl; last = refl }))
 shut_down_leaves e (cookie_echoed my held cookie) = echoed_leaves e.options.follow_rfc e my held
-shut_down_leaves e (open_in established my held) = inl (step_from_stays (may_go_on e) e shutdown_pending my held)
+shut_down_leaves e (open_in established my held) = inl (step_from_stays (may_continue_shutdown e) e shutdown_pending my held)
 shut_down_leaves e (open_in shutdown_pending my held) = inl (unmoved e)
 shut_down_leaves e (open_in shutdown_sent my held) = inl (unmoved e)
 shut_down_leaves e (open_in shutdown_received my held) = inl (unmoved e)
 shut_down_leaves e (open_in shutdown_ack_sent my held) = inl (unmoved e)
 
-repeated_stays : (e : Endpoint) (core : Core) → StaysIn e (shutdown_sent_again (t2_goes_on e) core)
+repeated_stays : (e : Endpoint) (core : Core) → StaysIn e (shutdown_sent_again (endpoint_with_t2_continued e) core)
 repeated_stays e closed = record { left = refl; there = refl; last = refl }
 repeated_stays e (cookie_wait my) = record { left = refl; there = refl; last = refl }
 repeated_stays e (cookie_echoed my held cookie) = record { left = refl; there = refl; last = refl }
@@ -127,7 +127,7 @@ emitted_stays : (e : Endpoint) (held : Held) (number : Option ℕ) (reset : Requ
 emitted_stays e held None reset = unmoved e
 emitted_stays e held (Some number) reset = emits_stays e [] (to_peer held (reset_request number reset))
 
-renewed_stays : (b : Bool) (e : Endpoint) (held : Held) (number : ℕ) (request : Content) → StaysIn e (renewed_request_where b e held number request)
+renewed_stays : (b : Bool) (e : Endpoint) (held : Held) (number : ℕ) (request : Content) → StaysIn e (renewed_request_if_fitting b e held number request)
 renewed_stays true e held number request = record { left = refl; there = refl; last = refl }
 renewed_stays false e held number request = unmoved e
 
@@ -153,4 +153,4 @@ timer_stays e acknowledgement_delay o turn = subst (StaysIn e) (sym turn) (delay
 timer_stays e retransmission o turn = loss_stays e e.queues.transfer o refl turn
 timer_stays e heartbeat_interval o turn = subst (StaysIn e) (sym turn) (interval_stays e e.core)
 timer_stays e heartbeat_timeout o turn = subst (StaysIn e) (sym turn) (record { left = refl; there = refl; last = refl })
-timer_stays e reconfiguration o turn = subst (StaysIn e) (sym turn) (reconfiguration_stays e (held_in e.core) e.outstanding)
+timer_stays e reconfiguration o turn = subst (StaysIn e) (sym turn) (reconfiguration_stays e (held_by_core e.core) e.outstanding)

@@ -6,7 +6,7 @@ use Rattle.dcsctp_spec_lemmas.specs.types.declared.association.Held.{Held}
 use Rattle.dcsctp_spec_lemmas.specs.types.declared.word.Word.{Word}
 use Rattle.dcsctp_spec_lemmas.specs.types.declared.word.Word.TheVariants.{U32, U64}
 use Rattle.dcsctp_spec_lemmas.specs.types.declared.kinds.ErrorKind.TheVariants.{ProtocolViolation}
-use Rattle.dcsctp_spec_lemmas.specs.spec.Cookie.{Cookie, cookie_at}
+use Rattle.dcsctp_spec_lemmas.specs.spec.Cookie.{Cookie, cookie_of_bytes}
 use Rattle.dcsctp_spec_lemmas.specs.spec.Packet.{Introduction, cookie_echo, shutdown_ack, re_config, Emission}
 use Rattle.dcsctp_spec_lemmas.specs.spec.Reconfiguration.{NumberedReset, RequestedReset, ResetParameter}
 use Rattle.dcsctp_spec_lemmas.specs.spec.association.CookieEchoChanges.{Resolution, establish_new, restart, simultaneous_init, discard, maintain_existing, invalid_tag, stale, held_by_cookie}
@@ -18,9 +18,9 @@ use Rattle.dcsctp_spec_lemmas.specs.spec.endpoint.Event.{Event, aborted, connect
 use Rattle.dcsctp_spec_lemmas.specs.spec.endpoint.Outcome.{Outcome, quiet, sends, fits, to_peer}
 use Rattle.dcsctp_spec_lemmas.specs.spec.endpoint.FlushOutcomes.{Answer, draft_to, flush_of, flush_answered}
 use Rattle.dcsctp_spec_lemmas.specs.spec.endpoint.EndOutcomes.{ended_outcome, abort_outcome}
-use Rattle.dcsctp_spec_lemmas.specs.spec.endpoint.HandshakeOutcomes.{pair_from, renewed_pair, init_ack_emission, init_outcome, InitTurn, no_cookie_text, abort_emission, awaits_cookie_ack, echo_emission, EchoAnswers, init_ack_by, InitAckAnswers, InitAckTurn, connected_after, cookie_ack_by, CookieAckAnswers, CookieAckTurn}
-use Rattle.dcsctp_spec_lemmas.specs.spec.endpoint.CookieEchoOutcomes.{established_by, cookie_ack_emission, establish_by, queues_begun, queues_kept, queues_collided, restart_by_in, restart_by_where, maintain_by, outlasts, queues_by, queues_for_other, resolved_by, resolved_now, cookie_echo_by, EstablishAnswers, RestartAnswersIn, RestartAnswers, MaintainAnswers, ResolvedAnswers, EchoedAnswers, CookieEchoTurn}
-use Rattle.dcsctp_spec_lemmas.specs.spec.endpoint.ResetOutcomes.{requested_in, renewable_left, has_reset, answers_in_progress, ResetsInQueues, OwnAnswer, unanswered, retried, was_performed, has_failed, parameters_handled_in, answered_in, reset_events_of, resets_handled, responses_outcome, responses_by, ResponseAnswers, WorksResets, ResetTurn}
+use Rattle.dcsctp_spec_lemmas.specs.spec.endpoint.HandshakeOutcomes.{pair_from, renewed_pair, init_ack_emission, init_outcome, InitTurn, no_cookie_text, abort_emission, awaits_cookie_ack, echo_emission, EchoAnswers, init_ack_with_flush, InitAckAnswers, InitAckTurn, connected_after, cookie_ack_with_flush, CookieAckAnswers, CookieAckTurn}
+use Rattle.dcsctp_spec_lemmas.specs.spec.endpoint.CookieEchoOutcomes.{endpoint_established, cookie_ack_emission, establish_with_flush, queues_begun, queues_kept, queues_collided, restart_with_flush_by_phase, restart_with_flush_by_core, maintain_with_flush, outlasts, queues_if_kept, queues_for_other, resolve_with_flush, resolved_now, cookie_echo_with_flush, EstablishAnswers, RestartAnswersByPhase, RestartAnswers, MaintainAnswers, ResolvedAnswers, EchoedAnswers, CookieEchoTurn}
+use Rattle.dcsctp_spec_lemmas.specs.spec.endpoint.ResetOutcomes.{first_reset_request, renewable_left, has_reset, answers_in_progress, ResetsInQueues, OwnAnswer, unanswered, retried, was_performed, has_failed, handled_parameters_of, answer_to_own, reset_events_of, resets_handled, responses_outcome, responses_unless_refused, ResponseAnswers, HandlesResets, ResetTurn}
 use Rattle.dcsctp_spec_lemmas.specs.spec.endpoint.ShutdownOutcomes.{shutdown_ack_outcome, shutdown_complete_outcome}
 use Rattle.dcsctp_spec_lemmas.proofs.AbortLemmas.{by_abort_outcome}
 use Rattle.dcsctp_spec_lemmas.proofs.RefusalLemmas.{by_stale_outcome}
@@ -61,7 +61,7 @@ echo_stays true e words tag cookie answers h = flush_stays e (echo_emission tag 
 echo_stays false e words tag cookie answers h = unmoved e
 
 init_ack_at : (e : Endpoint) (core : Core) (theirs : Introduction) (cookie : Option (List ℕ)) (word : ℕ) (answers : List Answer) → InitAckAnswers e theirs cookie core word answers
-    → LeavesIn e (init_ack_by (flush_answered answers) e theirs cookie core word)
+    → LeavesIn e (init_ack_with_flush (flush_answered answers) e theirs cookie core word)
 init_ack_at e closed theirs cookie word answers h = inl (unmoved e)
 init_ack_at e (cookie_wait mine) theirs None word answers h = inr (inr (refused_ends (fits e (abort_emission theirs.pair.tag)) e theirs.pair.tag))
 init_ack_at e (cookie_wait mine) theirs (Some cookie) word answers h =
@@ -77,13 +77,13 @@ init_ack_leaves e theirs cookie o turn = subst (LeavesIn e) (sym turn.3) (init_a
 -- ---- COOKIE ECHO
 
 established_begins : (e : Endpoint) (cookie : Cookie) (queues : EndpointQueues) (tie : ℕ) (events : List (Event Emission)) (answers : List Answer) → is_there queues.transfer ≡ true → EstablishAnswers e cookie queues tie answers
-    → LeavesIn e (establish_by (flush_answered answers) e cookie queues tie events)
+    → LeavesIn e (establish_with_flush (flush_answered answers) e cookie queues tie events)
 established_begins e cookie queues tie events answers there h =
-    let begun : Endpoint = established_by e cookie queues tie in
+    let begun : Endpoint = endpoint_established e cookie queues tie in
     inr (inl (begins_then e begun _ (record { left = refl; there = there; last = refl }) (flush_stays begun (cookie_ack_emission (held_by_cookie e.options cookie) cookie) answers h)))
 
-restart_in : (e : Endpoint) (cookie : Cookie) (tie : ℕ) (phase : OpenPhase) (held : Held) (answers : List Answer) → RestartAnswersIn e cookie tie phase answers
-    → LeavesIn e (restart_by_in (flush_answered answers) e cookie tie phase held)
+restart_in : (e : Endpoint) (cookie : Cookie) (tie : ℕ) (phase : OpenPhase) (held : Held) (answers : List Answer) → RestartAnswersByPhase e cookie tie phase answers
+    → LeavesIn e (restart_with_flush_by_phase (flush_answered answers) e cookie tie phase held)
 restart_in e cookie tie established held answers h = established_begins e cookie (queues_begun e cookie) tie (connection_restarted ∷ connected ∷ []) answers refl h
 restart_in e cookie tie shutdown_pending held answers h = established_begins e cookie (queues_begun e cookie) tie (connection_restarted ∷ connected ∷ []) answers refl h
 restart_in e cookie tie shutdown_sent held answers h = established_begins e cookie (queues_begun e cookie) tie (connection_restarted ∷ connected ∷ []) answers refl h
@@ -91,7 +91,7 @@ restart_in e cookie tie shutdown_received held answers h = established_begins e 
 restart_in e cookie tie shutdown_ack_sent held answers h = inl (record { left = refl; there = refl; last = refl })
 
 restart_at : (e : Endpoint) (cookie : Cookie) (tie : ℕ) (core : Core) (answers : List Answer) → RestartAnswers e cookie tie core answers
-    → LeavesIn e (restart_by_where (flush_answered answers) e cookie tie core)
+    → LeavesIn e (restart_with_flush_by_core (flush_answered answers) e cookie tie core)
 restart_at e cookie tie closed answers h = established_begins e cookie (queues_begun e cookie) tie (connection_restarted ∷ connected ∷ []) answers refl h
 restart_at e cookie tie (cookie_wait mine) answers h = established_begins e cookie (queues_begun e cookie) tie (connection_restarted ∷ connected ∷ []) answers refl h
 restart_at e cookie tie (cookie_echoed mine held echoed) answers h = established_begins e cookie (queues_begun e cookie) tie (connection_restarted ∷ connected ∷ []) answers refl h
@@ -100,14 +100,14 @@ restart_at e cookie tie (open_in phase mine held) answers h = restart_in e cooki
 connected_stays : (e : Endpoint) (mine : Pair) (held : Held) → Stays e (connected_after e mine held)
 connected_stays e mine held = record { left = refl; there = refl; last = refl }
 
-maintain_stays : (e : Endpoint) (cookie : Cookie) (core : Core) (answers : List Answer) → MaintainAnswers e cookie core answers → StaysIn e (maintain_by (flush_answered answers) e cookie core)
+maintain_stays : (e : Endpoint) (cookie : Cookie) (core : Core) (answers : List Answer) → MaintainAnswers e cookie core answers → StaysIn e (maintain_with_flush (flush_answered answers) e cookie core)
 maintain_stays e cookie closed answers h = unmoved e
 maintain_stays e cookie (cookie_wait mine) answers h = unmoved e
 maintain_stays e cookie (cookie_echoed mine held echoed) answers h =
     stays_then e (connected_after e mine held) _ (connected_stays e mine held) (flush_stays (connected_after e mine held) (cookie_ack_emission held cookie) answers h)
 maintain_stays e cookie (open_in phase mine held) answers h = flush_stays e (cookie_ack_emission held cookie) answers h
 
-by_there : (b : Bool) (e : Endpoint) (cookie : Cookie) (transfer : Transfer) → is_there (queues_by b e cookie transfer).transfer ≡ true
+by_there : (b : Bool) (e : Endpoint) (cookie : Cookie) (transfer : Transfer) → is_there (queues_if_kept b e cookie transfer).transfer ≡ true
 by_there true e cookie transfer = refl
 by_there false e cookie transfer = refl
 
@@ -122,7 +122,7 @@ collided_there e (cookie_echoed mine held echoed) cookie = other_there e mine he
 collided_there e (open_in phase mine held) cookie = refl
 
 resolved_leaves : (e : Endpoint) (cookie : Cookie) (core : Core) (word : ℕ) (resolution : Resolution) (answers : List Answer) → ResolvedAnswers e cookie core word resolution answers
-    → LeavesIn e (resolved_by (flush_answered answers) e cookie core word resolution)
+    → LeavesIn e (resolve_with_flush (flush_answered answers) e cookie core word resolution)
 resolved_leaves e cookie core word establish_new answers h = established_begins e cookie (queues_kept e cookie) word (connected ∷ []) answers refl h
 resolved_leaves e cookie core word restart answers h = restart_at e cookie word core answers h
 resolved_leaves e cookie core word simultaneous_init answers h = established_begins e cookie (queues_collided e core cookie) word (connected ∷ []) answers (collided_there e core cookie) h
@@ -132,16 +132,16 @@ resolved_leaves e cookie core word invalid_tag answers h = inl (unmoved e)
 resolved_leaves e cookie core word stale answers h = by_stale_outcome (LeavesIn e) e cookie (inl (record { left = refl; there = refl; last = refl })) (inl (unmoved e))
 
 echoed_leaves : (e : Endpoint) (core : Core) (header : ℕ) (read : Result Cookie (List ℕ)) (word : ℕ) (answers : List Answer) → EchoedAnswers e core header read word answers
-    → LeavesIn e (cookie_echo_by (flush_answered answers) e core header read word)
+    → LeavesIn e (cookie_echo_with_flush (flush_answered answers) e core header read word)
 echoed_leaves e core header (Err text) word answers h = inl (unmoved e)
 echoed_leaves e core header (Ok cookie) word answers h = resolved_leaves e cookie core word (resolved_now e core header cookie) answers h
 
 pub cookie_echo_leaves : (e : Endpoint) (tag : ℕ) (bytes : List ℕ) (o : Outcome) → CookieEchoTurn e tag bytes o → LeavesIn e o
-cookie_echo_leaves e tag bytes o turn = subst (LeavesIn e) (sym turn.3) (echoed_leaves e e.core tag (cookie_at bytes) turn.0 turn.1 turn.2)
+cookie_echo_leaves e tag bytes o turn = subst (LeavesIn e) (sym turn.3) (echoed_leaves e e.core tag (cookie_of_bytes bytes) turn.0 turn.1 turn.2)
 
 -- ---- COOKIE ACK
 
-cookie_ack_stays : (e : Endpoint) (core : Core) (answers : List Answer) → CookieAckAnswers e core answers → StaysIn e (cookie_ack_by (flush_answered answers) e core)
+cookie_ack_stays : (e : Endpoint) (core : Core) (answers : List Answer) → CookieAckAnswers e core answers → StaysIn e (cookie_ack_with_flush (flush_answered answers) e core)
 cookie_ack_stays e closed answers h = unmoved e
 cookie_ack_stays e (cookie_wait mine) answers h = unmoved e
 cookie_ack_stays e (cookie_echoed mine held cookie) answers h =
@@ -174,19 +174,19 @@ response_stays e held [] = unmoved e
 response_stays e held (response ∷ responses) = answer_stays e (to_peer held (re_config (response ∷ responses)))
 
 responses_stay : (refused : Bool) (e : Endpoint) (told : List (Event Emission)) (held : Held) (parameters responses : List ResetParameter) (answers : List Answer)
-    → ResponseAnswers refused e held responses answers → StaysIn e (responses_by refused e told held parameters responses answers)
+    → ResponseAnswers refused e held responses answers → StaysIn e (responses_unless_refused refused e told held parameters responses answers)
 responses_stay true e told held parameters responses answers h = unmoved e
 responses_stay false e told held parameters responses answers h =
     let sent : Outcome = responses_outcome e held responses in
     stays_then e sent.after (flush_of sent.after (draft_to held) answers).after (response_stays e held responses) (flush_stays sent.after (draft_to held) answers h)
 
-works_resets_stay : (e : Endpoint) (my : Pair) (held : Held) (parameters : List ResetParameter) (o : Outcome) → WorksResets e my held parameters o → StaysIn e o
+works_resets_stay : (e : Endpoint) (my : Pair) (held : Held) (parameters : List ResetParameter) (o : Outcome) → HandlesResets e my held parameters o → StaysIn e o
 works_resets_stay e my held parameters o turn =
-    let w : HandledParameters = parameters_handled_in e my held parameters in
-    let base : Endpoint = resets_handled e (answered_in held w parameters) w.held turn.left (renewable_left e held w parameters) in
+    let w : HandledParameters = handled_parameters_of e my held parameters in
+    let base : Endpoint = resets_handled e (answer_to_own held w parameters) w.held turn.left (renewable_left e held w parameters) in
     subst (StaysIn e) (sym turn.is)
     (stays_then e base _
-    (worked_stays e (answered_in held w parameters) w.held turn.left (renewable_left e held w parameters) (below_there (has_reset w.effects) (answers_in_progress w.answers) (requested_in parameters) e.queues.transfer turn.left turn.below))
+    (worked_stays e (answer_to_own held w parameters) w.held turn.left (renewable_left e held w parameters) (below_there (has_reset w.effects) (answers_in_progress w.answers) (first_reset_request parameters) e.queues.transfer turn.left turn.below))
     (responses_stay w.is_refused base (reset_events_of e parameters w.effects) w.held parameters w.answers turn.answers turn.allowed))
 
 resets_stay : (e : Endpoint) (core : Core) (parameters : List ResetParameter) (o : Outcome) → ResetTurn e core parameters o → StaysIn e o

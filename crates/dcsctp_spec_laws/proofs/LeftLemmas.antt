@@ -6,15 +6,15 @@ use Rattle.dcsctp_spec_lemmas.specs.types.declared.word.Word.{Word}
 use Rattle.dcsctp_spec_lemmas.specs.spec.Packet.{Content, Emission}
 use Rattle.dcsctp_spec_lemmas.specs.spec.queues.Transfer.{Transfer, EndpointQueues, is_idle}
 use Rattle.dcsctp_spec_lemmas.specs.spec.endpoint.BegunResets.{BegunReset, after_begun}
-use Rattle.dcsctp_spec_lemmas.specs.spec.endpoint.EndOutcomes.{left_by, ended_tag}
+use Rattle.dcsctp_spec_lemmas.specs.spec.endpoint.EndOutcomes.{left_messages, ended_tag}
 use Rattle.dcsctp_spec_lemmas.specs.spec.endpoint.Endpoint.{Endpoint}
 use Rattle.dcsctp_spec_lemmas.specs.spec.endpoint.Event.{Event}
 use Rattle.dcsctp_spec_lemmas.specs.spec.endpoint.Outcome.{Outcome, quiet, sends, emits, answers_with, fits}
-use Rattle.dcsctp_spec_lemmas.specs.spec.endpoint.FlushOutcomes.{filling_event, Answer, answer_contents, filled, goes_out, asked, draft_to, next_draft, flush_of, Ask, first_ask, later_ask, GivesWhere, IsAnswerOfQueues, IsFlushAnswer, AreFlushAnswers, at_limit, at_empty, after_packet, FlushAnswers, packets_allowed}
-use Rattle.dcsctp_spec_lemmas.specs.spec.endpoint.DataOutcomes.{flush_by, AnswersTo}
+use Rattle.dcsctp_spec_lemmas.specs.spec.endpoint.FlushOutcomes.{filling_event, Answer, answer_contents, filled_draft, goes_out, asked_outcome, draft_to, next_draft, flush_of, Ask, first_ask, later_ask, GivesUnlessIdle, IsAnswerOfQueues, IsFlushAnswer, AreFlushAnswers, at_limit, at_empty, after_packet, FlushAnswers, packets_allowed}
+use Rattle.dcsctp_spec_lemmas.specs.spec.endpoint.DataOutcomes.{flush_to_peer, AnswersTo}
 use Rattle.dcsctp_spec_lemmas.specs.spec.endpoint.Turn.{Input}
 use Rattle.dcsctp_spec_lemmas.proofs.OneAnswerLemmas.{answered_by}
-use Rattle.dcsctp_spec_laws.specs.LeftLaws.{left_once, LeftWhere}
+use Rattle.dcsctp_spec_laws.specs.LeftLaws.{left_once, LeavesMessages}
 
 -- ---- what a turn may do with them
 
@@ -36,7 +36,7 @@ pub record Begins (e after : Endpoint) : Type 0 where
 
 -- There is none any more.
 pub record Ends (e after : Endpoint) : Type 0 where
-  pub left : after.left ≡ left_by e.options e.queues.transfer e.left
+  pub left : after.left ≡ left_messages e.options e.queues.transfer e.left
   pub none : after.queues.transfer ≡ None
   pub last : after.last_tag ≡ ended_tag e.core e.last_tag
 
@@ -62,7 +62,7 @@ begins_then e begun after first second = record { left = second.left ∙ first.l
 -- ---- what the law says of each
 
 stays_where : (e after : Endpoint) (input : Input) (old new : Option Transfer) → left_once input e.left ≡ e.left → e.queues.transfer ≡ old → after.queues.transfer ≡ new → Stays e after
-    → LeftWhere e input old new after.left
+    → LeavesMessages e input old new after.left
 stays_where e after input None None keeps before behind h = h.left ∙ sym keeps
 stays_where e after input None (Some new) keeps before behind h =
     let same : true ≡ false = sym (ap is_there behind) ∙ h.there ∙ ap is_there before in absurd (cc)
@@ -70,20 +70,20 @@ stays_where e after input (Some old) None keeps before behind h =
     let same : false ≡ true = sym (ap is_there behind) ∙ h.there ∙ ap is_there before in absurd (cc)
 stays_where e after input (Some old) (Some new) keeps before behind h = inl h.left
 
-begins_where : (e after : Endpoint) (input : Input) (old new : Option Transfer) → after.queues.transfer ≡ new → Begins e after → LeftWhere e input old new after.left
+begins_where : (e after : Endpoint) (input : Input) (old new : Option Transfer) → after.queues.transfer ≡ new → Begins e after → LeavesMessages e input old new after.left
 begins_where e after input None None behind h = let same : false ≡ true = sym (ap is_there behind) ∙ h.there in absurd (cc)
 begins_where e after input None (Some new) behind h = h.left
 begins_where e after input (Some old) None behind h = let same : false ≡ true = sym (ap is_there behind) ∙ h.there in absurd (cc)
 begins_where e after input (Some old) (Some new) behind h = inr h.left
 
 ends_where : (e after : Endpoint) (input : Input) (old new : Option Transfer) → left_once input e.left ≡ e.left → e.queues.transfer ≡ old → after.queues.transfer ≡ new → Ends e after
-    → LeftWhere e input old new after.left
-ends_where e after input None None keeps before behind h = h.left ∙ ap (λ (t : Option Transfer). left_by e.options t e.left) before ∙ sym keeps
-ends_where e after input (Some old) None keeps before behind h = h.left ∙ ap (λ (t : Option Transfer). left_by e.options t e.left) before
+    → LeavesMessages e input old new after.left
+ends_where e after input None None keeps before behind h = h.left ∙ ap (λ (t : Option Transfer). left_messages e.options t e.left) before ∙ sym keeps
+ends_where e after input (Some old) None keeps before behind h = h.left ∙ ap (λ (t : Option Transfer). left_messages e.options t e.left) before
 ends_where e after input None (Some new) keeps before behind h = let same : true ≡ false = sym (ap is_there behind) ∙ ap is_there h.none in absurd (cc)
 ends_where e after input (Some old) (Some new) keeps before behind h = let same : true ≡ false = sym (ap is_there behind) ∙ ap is_there h.none in absurd (cc)
 
-pub left_where : (e : Endpoint) (input : Input) (o : Outcome) → left_once input e.left ≡ e.left → Leaves e o.after → LeftWhere e input e.queues.transfer o.after.queues.transfer o.after.left
+pub left_where : (e : Endpoint) (input : Input) (o : Outcome) → left_once input e.left ≡ e.left → Leaves e o.after → LeavesMessages e input e.queues.transfer o.after.queues.transfer o.after.left
 left_where e input o keeps h = elim h [
   | inl stays ↦ stays_where e o.after input e.queues.transfer o.after.queues.transfer keeps refl refl stays
   | inr moved ↦ elim moved [
@@ -120,7 +120,7 @@ begun_last : (begun : Option BegunReset) (e : Endpoint) → (after_begun begun e
 begun_last None e = refl
 begun_last (Some begun) e = refl
 
-given_there : (b : Bool) (ask : Ask) (e : Endpoint) (draft : Emission) (transfer : Transfer) (answer : Answer) → e.queues.transfer ≡ Some transfer → GivesWhere b ask e draft transfer answer
+given_there : (b : Bool) (ask : Ask) (e : Endpoint) (draft : Emission) (transfer : Transfer) (answer : Answer) → e.queues.transfer ≡ Some transfer → GivesUnlessIdle b ask e draft transfer answer
     → is_there answer.after.queues.transfer ≡ is_there e.queues.transfer
 given_there true ask e draft transfer answer is h = ap (λ (a : Answer). is_there a.after.queues.transfer) h
 given_there false ask e draft transfer answer is h = ap (λ (b : EndpointQueues). is_there b.transfer) h.below ∙ sym (ap is_there is)
@@ -130,27 +130,27 @@ answered_there : (ask : Ask) (e : Endpoint) (draft : Emission) (answer : Answer)
 answered_there ask e draft answer None is h = ap (λ (a : Answer). is_there a.after.queues.transfer) h
 answered_there ask e draft answer (Some transfer) is h = given_there (is_idle e.queues.queue transfer) ask e draft transfer answer is h
 
-asked_stays : (ask : Ask) (e : Endpoint) (draft : Emission) (answer : Answer) → IsFlushAnswer ask e draft answer → Stays e (asked e draft answer).after
+asked_stays : (ask : Ask) (e : Endpoint) (draft : Emission) (answer : Answer) → IsFlushAnswer ask e draft answer → Stays e (asked_outcome e draft answer).after
 asked_stays ask e draft answer h =
-    stays_then e answer.after (asked e draft answer).after
+    stays_then e answer.after (asked_outcome e draft answer).after
     (record {
       left = ap (λ (x : Endpoint). x.left) h.kept ∙ begun_left answer.begun e;
       there = answered_there ask e draft answer e.queues.transfer refl h.by_transfer;
       last = ap (λ (x : Endpoint). x.last_tag) h.kept ∙ begun_last answer.begun e;
     })
-    (goes_out_stays answer.after (map filling_event answer.told) draft.with_checksum draft.packet.tag (filled draft (answer_contents answer)).packet.contents)
+    (goes_out_stays answer.after (map filling_event answer.told) draft.with_checksum draft.packet.tag (filled_draft draft (answer_contents answer)).packet.contents)
 
 pub answers_stay : (ask : Ask) (n : ℕ) (e : Endpoint) (draft : Emission) (answers : List Answer) → AreFlushAnswers ask n e draft answers → Stays e (flush_of e draft answers).after
 answers_stay _ _ _ _ _ (at_limit ask e draft) = unmoved e
 answers_stay _ _ _ _ _ (at_empty ask more e draft answer is empty) = asked_stays ask e draft answer is
 answers_stay _ _ _ _ _ (after_packet ask more e draft answer answers is some rest) =
-    let after : Endpoint = (asked e draft answer).after in
+    let after : Endpoint = (asked_outcome e draft answer).after in
     stays_then e after (flush_of after (next_draft e.core draft) answers).after (asked_stays ask e draft answer is)
     (answers_stay later_ask more after (next_draft e.core draft) answers rest)
 
 pub flush_stays : (e : Endpoint) (draft : Emission) (answers : List Answer) → FlushAnswers e draft answers → Stays e (flush_of e draft answers).after
 flush_stays e draft answers h = answers_stay first_ask (packets_allowed e.options.max_burst e.core) e draft answers h
 
-pub flush_by_stays : (e : Endpoint) (peer : Option Held) (answers : List Answer) → AnswersTo e peer answers → Stays e (flush_by e peer answers).after
+pub flush_by_stays : (e : Endpoint) (peer : Option Held) (answers : List Answer) → AnswersTo e peer answers → Stays e (flush_to_peer e peer answers).after
 flush_by_stays e None answers h = unmoved e
 flush_by_stays e (Some held) answers h = flush_stays e (draft_to held) answers h

@@ -10,13 +10,13 @@ use Rattle.dcsctp_spec_lemmas.specs.spec.Packet.{Content, init, init_ack, cookie
 use Rattle.dcsctp_spec_lemmas.specs.spec.endpoint.Cause.{Cause}
 use Rattle.dcsctp_spec_lemmas.specs.spec.endpoint.Endpoint.{Endpoint, Core, closed, cookie_wait, cookie_echoed, open_in, established, shutdown_pending, shutdown_sent, shutdown_received, shutdown_ack_sent}
 use Rattle.dcsctp_spec_lemmas.specs.spec.endpoint.Outcome.{Outcome, still, to_peer}
-use Rattle.dcsctp_spec_lemmas.specs.spec.endpoint.HeartbeatOutcomes.{heartbeat_outcome, heartbeat_ack_outcome, answered, heartbeat_round_trip, info_in, counter_of}
-use Rattle.dcsctp_spec_lemmas.specs.spec.endpoint.PlainOutcomes.{PlainTurnBy, violation_at, is_reported, after_unknown, unknown_bytes, unknown_chunk_outcome, error_outcome}
+use Rattle.dcsctp_spec_lemmas.specs.spec.endpoint.HeartbeatOutcomes.{heartbeat_outcome, heartbeat_ack_outcome, endpoint_answered, heartbeat_round_trip, first_heartbeat_info, counter_of}
+use Rattle.dcsctp_spec_lemmas.specs.spec.endpoint.PlainOutcomes.{PlainTurnUnlessViolating, violation_by_core, is_reported, after_unknown, unknown_bytes, unknown_chunk_outcome, error_outcome}
 use Rattle.dcsctp_spec_lemmas.specs.spec.endpoint.RestoreOutcomes.{RestoreTurn}
 use Rattle.dcsctp_spec_lemmas.specs.spec.endpoint.Turn.{Input, Turn, arrival, refusal, packet_begins, chunk_input, packet_ends, act_input, user_sets, user_sends, user_resets, user_takes, timer_expires, time_passes, restores, has_data_chunk, BeginTurn, ContentTurn}
-use Rattle.dcsctp_spec_lemmas.specs.spec.queues.Arrivals.{data_arrival, i_data_arrival, skipped_in, messages_skipped_in}
+use Rattle.dcsctp_spec_lemmas.specs.spec.queues.Arrivals.{data_arrival, i_data_arrival, named_skips, skipped_messages}
 use Rattle.dcsctp_spec_laws.specs.LeftLaws.{IsOwnInput, MessagesLeftStay}
-use Rattle.dcsctp_spec_lemmas.specs.spec.endpoint.TransferMoves.{timed_by}
+use Rattle.dcsctp_spec_lemmas.specs.spec.endpoint.TransferMoves.{timed_transfer}
 use Rattle.dcsctp_spec_lemmas.specs.spec.queues.Transfer.{Transfer}
 use Rattle.dcsctp_spec_laws.proofs.LeftLemmas.{is_there, StaysIn, LeavesIn, unmoved, answer_stays, left_where}
 use Rattle.dcsctp_spec_lemmas.proofs.AbortLemmas.{by_error_outcome}
@@ -48,8 +48,8 @@ timed_there : (change : Transfer → Transfer) (transfer : Option Transfer) → 
 timed_there change None = refl
 timed_there change (Some transfer) = refl
 
-ack_where : (b : Bool) (e : Endpoint) → StaysIn e (if b then still (answered e) else still e)
-ack_where true e = record { left = refl; there = timed_there (timed_by (heartbeat_round_trip e)) e.queues.transfer; last = refl }
+ack_where : (b : Bool) (e : Endpoint) → StaysIn e (if b then still (endpoint_answered e) else still e)
+ack_where true e = record { left = refl; there = timed_there (timed_transfer (heartbeat_round_trip e)) e.queues.transfer; last = refl }
 ack_where false e = unmoved e
 
 heartbeat_ack_stays : (e : Endpoint) (counter : Option ℕ) → StaysIn e (heartbeat_ack_outcome e counter)
@@ -63,16 +63,16 @@ error_leaves e core causes =
 rests : (e : Endpoint) (o : Outcome) → o ≡ still e → LeavesIn e o
 rests e o turn = subst (LeavesIn e) (sym turn) (inl (unmoved e))
 
-plain_by : (e : Endpoint) (chunk : Plain) (violation : Option Violation) (o : Outcome) → PlainTurnBy e chunk violation o → LeavesIn e o
+plain_by : (e : Endpoint) (chunk : Plain) (violation : Option Violation) (o : Outcome) → PlainTurnUnlessViolating e chunk violation o → LeavesIn e o
 plain_by e chunk (Some violation) o turn = subst (LeavesIn e) (sym turn) (aborting_leaves e e.core (reasons.Violation violation))
 plain_by e (unknown type flags value) None o turn = subst (LeavesIn e) (sym turn) (inl (unknown_where (is_reported type) e e.core type (unknown_bytes type flags value)))
 plain_by e (heartbeat parameters) None o turn = subst (LeavesIn e) (sym turn) (inl (heartbeat_stays e e.core parameters))
-plain_by e (heartbeat_ack parameters) None o turn = subst (LeavesIn e) (sym turn) (inl (heartbeat_ack_stays e (counter_of (info_in parameters))))
+plain_by e (heartbeat_ack parameters) None o turn = subst (LeavesIn e) (sym turn) (inl (heartbeat_ack_stays e (counter_of (first_heartbeat_info parameters))))
 plain_by e (unworked (data_chunk chunk)) None o turn = inl (data_stays e (data_arrival chunk) o turn)
 plain_by e (unworked (i_data_chunk chunk)) None o turn = inl (data_stays e (i_data_arrival chunk) o turn)
 plain_by e (unworked (sack_chunk chunk)) None o turn = inl (sack_stays e chunk o turn)
-plain_by e (unworked (forward_tsn_chunk tsn streams)) None o turn = inl (forward_stays e tsn (skipped_in streams) o turn)
-plain_by e (unworked (i_forward_tsn_chunk tsn streams)) None o turn = inl (forward_stays e tsn (messages_skipped_in streams) o turn)
+plain_by e (unworked (forward_tsn_chunk tsn streams)) None o turn = inl (forward_stays e tsn (named_skips streams) o turn)
+plain_by e (unworked (i_forward_tsn_chunk tsn streams)) None o turn = inl (forward_stays e tsn (skipped_messages streams) o turn)
 plain_by e (unworked (error_chunk causes)) None o turn = subst (LeavesIn e) (sym turn) (error_leaves e e.core causes)
 plain_by e (unworked (init_chunk chunk)) None o turn = rests e o turn
 plain_by e (unworked (init_ack_chunk chunk)) None o turn = rests e o turn
@@ -97,7 +97,7 @@ content_leaves e tag (abort reflected causes) o turn = subst (LeavesIn e) (sym t
 content_leaves e tag (shutdown tsn) o turn = inl (shutdown_stays e tsn o turn)
 content_leaves e tag shutdown_ack o turn = subst (LeavesIn e) (sym turn) (shutdown_ack_leaves e e.core tag)
 content_leaves e tag (shutdown_complete reflected) o turn = subst (LeavesIn e) (sym turn) (shutdown_complete_leaves e e.core)
-content_leaves e tag (plain chunk) o turn = content_by e tag (plain chunk) o (λ dropped. rests e o dropped) (λ handled. plain_by e chunk (violation_at e.core chunk) o handled) turn
+content_leaves e tag (plain chunk) o turn = content_by e tag (plain chunk) o (λ dropped. rests e o dropped) (λ handled. plain_by e chunk (violation_by_core e.core chunk) o handled) turn
 
 -- ---- every turn
 

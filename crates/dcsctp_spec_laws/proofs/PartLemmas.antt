@@ -6,7 +6,7 @@ use Rattle.std.proofs.lemmas.List.Sums.{sum_by-cons}
 use Rattle.dcsctp_spec_lemmas.specs.spec.queues.Runs.{RunModel, WholeModel, part_used, run_used, runs_used, wholes_used}
 use Rattle.dcsctp_spec_lemmas.specs.spec.queues.IncomingStreams.{StreamModel, kept_stream_used, streams_used}
 use Rattle.dcsctp_spec_lemmas.specs.spec.queues.Reassembly.{DeferralModel, deferred_used, waiting_of, waiting_used}
-use Rattle.dcsctp_spec_laws.specs.PartLaws.{WindowCountsParts, parts_in_runs, parts_on_stream, parts_in}
+use Rattle.dcsctp_spec_laws.specs.PartLaws.{WindowCountsParts, parts_in_runs, parts_on_stream, parts_of_incoming}
 
 module _ (overhead : ℕ) where
   -- where each of a list counts its bytes and an overhead, so do all
@@ -63,6 +63,6 @@ window_counts_parts queue =
       streams_count queue.overhead queue.incoming.streams,
       runs_count queue.overhead queue.incoming.unordered,
       deferred_counts queue.overhead queue.deferral,
-      add-mul (parts_in queue.incoming) (length (waiting_of queue.deferral)) queue.overhead,
+      add-mul (parts_of_incoming queue.incoming) (length (waiting_of queue.deferral)) queue.overhead,
       add-mul (sum_by (λ entry. parts_on_stream entry.1) queue.incoming.streams) (parts_in_runs queue.incoming.unordered) queue.overhead,
     )

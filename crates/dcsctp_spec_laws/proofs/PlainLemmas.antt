@@ -11,19 +11,19 @@ use Rattle.dcsctp_spec_lemmas.specs.spec.Packet.{Plain, plain, unknown, heartbea
 use Rattle.dcsctp_spec_lemmas.specs.spec.endpoint.Endpoint.{Endpoint, Core, closed, cookie_wait, cookie_echoed, open_in, OpenPhase, established, shutdown_pending, shutdown_sent, shutdown_received, shutdown_ack_sent}
 use Rattle.dcsctp_spec_lemmas.specs.spec.endpoint.Outcome.{Outcome, still, reports, quiet, sends, fits, answering as counted, answers_with as answered_once, to_peer}
 use Rattle.dcsctp_spec_lemmas.specs.spec.endpoint.EndOutcomes.{abort_to, aborting_outcome}
-use Rattle.dcsctp_spec_lemmas.specs.spec.endpoint.PlainOutcomes.{PlainTurn, PlainTurnBy, violation_at, is_reported, after_unknown, unknown_text, unknown_bytes, unknown_error, unknown_report, unknown_chunk_outcome, ends_handshake, echoed_error_outcome, error_outcome}
-use Rattle.dcsctp_spec_lemmas.specs.spec.association.Effect.{Change, unchanged}
+use Rattle.dcsctp_spec_lemmas.specs.spec.endpoint.PlainOutcomes.{PlainTurn, PlainTurnUnlessViolating, violation_by_core, is_reported, after_unknown, unknown_text, unknown_bytes, unknown_error, unknown_report, unknown_chunk_outcome, ends_handshake, echoed_error_outcome, error_outcome}
+use Rattle.dcsctp_spec_lemmas.specs.spec.association.Effect.{Change, no_change}
 use Rattle.dcsctp_spec_lemmas.specs.spec.association.Effect as effects
 use Rattle.dcsctp_spec_lemmas.specs.spec.association.Choices.{Choices}
 use Rattle.dcsctp_spec_lemmas.specs.spec.association.Acts.{plain_change}
 use Rattle.dcsctp_spec_lemmas.specs.spec.endpoint.Following.{next_chunk}
-use Rattle.dcsctp_spec_lemmas.specs.spec.endpoint.HeartbeatOutcomes.{heartbeat_outcome, heartbeat_ack_outcome, answered, info_in, counter_of, invalid_info_text}
+use Rattle.dcsctp_spec_lemmas.specs.spec.endpoint.HeartbeatOutcomes.{heartbeat_outcome, heartbeat_ack_outcome, endpoint_answered, first_heartbeat_info, counter_of, invalid_info_text}
 use Rattle.dcsctp_spec_lemmas.specs.wire.Content.{ParameterContent, data_chunk, init_chunk, init_ack_chunk, sack_chunk, heartbeat_chunk, heartbeat_ack_chunk, abort_chunk, shutdown_chunk, shutdown_ack_chunk, error_chunk, cookie_echo_chunk, cookie_ack_chunk, shutdown_complete_chunk, i_data_chunk, re_config_chunk, forward_tsn_chunk, i_forward_tsn_chunk, unknown_chunk}
 use Rattle.dcsctp_spec_lemmas.specs.wire.Texts.{causes_text}
-use Rattle.dcsctp_spec_lemmas.specs.spec.queues.Arrivals.{data_arrival, i_data_arrival, skipped_in, messages_skipped_in}
+use Rattle.dcsctp_spec_lemmas.specs.spec.queues.Arrivals.{data_arrival, i_data_arrival, named_skips, skipped_messages}
 use Rattle.dcsctp_spec_laws.proofs.DataLemmas.{flushed_chunk, data_at, forward_at}
 use Rattle.dcsctp_spec_laws.proofs.SackLemmas.{stepped_chunk, sack_at}
-use Rattle.dcsctp_spec_lemmas.specs.spec.association.Controlled.{observations_of_events, IsControlled, ControlledChunk}
+use Rattle.dcsctp_spec_lemmas.specs.spec.association.Controlled.{observations_of_events, IsControlled, IsControlledChunk}
 use Rattle.dcsctp_spec_lemmas.proofs.ControlHandshake.{no_choices, filling_where, still_controlled, ControlledAt}
 use Rattle.dcsctp_spec_laws.proofs.ControlEnds.{aborts_where}
 use Rattle.dcsctp_spec_lemmas.proofs.OneAnswerLemmas.{answered_by}
@@ -37,14 +37,14 @@ nothing_chosen e = record (no_choices e false) { is_acknowledged = false; fillin
 -- ---- one that changes nothing
 
 rests_at : (e : Endpoint) (core : Core) (tag : ℕ) (chunk : Plain) → e.core ≡ core → ControlledAt e core tag (plain chunk) (still e)
-rests_at e closed tag chunk is = (unchanged closed, (nothing_chosen e, tt, refl), still_controlled e closed is)
-rests_at e (cookie_wait my) tag chunk is = (unchanged (cookie_wait my), (nothing_chosen e, tt, refl), still_controlled e (cookie_wait my) is)
-rests_at e (cookie_echoed my held cookie) tag chunk is = (unchanged (cookie_echoed my held cookie), (nothing_chosen e, tt, refl), still_controlled e (cookie_echoed my held cookie) is)
-rests_at e (open_in established my held) tag chunk is = (unchanged (open_in established my held), (nothing_chosen e, tt, refl), still_controlled e (open_in established my held) is)
-rests_at e (open_in shutdown_pending my held) tag chunk is = (unchanged (open_in shutdown_pending my held), (nothing_chosen e, tt, refl), still_controlled e (open_in shutdown_pending my held) is)
-rests_at e (open_in shutdown_sent my held) tag chunk is = (unchanged (open_in shutdown_sent my held), (nothing_chosen e, tt, refl), still_controlled e (open_in shutdown_sent my held) is)
-rests_at e (open_in shutdown_received my held) tag chunk is = (unchanged (open_in shutdown_received my held), (nothing_chosen e, tt, refl), still_controlled e (open_in shutdown_received my held) is)
-rests_at e (open_in shutdown_ack_sent my held) tag chunk is = (unchanged (open_in shutdown_ack_sent my held), (nothing_chosen e, tt, refl), still_controlled e (open_in shutdown_ack_sent my held) is)
+rests_at e closed tag chunk is = (no_change closed, (nothing_chosen e, tt, refl), still_controlled e closed is)
+rests_at e (cookie_wait my) tag chunk is = (no_change (cookie_wait my), (nothing_chosen e, tt, refl), still_controlled e (cookie_wait my) is)
+rests_at e (cookie_echoed my held cookie) tag chunk is = (no_change (cookie_echoed my held cookie), (nothing_chosen e, tt, refl), still_controlled e (cookie_echoed my held cookie) is)
+rests_at e (open_in established my held) tag chunk is = (no_change (open_in established my held), (nothing_chosen e, tt, refl), still_controlled e (open_in established my held) is)
+rests_at e (open_in shutdown_pending my held) tag chunk is = (no_change (open_in shutdown_pending my held), (nothing_chosen e, tt, refl), still_controlled e (open_in shutdown_pending my held) is)
+rests_at e (open_in shutdown_sent my held) tag chunk is = (no_change (open_in shutdown_sent my held), (nothing_chosen e, tt, refl), still_controlled e (open_in shutdown_sent my held) is)
+rests_at e (open_in shutdown_received my held) tag chunk is = (no_change (open_in shutdown_received my held), (nothing_chosen e, tt, refl), still_controlled e (open_in shutdown_received my held) is)
+rests_at e (open_in shutdown_ack_sent my held) tag chunk is = (no_change (open_in shutdown_ack_sent my held), (nothing_chosen e, tt, refl), still_controlled e (open_in shutdown_ack_sent my held) is)
 
 -- ---- one of a type that isn't known
 
@@ -95,7 +95,7 @@ unknown_at e (open_in shutdown_ack_sent my held) tag type flags value false is =
 -- ---- heartbeats
 
 -- It moves nothing of the association.
-unmoved : (e : Endpoint) (core : Core) → unchanged core ≡ plain_change core false (nothing_chosen e)
+unmoved : (e : Endpoint) (core : Core) → no_change core ≡ plain_change core false (nothing_chosen e)
 unmoved e closed = refl
 unmoved e (cookie_wait my) = refl
 unmoved e (cookie_echoed my held cookie) = refl
@@ -105,8 +105,8 @@ unmoved e (open_in shutdown_sent my held) = refl
 unmoved e (open_in shutdown_received my held) = refl
 unmoved e (open_in shutdown_ack_sent my held) = refl
 
-quietly : (e : Endpoint) (core : Core) (tag : ℕ) (chunk : Plain) (o : Outcome) → IsControlled e o (unchanged core) → ControlledAt e core tag (plain chunk) o
-quietly e core tag chunk o h = (unchanged core, (nothing_chosen e, tt, unmoved e core), h)
+quietly : (e : Endpoint) (core : Core) (tag : ℕ) (chunk : Plain) (o : Outcome) → IsControlled e o (no_change core) → ControlledAt e core tag (plain chunk) o
+quietly e core tag chunk o h = (no_change core, (nothing_chosen e, tt, unmoved e core), h)
 
 -- It chooses the answer.
 abbrev answering : Endpoint → List ParameterContent → Choices
@@ -151,8 +151,8 @@ heartbeat_at e (cookie_echoed my held cookie) tag parameters is =
 heartbeat_at e (open_in phase my held) tag parameters is =
     answer_at e (open_in phase my held) held tag parameters is (answered_open e phase my held parameters)
 
-counted_at : (b : Bool) (e : Endpoint) (core : Core) (tag : ℕ) (chunk : Plain) → e.core ≡ core → ControlledAt e core tag (plain chunk) (cond b (still (answered e)) (still e))
-counted_at true e core tag chunk is = quietly e core tag chunk (still (answered e)) (record { core = is; options = refl; observations = refl; effects = refl; following = refl })
+counted_at : (b : Bool) (e : Endpoint) (core : Core) (tag : ℕ) (chunk : Plain) → e.core ≡ core → ControlledAt e core tag (plain chunk) (cond b (still (endpoint_answered e)) (still e))
+counted_at true e core tag chunk is = quietly e core tag chunk (still (endpoint_answered e)) (record { core = is; options = refl; observations = refl; effects = refl; following = refl })
 counted_at false e core tag chunk is = quietly e core tag chunk (still e) (record { core = is; options = refl; observations = refl; effects = refl; following = refl })
 
 heartbeat_ack_at : (e : Endpoint) (core : Core) (tag : ℕ) (chunk : Plain) (counter : Option ℕ) → e.core ≡ core → ControlledAt e core tag (plain chunk) (heartbeat_ack_outcome e counter)
@@ -196,7 +196,7 @@ aborts_open e phase my held tag chunk violation =
 
 -- ---- each
 
-aborts_at : (e : Endpoint) (core : Core) (tag : ℕ) (chunk : Plain) (violation : Violation) → e.core ≡ core → violation_at core chunk ≡ Some violation
+aborts_at : (e : Endpoint) (core : Core) (tag : ℕ) (chunk : Plain) (violation : Violation) → e.core ≡ core → violation_by_core core chunk ≡ Some violation
     → ControlledAt e core tag (plain chunk) (aborting_outcome e core (reasons.Violation violation))
 aborts_at e closed tag chunk violation is breaks = absurd (cc)
 aborts_at e (cookie_wait my) tag chunk violation is breaks = absurd (cc)
@@ -209,17 +209,17 @@ At e tag chunk o = ControlledAt e e.core tag (plain chunk) o
 rests : (e : Endpoint) (tag : ℕ) (chunk : Plain) (o : Outcome) → o ≡ still e → At e tag chunk o
 rests e tag chunk o turn = subst (At e tag chunk) (sym turn) (rests_at e e.core tag chunk refl)
 
-plain_by : (e : Endpoint) (tag : ℕ) (chunk : Plain) (violation : Option Violation) (o : Outcome) → violation_at e.core chunk ≡ violation → PlainTurnBy e chunk violation o → At e tag chunk o
+plain_by : (e : Endpoint) (tag : ℕ) (chunk : Plain) (violation : Option Violation) (o : Outcome) → violation_by_core e.core chunk ≡ violation → PlainTurnUnlessViolating e chunk violation o → At e tag chunk o
 plain_by e tag chunk (Some violation) o is turn = subst (At e tag chunk) (sym turn) (aborts_at e e.core tag chunk violation refl is)
 plain_by e tag (unknown type flags value) None o is turn = subst (At e tag (unknown type flags value)) (sym turn) (unknown_at e e.core tag type flags value (is_reported type) refl)
 plain_by e tag (heartbeat parameters) None o is turn = subst (At e tag (heartbeat parameters)) (sym turn) (heartbeat_at e e.core tag parameters refl)
 plain_by e tag (heartbeat_ack parameters) None o is turn =
-    subst (At e tag (heartbeat_ack parameters)) (sym turn) (heartbeat_ack_at e e.core tag (heartbeat_ack parameters) (counter_of (info_in parameters)) refl)
+    subst (At e tag (heartbeat_ack parameters)) (sym turn) (heartbeat_ack_at e e.core tag (heartbeat_ack parameters) (counter_of (first_heartbeat_info parameters)) refl)
 plain_by e tag (unworked (data_chunk chunk)) None o is turn = flushed_chunk e e.core tag (unworked (data_chunk chunk)) o (data_at e (data_arrival chunk) o turn)
 plain_by e tag (unworked (i_data_chunk chunk)) None o is turn = flushed_chunk e e.core tag (unworked (i_data_chunk chunk)) o (data_at e (i_data_arrival chunk) o turn)
 plain_by e tag (unworked (sack_chunk chunk)) None o is turn = stepped_chunk e e.core tag (unworked (sack_chunk chunk)) o (sack_at e e.queues.transfer chunk o turn)
-plain_by e tag (unworked (forward_tsn_chunk tsn streams)) None o is turn = flushed_chunk e e.core tag (unworked (forward_tsn_chunk tsn streams)) o (forward_at e e.queues.transfer tsn (skipped_in streams) o turn)
-plain_by e tag (unworked (i_forward_tsn_chunk tsn streams)) None o is turn = flushed_chunk e e.core tag (unworked (i_forward_tsn_chunk tsn streams)) o (forward_at e e.queues.transfer tsn (messages_skipped_in streams) o turn)
+plain_by e tag (unworked (forward_tsn_chunk tsn streams)) None o is turn = flushed_chunk e e.core tag (unworked (forward_tsn_chunk tsn streams)) o (forward_at e e.queues.transfer tsn (named_skips streams) o turn)
+plain_by e tag (unworked (i_forward_tsn_chunk tsn streams)) None o is turn = flushed_chunk e e.core tag (unworked (i_forward_tsn_chunk tsn streams)) o (forward_at e e.queues.transfer tsn (skipped_messages streams) o turn)
 plain_by e tag (unworked (error_chunk causes)) None o is turn = subst (At e tag (unworked (error_chunk causes))) (sym turn) (error_at e e.core tag (unworked (error_chunk causes)) causes refl)
 plain_by e tag (unworked (init_chunk chunk)) None o is turn = rests e tag (unworked (init_chunk chunk)) o turn
 plain_by e tag (unworked (init_ack_chunk chunk)) None o is turn = rests e tag (unworked (init_ack_chunk chunk)) o turn
@@ -234,6 +234,6 @@ plain_by e tag (unworked (shutdown_complete_chunk reflected)) None o is turn = r
 plain_by e tag (unworked (re_config_chunk parameters)) None o is turn = rests e tag (unworked (re_config_chunk parameters)) o turn
 plain_by e tag (unworked (unknown_chunk type flags value)) None o is turn = rests e tag (unworked (unknown_chunk type flags value)) o turn
 
-pub plain_controlled : (e : Endpoint) (tag : ℕ) (chunk : Plain) (o : Outcome) → ContentTurn e tag (plain chunk) o → ControlledChunk e tag (plain chunk) o
+pub plain_controlled : (e : Endpoint) (tag : ℕ) (chunk : Plain) (o : Outcome) → ContentTurn e tag (plain chunk) o → IsControlledChunk e tag (plain chunk) o
 plain_controlled e tag chunk o turn =
-    content_by e tag (plain chunk) o (λ dropped. rests e tag chunk o dropped) (λ handled. plain_by e tag chunk (violation_at e.core chunk) o refl handled) turn
+    content_by e tag (plain chunk) o (λ dropped. rests e tag chunk o dropped) (λ handled. plain_by e tag chunk (violation_by_core e.core chunk) o refl handled) turn

@@ -3,7 +3,7 @@ use Rattle.std.proofs.Common.{ℕ, Bool, true, false, cond, Option, None, Some, 
 use Rattle.std.specs.Prelude.{◌==◌, slice_index}
 use Rattle.std.specs.List.{AllByRecursion}
 use Rattle.dcsctp_spec_lemmas.specs.wire.Content.{CauseContent, ParameterContent, ChunkContent, init_chunk, init_ack_chunk, heartbeat_chunk, heartbeat_ack_chunk, abort_chunk, shutdown_ack_chunk, error_chunk, cookie_echo_chunk, cookie_ack_chunk, shutdown_complete_chunk, re_config_chunk, unknown_chunk}
-use Rattle.dcsctp_spec_lemmas.specs.wire.Fields.{lowest_bit, fields_in, data_in, i_data_in, sack_in, shutdown_in, forward_tsn_in, i_forward_tsn_in}
+use Rattle.dcsctp_spec_lemmas.specs.wire.Fields.{lowest_bit, content_of_fields, data_of_value, i_data_of_value, sack_of_value, shutdown_of_value, forward_tsn_of_value, i_forward_tsn_of_value}
 use Rattle.dcsctp_spec_lemmas.specs.wire.Format.{Form, introduction, parameter_list, cause_list, fields, form_of, HasForm, AreChunks}
 use Rattle.dcsctp_spec_lemmas.specs.wire.Numbers.{init_type, init_ack_type, heartbeat_type, heartbeat_ack_type, abort_type, error_type, re_config_type, data_type, sack_type, shutdown_type, shutdown_ack_type, cookie_echo_type, cookie_ack_type, shutdown_complete_type, i_data_type, forward_tsn_type, i_forward_tsn_type}
 use Rattle.dcsctp_spec_lemmas.specs.wire.ReadsBack.{HasMinima}
@@ -19,32 +19,32 @@ either : (b : Bool) (x y : Option ChunkContent) → MinimaIf x → MinimaIf y �
 either true x y first second = first
 either false x y first second = second
 
-data_minima : (flags : ℕ) (value : List ℕ) → MinimaIf (data_in flags value)
-unfolding data_in
+data_minima : (flags : ℕ) (value : List ℕ) → MinimaIf (data_of_value flags value)
+unfolding data_of_value
 data_minima flags value = either _ _ _ nothing (read _ tt)
 
-i_data_minima : (flags : ℕ) (value : List ℕ) → MinimaIf (i_data_in flags value)
-unfolding i_data_in
+i_data_minima : (flags : ℕ) (value : List ℕ) → MinimaIf (i_data_of_value flags value)
+unfolding i_data_of_value
 i_data_minima flags value = either _ _ _ nothing (read _ tt)
 
-sack_minima : (value : List ℕ) → MinimaIf (sack_in value)
-unfolding sack_in
+sack_minima : (value : List ℕ) → MinimaIf (sack_of_value value)
+unfolding sack_of_value
 sack_minima value = either _ _ _ nothing (either _ _ _ nothing (read _ tt))
 
-shutdown_minima : (value : List ℕ) → MinimaIf (shutdown_in value)
-unfolding shutdown_in
+shutdown_minima : (value : List ℕ) → MinimaIf (shutdown_of_value value)
+unfolding shutdown_of_value
 shutdown_minima value = either _ _ _ nothing (read _ tt)
 
-forward_minima : (value : List ℕ) → MinimaIf (forward_tsn_in value)
-unfolding forward_tsn_in
+forward_minima : (value : List ℕ) → MinimaIf (forward_tsn_of_value value)
+unfolding forward_tsn_of_value
 forward_minima value = either _ _ _ (read _ tt) nothing
 
-i_forward_minima : (value : List ℕ) → MinimaIf (i_forward_tsn_in value)
-unfolding i_forward_tsn_in
+i_forward_minima : (value : List ℕ) → MinimaIf (i_forward_tsn_of_value value)
+unfolding i_forward_tsn_of_value
 i_forward_minima value = either _ _ _ (read _ tt) nothing
 
-fields_minima : (chunk_type flags : ℕ) (value : List ℕ) → MinimaIf (fields_in chunk_type flags value)
-unfolding fields_in
+fields_minima : (chunk_type flags : ℕ) (value : List ℕ) → MinimaIf (content_of_fields chunk_type flags value)
+unfolding content_of_fields
 fields_minima chunk_type flags value =
     either (chunk_type == data_type) _ _ (data_minima flags value)
     (either (chunk_type == sack_type) _ _ (sack_minima value)

@@ -5,24 +5,24 @@ use Rattle.dcsctp_spec_lemmas.specs.types.declared.association.Pair.{Pair}
 use Rattle.dcsctp_spec_lemmas.specs.types.declared.association.Held.{Held}
 use Rattle.dcsctp_spec_lemmas.specs.spec.Reconfiguration.{RequestedReset, renewed_reset}
 use Rattle.dcsctp_spec_lemmas.specs.types.Settings.{SameOptions}
-use Rattle.dcsctp_spec_lemmas.specs.spec.endpoint.Endpoint.{Endpoint, Core, closed, cookie_wait, cookie_echoed, open_in, OpenPhase, OutstandingRequest, held_in}
+use Rattle.dcsctp_spec_lemmas.specs.spec.endpoint.Endpoint.{Endpoint, Core, closed, cookie_wait, cookie_echoed, open_in, OpenPhase, OutstandingRequest, held_by_core}
 use Rattle.dcsctp_spec_lemmas.specs.spec.endpoint.Following.{next_chunk}
 use Rattle.dcsctp_spec_lemmas.specs.spec.endpoint.BegunResets.{core_asking}
 use Rattle.dcsctp_spec_lemmas.specs.spec.endpoint.Outcome.{Outcome, still, quiet, sends, fits, to_peer}
-use Rattle.dcsctp_spec_lemmas.specs.spec.association.Acts.{request_sent, renewed_by, act_change}
+use Rattle.dcsctp_spec_lemmas.specs.spec.association.Acts.{request_sent, renewed_if_fitting, act_change}
 use Rattle.dcsctp_spec_lemmas.specs.spec.association.Choices.{Choices}
-use Rattle.dcsctp_spec_lemmas.specs.spec.association.FlushChanges.{Flushed, reset_request}
+use Rattle.dcsctp_spec_lemmas.specs.spec.association.FlushChanges.{FlushResult, reset_request}
 use Rattle.dcsctp_spec_lemmas.specs.spec.association.Controlled.{IsControlled}
 use Rattle.dcsctp_spec_lemmas.specs.spec.endpoint.HeartbeatOutcomes.{is_exhausted}
 use Rattle.dcsctp_spec_lemmas.specs.spec.endpoint.OwnTimers.{repeating_act}
-use Rattle.dcsctp_spec_lemmas.specs.spec.endpoint.ReconfigurationOutcomes.{reset_again, request_emitted, renewed_request_where, request_renewed, request_unless, is_renewed, reconfiguration_expired, request_errors, request_expired, reconfiguration_outcome}
+use Rattle.dcsctp_spec_lemmas.specs.spec.endpoint.ReconfigurationOutcomes.{reset_again, request_emitted, renewed_request_if_fitting, request_renewed, request_unless, is_renewed, reconfiguration_expired, request_errors, request_expired, reconfiguration_outcome}
 use Rattle.dcsctp_spec_lemmas.proofs.FlushKeeps.{Rebuilds, rebuilds_open, rebuilds_echoed}
 use Rattle.dcsctp_spec_lemmas.proofs.ControlHandshake.{no_choices}
 
 -- what of the peer is held once the request went out again, if it fits, and its effects
-abbrev repeated_by : Bool → Held → Option ℕ → RequestedReset → Bool → Flushed
+abbrev repeated_by : Bool → Held → Option ℕ → RequestedReset → Bool → FlushResult
 repeated_by false held number reset fits = record { held = held; effects = request_sent held number reset fits }
-repeated_by true held number reset fits = renewed_by held number reset fits
+repeated_by true held number reset fits = renewed_if_fitting held number reset fits
 
 -- the request, where it goes out: under the next number or under its own
 abbrev Repeats : Bool → Endpoint → (Held → Core) → Held → Option ℕ → RequestedReset → Outcome → Type 0
@@ -41,7 +41,7 @@ module _ (e : Endpoint) (rebuilt : Held → Core) (held : Held) (builds : Rebuil
   emitted_at request (Some number) = packet_at (fits (request_expired e request) (to_peer held (reset_request number reset))) request number
 
   renewed_at : (b : Bool) (request : OutstandingRequest) (number : ℕ)
-      → Repeats true e rebuilt held (Some number) reset (renewed_request_where b (request_expired e request) held number (reset_request held.own_next (renewed_reset reset)))
+      → Repeats true e rebuilt held (Some number) reset (renewed_request_if_fitting b (request_expired e request) held number (reset_request held.own_next (renewed_reset reset)))
   renewed_at true request number = (true, record { core = ap core_asking is ∙ builds.asks; options = refl; observations = refl; effects = refl; following = refl })
   renewed_at false request number = (false, record { core = is; options = refl; observations = refl; effects = refl; following = refl })
 
@@ -92,7 +92,7 @@ waiting_act false e my request reset is = (no_choices e false, record { core = i
 waiting_act true e my request reset is = (no_choices e false, record { core = is; options = refl; observations = refl; effects = refl; following = refl })
 
 pub reconfiguration_at : (e : Endpoint) (core : Core) (request : Option OutstandingRequest) → e.core ≡ core
-    → RepeatsAct (is_renewed e request) e core (reset_again request) (reconfiguration_outcome e (held_in core) request)
+    → RepeatsAct (is_renewed e request) e core (reset_again request) (reconfiguration_outcome e (held_by_core core) request)
 reconfiguration_at e closed request is = closed_act (is_renewed e request) e request (reset_again request) is
 reconfiguration_at e (cookie_wait my) request is = waiting_act (is_renewed e request) e my request (reset_again request) is
 reconfiguration_at e (cookie_echoed my held cookie) request is =

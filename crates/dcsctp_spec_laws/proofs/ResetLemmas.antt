@@ -12,15 +12,15 @@ use Rattle.dcsctp_spec_lemmas.specs.spec.Packet.{re_config, Packet, Emission}
 use Rattle.dcsctp_spec_lemmas.specs.spec.Reconfiguration.{NumberedReset, RequestState, early, due, renewed, ResetParameter, outgoing_reset_request, incoming_reset_request, reconfiguration_response, other_reset_parameter}
 use Rattle.dcsctp_spec_lemmas.specs.spec.queues.Transfer.{Transfer}
 use Rattle.dcsctp_spec_lemmas.specs.spec.endpoint.Endpoint.{Endpoint, Core, closed, cookie_wait, cookie_echoed, open_in, is_cookie_echoed, may_answer}
-use Rattle.dcsctp_spec_lemmas.specs.spec.endpoint.Outcome.{Outcome, quiet, answering as counted, answered_where, packet_counted, behind, noting, to_peer, fits as fits_mtu, sends as sends_out, still}
+use Rattle.dcsctp_spec_lemmas.specs.spec.endpoint.Outcome.{Outcome, quiet, answering as counted, answered_if_allowed, packet_counted, behind, with_effects_first, to_peer, fits as fits_mtu, sends as sends_out, still}
 use Rattle.dcsctp_spec_lemmas.specs.spec.endpoint.Following.{next_chunk}
-use Rattle.dcsctp_spec_lemmas.specs.spec.association.Effect.{Effect, accepts, performs, renews, completes, fails, sends, noted, unchanged}
+use Rattle.dcsctp_spec_lemmas.specs.spec.association.Effect.{Effect, accepts, performs, renews, completes, fails, sends, effects_without_packets, no_change}
 use Rattle.dcsctp_spec_lemmas.specs.spec.association.Choices.{Choices}
-use Rattle.dcsctp_spec_lemmas.specs.spec.association.FlushChanges.{Flushed, flush}
-use Rattle.dcsctp_spec_lemmas.specs.spec.association.ResetChanges.{RequestPlace, again, next, astray, request_place, RequestOutcome, performed_request, repeated, next_request, is_due, outgoing_by, incoming_by, Informed, informed_by, is_outstanding, informed_where, HandledParameters, work_parameters, work_chunk, reset_sent, peer_part_handled, echoed_re_config_change, re_config_change}
-use Rattle.dcsctp_spec_lemmas.specs.spec.association.Controlled.{Observation, packet_sent, peer_reset_performed, own_reset_performed, own_reset_failed, observations_of_events, observations_of_effects, IsControlled, ControlledChunk}
+use Rattle.dcsctp_spec_lemmas.specs.spec.association.FlushChanges.{FlushResult, flush}
+use Rattle.dcsctp_spec_lemmas.specs.spec.association.ResetChanges.{RequestPlace, again, next, astray, request_place, RequestOutcome, performed_request, repeated_request_outcome, next_request, is_due, outgoing_by_place, incoming_by_place, AnswerResult, result_of_answer, is_outstanding, result_if_outstanding, HandledParameters, parameters_outcome, reset_chunk_outcome, reset_sent, peer_part_handled, echoed_re_config_change, re_config_change}
+use Rattle.dcsctp_spec_lemmas.specs.spec.association.Controlled.{Observation, packet_sent, peer_reset_performed, own_reset_performed, own_reset_failed, observations_of_events, observations_of_effects, IsControlled, IsControlledChunk}
 use Rattle.dcsctp_spec_lemmas.specs.spec.endpoint.FlushOutcomes.{Answer, draft_to, flush_of, FlushAnswers}
-use Rattle.dcsctp_spec_lemmas.specs.spec.endpoint.ResetOutcomes.{request_state, renewable_left, parameters_handled_in, OwnAnswer, unanswered, retried, was_performed, has_failed, answered_in, reset_events, reset_events_of, core_with, resets_handled, reset_refusal_text, responses_by, ResponseAnswers, WorksResets, ResetTurn}
+use Rattle.dcsctp_spec_lemmas.specs.spec.endpoint.ResetOutcomes.{request_state, renewable_left, handled_parameters_of, OwnAnswer, unanswered, retried, was_performed, has_failed, answer_to_own, reset_events, reset_events_of, core_with, resets_handled, reset_refusal_text, responses_unless_refused, ResponseAnswers, HandlesResets, ResetTurn}
 use Rattle.dcsctp_spec_lemmas.proofs.ControlHandshake.{no_choices, ControlledAt, still_controlled}
 use Rattle.dcsctp_spec_lemmas.proofs.FlushKeeps.{IsPeerTag, filling_of, flush_effects, Rebuilds, rebuilds_open, rebuilds_echoed, FlushesTo, flush_controlled, signs_append}
 use Rattle.dcsctp_spec_lemmas.specs.spec.endpoint.Turn.{ContentTurn}
@@ -40,7 +40,7 @@ pub data AreResets : List Effect → Type 0 where
 -- Such effects in front of others.
 pub record InFront (front rest : List Effect) : Type 0 where
   pub observations : observations_of_effects (front ++ rest) ≡ observations_of_effects front ++ observations_of_effects rest
-  pub notes : noted (front ++ rest) ≡ front ++ noted rest
+  pub notes : effects_without_packets (front ++ rest) ≡ front ++ effects_without_packets rest
 
 pub in_front : (front rest : List Effect) → AreResets front → InFront front rest
 in_front _ rest nothing = record { observations = refl; notes = refl }
@@ -111,7 +111,7 @@ worked_brings : (held : Held) (number : ℕ) (reached : Bool) → Brings held (p
 worked_brings held number true = record { keeps = record { peer = refl; capabilities = refl; own_next = refl; own_outstanding = inl refl }; are = performance held.peer number [] nothing }
 worked_brings held number false = record { keeps = record { peer = refl; capabilities = refl; own_next = refl; own_outstanding = inl refl }; are = nothing }
 
-repeated_brings : (held : Held) (result : ReconfigurationResponseResult) (reached : Bool) → Brings held (repeated held result reached).held (repeated held result reached).effects
+repeated_brings : (held : Held) (result : ReconfigurationResponseResult) (reached : Bool) → Brings held (repeated_request_outcome held result reached).held (repeated_request_outcome held result reached).effects
 repeated_brings held SuccessNothingToDo reached = record { keeps = kept held; are = nothing }
 repeated_brings held SuccessPerformed reached = record { keeps = kept held; are = nothing }
 repeated_brings held Denied reached = record { keeps = kept held; are = nothing }
@@ -125,19 +125,19 @@ next_brings held number early = worked_brings held number false
 next_brings held number due = worked_brings held number true
 next_brings held number renewed = record { keeps = record { peer = refl; capabilities = refl; own_next = refl; own_outstanding = inl refl }; are = renewal held.peer number [] nothing }
 
-outgoing_brings : (held : Held) (number : ℕ) (state : RequestState) (place : RequestPlace) → Brings held (outgoing_by held number state place).held (outgoing_by held number state place).effects
+outgoing_brings : (held : Held) (number : ℕ) (state : RequestState) (place : RequestPlace) → Brings held (outgoing_by_place held number state place).held (outgoing_by_place held number state place).effects
 outgoing_brings held number state again = repeated_brings held held.peer_result (is_due state)
 outgoing_brings held number state next =
     let h = next_brings held number state in
     record { keeps = h.keeps; are = acceptance number (next_request held number state).effects h.are }
 outgoing_brings held number state astray = record { keeps = kept held; are = nothing }
 
-incoming_brings : (held : Held) (number : ℕ) (place : RequestPlace) → Brings held (incoming_by held number place).held (incoming_by held number place).effects
+incoming_brings : (held : Held) (number : ℕ) (place : RequestPlace) → Brings held (incoming_by_place held number place).held (incoming_by_place held number place).effects
 incoming_brings held number again = record { keeps = record { peer = refl; capabilities = refl; own_next = refl; own_outstanding = inl refl }; are = nothing }
 incoming_brings held number next = record { keeps = record { peer = refl; capabilities = refl; own_next = refl; own_outstanding = inl refl }; are = acceptance number [] nothing }
 incoming_brings held number astray = record { keeps = kept held; are = nothing }
 
-answer_brings : (my : Pair) (held : Held) (number : ℕ) (result : ReconfigurationResponseResult) → Brings held (informed_by my held number result).held (informed_by my held number result).effects
+answer_brings : (my : Pair) (held : Held) (number : ℕ) (result : ReconfigurationResponseResult) → Brings held (result_of_answer my held number result).held (result_of_answer my held number result).effects
 answer_brings my held number SuccessNothingToDo = record { keeps = record { peer = refl; capabilities = refl; own_next = refl; own_outstanding = inr refl }; are = completion my number [] nothing }
 answer_brings my held number SuccessPerformed = record { keeps = record { peer = refl; capabilities = refl; own_next = refl; own_outstanding = inr refl }; are = completion my number [] nothing }
 answer_brings my held number Denied = record { keeps = record { peer = refl; capabilities = refl; own_next = refl; own_outstanding = inr refl }; are = failure number [] nothing }
@@ -147,7 +147,7 @@ answer_brings my held number ErrorBadSequenceNumber = record { keeps = record { 
 answer_brings my held number InProgress = record { keeps = kept held; are = nothing }
 
 informed_brings : (b : Bool) (my : Pair) (held : Held) (number : ℕ) (result : ReconfigurationResponseResult)
-    → Brings held (informed_where my held number result b).held (informed_where my held number result b).effects
+    → Brings held (result_if_outstanding my held number result b).held (result_if_outstanding my held number result b).effects
 informed_brings true my held number result = answer_brings my held number result
 informed_brings false my held number result = record { keeps = kept held; are = nothing }
 
@@ -156,24 +156,24 @@ brings_then : (held first last : Held) (front rest : List Effect) → Brings hel
 brings_then held first last front rest h k = record { keeps = kept_then held first last h.keeps k.keeps; are = both_are front rest h.are k.are }
 
 parameters_bring : (my : Pair) (state : RequestState) (has_worked : Bool) (held : Held) (parameters : List ResetParameter)
-    → Brings held (work_parameters my state has_worked held parameters).held (work_parameters my state has_worked held parameters).effects
+    → Brings held (parameters_outcome my state has_worked held parameters).held (parameters_outcome my state has_worked held parameters).effects
 parameters_bring my state has_worked held [] = record { keeps = kept held; are = nothing }
 parameters_bring my state true held (outgoing_reset_request number answered reset ∷ parameters) = record { keeps = kept held; are = nothing }
 parameters_bring my state false held (outgoing_reset_request number answered reset ∷ parameters) =
-    let first : RequestOutcome = outgoing_by held number state (request_place held.peer_last number) in
-    let rest : HandledParameters = work_parameters my state true first.held parameters in
+    let first : RequestOutcome = outgoing_by_place held number state (request_place held.peer_last number) in
+    let rest : HandledParameters = parameters_outcome my state true first.held parameters in
     brings_then held first.held rest.held first.effects rest.effects (outgoing_brings held number state (request_place held.peer_last number)) (parameters_bring my state true first.held parameters)
 parameters_bring my state has_worked held (incoming_reset_request number streams ∷ parameters) =
-    let first : RequestOutcome = incoming_by held number (request_place held.peer_last number) in
-    let rest : HandledParameters = work_parameters my state has_worked first.held parameters in
+    let first : RequestOutcome = incoming_by_place held number (request_place held.peer_last number) in
+    let rest : HandledParameters = parameters_outcome my state has_worked first.held parameters in
     brings_then held first.held rest.held first.effects rest.effects (incoming_brings held number (request_place held.peer_last number)) (parameters_bring my state has_worked first.held parameters)
 parameters_bring my state has_worked held (reconfiguration_response number result ∷ parameters) =
-    let first : Informed = informed_where my held number result (is_outstanding number held.own_outstanding) in
-    let rest : HandledParameters = work_parameters my state has_worked first.held parameters in
+    let first : AnswerResult = result_if_outstanding my held number result (is_outstanding number held.own_outstanding) in
+    let rest : HandledParameters = parameters_outcome my state has_worked first.held parameters in
     brings_then held first.held rest.held first.effects rest.effects (informed_brings (is_outstanding number held.own_outstanding) my held number result) (parameters_bring my state has_worked first.held parameters)
 parameters_bring my state has_worked held (other_reset_parameter parameter ∷ parameters) = parameters_bring my state has_worked held parameters
 
-pub chunk_brings : (my : Pair) (state : RequestState) (held : Held) (parameters : List ResetParameter) → Brings held (work_chunk my state held parameters).held (work_chunk my state held parameters).effects
+pub chunk_brings : (my : Pair) (state : RequestState) (held : Held) (parameters : List ResetParameter) → Brings held (reset_chunk_outcome my state held parameters).held (reset_chunk_outcome my state held parameters).effects
 chunk_brings my state held [] = record { keeps = kept held; are = nothing }
 chunk_brings my state held (parameter ∷ parameters) = parameters_bring my state false held (parameter ∷ parameters)
 
@@ -182,7 +182,7 @@ chunk_brings my state held (parameter ∷ parameters) = parameters_bring my stat
 -- Such effects, with packets after them or without.
 pub record Shows (before es : List Effect) : Type 0 where
   pub observations : (rest : List Effect) → observations_of_effects (before ++ rest) ≡ observations_of_effects before ++ observations_of_effects rest
-  pub notes : (rest : List Effect) → noted (before ++ rest) ≡ es ++ noted rest
+  pub notes : (rest : List Effect) → effects_without_packets (before ++ rest) ≡ es ++ effects_without_packets rest
 
 shows : (es : List Effect) → AreResets es → Shows es es
 shows es are = record { observations = λ rest. (in_front es rest are).observations; notes = λ rest. (in_front es rest are).notes }
@@ -193,34 +193,34 @@ shows_packet es packet are =
       observations = λ rest. ap observations_of_effects (append_assoc es (sends packet ∷ []) rest) ∙ (in_front es (sends packet ∷ rest) are).observations
           ∙ sym (append_assoc (observations_of_effects es) (packet_sent packet ∷ []) (observations_of_effects rest))
           ∙ ap (λ (ss : List Observation). ss ++ observations_of_effects rest) (sym (in_front es (sends packet ∷ []) are).observations);
-      notes = λ rest. ap noted (append_assoc es (sends packet ∷ []) rest) ∙ (in_front es (sends packet ∷ rest) are).notes;
+      notes = λ rest. ap effects_without_packets (append_assoc es (sends packet ∷ []) rest) ∙ (in_front es (sends packet ∷ rest) are).notes;
     }
 
 -- a turn by what is held of its peer and its effects
-abbrev MovesTo : Endpoint → (Held → Core) → List Effect → Outcome → Flushed → Type 0
+abbrev MovesTo : Endpoint → (Held → Core) → List Effect → Outcome → FlushResult → Type 0
 MovesTo e rebuilt es o after = IsControlled e o (record { core = rebuilt after.held; effects = es ++ after.effects; following = next_chunk })
 
 -- a flush after effects
 flushes_behind : (e base : Endpoint) (rebuilt : Held → Core) (held : Held) (before es : List Effect) (events : List (Event Emission)) (answers : List Answer) → Rebuilds rebuilt held
     → base.core ≡ rebuilt held → SameOptions e.options base.options → IsPeerTag (rebuilt held) held.peer.tag → FlushAnswers base (draft_to held) answers
     → Shows before es → observations_of_events events ≡ observations_of_effects before
-    → FlushesTo e (noting es (behind [] events (flush_of base (draft_to held) answers))) rebuilt before (flush held.peer.tag held [] (filling_of answers))
+    → FlushesTo e (with_effects_first es (behind [] events (flush_of base (draft_to held) answers))) rebuilt before (flush held.peer.tag held [] (filling_of answers))
 flushes_behind e base rebuilt held before es events answers builds is same peer h shown told =
     let more : List Effect = flush_effects held.peer.tag [] answers in
     flush_controlled e base [] events (draft_to held) answers rebuilt held before es builds is same
     (subst (λ (c : Core). IsPeerTag c held.peer.tag) (sym is) peer) h told (shown.observations more) (shown.notes more)
 
 -- the flush of the association, after its answers
-abbrev pub sent_then : List Effect → Held → List Answer → Flushed
+abbrev pub sent_then : List Effect → Held → List Answer → FlushResult
 sent_then front held answers =
-    let after : Flushed = flush held.peer.tag held [] (filling_of answers) in
+    let after : FlushResult = flush held.peer.tag held [] (filling_of answers) in
     record after { effects = front ++ after.effects }
 
 -- without answers, or where they don't fit
 silently : (e base : Endpoint) (rebuilt : Held → Core) (held : Held) (es : List Effect) (told : List (Event Emission)) (answers : List Answer) → Rebuilds rebuilt held
     → base.core ≡ rebuilt held → SameOptions e.options base.options → IsPeerTag (rebuilt held) held.peer.tag → FlushAnswers base (draft_to held) answers → AreResets es
     → observations_of_events told ≡ observations_of_effects es
-    → MovesTo e rebuilt es (noting es (behind [] (told ++ []) (flush_of base (draft_to held) answers))) (sent_then [] held answers)
+    → MovesTo e rebuilt es (with_effects_first es (behind [] (told ++ []) (flush_of base (draft_to held) answers))) (sent_then [] held answers)
 silently e base rebuilt held es told answers builds is same peer h are shown =
     flushes_behind e base rebuilt held es es (told ++ []) answers builds is same peer h (shows es are) (ap observations_of_events (append-nil told) ∙ shown)
 
@@ -228,10 +228,10 @@ silently e base rebuilt held es told answers builds is same peer h are shown =
 answering : (e base : Endpoint) (rebuilt : Held → Core) (held : Held) (es : List Effect) (told : List (Event Emission)) (emission : Emission) (answers : List Answer) → Rebuilds rebuilt held
     → base.core ≡ rebuilt held → SameOptions e.options base.options → IsPeerTag (rebuilt held) held.peer.tag → FlushAnswers base (draft_to held) answers → AreResets es
     → observations_of_events told ≡ observations_of_effects es
-    → MovesTo e rebuilt es (noting es (behind [] (told ++ sent emission ∷ []) (flush_of base (draft_to held) answers))) (sent_then (sends emission.packet ∷ []) held answers)
+    → MovesTo e rebuilt es (with_effects_first es (behind [] (told ++ sent emission ∷ []) (flush_of base (draft_to held) answers))) (sent_then (sends emission.packet ∷ []) held answers)
 answering e base rebuilt held es told emission answers builds is same peer h are shown =
-    let after : Flushed = flush held.peer.tag held [] (filling_of answers) in
-    let o : Outcome = noting es (behind [] (told ++ sent emission ∷ []) (flush_of base (draft_to held) answers)) in
+    let after : FlushResult = flush held.peer.tag held [] (filling_of answers) in
+    let o : Outcome = with_effects_first es (behind [] (told ++ sent emission ∷ []) (flush_of base (draft_to held) answers)) in
     subst (λ (all : List Effect). IsControlled e o (record { core = rebuilt after.held; effects = all; following = next_chunk })) (append_assoc es (sends emission.packet ∷ []) after.effects)
     (flushes_behind e base rebuilt held (es ++ sends emission.packet ∷ []) es (told ++ sent emission ∷ []) answers builds is same peer h (shows_packet es emission.packet are)
     (signs_append told (sent emission ∷ []) ∙ ap (λ (ss : List Observation). ss ++ packet_sent emission.packet ∷ []) shown ∙ sym (in_front es (sends emission.packet ∷ []) are).observations))
@@ -239,7 +239,7 @@ answering e base rebuilt held es told emission answers builds is same peer h are
 -- An error after these events shows nothing more.
 refusing : (e base : Endpoint) (core : Core) (es : List Effect) (told : List (Event Emission)) (text : List ℕ) → base.core ≡ core → SameOptions e.options base.options → AreResets es
     → observations_of_events told ≡ observations_of_effects es
-    → IsControlled e (noting es (quiet base [] (told ++ error ProtocolViolation text ∷ []))) (record { core = core; effects = es ++ []; following = next_chunk })
+    → IsControlled e (with_effects_first es (quiet base [] (told ++ error ProtocolViolation text ∷ []))) (record { core = core; effects = es ++ []; following = next_chunk })
 refusing e base core es told text is same are shown =
     record {
       core = is;
@@ -258,7 +258,7 @@ fitting : (b : Bool) (e base : Endpoint) (state : RequestState) (rebuilt : Held 
     → Rebuilds rebuilt held → base.core ≡ rebuilt held → SameOptions e.options base.options → IsPeerTag (rebuilt held) held.peer.tag → AreResets es → observations_of_events told ≡ observations_of_effects es
     → let o : Outcome = counted (cond b (sends_out base [] [] (to_peer held (re_config (response ∷ responses)))) (quiet base [] [])) in
     FlushAnswers o.after (draft_to held) answers
-    → MovesTo e rebuilt es (noting es (behind [] (told ++ o.events) (flush_of o.after (draft_to held) answers))) (reset_sent false held (response ∷ responses) (choosing e state b answers))
+    → MovesTo e rebuilt es (with_effects_first es (behind [] (told ++ o.events) (flush_of o.after (draft_to held) answers))) (reset_sent false held (response ∷ responses) (choosing e state b answers))
 fitting true e base state rebuilt held es told response responses answers builds is same peer are shown h =
     answering e (record (packet_counted base) { has_answered = true }) rebuilt held es told (to_peer held (re_config (response ∷ responses))) answers builds is same peer h are shown
 fitting false e base state rebuilt held es told response responses answers builds is same peer are shown h =
@@ -268,9 +268,9 @@ fitting false e base state rebuilt held es told response responses answers build
 responding : (may : Bool) (e base : Endpoint) (state : RequestState) (rebuilt : Held → Core) (held : Held) (es : List Effect) (told : List (Event Emission)) (response : ResetParameter) (responses : List ResetParameter) (answers : List Answer)
     → Rebuilds rebuilt held → base.core ≡ rebuilt held → SameOptions e.options base.options → IsPeerTag (rebuilt held) held.peer.tag → AreResets es → observations_of_events told ≡ observations_of_effects es
     → let emission : Emission = to_peer held (re_config (response ∷ responses)) in
-    let o : Outcome = answered_where may base emission in
+    let o : Outcome = answered_if_allowed may base emission in
     FlushAnswers o.after (draft_to held) answers
-    → MovesTo e rebuilt es (noting es (behind [] (told ++ o.events) (flush_of o.after (draft_to held) answers))) (reset_sent false held (response ∷ responses) (choosing e state (may && fits_mtu base emission) answers))
+    → MovesTo e rebuilt es (with_effects_first es (behind [] (told ++ o.events) (flush_of o.after (draft_to held) answers))) (reset_sent false held (response ∷ responses) (choosing e state (may && fits_mtu base emission) answers))
 responding true e base state rebuilt held es told response responses answers builds is same peer are shown h =
     fitting (fits_mtu base (to_peer held (re_config (response ∷ responses)))) e base state rebuilt held es told response responses answers builds is same peer are shown h
 responding false e base state rebuilt held es told response responses answers builds is same peer are shown h = silently e base rebuilt held es told answers builds is same peer h are shown
@@ -282,7 +282,7 @@ responses_fit base held responses = may_answer base && fits_mtu base (to_peer he
 sent_at : (refused : Bool) (e base : Endpoint) (state : RequestState) (rebuilt : Held → Core) (held : Held) (es : List Effect) (told : List (Event Emission)) (parameters responses : List ResetParameter) (answers : List Answer)
     → Rebuilds rebuilt held → base.core ≡ rebuilt held → SameOptions e.options base.options → IsPeerTag (rebuilt held) held.peer.tag → AreResets es → observations_of_events told ≡ observations_of_effects es
     → ResponseAnswers refused base held responses answers
-    → MovesTo e rebuilt es (noting es (responses_by refused base told held parameters responses answers)) (reset_sent refused held responses (choosing e state (responses_fit base held responses) answers))
+    → MovesTo e rebuilt es (with_effects_first es (responses_unless_refused refused base told held parameters responses answers)) (reset_sent refused held responses (choosing e state (responses_fit base held responses) answers))
 sent_at true e base state rebuilt held es told parameters responses answers builds is same peer are shown h =
     refusing e base (rebuilt held) es told (reset_refusal_text parameters) is same are shown
 sent_at false e base state rebuilt held es told parameters [] answers builds is same peer are shown h = silently e base rebuilt held es told answers builds is same peer h are shown
@@ -310,13 +310,13 @@ ResetBy e rebuilt my held parameters o choices =
 
 resets_at : (e : Endpoint) (rebuilt : Held → Core) (my : Pair) (held : Held) (parameters : List ResetParameter) (o : Outcome) → e.core ≡ rebuilt held
     → ((h : Held) → core_with (rebuilt held) h ≡ rebuilt h) → ((h : Held) → IsPeerTag (rebuilt h) h.peer.tag) → ((h : Held) → Rebuilds rebuilt h)
-    → WorksResets e my held parameters o → (choices : Choices) × ResetBy e rebuilt my held parameters o choices
+    → HandlesResets e my held parameters o → (choices : Choices) × ResetBy e rebuilt my held parameters o choices
 resets_at e rebuilt my held parameters o is with peer builds turn =
     let state : RequestState = request_state e held parameters in
-    let w : HandledParameters = parameters_handled_in e my held parameters in
+    let w : HandledParameters = handled_parameters_of e my held parameters in
     let brought = chunk_brings my state held parameters in
-    let base : Endpoint = resets_handled e (answered_in held w parameters) w.held turn.left (renewable_left e held w parameters) in
-    let kept = worked_keeps e (answered_in held w parameters) w.held turn.left (renewable_left e held w parameters) in
+    let base : Endpoint = resets_handled e (answer_to_own held w parameters) w.held turn.left (renewable_left e held w parameters) in
+    let kept = worked_keeps e (answer_to_own held w parameters) w.held turn.left (renewable_left e held w parameters) in
     let choices : Choices = choosing e state (responses_fit base w.held w.answers) turn.answers in (
       choices,
       subst (λ (x : Outcome). ResetBy e rebuilt my held parameters x choices) (sym turn.is)
@@ -329,14 +329,14 @@ resets_at e rebuilt my held parameters o is with peer builds turn =
 held_at : (e : Endpoint) (core : Core) (rebuilt : Held → Core) (tag : ℕ) (my : Pair) (held : Held) (parameters : List ResetParameter) (o : Outcome)
     → e.core ≡ core → core ≡ rebuilt held → ((h : Held) → core_with (rebuilt held) h ≡ rebuilt h) → ((h : Held) → IsPeerTag (rebuilt h) h.peer.tag) → ((h : Held) → Rebuilds rebuilt h)
     → ((choices : Choices) → re_config_change e.options.follow_rfc core parameters choices ≡ record { core = rebuilt (peer_part_handled my held parameters choices).held; effects = (peer_part_handled my held parameters choices).effects; following = next_chunk })
-    → WorksResets e my held parameters o → ControlledAt e core tag (re_config parameters) o
+    → HandlesResets e my held parameters o → ControlledAt e core tag (re_config parameters) o
 held_at e core rebuilt tag my held parameters o is here with peer builds change turn =
     let at = resets_at e rebuilt my held parameters o (is ∙ here) with peer builds turn in
     (re_config_change e.options.follow_rfc core parameters at.0, (at.0, tt, refl), subst (IsControlled e o) (sym (change at.0)) at.1)
 
 -- the change of a chunk while the COOKIE ACK is awaited, by the option
 dropped_change : (follows : Bool) (my : Pair) (held : Held) (cookie : List ℕ) (parameters : List ResetParameter) (choices : Choices) → (follows && true) ≡ true
-    → unchanged (cookie_echoed my held cookie) ≡ echoed_re_config_change follows my held cookie parameters choices
+    → no_change (cookie_echoed my held cookie) ≡ echoed_re_config_change follows my held cookie parameters choices
 dropped_change true my held cookie parameters choices is_early = refl
 dropped_change false my held cookie parameters choices is_early = absurd (cc)
 
@@ -347,9 +347,9 @@ handled_change false my held cookie parameters choices is_late = refl
 
 reset_at : (e : Endpoint) (core : Core) (tag : ℕ) (parameters : List ResetParameter) (o : Outcome) → e.core ≡ core → (e.options.follow_rfc && is_cookie_echoed core) ≡ false → ResetTurn e core parameters o
     → ControlledAt e core tag (re_config parameters) o
-reset_at e closed tag parameters o is is_late turn = subst (ControlledAt e closed tag (re_config parameters)) (sym turn) (unchanged closed, (no_choices e false, tt, refl), still_controlled e closed is)
+reset_at e closed tag parameters o is is_late turn = subst (ControlledAt e closed tag (re_config parameters)) (sym turn) (no_change closed, (no_choices e false, tt, refl), still_controlled e closed is)
 reset_at e (cookie_wait my) tag parameters o is is_late turn =
-    subst (ControlledAt e (cookie_wait my) tag (re_config parameters)) (sym turn) (unchanged (cookie_wait my), (no_choices e false, tt, refl), still_controlled e (cookie_wait my) is)
+    subst (ControlledAt e (cookie_wait my) tag (re_config parameters)) (sym turn) (no_change (cookie_wait my), (no_choices e false, tt, refl), still_controlled e (cookie_wait my) is)
 reset_at e (cookie_echoed my held cookie) tag parameters o is is_late turn =
     held_at e (cookie_echoed my held cookie) (λ h. cookie_echoed my h cookie) tag my held parameters o is refl (λ h. refl) (λ h. refl) (rebuilds_echoed my cookie)
     (λ choices. handled_change e.options.follow_rfc my held cookie parameters choices is_late) turn
@@ -366,14 +366,14 @@ dropped_at : (e : Endpoint) (core : Core) (tag : ℕ) (parameters : List ResetPa
 dropped_at e closed tag parameters is is_early = absurd (never_early e.options.follow_rfc is_early)
 dropped_at e (cookie_wait my) tag parameters is is_early = absurd (never_early e.options.follow_rfc is_early)
 dropped_at e (cookie_echoed my held cookie) tag parameters is is_early = (
-  unchanged (cookie_echoed my held cookie),
+  no_change (cookie_echoed my held cookie),
   (no_choices e false, tt, dropped_change e.options.follow_rfc my held cookie parameters (no_choices e false) is_early),
   still_controlled e (cookie_echoed my held cookie) is,
 )
 dropped_at e (open_in phase my held) tag parameters is is_early = absurd (never_early e.options.follow_rfc is_early)
 
-pub reset_controlled : (e : Endpoint) (tag : ℕ) (parameters : List ResetParameter) (o : Outcome) → ContentTurn e tag (re_config parameters) o → ControlledChunk e tag (re_config parameters) o
+pub reset_controlled : (e : Endpoint) (tag : ℕ) (parameters : List ResetParameter) (o : Outcome) → ContentTurn e tag (re_config parameters) o → IsControlledChunk e tag (re_config parameters) o
 reset_controlled e tag parameters o turn =
     content_where e tag (re_config parameters) o
-    (λ is_early rests. subst (ControlledChunk e tag (re_config parameters)) (sym rests) (dropped_at e e.core tag parameters refl is_early))
+    (λ is_early rests. subst (IsControlledChunk e tag (re_config parameters)) (sym rests) (dropped_at e e.core tag parameters refl is_early))
     (λ is_late handled. reset_at e e.core tag parameters o refl is_late handled) turn

@@ -5,11 +5,11 @@ use Rattle.std.specs.Int.{w16, w32, to_be_bytes, from_be_bytes}
 use Rattle.std.proofs.lemmas.Bool.Decides.{nat_tests}
 use Rattle.std.proofs.lemmas.List.{length-take, length-map}
 use Rattle.std.proofs.lemmas.Nat.{from_be_bytes-to_be_bytes_2}
-use Rattle.dcsctp_spec_lemmas.specs.wire.CleanBlocks.{blocks_in, names, AreApart}
-use Rattle.dcsctp_spec_lemmas.specs.wire.Fields.{gap_ack_block_at}
+use Rattle.dcsctp_spec_lemmas.specs.wire.CleanBlocks.{blocks_of_bytes, names, AreApart}
+use Rattle.dcsctp_spec_lemmas.specs.wire.Fields.{numbered_gap_ack_block}
 use Rattle.dcsctp_spec_lemmas.specs.wire.declared.chunk.sack.GapAckBlock.{GapAckBlock}
 use Rattle.dcsctp_spec_lemmas.specs.types.declared.tracking.TsnRange.{TsnRange}
-use Rattle.dcsctp_spec_lemmas.specs.spec.queues.Ranges.{IsBeyond, is_in}
+use Rattle.dcsctp_spec_lemmas.specs.spec.queues.Ranges.{IsBeyond, is_number_covered}
 use Rattle.dcsctp_spec_lemmas.specs.spec.queues.Tracker.{block_bytes, most_blocks, most_duplicates, blocks_that_fit, duplicates_left, sack_of, sack_header_size, forward_tsn_room, greatest_distance}
 use Rattle.dcsctp_spec_laws.specs.SackLaws.{sack_blocks, sack_size, SacksCoverReceived, SacksFit}
 
@@ -40,14 +40,14 @@ four_on n m cumulative range rest is =
     ap (λ (k : ℕ). drop k (block_bytes cumulative range ++ rest)) same
 
 block_later : (index cumulative : ℕ) (range : TsnRange) (rest : List ℕ)
-    → gap_ack_block_at (index + 1) (block_bytes cumulative range ++ rest) ≡ gap_ack_block_at index rest
+    → numbered_gap_ack_block (index + 1) (block_bytes cumulative range ++ rest) ≡ numbered_gap_ack_block index rest
 block_later index cumulative range rest =
     same_block _ _ _ _
     (ap (λ (bytes : List ℕ). from_be_bytes w16 (take 2 bytes)) (four_on (4 * (index + 1)) (4 * index) cumulative range rest (omega arith)))
     (ap (λ (bytes : List ℕ). from_be_bytes w16 (take 2 bytes)) (four_on (4 * (index + 1) + 2) (4 * index + 2) cumulative range rest (omega arith)))
 
 block_first : (cumulative : ℕ) (range : TsnRange) (rest : List ℕ) → range.first ≤ range.last → range.last ≤ cumulative + greatest_distance
-    → gap_ack_block_at 0 (block_bytes cumulative range ++ rest) ≡ block_of cumulative range
+    → numbered_gap_ack_block 0 (block_bytes cumulative range ++ rest) ≡ block_of cumulative range
 block_first cumulative range rest filled near =
     same_block _ _ _ _ (from_be_bytes-to_be_bytes_2 (range.first - cumulative) (omega (arith, filled, near)))
     (from_be_bytes-to_be_bytes_2 (range.last - cumulative) (omega (arith, near)))
@@ -61,25 +61,25 @@ map_same f g same [] = refl
 map_same f g same (index ∷ indices) = ap (λ first. first ∷ map f indices) (same index) ∙ ap (λ rest. g index ∷ rest) (map_same f g same indices)
 
 blocks_at : (cumulative : ℕ) (ranges : List TsnRange) → AreNear cumulative ranges
-    → map (λ index. gap_ack_block_at index (flat_map (block_bytes cumulative) ranges)) (range_with_len 0 (length ranges))
+    → map (λ index. numbered_gap_ack_block index (flat_map (block_bytes cumulative) ranges)) (range_with_len 0 (length ranges))
     ≡ map (block_of cumulative) ranges
 blocks_at cumulative [] near = refl
 blocks_at cumulative (range ∷ ranges) near =
     let rest : List ℕ = flat_map (block_bytes cumulative) ranges in
     let bytes : List ℕ = block_bytes cumulative range ++ rest in
-    ap (λ first. first ∷ map (λ index. gap_ack_block_at index bytes) (range_with_len 1 (length ranges)))
+    ap (λ first. first ∷ map (λ index. numbered_gap_ack_block index bytes) (range_with_len 1 (length ranges)))
     (block_first cumulative range rest near.0 near.1)
     ∙ ap (λ later. block_of cumulative range ∷ later)
-    (shifted (λ index. gap_ack_block_at index bytes) 0 (length ranges)
-    ∙ map_same (λ index. gap_ack_block_at (index + 1) bytes) (λ index. gap_ack_block_at index rest)
+    (shifted (λ index. numbered_gap_ack_block index bytes) 0 (length ranges)
+    ∙ map_same (λ index. numbered_gap_ack_block (index + 1) bytes) (λ index. numbered_gap_ack_block index rest)
     (λ index. block_later index cumulative range rest) (range_with_len 0 (length ranges))
     ∙ blocks_at cumulative ranges near.2)
 
 blocks_read : (cumulative : ℕ) (ranges : List TsnRange) → AreNear cumulative ranges
-    → blocks_in (flat_map (block_bytes cumulative) ranges) ≡ map (block_of cumulative) ranges
+    → blocks_of_bytes (flat_map (block_bytes cumulative) ranges) ≡ map (block_of cumulative) ranges
 blocks_read cumulative ranges near =
     let count : length (flat_map (block_bytes cumulative) ranges) / 4 ≡ length ranges = omega (arith, blocks_len cumulative ranges) in
-    ap (λ n. map (λ index. gap_ack_block_at index (flat_map (block_bytes cumulative) ranges)) (range_with_len 0 n)) count
+    ap (λ n. map (λ index. numbered_gap_ack_block index (flat_map (block_bytes cumulative) ranges)) (range_with_len 0 n)) count
     ∙ blocks_at cumulative ranges near
 
 -- ---- ranges
@@ -108,9 +108,9 @@ within_above : (number : ℕ) (range : TsnRange) → within number range ≡ tru
 within_above number range is = (grind (arith, nat_tests, is), grind (arith, nat_tests, is))
 
 -- What is in ranges beyond a number is beyond it.
-above : (from number : ℕ) (ranges : List TsnRange) → IsBeyond from ranges → is_in number ranges ≡ true → from + 1 < number
+above : (from number : ℕ) (ranges : List TsnRange) → IsBeyond from ranges → is_number_covered number ranges ≡ true → from + 1 < number
 above from number [] beyond is = absurd (cc)
-above from number (range ∷ ranges) beyond is = elim (either (within number range) (is_in number ranges) is) [
+above from number (range ∷ ranges) beyond is = elim (either (within number range) (is_number_covered number ranges) is) [
   | inl here ↦ omega (arith, within_above number range here, beyond.0)
   | inr (not_here, later) ↦ omega (arith, above range.last number ranges beyond.2 later, beyond.0, beyond.1)
 ]
@@ -119,12 +119,12 @@ last_within : (range : TsnRange) → range.first ≤ range.last → within range
 last_within range filled = grind (arith, nat_tests)
 
 near_of : (cumulative from : ℕ) (ranges : List TsnRange) → IsBeyond from ranges
-    → ((number : ℕ) → is_in number ranges ≡ true → number ≤ cumulative + greatest_distance) → AreNear cumulative ranges
+    → ((number : ℕ) → is_number_covered number ranges ≡ true → number ≤ cumulative + greatest_distance) → AreNear cumulative ranges
 near_of cumulative from [] beyond near = tt
 near_of cumulative from (range ∷ ranges) beyond near = (
   beyond.1,
-  near range.last (true_or (within range.last range) (is_in range.last ranges) (last_within range beyond.1)),
-  near_of cumulative range.last ranges beyond.2 (λ number is. near number (or_true (within number range) (is_in number ranges) is)),
+  near range.last (true_or (within range.last range) (is_number_covered range.last ranges) (last_within range beyond.1)),
+  near_of cumulative range.last ranges beyond.2 (λ number is. near number (or_true (within number range) (is_number_covered number ranges) is)),
 )
 
 -- ---- the first ranges
@@ -134,12 +134,12 @@ beyond_take zero from ranges beyond = tt
 beyond_take (suc k) from [] beyond = tt
 beyond_take (suc k) from (range ∷ ranges) beyond = (beyond.0, beyond.1, beyond_take k range.last ranges beyond.2)
 
-in_take : (k number : ℕ) (ranges : List TsnRange) → is_in number (take k ranges) ≡ true → is_in number ranges ≡ true
+in_take : (k number : ℕ) (ranges : List TsnRange) → is_number_covered number (take k ranges) ≡ true → is_number_covered number ranges ≡ true
 in_take zero number ranges is = absurd (cc)
 in_take (suc k) number [] is = absurd (cc)
-in_take (suc k) number (range ∷ ranges) is = elim (either (within number range) (is_in number (take k ranges)) is) [
-  | inl here ↦ true_or (within number range) (is_in number ranges) here
-  | inr (not_here, later) ↦ or_true (within number range) (is_in number ranges) (in_take k number ranges later)
+in_take (suc k) number (range ∷ ranges) is = elim (either (within number range) (is_number_covered number (take k ranges)) is) [
+  | inl here ↦ true_or (within number range) (is_number_covered number ranges) here
+  | inr (not_here, later) ↦ or_true (within number range) (is_number_covered number ranges) (in_take k number ranges later)
 ]
 
 take_all : (k : ℕ) (ranges : List TsnRange) → length ranges ≤ k → take k ranges ≡ ranges
@@ -149,14 +149,14 @@ take_all (suc k) [] few = refl
 take_all (suc k) (range ∷ ranges) few = ap (λ rest. range ∷ rest) (take_all k ranges (omega (arith, few)))
 
 -- What isn't in the first ranges is after them.
-after_first : (k from number other : ℕ) (ranges : List TsnRange) → IsBeyond from ranges → is_in number (take k ranges) ≡ true
-    → is_in other ranges ≡ true → is_in other (take k ranges) ≡ false → number < other
+after_first : (k from number other : ℕ) (ranges : List TsnRange) → IsBeyond from ranges → is_number_covered number (take k ranges) ≡ true
+    → is_number_covered other ranges ≡ true → is_number_covered other (take k ranges) ≡ false → number < other
 after_first zero from number other ranges beyond first is not_first = absurd (cc)
 after_first (suc k) from number other [] beyond first is not_first = absurd (cc)
 after_first (suc k) from number other (range ∷ ranges) beyond first is not_first =
-    let absent = neither (within other range) (is_in other (take k ranges)) not_first in
-    let later : is_in other ranges ≡ true = go (within other range) (is_in other ranges) absent.0 is in
-    elim (either (within number range) (is_in number (take k ranges)) first) [
+    let absent = neither (within other range) (is_number_covered other (take k ranges)) not_first in
+    let later : is_number_covered other ranges ≡ true = go (within other range) (is_number_covered other ranges) absent.0 is in
+    elim (either (within number range) (is_number_covered number (take k ranges)) first) [
       | inl here ↦ omega (arith, within_above number range here, above range.last other ranges beyond.2 later)
       | inr (not_here, behind) ↦ after_first k range.last number other ranges beyond.2 behind later absent.1
     ]
@@ -172,7 +172,7 @@ names_one : (cumulative offset : ℕ) (range : TsnRange) → cumulative < range.
 names_one cumulative offset range ahead filled = grind (arith, nat_tests)
 
 names_in : (cumulative from offset : ℕ) (ranges : List TsnRange) → cumulative ≤ from → IsBeyond from ranges
-    → list_any (names offset) (map (block_of cumulative) ranges) ≡ is_in (cumulative + offset) ranges
+    → list_any (names offset) (map (block_of cumulative) ranges) ≡ is_number_covered (cumulative + offset) ranges
 names_in cumulative from offset [] later beyond = refl
 names_in cumulative from offset (range ∷ ranges) later beyond =
     ap (λ here. here || list_any (names offset) (map (block_of cumulative) ranges))
@@ -215,17 +215,17 @@ sacks_cover_received room tracker window tracked =
       many = ap (λ (blocks : List GapAckBlock). length blocks) read ∙ length-map first (block_of c) ∙ omega
           (arith, length-take most tracker.ranges);
       received = λ offset covered. in_take most (c + offset) tracker.ranges (sym (same offset) ∙ covered);
-      all = λ few offset is. same offset ∙ ap (λ (ranges : List TsnRange). is_in (c + offset) ranges) (take_all most tracker.ranges few) ∙ is;
+      all = λ few offset is. same offset ∙ ap (λ (ranges : List TsnRange). is_number_covered (c + offset) ranges) (take_all most tracker.ranges few) ∙ is;
       lowest = λ offset other covered is not_covered.
           let less : c + offset < c + other = after_first most c (c + offset) (c + other) tracker.ranges tracked.beyond
           (sym (same offset) ∙ covered) is (sym (same other) ∙ not_covered) in
           omega (arith, less);
     }
   where
-    none_next : (cumulative : ℕ) (ranges : List TsnRange) → IsBeyond cumulative ranges → is_in (cumulative + 1) ranges ≡ false
-    none_next cumulative ranges beyond = go (is_in (cumulative + 1) ranges) refl
+    none_next : (cumulative : ℕ) (ranges : List TsnRange) → IsBeyond cumulative ranges → is_number_covered (cumulative + 1) ranges ≡ false
+    none_next cumulative ranges beyond = go (is_number_covered (cumulative + 1) ranges) refl
       where
-        go : (b : Bool) → is_in (cumulative + 1) ranges ≡ b → is_in (cumulative + 1) ranges ≡ false
+        go : (b : Bool) → is_number_covered (cumulative + 1) ranges ≡ b → is_number_covered (cumulative + 1) ranges ≡ false
         go true is = absurd (omega (arith, above cumulative (cumulative + 1) ranges beyond is))
         go false is = is
 

@@ -7,23 +7,23 @@ use Rattle.dcsctp_spec_lemmas.specs.types.Settings.{SameOptions}
 use Rattle.dcsctp_spec_lemmas.specs.spec.endpoint.Event.{Event, error}
 use Rattle.dcsctp_spec_lemmas.specs.spec.Packet.{Plain, plain, Content, shutdown, shutdown_ack, Emission}
 use Rattle.dcsctp_spec_lemmas.specs.spec.queues.Transfer.{Transfer}
-use Rattle.dcsctp_spec_lemmas.specs.spec.endpoint.Endpoint.{Endpoint, Core, closed, cookie_wait, cookie_echoed, open_in, established, shutdown_pending, shutdown_sent, shutdown_received, shutdown_ack_sent, held_in}
+use Rattle.dcsctp_spec_lemmas.specs.spec.endpoint.Endpoint.{Endpoint, Core, closed, cookie_wait, cookie_echoed, open_in, established, shutdown_pending, shutdown_sent, shutdown_received, shutdown_ack_sent, held_by_core}
 use Rattle.dcsctp_spec_lemmas.specs.spec.endpoint.Following.{next_chunk}
 use Rattle.dcsctp_spec_lemmas.specs.spec.endpoint.Outcome.{Outcome, still, quiet, behind}
-use Rattle.dcsctp_spec_lemmas.specs.spec.association.Effect.{Effect, Change, emitted, noted}
+use Rattle.dcsctp_spec_lemmas.specs.spec.association.Effect.{Effect, Change, emission_effects, effects_without_packets}
 use Rattle.dcsctp_spec_lemmas.specs.spec.association.Choices.{Choices, plain_contents}
 use Rattle.dcsctp_spec_lemmas.specs.spec.association.FlushChanges.{further_packets}
 use Rattle.dcsctp_spec_lemmas.specs.spec.association.ShutdownChanges.{shutdown_step_change}
 use Rattle.dcsctp_spec_lemmas.specs.spec.association.Acts.{flush_change, plain_change}
 use Rattle.dcsctp_spec_lemmas.specs.spec.association.Controlled.{Observation, observations_of_events, observations_of_effects, IsControlled}
 use Rattle.dcsctp_spec_lemmas.specs.spec.endpoint.FlushOutcomes.{Answer, draft_to, flush_of}
-use Rattle.dcsctp_spec_lemmas.specs.spec.endpoint.DataOutcomes.{with_transfer, no_tcb_text, FastRetransmits, sack_taken, AcknowledgesBy, SackWhere, SackBy, SackTurn}
-use Rattle.dcsctp_spec_lemmas.specs.spec.queues.Acknowledging.{is_sack_valid, ends_delivery, lifecycle_events_by, delivered_events, delivered_by}
+use Rattle.dcsctp_spec_lemmas.specs.spec.endpoint.DataOutcomes.{with_transfer, no_tcb_text, FastRetransmits, sack_taken, TakesSackAndFlushes, HandlesSackIfValid, HandlesSackIfConnected, SackTurn}
+use Rattle.dcsctp_spec_lemmas.specs.spec.queues.Acknowledging.{is_sack_valid, ends_delivery, lifecycle_events_of, delivered_events, delivered_up_to}
 use Rattle.dcsctp_spec_lemmas.specs.spec.queues.Items.{Item}
 use Rattle.dcsctp_spec_lemmas.specs.spec.queues.Outstanding.{acknowledged_count}
 use Rattle.dcsctp_spec_lemmas.specs.spec.queues.Retransmission.{RetransmissionState, has_fast_retransmit}
 use Rattle.dcsctp_spec_lemmas.specs.wire.Content.{SackContent}
-use Rattle.dcsctp_spec_lemmas.specs.spec.endpoint.ShutdownOutcomes.{received_tsn, may_go_on}
+use Rattle.dcsctp_spec_lemmas.specs.spec.endpoint.ShutdownOutcomes.{received_tsn, may_continue_shutdown}
 use Rattle.dcsctp_spec_lemmas.proofs.ControlHandshake.{ControlledAt}
 use Rattle.dcsctp_spec_lemmas.proofs.FlushKeeps.{emitted_then, emitted_notes, signs_append, signs_then, goes_out_signs, goes_out_keeps}
 use Rattle.dcsctp_spec_laws.proofs.DataLemmas.{chosen, FlushedAt, plain_flushes, flushed_as, quiet_at, still_at, sent_at}
@@ -64,10 +64,10 @@ flush_follows (open_in phase my held) choices = refl
 
 -- It keeps what is known of the peer, and sends one packet at most.
 record StepIs (core : Core) (change : Change) : Type 0 where
-  holds : held_in change.core ≡ held_in core
+  holds : held_by_core change.core ≡ held_by_core core
   tag : ℕ
   contents : List Content
-  sends : change.effects ≡ emitted tag contents
+  sends : change.effects ≡ emission_effects tag contents
 
 step_is : (core : Core) (tsn : ℕ) (is_acknowledged : Bool) → StepIs core (shutdown_step_change core tsn is_acknowledged)
 step_is closed tsn is_acknowledged = record { holds = refl; tag = 0; contents = []; sends = refl }
@@ -87,12 +87,12 @@ step_signs core change rest is =
     ap (λ (es : List Effect). observations_of_effects (es ++ rest)) is.sends ∙ emitted_then is.tag is.contents rest
     ∙ ap (λ (es : List Effect). observations_of_effects es ++ observations_of_effects rest) (sym is.sends)
 
-step_notes : (core : Core) (change : Change) (rest : List Effect) → StepIs core change → noted (change.effects ++ rest) ≡ noted rest
-step_notes core change rest is = ap (λ (es : List Effect). noted (es ++ rest)) is.sends ∙ emitted_notes is.tag is.contents rest
+step_notes : (core : Core) (change : Change) (rest : List Effect) → StepIs core change → effects_without_packets (change.effects ++ rest) ≡ effects_without_packets rest
+step_notes core change rest is = ap (λ (es : List Effect). effects_without_packets (es ++ rest)) is.sends ∙ emitted_notes is.tag is.contents rest
 
 -- ---- a fast retransmission
 
-told_signs : (name : Option ℕ) (ends : Bool) (rest : List (Event Emission)) → observations_of_events (lifecycle_events_by name ends ++ rest) ≡ observations_of_events rest
+told_signs : (name : Option ℕ) (ends : Bool) (rest : List (Event Emission)) → observations_of_events (lifecycle_events_of name ends ++ rest) ≡ observations_of_events rest
 told_signs None ends rest = refl
 told_signs (Some id) true rest = refl
 told_signs (Some id) false rest = refl
@@ -108,8 +108,8 @@ record FastIs (e : Endpoint) (held : Held) (o : Outcome) : Type 0 where
   options : o.after.options ≡ e.options
   observations : observations_of_events o.events ≡ observations_of_effects (further_packets held.peer.tag packets)
 
-one_packet : (tag : ℕ) (chunks : List Plain) → observations_of_effects (emitted tag (plain_contents chunks)) ≡ observations_of_effects (further_packets tag (chunks ∷ []))
-one_packet tag chunks = ap observations_of_effects (sym (append-nil (emitted tag (plain_contents chunks))))
+one_packet : (tag : ℕ) (chunks : List Plain) → observations_of_effects (emission_effects tag (plain_contents chunks)) ≡ observations_of_effects (further_packets tag (chunks ∷ []))
+one_packet tag chunks = ap observations_of_effects (sym (append-nil (emission_effects tag (plain_contents chunks))))
 
 fast_is : (b : Bool) (e : Endpoint) (held : Held) (transfer : Transfer) (o : Outcome) → FastRetransmits b e held transfer o → FastIs e held o
 fast_is false e held transfer o turn =
@@ -129,19 +129,19 @@ fast_is true e held transfer o turn =
 
 -- the events of four parts
 four_signs : (tsn : ℕ) (state : RetransmissionState) (steps fast rest : List (Event Emission)) (one more : List Effect) → observations_of_events steps ≡ observations_of_effects one → observations_of_events (fast ++ rest) ≡ observations_of_effects more
-    → observations_of_events ((delivered_by tsn state ++ (steps ++ fast)) ++ rest) ≡ observations_of_effects one ++ observations_of_effects more
+    → observations_of_events ((delivered_up_to tsn state ++ (steps ++ fast)) ++ rest) ≡ observations_of_effects one ++ observations_of_effects more
 four_signs tsn state steps fast rest one more first second =
-    ap observations_of_events (append_assoc (delivered_by tsn state) (steps ++ fast) rest) ∙ signs_append (delivered_by tsn state) ((steps ++ fast) ++ rest)
+    ap observations_of_events (append_assoc (delivered_up_to tsn state) (steps ++ fast) rest) ∙ signs_append (delivered_up_to tsn state) ((steps ++ fast) ++ rest)
     ∙ ap (λ (ss : List Observation). ss ++ observations_of_events ((steps ++ fast) ++ rest)) (delivered_signs (take (acknowledged_count state.outstanding tsn) state.outstanding.items))
     ∙ ap observations_of_events (append_assoc steps fast rest) ∙ signs_then steps (fast ++ rest) one more first second
 
 -- at an endpoint whose phase may have moved
-pub acknowledges_at : (e at : Endpoint) (held : Held) (transfer : Transfer) (sack : SackContent) (o : Outcome) → SameOptions e.options at.options → held_in at.core ≡ Some held → AcknowledgesBy at held transfer sack o
+pub acknowledges_at : (e at : Endpoint) (held : Held) (transfer : Transfer) (sack : SackContent) (o : Outcome) → SameOptions e.options at.options → held_by_core at.core ≡ Some held → TakesSackAndFlushes at held transfer sack o
     → SteppedAt e at.core o
 acknowledges_at e at held transfer sack o same holds turn =
     let base : Endpoint = sack_taken at transfer turn.left in
     let tsn : ℕ = received_tsn base.queues.transfer in
-    let is_acknowledged : Bool = may_go_on base in
+    let is_acknowledged : Bool = may_continue_shutdown base in
     let change : Change = shutdown_step_change at.core tsn is_acknowledged in
     let step : IsControlled e turn.stepped change = subst (λ (x : Outcome). IsControlled e x change) (sym turn.steps) (step_at e base at.core refl same) in
     let is : StepIs at.core change = step_is at.core tsn is_acknowledged in
@@ -166,11 +166,11 @@ acknowledges_at e at held transfer sack o same holds turn =
       }),
     )
 
-sack_where_at : (b : Bool) (e : Endpoint) (held : Held) (transfer : Transfer) (sack : SackContent) (o : Outcome) → held_in e.core ≡ Some held → SackWhere b e held transfer sack o → SteppedAt e e.core o
+sack_where_at : (b : Bool) (e : Endpoint) (held : Held) (transfer : Transfer) (sack : SackContent) (o : Outcome) → held_by_core e.core ≡ Some held → HandlesSackIfValid b e held transfer sack o → SteppedAt e e.core o
 sack_where_at false e held transfer sack o holds turn = flushed_stepped e e.core o (flushed_as e e.core o (still e) turn (still_at e e e.core refl refl))
 sack_where_at true e held transfer sack o holds turn = acknowledges_at e e held transfer sack o refl holds turn
 
-sack_by_at : (e : Endpoint) (peer : Option Held) (transfer : Transfer) (sack : SackContent) (o : Outcome) → held_in e.core ≡ peer → SackBy e peer transfer sack o → SteppedAt e e.core o
+sack_by_at : (e : Endpoint) (peer : Option Held) (transfer : Transfer) (sack : SackContent) (o : Outcome) → held_by_core e.core ≡ peer → HandlesSackIfConnected e peer transfer sack o → SteppedAt e e.core o
 sack_by_at e None transfer sack o holds turn = flushed_stepped e e.core o (flushed_as e e.core o (still e) turn (still_at e e e.core refl refl))
 sack_by_at e (Some held) transfer sack o holds turn = sack_where_at (is_sack_valid transfer.retransmission sack.cumulative_tsn_ack) e held transfer sack o holds turn
 
@@ -178,4 +178,4 @@ pub sack_at : (e : Endpoint) (transfer : Option Transfer) (sack : SackContent) (
 sack_at e None sack o turn =
     let events : List (Event Emission) = error NotConnected no_tcb_text ∷ [] in
     flushed_stepped e e.core o (flushed_as e e.core o (quiet e [] events) turn (quiet_at e e events e.core refl refl refl))
-sack_at e (Some transfer) sack o turn = sack_by_at e (held_in e.core) transfer sack o refl turn
+sack_at e (Some transfer) sack o turn = sack_by_at e (held_by_core e.core) transfer sack o refl turn

@@ -2,12 +2,12 @@
 use Rattle.std.proofs.Common.{◌≤◌, ℕ, Bool, true, false, Option, None, Some, [], refl}
 use Rattle.dcsctp_spec_lemmas.specs.types.declared.association.Held.{Held}
 use Rattle.dcsctp_spec_lemmas.specs.types.declared.options.Options.{Options}
-use Rattle.dcsctp_spec_lemmas.specs.spec.Cookie.{cookie_at}
+use Rattle.dcsctp_spec_lemmas.specs.spec.Cookie.{cookie_of_bytes}
 use Rattle.dcsctp_spec_lemmas.specs.spec.endpoint.Endpoint.{Core, closed, cookie_wait, cookie_echoed, open_in}
 use Rattle.dcsctp_spec_lemmas.specs.spec.Packet.{Introduction, Content, init, init_ack, cookie_echo, cookie_ack, re_config, abort, shutdown, shutdown_ack, shutdown_complete, plain}
 use Rattle.dcsctp_spec_lemmas.specs.spec.Reconfiguration.{RequestedReset}
 use Rattle.dcsctp_spec_lemmas.specs.spec.Soundness.{IsSoundHeld, IsSoundCore}
-use Rattle.dcsctp_spec_lemmas.specs.spec.association.Acts.{Act, connect, t1_expires, shut_down, step_of_shutdown, shutdown_repeats, abort_with, hands_over, flushes, request_again, request_renewed, act_change, chunk_change, flush_change, request_again_change, renewed_by, request_renewed_change, violation_change, plain_change}
+use Rattle.dcsctp_spec_lemmas.specs.spec.association.Acts.{Act, connect, t1_expires, shut_down, step_of_shutdown, shutdown_repeats, abort_with, hands_over, flushes, request_again, request_renewed, act_change, chunk_change, flush_change, request_again_change, renewed_if_fitting, request_renewed_change, violation_change, plain_change}
 use Rattle.dcsctp_spec_lemmas.specs.spec.association.Choices.{Choices}
 use Rattle.dcsctp_spec_lemmas.specs.spec.association.Effect.{Change}
 use Rattle.dcsctp_spec_lemmas.specs.spec.association.HandshakeChanges.{answered_init_change}
@@ -43,7 +43,7 @@ module _ (p : Options) where
   request_again_sound (cookie_echoed my held cookie) reset fits h = h
   request_again_sound (open_in phase my held) reset fits h = h
 
-  renewed_held_sound : (held : Held) (number : Option ℕ) (reset : RequestedReset) (fits : Bool) → IsSoundHeld p held → IsSoundHeld p (renewed_by held number reset fits).held
+  renewed_held_sound : (held : Held) (number : Option ℕ) (reset : RequestedReset) (fits : Bool) → IsSoundHeld p held → IsSoundHeld p (renewed_if_fitting held number reset fits).held
   renewed_held_sound held None reset fits h = h
   renewed_held_sound held (Some number) reset false h = h
   renewed_held_sound held (Some number) reset true h = record { tag_is_not_zero = h.tag_is_not_zero; method = h.method }
@@ -88,7 +88,7 @@ module _ (p : Options) where
   pub chunk_sound : (core : Core) (header : ℕ) (content : Content) (choices : Choices) → SaysTag content → IsSoundCore p core → IsSoundCore p (chunk_change p core header content choices).core
   chunk_sound core header (init theirs) choices said h = answered_init_sound choices.may_answer core theirs choices h
   chunk_sound core header (init_ack theirs cookie) choices said h = init_ack_sound p core theirs cookie choices said h
-  chunk_sound core header (cookie_echo cookie) choices said h = read_echo_sound p core header cookie (cookie_at cookie) choices refl h
+  chunk_sound core header (cookie_echo cookie) choices said h = read_echo_sound p core header cookie (cookie_of_bytes cookie) choices refl h
   chunk_sound core header cookie_ack choices said h = cookie_ack_sound p core choices h
   chunk_sound core header (re_config parameters) choices said h = re_config_sound p p.follow_rfc core parameters choices h
   chunk_sound core header (abort reflected causes) choices said h = abort_sound p core h

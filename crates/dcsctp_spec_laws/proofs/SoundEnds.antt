@@ -8,12 +8,12 @@ use Rattle.dcsctp_spec_lemmas.specs.spec.endpoint.Endpoint.{Core, closed, cookie
 use Rattle.dcsctp_spec_lemmas.specs.spec.endpoint.Following.{Following}
 use Rattle.dcsctp_spec_lemmas.specs.spec.Soundness.{IsSoundCore}
 use Rattle.dcsctp_spec_lemmas.specs.spec.association.Acts.{hand_over_change}
-use Rattle.dcsctp_spec_lemmas.specs.spec.association.ShutdownChanges.{shutdown_call_change_echoed, shutdown_step_change, shutdown_step_change_in, shutdown_call_change, abort_call_change, shutdown_again_change, abort_change, shutdown_change, shutdown_ack_change, shutdown_complete_change}
+use Rattle.dcsctp_spec_lemmas.specs.spec.association.ShutdownChanges.{shutdown_call_change_echoed, shutdown_step_change, shutdown_step_change_by_phase, shutdown_call_change, abort_call_change, shutdown_again_change, abort_change, shutdown_change, shutdown_ack_change, shutdown_complete_change}
 use Rattle.dcsctp_spec_lemmas.proofs.AbortLemmas.{by_abort}
 
 module _ (p : Options) where
   step_in_sound : (phase : OpenPhase) (my : Pair) (held : Held) (tsn : ℕ) (is_acknowledged : Bool) → IsSoundCore p (open_in phase my held)
-      → IsSoundCore p (shutdown_step_change_in phase my held tsn is_acknowledged).core
+      → IsSoundCore p (shutdown_step_change_by_phase phase my held tsn is_acknowledged).core
   step_in_sound established my held tsn is_acknowledged h = h
   step_in_sound shutdown_pending my held tsn true h = h
   step_in_sound shutdown_pending my held tsn false h = h

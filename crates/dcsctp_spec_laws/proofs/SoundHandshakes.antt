@@ -5,15 +5,15 @@ use Rattle.dcsctp_spec_lemmas.specs.wire.Fields.{u32_at}
 use Rattle.dcsctp_spec_lemmas.specs.types.declared.association.Pair.{Pair}
 use Rattle.dcsctp_spec_lemmas.specs.types.declared.association.Held.{Held}
 use Rattle.dcsctp_spec_lemmas.specs.types.declared.options.Options.{Options}
-use Rattle.dcsctp_spec_lemmas.specs.spec.Cookie.{Cookie, cookie_at, cookie_fields, has_magic, has_zero_tag, size_text, magic_text, tag_text}
+use Rattle.dcsctp_spec_lemmas.specs.spec.Cookie.{Cookie, cookie_of_bytes, cookie_fields, has_magic, has_zero_tag, size_text, magic_text, tag_text}
 use Rattle.dcsctp_spec_lemmas.specs.spec.endpoint.Endpoint.{Core, closed, cookie_wait, cookie_echoed, open_in, established, shutdown_pending, shutdown_sent, shutdown_received, shutdown_ack_sent}
-use Rattle.dcsctp_spec_lemmas.specs.types.Offer.{Offer, offer_of, negotiated}
+use Rattle.dcsctp_spec_lemmas.specs.types.Offer.{Offer, offer_of, negotiated_capabilities}
 use Rattle.dcsctp_spec_lemmas.specs.spec.Packet.{Introduction, Content, cookie_echo, cookie_ack}
 use Rattle.dcsctp_spec_lemmas.specs.spec.Reconfiguration.{RequestedReset}
 use Rattle.dcsctp_spec_lemmas.specs.spec.Soundness.{UsesOwnMethod, IsSoundHeld, IsSoundCore}
 use Rattle.dcsctp_spec_lemmas.specs.spec.association.Choices.{Filling, Choices}
-use Rattle.dcsctp_spec_lemmas.specs.spec.association.CookieEchoChanges.{Resolution, establish_new, restart, simultaneous_init, discard, maintain_existing, invalid_tag, stale, aged, resolve, held_by_cookie, new_association_change, restart_change, maintain_change, resolved_change, read_echo_change}
-use Rattle.dcsctp_spec_lemmas.specs.spec.association.FlushChanges.{flush, flush_where, flushed_with, reset_to_begin}
+use Rattle.dcsctp_spec_lemmas.specs.spec.association.CookieEchoChanges.{Resolution, establish_new, restart, simultaneous_init, discard, maintain_existing, invalid_tag, stale, aged_resolution, resolve, held_by_cookie, new_association_change, restart_change, maintain_change, resolved_change, read_echo_change}
+use Rattle.dcsctp_spec_lemmas.specs.spec.association.FlushChanges.{flush, flush_if_allowed, flushed_with, reset_to_begin}
 use Rattle.dcsctp_spec_lemmas.specs.spec.association.HandshakeChanges.{init_change, held_by_init_ack, init_ack_change, cookie_ack_change, echo_change, t1_again_change, t1_gives_up_change}
 
 -- ---- the method
@@ -25,7 +25,7 @@ own_or_none true options = inr refl
 own_or_none false options = inl refl
 
 -- Two ends agree on the method of our options, or on none.
-pub negotiates_own : (options : Options) (theirs : Offer) → UsesOwnMethod options (negotiated (offer_of options) theirs)
+pub negotiates_own : (options : Options) (theirs : Offer) → UsesOwnMethod options (negotiated_capabilities (offer_of options) theirs)
 negotiates_own options theirs = own_or_none (eqb options.zero_checksum_alternate_error_detection_method.0 theirs.zero_checksum_method) options
 
 -- ---- a cookie
@@ -64,8 +64,8 @@ by_size true bytes cookie found = absurd (no_error size_text cookie found)
 by_size false bytes cookie found = by_magic (not (has_magic bytes)) bytes cookie found
 
 -- No tag of a cookie that was read is 0.
-cookie_has_tags : (bytes : List ℕ) (cookie : Cookie) → cookie_at bytes ≡ Ok cookie → HasTags cookie
-unfolding cookie_at
+cookie_has_tags : (bytes : List ℕ) (cookie : Cookie) → cookie_of_bytes bytes ≡ Ok cookie → HasTags cookie
+unfolding cookie_of_bytes
 cookie_has_tags bytes cookie found = by_size (not (eqb (length bytes) 56)) bytes cookie found
 
 -- ---- each change
@@ -77,7 +77,7 @@ module _ (p : Options) where
   flushed_sound tag held front filling (Some reset) h = record { tag_is_not_zero = h.tag_is_not_zero; method = h.method }
 
   flush_where_sound : (is_allowed : Bool) (tag : ℕ) (held : Held) (front : List Content) (filling : Filling) → IsSoundHeld p held
-      → IsSoundHeld p (flush_where is_allowed tag held front filling).held
+      → IsSoundHeld p (flush_if_allowed is_allowed tag held front filling).held
   flush_where_sound false tag held front filling h = h
   flush_where_sound true tag held front filling h = flushed_sound tag held front filling (reset_to_begin held.own_outstanding filling.reset) h
 
@@ -163,8 +163,8 @@ module _ (p : Options) where
   resolved_sound core cookie choices invalid_tag tags h = h
   resolved_sound core cookie choices stale tags h = h
 
-  pub read_echo_sound : (core : Core) (header : ℕ) (bytes : List ℕ) (found : Result Cookie (List ℕ)) (choices : Choices) → cookie_at bytes ≡ found → IsSoundCore p core
+  pub read_echo_sound : (core : Core) (header : ℕ) (bytes : List ℕ) (found : Result Cookie (List ℕ)) (choices : Choices) → cookie_of_bytes bytes ≡ found → IsSoundCore p core
       → IsSoundCore p (read_echo_change p core header found choices).core
   read_echo_sound core header bytes (Err text) choices is h = h
   read_echo_sound core header bytes (Ok cookie) choices is h =
-      resolved_sound core cookie choices (aged choices.is_stale (resolve core choices.tie choices.secret header cookie)) (cookie_has_tags bytes cookie is) h
+      resolved_sound core cookie choices (aged_resolution choices.is_stale (resolve core choices.tie choices.secret header cookie)) (cookie_has_tags bytes cookie is) h

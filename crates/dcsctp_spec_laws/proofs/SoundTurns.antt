@@ -14,12 +14,12 @@ use Rattle.dcsctp_spec_laws.proofs.ShutdownLemmas.{shutdown_ack_controlled, shut
 use Rattle.dcsctp_spec_laws.proofs.SoundChanges.{IsOtherAct, SaysTag, act_sound, chunk_sound}
 use Rattle.dcsctp_spec_laws.proofs.TurnLemmas.{content_keeps_options}
 use Rattle.dcsctp_spec_lemmas.specs.spec.endpoint.CallTurns.{Transition, IsTurn, AlongTurns, after_all}
-use Rattle.dcsctp_spec_lemmas.specs.spec.association.Controlled.{ControlledAct, ControlledChunk}
+use Rattle.dcsctp_spec_lemmas.specs.spec.association.Controlled.{IsControlledAct, IsControlledChunk}
 use Rattle.dcsctp_spec_lemmas.specs.spec.endpoint.Endpoint.{Endpoint, Core, closed, cookie_wait, cookie_echoed, open_in}
 use Rattle.dcsctp_spec_lemmas.specs.spec.endpoint.Outcome.{Outcome, quiet, sends, fits}
-use Rattle.dcsctp_spec_lemmas.specs.spec.Packet.{Content, init, init_ack, cookie_echo, cookie_ack, re_config, abort, shutdown, shutdown_ack, shutdown_complete, plain, Emission, content_in}
+use Rattle.dcsctp_spec_lemmas.specs.spec.Packet.{Content, init, init_ack, cookie_echo, cookie_ack, re_config, abort, shutdown, shutdown_ack, shutdown_complete, plain, Emission, content_of_chunk}
 use Rattle.dcsctp_spec_lemmas.specs.types.Settings.{SameOptions}
-use Rattle.dcsctp_spec_lemmas.specs.types.Snapshot.{Snapshot, has_verification_tags, allows_zero_checksum, is_valid_send_part, is_valid_received_part, is_valid_in, is_valid_snapshot}
+use Rattle.dcsctp_spec_lemmas.specs.types.Snapshot.{Snapshot, has_verification_tags, allows_zero_checksum, is_valid_send_part, is_valid_received_part, is_valid_by_state, is_valid_snapshot}
 use Rattle.dcsctp_spec_lemmas.specs.spec.HandoverInputs.{inputs_of_snapshot, inputs_of_restore}
 use Rattle.dcsctp_spec_lemmas.specs.spec.Soundness.{UsesOwnMethod, IsSoundCore, IsSound}
 use Rattle.dcsctp_spec_laws.specs.SoundnessLaws.{CallsKeepSoundness}
@@ -69,10 +69,10 @@ same_sound p q core same h = subst (λ (x : Options). IsSoundCore x core) (sym s
 controlled_sound : (e : Endpoint) (o : Outcome) (core : Core) → o.after.core ≡ core → SameOptions e.options o.after.options → IsSoundCore e.options core → SoundAfter o
 controlled_sound e o core is same h = subst (IsSoundCore o.after.options) (sym is) (same_sound e.options o.after.options core same h)
 
-by_act : (e : Endpoint) (act : Act) (o : Outcome) → IsOtherAct act → ControlledAct e act o → IsSound e → SoundAfter o
+by_act : (e : Endpoint) (act : Act) (o : Outcome) → IsOtherAct act → IsControlledAct e act o → IsSound e → SoundAfter o
 by_act e act o other turn h = controlled_sound e o _ turn.1.core turn.1.options (act_sound e.options e.core act turn.0 other h)
 
-by_chunk : (e : Endpoint) (tag : ℕ) (content : Content) (o : Outcome) → SaysTag content → ControlledChunk e tag content o → IsSound e → SoundAfter o
+by_chunk : (e : Endpoint) (tag : ℕ) (content : Content) (o : Outcome) → SaysTag content → IsControlledChunk e tag content o → IsSound e → SoundAfter o
 by_chunk e tag content o said turn h =
     controlled_sound e o turn.0.core turn.2.core turn.2.options
     (subst (λ (c : _). IsSoundCore e.options c.core) (sym turn.1.2) (chunk_sound e.options e.core tag content turn.1.0 said h))
@@ -175,7 +175,7 @@ turn_sound e (restores state) t may turn h =
 
 -- ---- every call
 
-chunk_says : (chunk : ChunkContent) → HasMinima chunk → SaysTag (content_in chunk)
+chunk_says : (chunk : ChunkContent) → HasMinima chunk → SaysTag (content_of_chunk chunk)
 chunk_says (data_chunk chunk) minima = tt
 chunk_says (init_chunk chunk) minima = tt
 chunk_says (init_ack_chunk chunk) minima = minima.tag_is_not_zero
@@ -230,7 +230,7 @@ first_of false b is = absurd (cc)
 both_tags : (m n : ℕ) → not (eqb m 0) && not (eqb n 0) ≡ true → (1 ≤ m) × (1 ≤ n)
 both_tags m n is = (grind (arith, nat_tests), grind (arith, nat_tests))
 
-snapshot_says : (p : Options) (connection : HandoverSocketState) (state : Snapshot) → is_valid_in connection p state ≡ true
+snapshot_says : (p : Options) (connection : HandoverSocketState) (state : Snapshot) → is_valid_by_state connection p state ≡ true
     → AllByRecursion MaySound (inputs_of_snapshot connection state)
 snapshot_says p states.Closed state valid = tt
 snapshot_says p states.Connected state valid = (

@@ -1,8 +1,8 @@
 -- What a tracker holds stays a set of TSNs none of which is too far ahead.
 use Rattle.std.proofs.Common.{◌≡◌, ℕ, ◌==◌, ◌+◌, ◌<◌, ◌≤◌, nat_le, nat_lt, Bool, true, false, ◌||◌, ◌&&◌, cond, refl, arith}
 use Rattle.std.proofs.lemmas.Bool.Decides.{nat_tests}
-use Rattle.dcsctp_spec_lemmas.specs.spec.queues.Ranges.{is_in, received, forwarded}
-use Rattle.dcsctp_spec_lemmas.specs.spec.queues.Tracker.{TrackerState, nearest_number, observed, is_valid_tsn, has_numbers_left, is_forward, moved_forward, delay_over, greatest_distance}
+use Rattle.dcsctp_spec_lemmas.specs.spec.queues.Ranges.{is_number_covered, ranges_with_number, forwarded_ranges}
+use Rattle.dcsctp_spec_lemmas.specs.spec.queues.Tracker.{TrackerState, nearest_number, tracker_after_data, is_valid_tsn, has_numbers_left, is_forward, moved_forward, delay_over, greatest_distance}
 use Rattle.dcsctp_spec_lemmas.proofs.RangesLemmas.{received_is, forwarded_is}
 use Rattle.dcsctp_spec_laws.specs.SackLaws.{IsTracked, TrackersStayTracked}
 
@@ -30,7 +30,7 @@ forward_is_ahead cumulative number true is = grind (arith, nat_tests, is)
 forward_is_ahead cumulative number false is = absurd (cc)
 
 observed_tracked : (tsn : ℕ) (immediate : Bool) (tracker : TrackerState) → is_valid_tsn tracker.cumulative tsn ≡ true → IsTracked tracker
-    → IsTracked (observed tsn immediate tracker)
+    → IsTracked (tracker_after_data tsn immediate tracker)
 observed_tracked tsn immediate tracker valid tracked =
     let number : ℕ = nearest_number tracker.cumulative tsn in
     let takes = received_is number tracker.cumulative tracker.ranges tracked.beyond in
@@ -38,8 +38,8 @@ observed_tracked tsn immediate tracker valid tracked =
     record {
       beyond = takes.beyond;
       near = λ other is.
-          near_received tracker.cumulative (received number tracker.cumulative tracker.ranges).cumulative number other (is_in other tracker.ranges)
-          (is_in other (received number tracker.cumulative tracker.ranges).ranges)
+          near_received tracker.cumulative (ranges_with_number number tracker.cumulative tracker.ranges).cumulative number other (is_number_covered other tracker.ranges)
+          (is_number_covered other (ranges_with_number number tracker.cumulative tracker.ranges).ranges)
           takes.forward near_one (tracked.near other) (takes.members other) is;
     }
 
@@ -53,8 +53,8 @@ forward_tracked tsn tracker true is tracked =
     record {
       beyond = takes.beyond;
       near = λ other here.
-          near_moved tracker.cumulative (forwarded number tracker.cumulative tracker.ranges).cumulative number other (is_in other tracker.ranges)
-          (is_in other (forwarded number tracker.cumulative tracker.ranges).ranges)
+          near_moved tracker.cumulative (forwarded_ranges number tracker.cumulative tracker.ranges).cumulative number other (is_number_covered other tracker.ranges)
+          (is_number_covered other (forwarded_ranges number tracker.cumulative tracker.ranges).ranges)
           ahead takes.forward (tracked.near other) (takes.members other) here;
     }
 

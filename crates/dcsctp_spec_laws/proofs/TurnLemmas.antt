@@ -8,7 +8,7 @@ use Rattle.dcsctp_spec_lemmas.specs.types.Settings.{SameOptions, ports_of}
 use Rattle.dcsctp_spec_lemmas.specs.spec.endpoint.Outcome.{Outcome, count_up, fits, emits}
 use Rattle.dcsctp_spec_lemmas.specs.spec.endpoint.Following.{Following, next_chunk, packet_end, dropped_rest}
 use Rattle.dcsctp_spec_lemmas.specs.spec.endpoint.Event.{sent}
-use Rattle.dcsctp_spec_lemmas.specs.spec.association.Controlled.{ControlledChunk}
+use Rattle.dcsctp_spec_lemmas.specs.spec.association.Controlled.{IsControlledChunk}
 use Rattle.dcsctp_spec_lemmas.specs.spec.endpoint.Turn.{Input, chunk_input, ContentTurn}
 use Rattle.dcsctp_spec_lemmas.specs.spec.endpoint.CallTurns.{Transition, IsTurn, Turns, AfterChunk, ChunkTurns, after_all}
 use Rattle.dcsctp_spec_lemmas.specs.spec.endpoint.HandshakeOutcomes.{init_outcome}
@@ -44,7 +44,7 @@ same_of_equal p q is = subst (SameOptions p) (sym is) refl
 pub same_ports : (p q : Options) → SameOptions p q → ports_of q ≡ ports_of p
 same_ports p q same = ap ports_of same
 
-controlled_keeps : (e : Endpoint) (tag : ℕ) (content : Content) (o : Outcome) → ControlledChunk e tag content o → SameOptions e.options o.after.options
+controlled_keeps : (e : Endpoint) (tag : ℕ) (content : Content) (o : Outcome) → IsControlledChunk e tag content o → SameOptions e.options o.after.options
 controlled_keeps e tag content o turn = turn.2.options
 
 -- The options stay for good, but for the longest message.

@@ -12,11 +12,11 @@ use Rattle.dcsctp_spec_lemmas.specs.types.declared.association.Pair.{Pair}
 use Rattle.dcsctp_spec_lemmas.specs.types.declared.capabilities.Capabilities.{Capabilities}
 use Rattle.dcsctp_spec_lemmas.specs.types.declared.options.Options.{Options}
 use Rattle.dcsctp_spec_lemmas.specs.types.declared.snapshot.HandoverOrderedStream.{HandoverOrderedStream}
-use Rattle.dcsctp_spec_lemmas.specs.spec.endpoint.Endpoint.{Endpoint, Core, closed, cookie_wait, cookie_echoed, open_in, established, shutdown_pending, shutdown_sent, shutdown_received, shutdown_ack_sent, held_in}
-use Rattle.dcsctp_spec_lemmas.specs.spec.Handover.{transfer_layer_readiness, readiness_in}
-use Rattle.dcsctp_spec_lemmas.specs.types.Readiness.{reason_where}
+use Rattle.dcsctp_spec_lemmas.specs.spec.endpoint.Endpoint.{Endpoint, Core, closed, cookie_wait, cookie_echoed, open_in, established, shutdown_pending, shutdown_sent, shutdown_received, shutdown_ack_sent, held_by_core}
+use Rattle.dcsctp_spec_lemmas.specs.spec.Handover.{transfer_layer_readiness, readiness_by_core}
+use Rattle.dcsctp_spec_lemmas.specs.types.Readiness.{reason_if_true}
 use Rattle.dcsctp_spec_lemmas.specs.types.Snapshot.{SendPart, ReceivePart, names_twice, has_bytes_or_is_abandoned, tsns_between, allows_zero_checksum, outstanding_count_fits, is_valid_queued, is_valid_send_part, is_valid_received_part, is_valid_connected, is_valid_snapshot, empty_send_part, empty_received_part}
-use Rattle.dcsctp_spec_lemmas.specs.spec.SocketSnapshot.{capabilities_given, with_received, connected_snapshot, snapshot_in}
+use Rattle.dcsctp_spec_lemmas.specs.spec.SocketSnapshot.{capabilities_given, with_received, connected_snapshot, snapshot_by_core}
 use Rattle.dcsctp_spec_lemmas.specs.spec.Soundness.{UsesOwnMethod, IsSoundHeld, IsSoundCore, HasBytes, IsSoundIfKnown}
 use Rattle.dcsctp_spec_laws.specs.SoundnessLaws.{SnapshotsAreValid}
 use Rattle.dcsctp_spec_lemmas.specs.spec.queues.Incoming.{AreInOrder}
@@ -40,7 +40,7 @@ right_is_zero : (x y : ℕ) → bit_or x y ≡ 0 → y ≡ 0
 right_is_zero x y none = let least = le_or_r x y in omega arith
 
 -- the number of a reason isn't 0
-doesnt_hold : (b : Bool) (reason : ℕ) → 0 < reason → reason_where b reason ≡ 0 → b ≡ false
+doesnt_hold : (b : Bool) (reason : ℕ) → 0 < reason → reason_if_true b reason ≡ 0 → b ≡ false
 doesnt_hold true reason named none = absurd (omega arith)
 doesnt_hold false reason named none = refl
 
@@ -147,8 +147,8 @@ established_is_valid e my held least sound queue (Some transfer) is known ready 
     (record empty_send_part { next_reset_req_sn = held.own_next }) queue known.items known.few (left_is_zero _ _ ready))
     (received_is_valid transfer (record empty_received_part { last_completed_reset_req_sn = held.peer_last }) known.streams)))
 
-valid_in : (e : Endpoint) (core : Core) → IsSoundCore e.options core → IsWellFormed e.queues.queue → IsSoundIfKnown (held_in core) e.queues.transfer
-    → readiness_in e core ≡ 0 → is_valid_snapshot e.options (snapshot_in e core) ≡ true
+valid_in : (e : Endpoint) (core : Core) → IsSoundCore e.options core → IsWellFormed e.queues.queue → IsSoundIfKnown (held_by_core core) e.queues.transfer
+    → readiness_by_core e core ≡ 0 → is_valid_snapshot e.options (snapshot_by_core e core) ≡ true
 valid_in e closed sound queue known ready = refl
 valid_in e (cookie_wait my) sound queue known ready = refl
 valid_in e (cookie_echoed my held cookie) sound queue known ready = refl

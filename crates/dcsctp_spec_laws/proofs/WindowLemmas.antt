@@ -7,9 +7,9 @@ use Rattle.dcsctp_spec_lemmas.specs.types.declared.progress.Change.{Change}
 use Rattle.dcsctp_spec_lemmas.specs.types.declared.progress.Change.TheVariants.{SendAgain, Abandon}
 use Rattle.dcsctp_spec_lemmas.specs.types.declared.progress.Progress.{Progress}
 use Rattle.dcsctp_spec_lemmas.specs.types.queues.Progress.{is_in_flight, progress_changed}
-use Rattle.dcsctp_spec_lemmas.specs.spec.queues.Filling.{Stage, ClosesMessage, GivesUpAt, SendsMarked, SendsNew, MayAdd, StepAgain, StepNew, StageSteps, none as no_step, more as one_more_step, payload_room, resent_packet_counted, FillsStage, FillsPacket}
+use Rattle.dcsctp_spec_lemmas.specs.spec.queues.Filling.{Stage, ClosesMessage, GivesUpItem, SendsMarked, SendsNew, MayAdd, StepAgain, StepNew, StageSteps, none as no_step, more as one_more_step, payload_room, resent_packet_counted, FillsStage, FillsPacket}
 use Rattle.dcsctp_spec_lemmas.specs.spec.queues.ItemMessages.{EndsDropped}
-use Rattle.dcsctp_spec_lemmas.specs.spec.queues.Items.{Item, number_where, item_size, in_flight_size, bytes_in_flight, changed_item, changed_between}
+use Rattle.dcsctp_spec_lemmas.specs.spec.queues.Items.{Item, number_or_zero, item_size, in_flight_size, bytes_in_flight, changed_item, changed_between}
 use Rattle.dcsctp_spec_lemmas.specs.spec.queues.Outstanding.{OutstandingState, header, next_tsn}
 use Rattle.dcsctp_spec_lemmas.specs.spec.queues.Retransmission.{RetransmissionState, chunk_bytes_in_flight, can_send}
 use Rattle.dcsctp_spec_lemmas.proofs.PackingLemmas.{size_fits, taken_at_most}
@@ -27,7 +27,7 @@ flight_at_most change lands head zero zero items = omega arith
 flight_at_most change lands head zero (suc end) [] = omega arith
 flight_at_most change lands head zero (suc end) (x ∷ xs) =
     let later = flight_at_most change lands head zero end xs in
-    let here = ap (λ (b : Bool). number_where b (item_size head x)) (lands x.progress) in
+    let here = ap (λ (b : Bool). number_or_zero b (item_size head x)) (lands x.progress) in
     let old = sum_by-cons (in_flight_size head) x xs in
     let new = sum_by-cons (in_flight_size head) (changed_item change x) (changed_between change zero end xs) in
     omega (arith, later, here, old, new)
@@ -39,7 +39,7 @@ flight_at_most change lands head (suc start) (suc end) (x ∷ xs) =
     let new = sum_by-cons (in_flight_size head) x (changed_between change start end xs) in
     omega (arith, later, old, new)
 
-counted_at_most : (b : Bool) (n : ℕ) → number_where b n ≤ n
+counted_at_most : (b : Bool) (n : ℕ) → number_or_zero b n ≤ n
 counted_at_most true n = omega arith
 counted_at_most false n = omega arith
 
@@ -108,7 +108,7 @@ ends_flight now begins last old new false same = rw same (omega arith)
 ends_flight now begins last old new true ends =
     let more = flight_more (header old) old.items ends.item in
     let none : in_flight_size (header old) ends.item ≡ 0 = ap
-    (λ (p : Progress). number_where (is_in_flight p.state) (item_size (header old) ends.item)) ends.is_end.progress in
+    (λ (p : Progress). number_or_zero (is_in_flight p.state) (item_size (header old) ends.item)) ends.is_end.progress in
     rw ends.grows (omega (arith, more, none))
 
 keeps_closed : (now : ℕ) (last : Item) (old closed : Stage) (is_end : Bool) → ClosesMessage now last old closed is_end → Keeps old closed
@@ -120,7 +120,7 @@ keeps_closed now last old closed false (inl (few, drops)) =
     subst (λ (s : Stage). Keeps old s) (sym drops.is) (record { cwnd = refl; peer = refl; room = omega arith; flight = omega (arith, flight) })
 keeps_closed now last old closed false (inr (many, same)) = keeps_same old closed same
 
-pub keeps_given_up : (now place : ℕ) (old new : Stage) → GivesUpAt now place old new → Keeps old new
+pub keeps_given_up : (now place : ℕ) (old new : Stage) → GivesUpItem now place old new → Keeps old new
 keeps_given_up now place old new up =
     let closed : Stage = up.closed in
     let flight = flight_at_most Abandon (λ progress. refl) (header closed.queue.outstanding) up.start

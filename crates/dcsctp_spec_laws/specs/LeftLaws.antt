@@ -1,7 +1,7 @@
 -- What becomes of the messages that an association leaves when it ends: they stay until they are taken or the next one begins.
 use Rattle.std.specs.Prelude.{◌≡◌, ◌⊎◌, Option, None, Some, List, [], ◌∷◌}
 use Rattle.dcsctp_spec_lemmas.specs.spec.endpoint.Endpoint.{Endpoint}
-use Rattle.dcsctp_spec_lemmas.specs.spec.endpoint.EndOutcomes.{left_by}
+use Rattle.dcsctp_spec_lemmas.specs.spec.endpoint.EndOutcomes.{left_messages}
 use Rattle.dcsctp_spec_lemmas.specs.spec.endpoint.Outcome.{Outcome}
 use Rattle.dcsctp_spec_lemmas.specs.spec.association.Acts.{request_again, request_renewed}
 use Rattle.dcsctp_spec_lemmas.specs.spec.endpoint.Turn.{Input, act_input, user_takes, Turn}
@@ -19,15 +19,15 @@ left_once user_takes messages = without_first_message messages
 left_once input messages = messages
 
 -- What is left after a turn, by what there is before and after it.
-abbrev pub LeftWhere : Endpoint → Input → Option Transfer → Option Transfer → List MessageContent → Type 0
+abbrev pub LeavesMessages : Endpoint → Input → Option Transfer → Option Transfer → List MessageContent → Type 0
 -- No association: the user's call takes one of them, and nothing else does.
-LeftWhere e input None None left = left ≡ left_once input e.left
+LeavesMessages e input None None left = left ≡ left_once input e.left
 -- One begins.
-LeftWhere e input None (Some new) left = left ≡ []
+LeavesMessages e input None (Some new) left = left ≡ []
 -- It ends: what it leaves is what was ready before the turn.
-LeftWhere e input (Some old) None left = left ≡ left_by e.options (Some old) e.left
+LeavesMessages e input (Some old) None left = left ≡ left_messages e.options (Some old) e.left
 -- It continues, or another one takes its place.
-LeftWhere e input (Some old) (Some new) left = (left ≡ e.left) ⊎ (left ≡ [])
+LeavesMessages e input (Some old) (Some new) left = (left ≡ e.left) ⊎ (left ≡ [])
 
 -- what a socket is handed: a request to reset streams is sent again by its timer alone
 abbrev pub IsOwnInput : Input → Type 0
@@ -37,4 +37,4 @@ IsOwnInput input = Unit {0}
 
 -- So it is of each turn.
 abbrev pub MessagesLeftStay : Type 0
-MessagesLeftStay = (e : Endpoint) (input : Input) (o : Outcome) → IsOwnInput input → Turn e input o → LeftWhere e input e.queues.transfer o.after.queues.transfer o.after.left
+MessagesLeftStay = (e : Endpoint) (input : Input) (o : Outcome) → IsOwnInput input → Turn e input o → LeavesMessages e input e.queues.transfer o.after.queues.transfer o.after.left

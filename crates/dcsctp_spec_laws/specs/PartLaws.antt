@@ -14,12 +14,12 @@ parts_in_runs runs = sum_by (λ run. length run.payloads) runs
 abbrev pub parts_on_stream : StreamModel → ℕ
 parts_on_stream stream = length stream.waiting + parts_in_runs stream.ordered + parts_in_runs stream.unordered
 
-abbrev pub parts_in : IncomingModel → ℕ
-parts_in incoming = sum_by (λ entry. parts_on_stream entry.1) incoming.streams + parts_in_runs incoming.unordered
+abbrev pub parts_of_incoming : IncomingModel → ℕ
+parts_of_incoming incoming = sum_by (λ entry. parts_on_stream entry.1) incoming.streams + parts_in_runs incoming.unordered
 
 -- and with the data that waits for the end of a deferred reset
 abbrev pub held_parts : ReassemblyState → ℕ
-held_parts queue = parts_in queue.incoming + length (waiting_of queue.deferral)
+held_parts queue = parts_of_incoming queue.incoming + length (waiting_of queue.deferral)
 
 -- the bytes of all that is held: what is in use where a part counts nothing beside them
 abbrev pub held_bytes : ReassemblyState → ℕ

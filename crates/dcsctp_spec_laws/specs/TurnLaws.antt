@@ -2,8 +2,8 @@
 use Rattle.std.specs.Prelude.{◌≡◌, ℕ, ◌⊎◌}
 use Rattle.dcsctp_spec_lemmas.specs.types.Settings.{IsValid}
 use Rattle.dcsctp_spec_lemmas.specs.spec.endpoint.Turn.{timer_expires, ContentTurn, ActTurn, Turn}
-use Rattle.dcsctp_spec_lemmas.specs.spec.association.Controlled.{IsControlled, ControlledChunk, ControlledAct}
-use Rattle.dcsctp_spec_lemmas.specs.spec.association.Effect.{Change, unchanged}
+use Rattle.dcsctp_spec_lemmas.specs.spec.association.Controlled.{IsControlled, IsControlledChunk, IsControlledAct}
+use Rattle.dcsctp_spec_lemmas.specs.spec.association.Effect.{Change, no_change}
 use Rattle.dcsctp_spec_lemmas.specs.spec.Packet.{Introduction, Content, init}
 use Rattle.dcsctp_spec_lemmas.specs.spec.endpoint.Endpoint.{Endpoint, Core, closed, cookie_wait, cookie_echoed, open_in}
 use Rattle.dcsctp_spec_lemmas.specs.spec.association.Acts.{Act, shutdown_repeats, act_change}
@@ -39,20 +39,20 @@ FitsContent e content = Unit {0}
 -- Each turn of a chunk is a turn of the association, of which every run is proved (RFC 9260, section 5).
 abbrev pub ChunksAreControlled : Type 0
 ChunksAreControlled =
-    (e : Endpoint) (tag : ℕ) (content : Content) (o : Outcome) → ContentTurn e tag content o → FitsContent e content → ControlledChunk e tag content o
+    (e : Endpoint) (tag : ℕ) (content : Content) (o : Outcome) → ContentTurn e tag content o → FitsContent e content → IsControlledChunk e tag content o
 
 -- Each turn that the user or a timer brings is one of the association too.
 abbrev pub ActsAreControlled : Type 0
-ActsAreControlled = (e : Endpoint) (act : Act) (o : Outcome) → ActTurn e act o → ControlledAct e act o
+ActsAreControlled = (e : Endpoint) (act : Act) (o : Outcome) → ActTurn e act o → IsControlledAct e act o
 
 -- The timers of an open association send packets that don't concern the association, as a flush does, or the outstanding request
 -- again.
 abbrev pub TimersAreControlled : Type 0
-TimersAreControlled = (e : Endpoint) (timer : OwnTimer) (o : Outcome) → Turn e (timer_expires timer) o → ControlledAct e (timer_act e timer) o
+TimersAreControlled = (e : Endpoint) (timer : OwnTimer) (o : Outcome) → Turn e (timer_expires timer) o → IsControlledAct e (timer_act e timer) o
 
 -- What precedes a packet's chunks: nothing, or the answer to data while a SHUTDOWN waits for its own.
 pub record StandsBefore (e : Endpoint) (o : Outcome) : Type 0 where
   pub change : Change
-  pub is : (change ≡ unchanged e.core) ⊎ ((choices : Choices) × (change ≡ act_change e.options e.core shutdown_repeats choices))
+  pub is : (change ≡ no_change e.core) ⊎ ((choices : Choices) × (change ≡ act_change e.options e.core shutdown_repeats choices))
   pub controlled : IsControlled e o change
   pub keeps : change.core ≡ e.core

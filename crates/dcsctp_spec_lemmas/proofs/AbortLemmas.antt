@@ -10,7 +10,7 @@ use Rattle.dcsctp_spec.specs.endpoint.Endpoint.{Endpoint, Core, closed, cookie_w
 use Rattle.dcsctp_spec.specs.endpoint.Outcome.{Outcome, still, quiet, reports}
 use Rattle.dcsctp_spec.specs.endpoint.EndOutcomes.{ended_outcome, abort_outcome}
 use Rattle.dcsctp_spec.specs.endpoint.PlainOutcomes.{ends_handshake, echoed_error_outcome, error_outcome}
-use Rattle.dcsctp_spec.specs.association.Effect.{Change, unchanged, ended}
+use Rattle.dcsctp_spec.specs.association.Effect.{Change, no_change, ending_change}
 use Rattle.dcsctp_spec.specs.association.ShutdownChanges.{is_ended_by_abort, abort_change}
 
 -- either of two values by a test
@@ -19,8 +19,8 @@ by_test P true one other first second = first
 by_test P false one other first second = second
 
 -- of the association
-pub by_abort : (P : Change → Type 0) (options : Options) (core : Core) → P (ended []) → P (unchanged core) → P (abort_change options core)
-by_abort P options core ends stays = by_test P (is_ended_by_abort options core) (ended []) (unchanged core) ends stays
+pub by_abort : (P : Change → Type 0) (options : Options) (core : Core) → P (ending_change []) → P (no_change core) → P (abort_change options core)
+by_abort P options core ends stays = by_test P (is_ended_by_abort options core) (ending_change []) (no_change core) ends stays
 
 -- of the endpoint
 pub by_abort_outcome : (P : Outcome → Type 0) (e : Endpoint) (causes : List Cause) (core : Core)

@@ -5,7 +5,7 @@ use Rattle.std.proofs.lemmas.Bool.Decides.{nat_tests}
 use Rattle.dcsctp_spec.specs.types.declared.association.Pair.{Pair}
 use Rattle.dcsctp_spec.specs.types.declared.association.Held.{Held}
 use Rattle.dcsctp_spec.specs.types.declared.word.Word.TheVariants.{U64}
-use Rattle.dcsctp_spec.specs.Cookie.{Cookie, cookie_at}
+use Rattle.dcsctp_spec.specs.Cookie.{Cookie, cookie_of_bytes}
 use Rattle.dcsctp_spec.specs.endpoint.Event.{Event, connected, connection_restarted, error}
 use Rattle.dcsctp_spec.specs.Packet.{cookie_echo, Emission}
 use Rattle.dcsctp_spec.specs.queues.Transfer.{EndpointQueues}
@@ -13,23 +13,23 @@ use Rattle.dcsctp_spec.specs.endpoint.Endpoint.{Endpoint, Core, closed, cookie_w
 use Rattle.dcsctp_spec.specs.endpoint.Outcome.{Outcome, sends, quiet, fits, behind}
 use Rattle.dcsctp_spec.specs.endpoint.FlushOutcomes.{Answer, flush_answered}
 use Rattle.dcsctp_spec.specs.endpoint.HandshakeOutcomes.{connected_after}
-use Rattle.dcsctp_spec.specs.endpoint.CookieEchoOutcomes.{is_spent, established_by, cookie_ack_emission, establish_by, queues_kept, queues_begun, queues_collided, stale_text, stale_emission, refused_echo_outcome, restart_by_in, restart_by_where, maintain_by, resolved_by, resolved_now, cookie_echo_by, EstablishAnswers, RestartAnswersIn, RestartAnswers, MaintainAnswers, ResolvedAnswers, EchoedAnswers, CookieEchoTurn}
+use Rattle.dcsctp_spec.specs.endpoint.CookieEchoOutcomes.{is_spent, endpoint_established, cookie_ack_emission, establish_with_flush, queues_kept, queues_begun, queues_collided, stale_text, stale_emission, refused_echo_outcome, restart_with_flush_by_phase, restart_with_flush_by_core, maintain_with_flush, resolve_with_flush, resolved_now, cookie_echo_with_flush, EstablishAnswers, RestartAnswersByPhase, RestartAnswers, MaintainAnswers, ResolvedAnswers, EchoedAnswers, CookieEchoTurn}
 use Rattle.dcsctp_spec.specs.endpoint.Following.{dropped_rest}
 use Rattle.dcsctp_spec.specs.types.declared.kinds.ErrorKind.TheVariants.{ParseFailed}
 use Rattle.dcsctp_spec.specs.association.Effect.{holds, connects, emitted_alone, identity_of}
-use Rattle.dcsctp_spec.specs.association.CookieEchoChanges.{Resolution, establish_new, restart, simultaneous_init, discard, maintain_existing, invalid_tag, stale, aged, case_by, case_with_peer, held_by_cookie, new_association_change, restart_change_where_open, restart_change, maintain_change, resolved_change, stale_error, read_echo_change}
+use Rattle.dcsctp_spec.specs.association.CookieEchoChanges.{Resolution, establish_new, restart, simultaneous_init, discard, maintain_existing, invalid_tag, stale, aged_resolution, case_by_answers, case_with_peer, held_by_cookie, new_association_change, restart_change_where_open, restart_change, maintain_change, resolved_change, stale_error, read_echo_change}
 use Rattle.dcsctp_spec.specs.association.Choices.{Choices}
-use Rattle.dcsctp_spec.specs.association.Controlled.{has_connected, observations_of_events, IsControlled, ControlledChunk}
+use Rattle.dcsctp_spec.specs.association.Controlled.{has_connected, observations_of_events, IsControlled, IsControlledChunk}
 use Rattle.dcsctp_spec_lemmas.proofs.FlushKeeps.{IsPeerTag, rebuilds_open, flush_controlled}
 use Rattle.dcsctp_spec_lemmas.proofs.ControlHandshake.{choosing, still_controlled}
 
 -- ---- one that makes an association
 
 made : (e : Endpoint) (cookie : Cookie) (queues : EndpointQueues) (tie : ℕ) (events : List (Event Emission)) (answers : List Answer) → observations_of_events events ≡ has_connected ∷ []
-    → EstablishAnswers e cookie queues tie answers → IsControlled e (establish_by (flush_answered answers) e cookie queues tie events) (new_association_change e.options cookie (choosing e true answers))
+    → EstablishAnswers e cookie queues tie answers → IsControlled e (establish_with_flush (flush_answered answers) e cookie queues tie events) (new_association_change e.options cookie (choosing e true answers))
 made e cookie queues tie events answers told h =
     let held : Held = held_by_cookie e.options cookie in
-    flush_controlled e (established_by e cookie queues tie) (U64 tie ∷ []) events (cookie_ack_emission held cookie) answers (λ x. open_in established cookie.maker x) held
+    flush_controlled e (endpoint_established e cookie queues tie) (U64 tie ∷ []) events (cookie_ack_emission held cookie) answers (λ x. open_in established cookie.maker x) held
     (holds (identity_of cookie.maker held) ∷ connects (identity_of cookie.maker held) ∷ []) (holds (identity_of cookie.maker held) ∷ connects (identity_of cookie.maker held) ∷ [])
     (rebuilds_open established cookie.maker held) refl refl refl h told refl refl
 
@@ -39,8 +39,8 @@ judging e cookie spent answers = record (choosing e (fits e (stale_emission cook
 
 -- ---- a restart
 
-restart_in : (e : Endpoint) (cookie : Cookie) (tie : ℕ) (phase : OpenPhase) (mine : Pair) (held : Held) (spent : Bool) (answers : List Answer) → e.core ≡ open_in phase mine held → RestartAnswersIn e cookie tie phase answers
-    → IsControlled e (restart_by_in (flush_answered answers) e cookie tie phase held) (restart_change_where_open e.options phase mine held cookie (judging e cookie spent answers))
+restart_in : (e : Endpoint) (cookie : Cookie) (tie : ℕ) (phase : OpenPhase) (mine : Pair) (held : Held) (spent : Bool) (answers : List Answer) → e.core ≡ open_in phase mine held → RestartAnswersByPhase e cookie tie phase answers
+    → IsControlled e (restart_with_flush_by_phase (flush_answered answers) e cookie tie phase held) (restart_change_where_open e.options phase mine held cookie (judging e cookie spent answers))
 restart_in e cookie tie established mine held spent answers is h = made e cookie (queues_begun e cookie) tie (connection_restarted ∷ connected ∷ []) answers refl h
 restart_in e cookie tie shutdown_pending mine held spent answers is h = made e cookie (queues_begun e cookie) tie (connection_restarted ∷ connected ∷ []) answers refl h
 restart_in e cookie tie shutdown_sent mine held spent answers is h = made e cookie (queues_begun e cookie) tie (connection_restarted ∷ connected ∷ []) answers refl h
@@ -48,7 +48,7 @@ restart_in e cookie tie shutdown_received mine held spent answers is h = made e 
 restart_in e cookie tie shutdown_ack_sent mine held spent answers is h = record { core = is; options = refl; observations = refl; effects = refl; following = refl }
 
 restart_at : (e : Endpoint) (cookie : Cookie) (tie : ℕ) (core : Core) (spent : Bool) (answers : List Answer) → e.core ≡ core → RestartAnswers e cookie tie core answers
-    → IsControlled e (restart_by_where (flush_answered answers) e cookie tie core) (restart_change e.options core cookie (judging e cookie spent answers))
+    → IsControlled e (restart_with_flush_by_core (flush_answered answers) e cookie tie core) (restart_change e.options core cookie (judging e cookie spent answers))
 restart_at e cookie tie closed spent answers is h = made e cookie (queues_begun e cookie) tie (connection_restarted ∷ connected ∷ []) answers refl h
 restart_at e cookie tie (cookie_wait mine) spent answers is h = made e cookie (queues_begun e cookie) tie (connection_restarted ∷ connected ∷ []) answers refl h
 restart_at e cookie tie (cookie_echoed mine held echoed) spent answers is h = made e cookie (queues_begun e cookie) tie (connection_restarted ∷ connected ∷ []) answers refl h
@@ -57,7 +57,7 @@ restart_at e cookie tie (open_in phase mine held) spent answers is h = restart_i
 -- ---- the association that is held
 
 -- The cookie's addressee is the peer.
-is_of_peer : (a b c d : Bool) → case_by a b c d ≡ maintain_existing → b ≡ true
+is_of_peer : (a b c d : Bool) → case_by_answers a b c d ≡ maintain_existing → b ≡ true
 is_of_peer false false true zero is = absurd (cc)
 is_of_peer false false false zero is = absurd (cc)
 is_of_peer true false tie zero is = absurd (cc)
@@ -73,7 +73,7 @@ peer_of my held tie secret header cookie is =
     sym (same_of cookie.addressee.tag held.peer.tag (is_of_peer (header == my.tag) (cookie.addressee.tag == held.peer.tag) (cookie.tie == tie) (cookie.tie == secret) is))
 
 -- The case of the existing association is that of the table, whatever the age of the cookie.
-pub kept_by_age : (old : Bool) (resolution : Resolution) → aged old resolution ≡ maintain_existing → resolution ≡ maintain_existing
+pub kept_by_age : (old : Bool) (resolution : Resolution) → aged_resolution old resolution ≡ maintain_existing → resolution ≡ maintain_existing
 kept_by_age true establish_new is = absurd (cc)
 kept_by_age true restart is = absurd (cc)
 kept_by_age true simultaneous_init is = absurd (cc)
@@ -84,7 +84,7 @@ kept_by_age true stale is = is
 kept_by_age false resolution is = is
 
 pub maintain_at : (e : Endpoint) (cookie : Cookie) (core : Core) (header : ℕ) (spent : Bool) (answers : List Answer) → e.core ≡ core → resolved_now e core header cookie ≡ maintain_existing → MaintainAnswers e cookie core answers
-    → IsControlled e (maintain_by (flush_answered answers) e cookie core) (maintain_change core cookie (judging e cookie spent answers))
+    → IsControlled e (maintain_with_flush (flush_answered answers) e cookie core) (maintain_change core cookie (judging e cookie spent answers))
 maintain_at e cookie closed header spent answers is case h = still_controlled e closed is
 maintain_at e cookie (cookie_wait mine) header spent answers is case h = still_controlled e (cookie_wait mine) is
 maintain_at e cookie (cookie_echoed mine held echoed) header spent answers is case h =
@@ -110,7 +110,7 @@ stale_where false b e core cookie is = record { core = is; options = refl; obser
 
 resolved_at : (e : Endpoint) (cookie : Cookie) (core : Core) (word header : ℕ) (resolution : Resolution) (spent : Bool) (answers : List Answer) → e.core ≡ core → resolved_now e core header cookie ≡ resolution
     → ResolvedAnswers e cookie core word resolution answers
-    → IsControlled e (resolved_by (flush_answered answers) e cookie core word resolution) (resolved_change e.options core cookie (judging e cookie spent answers) resolution)
+    → IsControlled e (resolve_with_flush (flush_answered answers) e cookie core word resolution) (resolved_change e.options core cookie (judging e cookie spent answers) resolution)
 resolved_at e cookie core word header establish_new spent answers is case h = made e cookie (queues_kept e cookie) word (connected ∷ []) answers refl h
 resolved_at e cookie core word header restart spent answers is case h = restart_at e cookie word core spent answers is h
 resolved_at e cookie core word header simultaneous_init spent answers is case h = made e cookie (queues_collided e core cookie) word (connected ∷ []) answers refl h
@@ -120,14 +120,14 @@ resolved_at e cookie core word header invalid_tag spent answers is case h = reco
 resolved_at e cookie core word header stale spent answers is case h = stale_where e.options.follow_rfc (fits e (stale_emission cookie)) e core cookie is
 
 echo_at : (e : Endpoint) (core : Core) (header : ℕ) (read : Result Cookie (List ℕ)) (word : ℕ) (answers : List Answer) → e.core ≡ core → EchoedAnswers e core header read word answers
-    → (choices : Choices) × IsControlled e (cookie_echo_by (flush_answered answers) e core header read word) (read_echo_change e.options core header read choices)
+    → (choices : Choices) × IsControlled e (cookie_echo_with_flush (flush_answered answers) e core header read word) (read_echo_change e.options core header read choices)
 echo_at e core header (Err text) word answers is h = (choosing e true answers, record { core = is; options = refl; observations = refl; effects = refl; following = refl })
 echo_at e core header (Ok cookie) word answers is h = (
   judging e cookie (is_spent e core header cookie) answers,
   resolved_at e cookie core word header (resolved_now e core header cookie) (is_spent e core header cookie) answers is refl h,
 )
 
-pub cookie_echo_controlled : (e : Endpoint) (tag : ℕ) (bytes : List ℕ) (o : Outcome) → CookieEchoTurn e tag bytes o → ControlledChunk e tag (cookie_echo bytes) o
+pub cookie_echo_controlled : (e : Endpoint) (tag : ℕ) (bytes : List ℕ) (o : Outcome) → CookieEchoTurn e tag bytes o → IsControlledChunk e tag (cookie_echo bytes) o
 cookie_echo_controlled e tag bytes o turn =
-    let controlled = echo_at e e.core tag (cookie_at bytes) turn.0 turn.1 refl turn.2 in
-    subst (ControlledChunk e tag (cookie_echo bytes)) (sym turn.3) (_, (controlled.0, tt, refl), controlled.1)
+    let controlled = echo_at e e.core tag (cookie_of_bytes bytes) turn.0 turn.1 refl turn.2 in
+    subst (IsControlledChunk e tag (cookie_echo bytes)) (sym turn.3) (_, (controlled.0, tt, refl), controlled.1)

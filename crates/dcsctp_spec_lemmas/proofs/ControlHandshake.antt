@@ -11,16 +11,16 @@ use Rattle.dcsctp_spec.specs.endpoint.Cause.{Cause}
 use Rattle.dcsctp_spec.specs.endpoint.Event.{aborted, connected}
 use Rattle.dcsctp_spec.specs.Packet.{Introduction, Content, init_ack, cookie_echo, cookie_ack, abort}
 use Rattle.dcsctp_spec.specs.endpoint.Endpoint.{Endpoint, Core, closed, cookie_wait, cookie_echoed, open_in, established}
-use Rattle.dcsctp_spec.specs.endpoint.Outcome.{Outcome, noting, still, quiet, sends, fits, drawing}
+use Rattle.dcsctp_spec.specs.endpoint.Outcome.{Outcome, with_effects_first, still, quiet, sends, fits, drawing}
 use Rattle.dcsctp_spec.specs.endpoint.FlushOutcomes.{Answer, draft_to, flush_answered, allows_packet}
 use Rattle.dcsctp_spec.specs.endpoint.EndOutcomes.{ended_outcome, abort_outcome}
-use Rattle.dcsctp_spec.specs.endpoint.HandshakeOutcomes.{pair_from, init_emission, awaits_init_ack, connect_outcome, ConnectTurn, no_cookie_text, abort_emission, awaits_cookie_ack, echo_emission, EchoAnswers, init_ack_by, InitAckAnswers, InitAckTurn, CookieAckAnswers, CookieAckTurn, connected_after, cookie_ack_by}
-use Rattle.dcsctp_spec.specs.association.Effect.{holds, connects, Change, unchanged, ended, identity_of}
+use Rattle.dcsctp_spec.specs.endpoint.HandshakeOutcomes.{pair_from, init_emission, awaits_init_ack, connect_outcome, ConnectTurn, no_cookie_text, abort_emission, awaits_cookie_ack, echo_emission, EchoAnswers, init_ack_with_flush, InitAckAnswers, InitAckTurn, CookieAckAnswers, CookieAckTurn, connected_after, cookie_ack_with_flush}
+use Rattle.dcsctp_spec.specs.association.Effect.{holds, connects, Change, no_change, ending_change, identity_of}
 use Rattle.dcsctp_spec.specs.association.Choices.{Filling, Choices, nothing_to_send, idle_choices}
 use Rattle.dcsctp_spec.specs.association.HandshakeChanges.{connect_change, init_ack_change, held_by_init_ack}
 use Rattle.dcsctp_spec.specs.association.ShutdownChanges.{is_ended_by_abort}
 use Rattle.dcsctp_spec.specs.association.Acts.{connect, ChunkChange}
-use Rattle.dcsctp_spec.specs.association.Controlled.{IsControlled, ControlledChunk, ControlledAct}
+use Rattle.dcsctp_spec.specs.association.Controlled.{IsControlled, IsControlledChunk, IsControlledAct}
 use Rattle.dcsctp_spec_lemmas.proofs.FlushKeeps.{filling_of, rebuilds_open, rebuilds_echoed, flush_controlled}
 
 -- ---- what a turn chooses
@@ -43,7 +43,7 @@ abbrev pub ControlledAt : Endpoint → Core → ℕ → Content → Outcome → 
 ControlledAt e core tag content o = (change : Change) × ChunkChange e.options core tag content change × IsControlled e o change
 
 -- a turn in which nothing happens
-pub still_controlled : (e : Endpoint) (core : Core) → e.core ≡ core → IsControlled e (still e) (unchanged core)
+pub still_controlled : (e : Endpoint) (core : Core) → e.core ≡ core → IsControlled e (still e) (no_change core)
 still_controlled e core is = record { core = is; options = refl; observations = refl; effects = refl; following = refl }
 
 -- the choices of a turn with a flush that gets these answers
@@ -67,8 +67,8 @@ connect_at e (cookie_wait my) word next is = (no_choices e true, still_controlle
 connect_at e (cookie_echoed my held cookie) word next is = (no_choices e true, still_controlled e (cookie_echoed my held cookie) is)
 connect_at e (open_in phase my held) word next is = (no_choices e true, still_controlled e (open_in phase my held) is)
 
-pub connect_controlled : (e : Endpoint) (o : Outcome) → ConnectTurn e o → ControlledAct e connect o
-connect_controlled e o turn = subst (ControlledAct e connect) (sym turn.2) (connect_at e e.core turn.0 turn.1 refl)
+pub connect_controlled : (e : Endpoint) (o : Outcome) → ConnectTurn e o → IsControlledAct e connect o
+connect_controlled e o turn = subst (IsControlledAct e connect) (sym turn.2) (connect_at e e.core turn.0 turn.1 refl)
 
 -- ---- INIT ACK
 
@@ -82,7 +82,7 @@ refused_where false e mine theirs = record { core = refl; options = refl; observ
 -- With one, its COOKIE ECHO goes out where it fits and where a packet is allowed.
 echoed_where : (b : Bool) (e : Endpoint) (mine : Pair) (theirs : Introduction) (cookie : List ℕ) (tie : ℕ) (answers : List Answer)
     → EchoAnswers b (awaits_cookie_ack e mine theirs cookie tie) theirs.pair.tag cookie answers
-    → IsControlled e (noting (holds (identity_of mine (held_by_init_ack e.options mine theirs)) ∷ [])
+    → IsControlled e (with_effects_first (holds (identity_of mine (held_by_init_ack e.options mine theirs)) ∷ [])
     (if b then flush_answered answers (awaits_cookie_ack e mine theirs cookie tie) (U64 tie ∷ []) [] true theirs.pair.tag (cookie_echo cookie ∷ []) else quiet (awaits_cookie_ack e mine theirs cookie tie) (U64 tie ∷ []) []))
     (init_ack_change e.options (cookie_wait mine) theirs (Some cookie) (choosing e b answers))
 echoed_where true e mine theirs cookie tie answers h =
@@ -92,7 +92,7 @@ echoed_where true e mine theirs cookie tie answers h =
 echoed_where false e mine theirs cookie tie answers h = record { core = refl; options = refl; observations = refl; effects = refl; following = refl }
 
 init_ack_at : (e : Endpoint) (core : Core) (tag : ℕ) (theirs : Introduction) (cookie : Option (List ℕ)) (word : ℕ) (answers : List Answer) → e.core ≡ core
-    → InitAckAnswers e theirs cookie core word answers → ControlledAt e core tag (init_ack theirs cookie) (init_ack_by (flush_answered answers) e theirs cookie core word)
+    → InitAckAnswers e theirs cookie core word answers → ControlledAt e core tag (init_ack theirs cookie) (init_ack_with_flush (flush_answered answers) e theirs cookie core word)
 init_ack_at e closed tag theirs cookie word answers is h = (_, (no_choices e true, tt, refl), still_controlled e closed is)
 init_ack_at e (cookie_wait mine) tag theirs None word answers is h =
     let b = fits e (abort_emission theirs.pair.tag) in
@@ -104,13 +104,13 @@ init_ack_at e (cookie_echoed my held echoed) tag theirs cookie word answers is h
 init_ack_at e (open_in phase my held) tag theirs cookie word answers is h = (_, (no_choices e true, tt, refl), still_controlled e (open_in phase my held) is)
 
 pub init_ack_controlled : (e : Endpoint) (tag : ℕ) (theirs : Introduction) (cookie : Option (List ℕ)) (o : Outcome) → InitAckTurn e theirs cookie o
-    → ControlledChunk e tag (init_ack theirs cookie) o
-init_ack_controlled e tag theirs cookie o turn = subst (ControlledChunk e tag (init_ack theirs cookie)) (sym turn.3) (init_ack_at e e.core tag theirs cookie turn.0 turn.1 refl turn.2)
+    → IsControlledChunk e tag (init_ack theirs cookie) o
+init_ack_controlled e tag theirs cookie o turn = subst (IsControlledChunk e tag (init_ack theirs cookie)) (sym turn.3) (init_ack_at e e.core tag theirs cookie turn.0 turn.1 refl turn.2)
 
 -- ---- COOKIE ACK
 
 cookie_ack_at : (e : Endpoint) (core : Core) (tag : ℕ) (answers : List Answer) → e.core ≡ core → CookieAckAnswers e core answers
-    → ControlledAt e core tag cookie_ack (cookie_ack_by (flush_answered answers) e core)
+    → ControlledAt e core tag cookie_ack (cookie_ack_with_flush (flush_answered answers) e core)
 cookie_ack_at e closed tag answers is h = (_, (no_choices e true, tt, refl), still_controlled e closed is)
 cookie_ack_at e (cookie_wait mine) tag answers is h = (_, (no_choices e true, tt, refl), still_controlled e (cookie_wait mine) is)
 cookie_ack_at e (cookie_echoed mine held cookie) tag answers is h = (
@@ -121,18 +121,18 @@ cookie_ack_at e (cookie_echoed mine held cookie) tag answers is h = (
 )
 cookie_ack_at e (open_in phase mine held) tag answers is h = (_, (no_choices e true, tt, refl), still_controlled e (open_in phase mine held) is)
 
-pub cookie_ack_controlled : (e : Endpoint) (tag : ℕ) (o : Outcome) → CookieAckTurn e o → ControlledChunk e tag cookie_ack o
-cookie_ack_controlled e tag o turn = subst (ControlledChunk e tag cookie_ack) (sym turn.2) (cookie_ack_at e e.core tag turn.0 refl turn.1)
+pub cookie_ack_controlled : (e : Endpoint) (tag : ℕ) (o : Outcome) → CookieAckTurn e o → IsControlledChunk e tag cookie_ack o
+cookie_ack_controlled e tag o turn = subst (IsControlledChunk e tag cookie_ack) (sym turn.2) (cookie_ack_at e e.core tag turn.0 refl turn.1)
 
 -- ---- ABORT
 
 abort_where : (ends : Bool) (e : Endpoint) (core : Core) (causes : List Cause) → e.core ≡ core
-    → IsControlled e (if ends then ended_outcome (quiet e [] []) (aborted PeerReported (causes_text causes)) else still e) (if ends then ended [] else unchanged core)
+    → IsControlled e (if ends then ended_outcome (quiet e [] []) (aborted PeerReported (causes_text causes)) else still e) (if ends then ending_change [] else no_change core)
 abort_where true e core causes is = record { core = refl; options = refl; observations = refl; effects = refl; following = refl }
 abort_where false e core causes is = still_controlled e core is
 
 abort_at : (e : Endpoint) (core : Core) (tag : ℕ) (reflected : Bool) (causes : List Cause) → e.core ≡ core → ControlledAt e core tag (abort reflected causes) (abort_outcome e causes core)
 abort_at e core tag reflected causes is = (_, (no_choices e true, tt, refl), abort_where (is_ended_by_abort e.options core) e core causes is)
 
-pub abort_controlled : (e : Endpoint) (tag : ℕ) (reflected : Bool) (causes : List Cause) (o : Outcome) → o ≡ abort_outcome e causes e.core → ControlledChunk e tag (abort reflected causes) o
-abort_controlled e tag reflected causes o turn = subst (ControlledChunk e tag (abort reflected causes)) (sym turn) (abort_at e e.core tag reflected causes refl)
+pub abort_controlled : (e : Endpoint) (tag : ℕ) (reflected : Bool) (causes : List Cause) (o : Outcome) → o ≡ abort_outcome e causes e.core → IsControlledChunk e tag (abort reflected causes) o
+abort_controlled e tag reflected causes o turn = subst (IsControlledChunk e tag (abort reflected causes)) (sym turn) (abort_at e e.core tag reflected causes refl)

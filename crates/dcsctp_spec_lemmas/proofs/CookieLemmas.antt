@@ -2,7 +2,7 @@
 use Rattle.std.proofs.Common.{◌≡◌, ◌≤◌, ℕ, Bool, true, false, not, cond, eqb, ◌||◌, refl, ap, ◌∙◌, arith, Ok}
 use Rattle.std.proofs.lemmas.Nat.{from_be_bytes-to_be_bytes_2, from_be_bytes-to_be_bytes_4, from_be_bytes-to_be_bytes_8}
 use Rattle.std.proofs.lemmas.Bool.Decides.{nat_tests}
-use Rattle.dcsctp_spec.specs.Cookie.{Cookie, flag_byte, has_zero_tag, cookie_bytes, cookie_at, cookie_fields, u64_at}
+use Rattle.dcsctp_spec.specs.Cookie.{Cookie, flag_byte, has_zero_tag, cookie_bytes, cookie_of_bytes, cookie_fields, u64_at}
 use Rattle.dcsctp_spec.specs.wire.Fields.{u16_at, u32_at}
 use Rattle.dcsctp_spec.specs.endpoint.Outcome.{fits}
 use Rattle.dcsctp_spec.specs.CookieFits.{FitsNames, CookieReadsBack}
@@ -37,10 +37,10 @@ same_cookie a1 b1 a2 b2 a3 b3 a4 b4 a5 b5 a6 b6 a7 b7 a8 b8 a9 b9 a10 b10 a11 b1
 
 -- What is found in a cookie again, whatever its window and tie tag are. These are cut to their fields.
 abbrev pub NamesReadBack : Type 0
-NamesReadBack = (cookie : Cookie) → FitsNames cookie → cookie_at (cookie_bytes cookie) ≡ Ok (record cookie { window = u32_at 24 (cookie_bytes cookie); tie = u64_at 28 (cookie_bytes cookie); moment = u64_at 48 (cookie_bytes cookie) })
+NamesReadBack = (cookie : Cookie) → FitsNames cookie → cookie_of_bytes (cookie_bytes cookie) ≡ Ok (record cookie { window = u32_at 24 (cookie_bytes cookie); tie = u64_at 28 (cookie_bytes cookie); moment = u64_at 48 (cookie_bytes cookie) })
 
 pub names_read_back : NamesReadBack
-unfolding cookie_bytes cookie_at
+unfolding cookie_bytes cookie_of_bytes
 names_read_back cookie fits =
     let addressee_tag : u32_at 8 (cookie_bytes cookie) ≡ cookie.addressee.tag = from_be_bytes-to_be_bytes_4 cookie.addressee.tag fits.addressee.tag in
     let maker_tag : u32_at 12 (cookie_bytes cookie) ≡ cookie.maker.tag = from_be_bytes-to_be_bytes_4 cookie.maker.tag fits.maker.tag in

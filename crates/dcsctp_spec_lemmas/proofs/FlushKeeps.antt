@@ -13,16 +13,16 @@ use Rattle.dcsctp_spec.specs.Packet.{Plain, plain, Content, Packet, Emission}
 use Rattle.dcsctp_spec.specs.Reconfiguration.{RequestedReset}
 use Rattle.dcsctp_spec.specs.queues.SendQueue.{SendQueueState}
 use Rattle.dcsctp_spec.specs.queues.Transfer.{Transfer, is_idle}
-use Rattle.dcsctp_spec.specs.endpoint.Endpoint.{Endpoint, Core, cookie_wait, cookie_echoed, open_in, OpenPhase, held_in, Timers, closed as closed_core}
+use Rattle.dcsctp_spec.specs.endpoint.Endpoint.{Endpoint, Core, cookie_wait, cookie_echoed, open_in, OpenPhase, held_by_core, Timers, closed as closed_core}
 use Rattle.dcsctp_spec.specs.endpoint.Timers.{RunningTimer}
 use Rattle.dcsctp_spec.specs.endpoint.Following.{next_chunk}
-use Rattle.dcsctp_spec.specs.endpoint.Outcome.{Outcome, still, behind, then_outcome, noting}
-use Rattle.dcsctp_spec.specs.association.Effect.{Effect, begins, emitted, noted}
+use Rattle.dcsctp_spec.specs.endpoint.Outcome.{Outcome, still, behind, then_outcome, with_effects_first}
+use Rattle.dcsctp_spec.specs.association.Effect.{Effect, begins, emission_effects, effects_without_packets}
 use Rattle.dcsctp_spec.specs.association.Choices.{Filling, plain_contents}
-use Rattle.dcsctp_spec.specs.association.FlushChanges.{further_packets, held_asking, reset_request, reset_to_begin, Flushed, flushed_with, flush}
+use Rattle.dcsctp_spec.specs.association.FlushChanges.{further_packets, held_asking, reset_request, reset_to_begin, FlushResult, flushed_with, flush}
 use Rattle.dcsctp_spec.specs.association.Controlled.{Observation, packet_sent, has_connected, has_ended, own_reset_performed, own_reset_failed, peer_reset_performed, observations_of_events, observations_of_effects, IsControlled}
-use Rattle.dcsctp_spec.specs.endpoint.BegunResets.{BegunReset, streams_within, last_assigned_tsn, begun_where, begun_in, request_contents, begun_effects, held_begun, core_asking, after_begun, stream_field}
-use Rattle.dcsctp_spec.specs.endpoint.FlushOutcomes.{may_be_asked, FillingEvent, amount_is_low, total_amount_is_low, message_is_sent, message_may_have_expired, message_has_expired, message_ends, filling_event, Answer, answer_contents, filled, goes_out, asked, next_draft, flush_of, Ask, first_ask, later_ask, room_in, GivesWhere, IsAnswerOfQueues, IsFlushAnswer, timers_with, AreFlushAnswers, at_limit, at_empty, after_packet, FlushAnswers, packets_allowed}
+use Rattle.dcsctp_spec.specs.endpoint.BegunResets.{BegunReset, streams_within, last_assigned_tsn, begun_if_ready, begun_if_connected, request_contents, begun_effects, held_begun, core_asking, after_begun, stream_field}
+use Rattle.dcsctp_spec.specs.endpoint.FlushOutcomes.{may_be_asked, FillingEvent, amount_is_low, total_amount_is_low, message_is_sent, message_may_have_expired, message_has_expired, message_ends, filling_event, Answer, answer_contents, filled_draft, goes_out, asked_outcome, next_draft, flush_of, Ask, first_ask, later_ask, room_of_draft, GivesUnlessIdle, IsAnswerOfQueues, IsFlushAnswer, timers_with, AreFlushAnswers, at_limit, at_empty, after_packet, FlushAnswers, packets_allowed}
 
 -- ---- what stays
 
@@ -56,10 +56,10 @@ begun_t1 : (begun : Option BegunReset) (e : Endpoint) → (after_begun begun e).
 begun_t1 None e = refl
 begun_t1 (Some begun) e = refl
 
-pub asked_keeps : (ask : Ask) (e : Endpoint) (draft : Emission) (answer : Answer) → IsFlushAnswer ask e draft answer → Keeps answer.begun e (asked e draft answer)
+pub asked_keeps : (ask : Ask) (e : Endpoint) (draft : Emission) (answer : Answer) → IsFlushAnswer ask e draft answer → Keeps answer.begun e (asked_outcome e draft answer)
 asked_keeps ask e draft answer h =
-    let out : Keeps None answer.after (goes_out answer.after (map filling_event answer.told) draft.with_checksum draft.packet.tag (filled draft (answer_contents answer)).packet.contents) =
-    goes_out_keeps answer.after (map filling_event answer.told) draft.with_checksum draft.packet.tag (filled draft (answer_contents answer)).packet.contents in
+    let out : Keeps None answer.after (goes_out answer.after (map filling_event answer.told) draft.with_checksum draft.packet.tag (filled_draft draft (answer_contents answer)).packet.contents) =
+    goes_out_keeps answer.after (map filling_event answer.told) draft.with_checksum draft.packet.tag (filled_draft draft (answer_contents answer)).packet.contents in
     record {
       core = out.core ∙ ap (λ (x : Endpoint). x.core) h.kept;
       options = out.options ∙ ap (λ (x : Endpoint). x.options) h.kept ∙ begun_options answer.begun e;
@@ -89,7 +89,7 @@ begun_by [] = None
 begun_by (answer ∷ answers) = answer.begun
 
 -- A later ask begins nothing.
-later_where : (b : Bool) (e : Endpoint) (draft : Emission) (transfer : Transfer) (answer : Answer) → GivesWhere b later_ask e draft transfer answer → answer.begun ≡ None
+later_where : (b : Bool) (e : Endpoint) (draft : Emission) (transfer : Transfer) (answer : Answer) → GivesUnlessIdle b later_ask e draft transfer answer → answer.begun ≡ None
 later_where true e draft transfer answer h = ap (λ (a : Answer). a.begun) h
 later_where false e draft transfer answer h = h.begins
 
@@ -108,10 +108,10 @@ later_all _ _ _ _ (after_packet _ more e draft answer answers is some rest) = la
 pub flush_keeps : (ask : Ask) (n : ℕ) (e : Endpoint) (draft : Emission) (answers : List Answer) → AreFlushAnswers ask n e draft answers → Keeps (begun_by answers) e (flush_of e draft answers)
 flush_keeps _ _ _ _ _ (at_limit ask e draft) = still_keeps e
 flush_keeps _ _ _ _ _ (at_empty ask more e draft answer is empty) =
-    keeps_then answer.begun e (asked e draft answer) (still (asked e draft answer).after) (asked_keeps ask e draft answer is) (still_keeps (asked e draft answer).after)
+    keeps_then answer.begun e (asked_outcome e draft answer) (still (asked_outcome e draft answer).after) (asked_keeps ask e draft answer is) (still_keeps (asked_outcome e draft answer).after)
 flush_keeps _ _ _ _ _ (after_packet ask more e draft answer answers is some rest) =
-    let after : Endpoint = (asked e draft answer).after in
-    keeps_then answer.begun e (asked e draft answer) (flush_of after (next_draft e.core draft) answers) (asked_keeps ask e draft answer is)
+    let after : Endpoint = (asked_outcome e draft answer).after in
+    keeps_then answer.begun e (asked_outcome e draft answer) (flush_of after (next_draft e.core draft) answers) (asked_keeps ask e draft answer is)
     (subst (λ (b : Option BegunReset). Keeps b after (flush_of after (next_draft e.core draft) answers)) (later_all more after (next_draft e.core draft) answers rest)
     (flush_keeps later_ask more after (next_draft e.core draft) answers rest))
 
@@ -147,14 +147,14 @@ told_signs (message_has_expired id ∷ told) = told_signs told
 told_signs (message_ends id ∷ told) = told_signs told
 
 pub goes_out_signs : (e : Endpoint) (told : List FillingEvent) (with_checksum : Bool) (tag : ℕ) (contents : List Content)
-    → observations_of_events (goes_out e (map filling_event told) with_checksum tag contents).events ≡ observations_of_effects (emitted tag contents)
+    → observations_of_events (goes_out e (map filling_event told) with_checksum tag contents).events ≡ observations_of_effects (emission_effects tag contents)
 goes_out_signs e told with_checksum tag [] = told_signs told
 goes_out_signs e told with_checksum tag (content ∷ contents) =
     let packet : Packet = record { tag = tag; contents = content ∷ contents } in
     signs_append (map filling_event told) (sent (record { with_checksum = with_checksum; packet = packet }) ∷ [])
     ∙ ap (λ (ss : List Observation). ss ++ packet_sent packet ∷ []) (told_signs told)
 
-pub emitted_then : (tag : ℕ) (contents : List Content) (rest : List Effect) → observations_of_effects (emitted tag contents ++ rest) ≡ observations_of_effects (emitted tag contents) ++ observations_of_effects rest
+pub emitted_then : (tag : ℕ) (contents : List Content) (rest : List Effect) → observations_of_effects (emission_effects tag contents ++ rest) ≡ observations_of_effects (emission_effects tag contents) ++ observations_of_effects rest
 emitted_then tag [] rest = refl
 emitted_then tag (content ∷ contents) rest = refl
 
@@ -198,7 +198,7 @@ begun_tag None e tag is = is
 begun_tag (Some begun) e tag is = asking_tag e.core tag is
 
 tag_stays : (ask : Ask) (e : Endpoint) (draft : Emission) (answer : Answer) → IsFlushAnswer ask e draft answer → IsPeerTag e.core draft.packet.tag
-    → IsPeerTag (asked e draft answer).after.core (next_draft e.core draft).packet.tag
+    → IsPeerTag (asked_outcome e draft answer).after.core (next_draft e.core draft).packet.tag
 tag_stays ask e draft answer h is =
     let tag : ℕ = (next_draft e.core draft).packet.tag in
     subst (λ (c : Core). IsPeerTag c tag) (sym (asked_keeps ask e draft answer h).core)
@@ -214,17 +214,17 @@ later_signs : (n : ℕ) (e : Endpoint) (draft : Emission) (answers : List Answer
     → observations_of_events (flush_of e draft answers).events ≡ observations_of_effects (further_packets draft.packet.tag (map all_chunks answers))
 later_signs _ _ _ _ none is (at_limit _ e draft) = refl
 later_signs _ _ _ _ none is (at_empty _ more e draft answer h empty) =
-    signs_then (asked e draft answer).events [] (emitted draft.packet.tag (plain_contents (all_chunks answer))) []
-    (goes_out_signs answer.after answer.told draft.with_checksum draft.packet.tag _ ∙ ap (λ (cs : List Content). observations_of_effects (emitted draft.packet.tag (cs ++ answer_contents answer))) none
-    ∙ ap (λ (cs : List Content). observations_of_effects (emitted draft.packet.tag cs)) (contents_are answer (later_begins e draft answer h))) refl
+    signs_then (asked_outcome e draft answer).events [] (emission_effects draft.packet.tag (plain_contents (all_chunks answer))) []
+    (goes_out_signs answer.after answer.told draft.with_checksum draft.packet.tag _ ∙ ap (λ (cs : List Content). observations_of_effects (emission_effects draft.packet.tag (cs ++ answer_contents answer))) none
+    ∙ ap (λ (cs : List Content). observations_of_effects (emission_effects draft.packet.tag cs)) (contents_are answer (later_begins e draft answer h))) refl
     ∙ sym (emitted_then draft.packet.tag (plain_contents (all_chunks answer)) [])
 later_signs _ _ _ _ none is (after_packet _ more e draft answer answers h some rest) =
     let tag : ℕ = draft.packet.tag in
     let next : Emission = next_draft e.core draft in
-    signs_then (asked e draft answer).events (flush_of (asked e draft answer).after next answers).events (emitted tag (plain_contents (all_chunks answer))) (further_packets tag (map all_chunks answers))
-    (goes_out_signs answer.after answer.told draft.with_checksum tag _ ∙ ap (λ (cs : List Content). observations_of_effects (emitted tag (cs ++ answer_contents answer))) none
-    ∙ ap (λ (cs : List Content). observations_of_effects (emitted tag cs)) (contents_are answer (later_begins e draft answer h)))
-    (later_signs more (asked e draft answer).after next answers (next_is_empty e.core draft) (tag_stays later_ask e draft answer h is) rest
+    signs_then (asked_outcome e draft answer).events (flush_of (asked_outcome e draft answer).after next answers).events (emission_effects tag (plain_contents (all_chunks answer))) (further_packets tag (map all_chunks answers))
+    (goes_out_signs answer.after answer.told draft.with_checksum tag _ ∙ ap (λ (cs : List Content). observations_of_effects (emission_effects tag (cs ++ answer_contents answer))) none
+    ∙ ap (λ (cs : List Content). observations_of_effects (emission_effects tag cs)) (contents_are answer (later_begins e draft answer h)))
+    (later_signs more (asked_outcome e draft answer).after next answers (next_is_empty e.core draft) (tag_stays later_ask e draft answer h is) rest
     ∙ ap (λ (t : ℕ). observations_of_effects (further_packets t (map all_chunks answers))) (next_tag e.core draft is))
     ∙ sym (emitted_then tag (plain_contents (all_chunks answer)) (further_packets tag (map all_chunks answers)))
 
@@ -244,7 +244,7 @@ filling_of (answer ∷ answers) =
 -- its effects: a request that is begun, and its packets
 abbrev pub flush_effects : ℕ → List Content → List Answer → List Effect
 flush_effects tag front [] = []
-flush_effects tag front (answer ∷ answers) = begun_effects answer.begun ++ (emitted tag (front ++ answer_contents answer) ++ further_packets tag (map all_chunks answers))
+flush_effects tag front (answer ∷ answers) = begun_effects answer.begun ++ (emission_effects tag (front ++ answer_contents answer) ++ further_packets tag (map all_chunks answers))
 
 -- What is begun has the next number, and no other is outstanding.
 abbrev pub IsBegun : Option BegunReset → Held → Type 0
@@ -260,16 +260,16 @@ flushed_is : (tag : ℕ) (held : Held) (front : List Content) (begun : Option Be
     → flush tag held front (record { is_allowed = true; acknowledgements = acknowledgements; reset = reset_of begun; data_chunks = data_chunks; further = further })
     ≡ record {
       held = held_begun begun held;
-      effects = begun_effects begun ++ (emitted tag (front ++ (plain_contents acknowledgements ++ (request_contents begun ++ plain_contents data_chunks))) ++ further_packets tag further);
+      effects = begun_effects begun ++ (emission_effects tag (front ++ (plain_contents acknowledgements ++ (request_contents begun ++ plain_contents data_chunks))) ++ further_packets tag further);
     }
 flushed_is tag held front None acknowledgements data_chunks further is =
     ap (flushed_with tag held front (record { is_allowed = true; acknowledgements = acknowledgements; reset = None; data_chunks = data_chunks; further = further })) (no_reset held.own_outstanding)
 flushed_is tag held front (Some begun) acknowledgements data_chunks further is =
     let filling : Filling = record { is_allowed = true; acknowledgements = acknowledgements; reset = Some begun.reset; data_chunks = data_chunks; further = further } in
     ap (λ (outstanding : Option ℕ). flushed_with tag held front filling (reset_to_begin outstanding (Some begun.reset))) is.1
-    ∙ ap (λ (number : ℕ). let f : Flushed = record {
+    ∙ ap (λ (number : ℕ). let f : FlushResult = record {
       held = held_asking held;
-      effects = begins number ∷ (emitted tag (front ++ (plain_contents acknowledgements ++ (reset_request number begun.reset ∷ plain_contents data_chunks))) ++ further_packets tag further);
+      effects = begins number ∷ (emission_effects tag (front ++ (plain_contents acknowledgements ++ (reset_request number begun.reset ∷ plain_contents data_chunks))) ++ further_packets tag further);
     } in f) (sym is.0)
 
 pub flush_is : (tag : ℕ) (held : Held) (front : List Content) (answers : List Answer) → IsBegun (begun_by answers) held
@@ -278,7 +278,7 @@ flush_is tag held front [] is = refl
 flush_is tag held front (answer ∷ answers) is = flushed_is tag held front answer.begun answer.acknowledgements answer.data_chunks (map all_chunks answers) is
 
 -- It is begun by that rule.
-begun_is : (follows : Bool) (held : Held) (outstanding : Option ℕ) (last_tsn : ℕ) (streams : List ℕ) → held.own_outstanding ≡ outstanding → IsBegun (begun_where follows outstanding held.own_next last_tsn streams) held
+begun_is : (follows : Bool) (held : Held) (outstanding : Option ℕ) (last_tsn : ℕ) (streams : List ℕ) → held.own_outstanding ≡ outstanding → IsBegun (begun_if_ready follows outstanding held.own_next last_tsn streams) held
 begun_is follows held None last_tsn [] is = tt
 begun_is follows held None last_tsn (stream ∷ streams) is = (refl, is)
 begun_is follows held (Some number) last_tsn [] is = tt
@@ -288,33 +288,33 @@ begun_is follows held (Some number) last_tsn (stream ∷ streams) is = tt
 abbrev AsksAtMost : Held → Option Held → Type 0
 AsksAtMost held peer = (peer ≡ None) ⊎ (peer ≡ Some held)
 
-asks_at_most : (core : Core) (follows : Bool) (held : Held) → held_in core ≡ Some held → AsksAtMost held (may_be_asked core follows)
+asks_at_most : (core : Core) (follows : Bool) (held : Held) → held_by_core core ≡ Some held → AsksAtMost held (may_be_asked core follows)
 asks_at_most closed_core follows held holds = inr holds
 asks_at_most (cookie_wait my) follows held holds = inr holds
 asks_at_most (cookie_echoed my own cookie) true held holds = inl refl
 asks_at_most (cookie_echoed my own cookie) false held holds = inr holds
 asks_at_most (open_in phase my own) follows held holds = inr holds
 
-first_in : (follows : Bool) (held : Held) (peer : Option Held) (room last_tsn : ℕ) (queue : SendQueueState) → AsksAtMost held peer → IsBegun (begun_in follows peer room last_tsn queue) held
+first_in : (follows : Bool) (held : Held) (peer : Option Held) (room last_tsn : ℕ) (queue : SendQueueState) → AsksAtMost held peer → IsBegun (begun_if_connected follows peer room last_tsn queue) held
 first_in follows held None room last_tsn queue is = tt
 first_in follows held (Some own) room last_tsn queue (inl is) = absurd (cc)
 first_in follows held (Some own) room last_tsn queue (inr is) =
     let here : own ≡ held = cc in
-    subst (λ (h : Held). IsBegun (begun_in follows (Some own) room last_tsn queue) h) here
+    subst (λ (h : Held). IsBegun (begun_if_connected follows (Some own) room last_tsn queue) h) here
     (begun_is follows own own.own_outstanding last_tsn (map stream_field (take (streams_within room) (ready_streams queue))) refl)
 
-first_where : (b : Bool) (e : Endpoint) (held : Held) (draft : Emission) (transfer : Transfer) (answer : Answer) → held_in e.core ≡ Some held → GivesWhere b first_ask e draft transfer answer → IsBegun answer.begun held
+first_where : (b : Bool) (e : Endpoint) (held : Held) (draft : Emission) (transfer : Transfer) (answer : Answer) → held_by_core e.core ≡ Some held → GivesUnlessIdle b first_ask e draft transfer answer → IsBegun answer.begun held
 first_where true e held draft transfer answer holds h = subst (λ (a : Answer). IsBegun a.begun held) (sym h) tt
 first_where false e held draft transfer answer holds h =
     subst (λ (b : Option BegunReset). IsBegun b held) (sym h.begins)
-    (first_in e.options.follow_rfc held (may_be_asked e.core e.options.follow_rfc) (room_in e (filled draft (plain_contents answer.acknowledgements))) (last_assigned_tsn h.gave_up.queue) h.gave_up.waiting
+    (first_in e.options.follow_rfc held (may_be_asked e.core e.options.follow_rfc) (room_of_draft e (filled_draft draft (plain_contents answer.acknowledgements))) (last_assigned_tsn h.gave_up.queue) h.gave_up.waiting
     (asks_at_most e.core e.options.follow_rfc held holds))
 
-first_below : (e : Endpoint) (held : Held) (draft : Emission) (transfer : Option Transfer) (answer : Answer) → held_in e.core ≡ Some held → IsAnswerOfQueues first_ask e draft answer transfer → IsBegun answer.begun held
+first_below : (e : Endpoint) (held : Held) (draft : Emission) (transfer : Option Transfer) (answer : Answer) → held_by_core e.core ≡ Some held → IsAnswerOfQueues first_ask e draft answer transfer → IsBegun answer.begun held
 first_below e held draft None answer holds h = subst (λ (a : Answer). IsBegun a.begun held) (sym h) tt
 first_below e held draft (Some transfer) answer holds h = first_where (is_idle e.queues.queue transfer) e held draft transfer answer holds h
 
-pub first_begins : (n : ℕ) (e : Endpoint) (held : Held) (draft : Emission) (answers : List Answer) → held_in e.core ≡ Some held → AreFlushAnswers first_ask n e draft answers → IsBegun (begun_by answers) held
+pub first_begins : (n : ℕ) (e : Endpoint) (held : Held) (draft : Emission) (answers : List Answer) → held_by_core e.core ≡ Some held → AreFlushAnswers first_ask n e draft answers → IsBegun (begun_by answers) held
 first_begins _ _ held _ _ holds (at_limit _ e draft) = tt
 first_begins _ _ held _ _ holds (at_empty _ more e draft answer h empty) = first_below e held draft e.queues.transfer answer holds h.by_transfer
 first_begins _ _ held _ _ holds (after_packet _ more e draft answer answers h some rest) = first_below e held draft e.queues.transfer answer holds h.by_transfer
@@ -327,42 +327,42 @@ pub flush_signs : (n : ℕ) (e : Endpoint) (draft : Emission) (answers : List An
     → observations_of_events (flush_of e draft answers).events ≡ observations_of_effects (flush_effects draft.packet.tag draft.packet.contents answers)
 flush_signs _ _ _ _ is (at_limit _ e draft) = refl
 flush_signs _ _ _ _ is (at_empty _ more e draft answer h empty) =
-    signs_then (asked e draft answer).events [] (emitted draft.packet.tag (draft.packet.contents ++ answer_contents answer)) []
+    signs_then (asked_outcome e draft answer).events [] (emission_effects draft.packet.tag (draft.packet.contents ++ answer_contents answer)) []
     (goes_out_signs answer.after answer.told draft.with_checksum draft.packet.tag _) refl
     ∙ sym (emitted_then draft.packet.tag (draft.packet.contents ++ answer_contents answer) [])
-    ∙ sym (begun_signs answer.begun (emitted draft.packet.tag (draft.packet.contents ++ answer_contents answer) ++ []))
+    ∙ sym (begun_signs answer.begun (emission_effects draft.packet.tag (draft.packet.contents ++ answer_contents answer) ++ []))
 flush_signs _ _ _ _ is (after_packet _ more e draft answer answers h some rest) =
     let tag : ℕ = draft.packet.tag in
     let next : Emission = next_draft e.core draft in
-    signs_then (asked e draft answer).events (flush_of (asked e draft answer).after next answers).events (emitted tag (draft.packet.contents ++ answer_contents answer)) (further_packets tag (map all_chunks answers))
+    signs_then (asked_outcome e draft answer).events (flush_of (asked_outcome e draft answer).after next answers).events (emission_effects tag (draft.packet.contents ++ answer_contents answer)) (further_packets tag (map all_chunks answers))
     (goes_out_signs answer.after answer.told draft.with_checksum tag _)
-    (later_signs more (asked e draft answer).after next answers (next_is_empty e.core draft) (tag_stays first_ask e draft answer h is) rest
+    (later_signs more (asked_outcome e draft answer).after next answers (next_is_empty e.core draft) (tag_stays first_ask e draft answer h is) rest
     ∙ ap (λ (t : ℕ). observations_of_effects (further_packets t (map all_chunks answers))) (next_tag e.core draft is))
     ∙ sym (emitted_then tag (draft.packet.contents ++ answer_contents answer) (further_packets tag (map all_chunks answers)))
-    ∙ sym (begun_signs answer.begun (emitted tag (draft.packet.contents ++ answer_contents answer) ++ further_packets tag (map all_chunks answers)))
+    ∙ sym (begun_signs answer.begun (emission_effects tag (draft.packet.contents ++ answer_contents answer) ++ further_packets tag (map all_chunks answers)))
 
 -- Of a flush only a request that is begun is recorded.
-pub emitted_notes : (tag : ℕ) (contents : List Content) (rest : List Effect) → noted (emitted tag contents ++ rest) ≡ noted rest
+pub emitted_notes : (tag : ℕ) (contents : List Content) (rest : List Effect) → effects_without_packets (emission_effects tag contents ++ rest) ≡ effects_without_packets rest
 emitted_notes tag [] rest = refl
 emitted_notes tag (content ∷ contents) rest = refl
 
-pub further_notes : (tag : ℕ) (packets : List (List Plain)) → noted (further_packets tag packets) ≡ []
+pub further_notes : (tag : ℕ) (packets : List (List Plain)) → effects_without_packets (further_packets tag packets) ≡ []
 further_notes tag [] = refl
 further_notes tag (chunks ∷ packets) = emitted_notes tag (plain_contents chunks) (further_packets tag packets) ∙ further_notes tag packets
 
-begun_notes : (begun : Option BegunReset) (rest : List Effect) → noted rest ≡ [] → noted (begun_effects begun ++ rest) ≡ begun_effects begun
+begun_notes : (begun : Option BegunReset) (rest : List Effect) → effects_without_packets rest ≡ [] → effects_without_packets (begun_effects begun ++ rest) ≡ begun_effects begun
 begun_notes None rest none = none
 begun_notes (Some begun) rest none = ap (λ (es : List Effect). begins begun.number ∷ es) none
 
-pub flush_notes : (tag : ℕ) (front : List Content) (answers : List Answer) → noted (flush_effects tag front answers) ≡ begun_effects (begun_by answers)
+pub flush_notes : (tag : ℕ) (front : List Content) (answers : List Answer) → effects_without_packets (flush_effects tag front answers) ≡ begun_effects (begun_by answers)
 flush_notes tag front [] = refl
 flush_notes tag front (answer ∷ answers) =
-    begun_notes answer.begun (emitted tag (front ++ answer_contents answer) ++ further_packets tag (map all_chunks answers))
+    begun_notes answer.begun (emission_effects tag (front ++ answer_contents answer) ++ further_packets tag (map all_chunks answers))
     (emitted_notes tag (front ++ answer_contents answer) (further_packets tag (map all_chunks answers)) ∙ further_notes tag (map all_chunks answers))
 
 -- How an association is rebuilt from what is known of its peer: a request that is begun changes that alone.
 pub record Rebuilds (rebuilt : Held → Core) (held : Held) : Type 0 where
-  pub holds : held_in (rebuilt held) ≡ Some held
+  pub holds : held_by_core (rebuilt held) ≡ Some held
   pub asks : core_asking (rebuilt held) ≡ rebuilt (held_asking held)
 
 pub rebuilds_open : (phase : OpenPhase) (my : Pair) (held : Held) → Rebuilds (λ h. open_in phase my h) held
@@ -376,7 +376,7 @@ begun_core None base rebuilt held builds is = is
 begun_core (Some begun) base rebuilt held builds is = ap core_asking is ∙ builds.asks
 
 -- the turn by what a flush makes of the peer
-abbrev pub FlushesTo : Endpoint → Outcome → (Held → Core) → List Effect → Flushed → Type 0
+abbrev pub FlushesTo : Endpoint → Outcome → (Held → Core) → List Effect → FlushResult → Type 0
 FlushesTo e o rebuilt before after = IsControlled e o (record { core = rebuilt after.held; effects = before ++ after.effects; following = next_chunk })
 
 -- A flush after these words and events, which record these effects, is one of the association after them.
@@ -384,15 +384,15 @@ pub flush_controlled : (e base : Endpoint) (words : List Word) (events : List (E
     → Rebuilds rebuilt held → base.core ≡ rebuilt held → SameOptions e.options base.options → IsPeerTag base.core draft.packet.tag → FlushAnswers base draft answers
     → observations_of_events events ≡ observations_of_effects before
     → observations_of_effects (before ++ flush_effects draft.packet.tag draft.packet.contents answers) ≡ observations_of_effects before ++ observations_of_effects (flush_effects draft.packet.tag draft.packet.contents answers)
-    → noted (before ++ flush_effects draft.packet.tag draft.packet.contents answers) ≡ effects ++ noted (flush_effects draft.packet.tag draft.packet.contents answers)
-    → FlushesTo e (noting effects (behind words events (flush_of base draft answers))) rebuilt before (flush draft.packet.tag held draft.packet.contents (filling_of answers))
+    → effects_without_packets (before ++ flush_effects draft.packet.tag draft.packet.contents answers) ≡ effects ++ effects_without_packets (flush_effects draft.packet.tag draft.packet.contents answers)
+    → FlushesTo e (with_effects_first effects (behind words events (flush_of base draft answers))) rebuilt before (flush draft.packet.tag held draft.packet.contents (filling_of answers))
 flush_controlled e base words events draft answers rebuilt held before effects builds is same peer h told observations notes =
     let n : ℕ = packets_allowed base.options.max_burst base.core in
     let tag : ℕ = draft.packet.tag in
     let keeps : Keeps (begun_by answers) base (flush_of base draft answers) = flush_keeps first_ask n base draft answers h in
     let more : List Effect = flush_effects tag draft.packet.contents answers in
-    subst (FlushesTo e (noting effects (behind words events (flush_of base draft answers))) rebuilt before)
-    (sym (flush_is tag held draft.packet.contents answers (first_begins n base held draft answers (ap held_in is ∙ builds.holds) h)))
+    subst (FlushesTo e (with_effects_first effects (behind words events (flush_of base draft answers))) rebuilt before)
+    (sym (flush_is tag held draft.packet.contents answers (first_begins n base held draft answers (ap held_by_core is ∙ builds.holds) h)))
     (record {
       core = keeps.core ∙ begun_core (begun_by answers) base rebuilt held builds is;
       options = subst (SameOptions e.options) (sym keeps.options) same;
@@ -406,15 +406,15 @@ pub further_then : (tag : ℕ) (packets : List (List Plain)) (rest : List Effect
     → observations_of_effects (further_packets tag packets ++ rest) ≡ observations_of_effects (further_packets tag packets) ++ observations_of_effects rest
 further_then tag [] rest = refl
 further_then tag (chunks ∷ packets) rest =
-    let one : List Effect = emitted tag (plain_contents chunks) in
+    let one : List Effect = emission_effects tag (plain_contents chunks) in
     ap observations_of_effects (append_assoc one (further_packets tag packets) rest)
     ∙ emitted_then tag (plain_contents chunks) (further_packets tag packets ++ rest)
     ∙ ap (λ (ss : List Observation). observations_of_effects one ++ ss) (further_then tag packets rest)
     ∙ sym (append_assoc (observations_of_effects one) (observations_of_effects (further_packets tag packets)) (observations_of_effects rest))
     ∙ ap (λ (ss : List Observation). ss ++ observations_of_effects rest) (sym (emitted_then tag (plain_contents chunks) (further_packets tag packets)))
 
-pub further_notes_then : (tag : ℕ) (packets : List (List Plain)) (rest : List Effect) → noted (further_packets tag packets ++ rest) ≡ noted rest
+pub further_notes_then : (tag : ℕ) (packets : List (List Plain)) (rest : List Effect) → effects_without_packets (further_packets tag packets ++ rest) ≡ effects_without_packets rest
 further_notes_then tag [] rest = refl
 further_notes_then tag (chunks ∷ packets) rest =
-    ap noted (append_assoc (emitted tag (plain_contents chunks)) (further_packets tag packets) rest)
+    ap effects_without_packets (append_assoc (emission_effects tag (plain_contents chunks)) (further_packets tag packets) rest)
     ∙ emitted_notes tag (plain_contents chunks) (further_packets tag packets ++ rest) ∙ further_notes_then tag packets rest

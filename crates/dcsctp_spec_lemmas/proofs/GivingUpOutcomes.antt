@@ -9,9 +9,9 @@ use Rattle.dcsctp_spec.specs.types.declared.progress.Progress.{Progress}
 use Rattle.dcsctp_spec.specs.types.declared.progress.ItemState.TheVariants.{Abandoned}
 use Rattle.dcsctp_spec.specs.endpoint.Event.{Event}
 use Rattle.dcsctp_spec.specs.queues.Abandoning.{NoneDue, GivesUpFirst, GivesUpAll}
-use Rattle.dcsctp_spec.specs.queues.Filling.{Stage, maybe_expired, DropsRestAt, ClosesMessage, GivesUpAt, StageSteps, none, more}
+use Rattle.dcsctp_spec.specs.queues.Filling.{Stage, maybe_expired, DropsRestOfMessage, ClosesMessage, GivesUpItem, StageSteps, none, more}
 use Rattle.dcsctp_spec.specs.queues.ItemMessages.{EndsDropped}
-use Rattle.dcsctp_spec.specs.queues.Items.{Item, number_where, marked_count, marked_items, changed_between}
+use Rattle.dcsctp_spec.specs.queues.Items.{Item, number_or_zero, marked_count, marked_items, changed_between}
 use Rattle.dcsctp_spec.specs.queues.Outstanding.{OutstandingState}
 use Rattle.dcsctp_spec.specs.types.queues.Progress.{is_marked, just_sent}
 use Rattle.dcsctp_spec.specs.queues.Retransmission.{with_items}
@@ -47,7 +47,7 @@ ending_keeps : (now : ℕ) (begins : Bool) (last : Item) (old new : OutstandingS
 ending_keeps now begins last old new true ends =
     let items = ap (λ (m : OutstandingState). marked_items m.items) ends.grows in
     let all = sum_by_push marked_count old.items ends.item in
-    let zero_more = ap (λ (p : Progress). number_where (is_marked p.state) 1) ends.is_end.progress in
+    let zero_more = ap (λ (p : Progress). number_or_zero (is_marked p.state) 1) ends.is_end.progress in
     record {
       stays = λ k item at. ap (λ (m : OutstandingState). slice_get m.items k) ends.grows ∙ slice_get_stays old.items ends.item k item at;
       marked = omega arith;
@@ -94,7 +94,7 @@ pub record GivingUpKeeps (place : ℕ) (old new : Stage) : Type 0 where
   pub fewer : (item : Item) → slice_get old.queue.outstanding.items place ≡ Some item → is_marked item.progress.state ≡ true
       → marked_items new.queue.outstanding.items < marked_items old.queue.outstanding.items
 
-pub giving_up_keeps : (now place : ℕ) (old new : Stage) → GivesUpAt now place old new → GivingUpKeeps place old new
+pub giving_up_keeps : (now place : ℕ) (old new : Stage) → GivesUpItem now place old new → GivingUpKeeps place old new
 giving_up_keeps now place old new up =
     let closing = closing_keeps now up.last old up.closed up.last.fragment.is_end up.closes in
     let before = closing.items.marked in
@@ -137,7 +137,7 @@ dropped_at now last old named = record old {
   told = old.told ++ drop_events named.place named.under_way.sent named.message old.waiting;
 }
 
-pub drops_named : (now : ℕ) (last : Item) (old : Stage) (named : IsMessageUnderWay old.waiting last.fragment.stream last.fragment.message_id) → DropsRestAt now last old (dropped_at now last old named)
+pub drops_named : (now : ℕ) (last : Item) (old : Stage) (named : IsMessageUnderWay old.waiting last.fragment.stream last.fragment.message_id) → DropsRestOfMessage now last old (dropped_at now last old named)
 drops_named now last old named =
     record {
       outstanding = with_end now last old;
@@ -149,7 +149,7 @@ drops_named now last old named =
       is = refl;
     }
 
-drops_none : (now : ℕ) (last : Item) (old : Stage) → (IsMessageUnderWay old.waiting last.fragment.stream last.fragment.message_id → ⊥) → DropsRestAt now last old old
+drops_none : (now : ℕ) (last : Item) (old : Stage) → (IsMessageUnderWay old.waiting last.fragment.stream last.fragment.message_id → ⊥) → DropsRestOfMessage now last old old
 drops_none now last old unnamed = record { outstanding = old.queue.outstanding; drops = record { is_dropped = false; drops = (unnamed, refl, refl); ends = refl }; is = refl }
 
 some_closed : (now : ℕ) (last : Item) (old : Stage) (is_end : Bool) → Closed now last old is_end
@@ -162,18 +162,18 @@ some_closed now last old false = elim (le_or_lt (2 ^ 31) (length old.queue.outst
   ]
 ]
 
-pub given_up_at : (now place : ℕ) (old : Stage) (item : Item) → slice_get old.queue.outstanding.items place ≡ Some item → (new : Stage) × GivesUpAt now place old new × GivingUpKeeps place old new
+pub given_up_at : (now place : ℕ) (old : Stage) (item : Item) → slice_get old.queue.outstanding.items place ≡ Some item → (new : Stage) × GivesUpItem now place old new × GivingUpKeeps place old new
 given_up_at now place old item at =
     let row = some_row place old.queue.outstanding.items item at in
     let some = some_closed now row.last old row.last.fragment.is_end in
     let new : Stage = record some.closed { queue = with_items (changed_between Abandon row.start (row.last_place + 1) some.closed.queue.outstanding.items) some.closed.queue } in
-    let up : GivesUpAt now place old new =
+    let up : GivesUpItem now place old new =
     record { start = row.start; last_place = row.last_place; message = row.message; last = row.last; at = row.at; closed = some.closed; closes = some.closes; is = refl } in
     (new, up, giving_up_keeps now place old new up)
 
 -- Where the item waits to be sent again, fewer do after a step that abandons its message.
 pub fewer_by_giving_up : (Step : Stage → Stage → Type 0) (now place : ℕ) (old : Stage) (item : Item) → slice_get old.queue.outstanding.items place ≡ Some item → is_marked item.progress.state ≡ true
-    → ((new : Stage) → GivesUpAt now place old new → Step old new) → FewerBy Step old
+    → ((new : Stage) → GivesUpItem now place old new → Step old new) → FewerBy Step old
 fewer_by_giving_up Step now place old item at is step =
     let (new, up, keeps) = given_up_at now place old item at in
     record { new = new; step = step new up; rest = keeps.rest; told = keeps.told; fewer = keeps.fewer item at is }

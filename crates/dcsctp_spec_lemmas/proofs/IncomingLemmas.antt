@@ -10,11 +10,11 @@ use Rattle.dcsctp_spec.specs.types.declared.arrivals.Numbering.{Numbering}
 use Rattle.dcsctp_spec.specs.types.declared.arrivals.Numbering.TheVariants.{Ordered, Unordered, InterleavedOrdered, InterleavedUnordered}
 use Rattle.dcsctp_spec.specs.types.declared.arrivals.SkippedTo.{SkippedTo}
 use Rattle.dcsctp_spec.specs.types.declared.arrivals.Taken.{Taken}
-use Rattle.dcsctp_spec.specs.queues.Incoming.{IncomingModel, MovesOn, ResetsStreams, TakesChunk, TakesIncomingChunk, TakesStreamData, is_named, skipped_by, stream_on}
-use Rattle.dcsctp_spec.specs.queues.IncomingStreams.{ChunkModel, IsNumberPlace, NumberedBelow, StreamModel, TakesAhead, TakesInOrder, TakesNumbered, TakesOrdered, TakesUnordered, WaitsAmong, data_part, delivered_as, is_number_waiting, new_stream, next_after, not_due, skipped, skipped_stream}
+use Rattle.dcsctp_spec.specs.queues.Incoming.{IncomingModel, MovesOn, ResetsStreams, TakesChunk, TakesIncomingChunk, TakesStreamData, is_named, stream_skipping, stream_on}
+use Rattle.dcsctp_spec.specs.queues.IncomingStreams.{ChunkModel, IsNumberPlace, IsNumberedBelow, StreamModel, TakesAhead, TakesInOrder, TakesNumbered, TakesOrdered, TakesUnordered, WaitsAmong, data_part, delivered_as, is_number_waiting, new_stream, next_after, not_due, stream_after_skip, skipped_stream}
 use Rattle.dcsctp_spec.specs.types.queues.Messages.{MessageContent}
 use Rattle.dcsctp_spec.specs.queues.Numbers.{fragment_place, number_near, short_number_from}
-use Rattle.dcsctp_spec.specs.queues.Runs.{AddsAt, AddsPart, Assembled, IsRunPlace, PartModel, PassesAlone, RunModel, WholeModel, entry_before, following, follows, is_held_before, is_whole, merged_at, message_whole, part_dropped, part_kept, precedes, preceding}
+use Rattle.dcsctp_spec.specs.queues.Runs.{AssemblesPart, AddsPart, Assembly, IsRunPlace, PartModel, PassesAlone, RunModel, WholeModel, entry_before, following, follows, is_held_before, is_whole, merged_run, message_whole, part_dropped, part_kept, precedes, preceding}
 
 pub by_test : {A : Type 0} → (test : Bool) → (test ≡ true → A) → (test ≡ false → A) → A
 by_test true holds fails = holds refl
@@ -51,7 +51,7 @@ not_preceding : (part : PartModel) (o : Option RunModel) → part.is_end ≡ tru
 not_preceding part None ends = refl
 not_preceding part (Some run) ends = let apart : precedes part run ≡ false = grind (arith, nat_tests) in rw apart refl
 
-passes_alone : (at : ℕ) (part : PartModel) (old : List RunModel) (outcome : Assembled) (new : List RunModel) → AddsAt at part old outcome new → part.is_beginning ≡ true → part.is_end ≡ true → PassesAlone part old outcome new
+passes_alone : (at : ℕ) (part : PartModel) (old : List RunModel) (outcome : Assembly) (new : List RunModel) → AssemblesPart at part old outcome new → part.is_beginning ≡ true → part.is_end ≡ true → PassesAlone part old outcome new
 passes_alone at part old part_dropped new adds begins ends = adds.1
 passes_alone at part old part_kept new adds begins ends =
     let alone = rw (not_following (entry_before at old) part begins, not_preceding part (slice_get old at) ends) at adds.1 in absurd (cc)
@@ -60,15 +60,15 @@ passes_alone at part old (message_whole whole) new adds begins ends =
     let behind = not_preceding part (slice_get old at) ends in
     (adds.3 ∙ rw (before, behind) (take-append-drop at old), adds.2 ∙ rw (before, behind) refl)
 
-any_at : (at : ℕ) (part : PartModel) (old : List RunModel) → (outcome : Assembled) × (new : List RunModel) × AddsAt at part old outcome new
+any_at : (at : ℕ) (part : PartModel) (old : List RunModel) → (outcome : Assembly) × (new : List RunModel) × AssemblesPart at part old outcome new
 any_at at part old =
     by_test (is_held_before at old part.place)
     (λ held. (part_dropped, _, (held, refl)))
-    (λ fresh. by_test (is_whole (merged_at at old part))
+    (λ fresh. by_test (is_whole (merged_run at old part))
     (λ whole. (message_whole _, _, (fresh, whole, refl, refl)))
     (λ more. (part_kept, _, (fresh, more, refl))))
 
-any_part : (part : PartModel) (old : List RunModel) → (outcome : Assembled) × (new : List RunModel) × AddsPart part old outcome new
+any_part : (part : PartModel) (old : List RunModel) → (outcome : Assembly) × (new : List RunModel) × AddsPart part old outcome new
 any_part part old =
     let (at, place) = any_place part.place old in
     let (outcome, new, adds) = any_at at part old in
@@ -84,7 +84,7 @@ any_turn number (whole ∷ waiting) =
     (λ below. (suc at, record { within = let few = turn.within in omega (arith, few); before = λ _. simp unary_clauses (go at turn (grind (arith, nat_tests))); behind = turn.behind }))
     (λ from. (0, record { within = omega arith; before = λ above. absurd (omega arith); behind = grind (arith, nat_tests) }))
   where
-    go : (at : ℕ) → IsNumberPlace at number waiting → whole.number < number → NumberedBelow number (slice_get (whole ∷ waiting) at)
+    go : (at : ℕ) → IsNumberPlace at number waiting → whole.number < number → IsNumberedBelow number (slice_get (whole ∷ waiting) at)
     go zero turn below = below
     go (suc at) turn below = simp unary_clauses at (turn.before (omega arith))
 
@@ -99,7 +99,7 @@ any_waiting whole old = go (whole.number == old.next)
 any_ordered : (part : PartModel) (old : StreamModel) (before : List MessageContent) → HasOutcome (TakesOrdered part old before)
 any_ordered part old before = let (outcome, ordered, parts) = any_part part old.ordered in go outcome ordered parts
   where
-    go : (outcome : Assembled) (ordered : List RunModel) → AddsPart part old.ordered outcome ordered → HasOutcome (TakesOrdered part old before)
+    go : (outcome : Assembly) (ordered : List RunModel) → AddsPart part old.ordered outcome ordered → HasOutcome (TakesOrdered part old before)
     go part_dropped ordered parts =
         (taken_as 0 0, record old { ordered = ordered }, _, record { outcome = part_dropped; parts = parts; does = (ap (λ runs. record old { ordered = runs }) parts.adds.1, refl, (refl, refl)); id = refl; unordered = (refl, refl) })
     go part_kept ordered parts =
@@ -115,7 +115,7 @@ any_ordered part old before = let (outcome, ordered, parts) = any_part part old.
 any_unordered : (part : PartModel) (shown : WholeModel → MessageContent) (old : List RunModel) (before : List MessageContent) → HasOutcome (TakesUnordered part shown old before)
 any_unordered part shown old before = let (outcome, new, parts) = any_part part old in go outcome new parts
   where
-    go : (outcome : Assembled) (new : List RunModel) → AddsPart part old outcome new → HasOutcome (TakesUnordered part shown old before)
+    go : (outcome : Assembly) (new : List RunModel) → AddsPart part old outcome new → HasOutcome (TakesUnordered part shown old before)
     go part_dropped new parts = (taken_as 0 0, new, _, record { outcome = part_dropped; parts = parts; does = (refl, (refl, refl)) })
     go part_kept new parts = (taken_as (length part.payload) 0, new, _, record { outcome = part_kept; parts = parts; does = (refl, (refl, refl)) })
     go (message_whole whole) new parts = (taken_as (length part.payload) 1, new, _, record { outcome = message_whole whole; parts = parts; does = (refl, refl, refl) })
@@ -183,13 +183,13 @@ any_data tsn chunk old =
     (new, record { takes = takes; last = last })
 
 -- the streams once all entries are handled
-any_streams : (entries : List SkippedTo) (old : List (ℕ × StreamModel)) → (new : List (ℕ × StreamModel)) × ((id : ℕ) → stream_on id new ≡ skipped_by entries id (stream_on id old))
+any_streams : (entries : List SkippedTo) (old : List (ℕ × StreamModel)) → (new : List (ℕ × StreamModel)) × ((id : ℕ) → stream_on id new ≡ stream_skipping entries id (stream_on id old))
 any_streams [] old = (old, λ id. refl)
 any_streams (entry ∷ entries) old =
-    let stream = skipped entry (stream_on (skipped_stream entry) old) in
+    let stream = stream_after_skip entry (stream_on (skipped_stream entry) old) in
     let (new, rest) = any_streams entries ((skipped_stream entry, stream) ∷ old) in (
       new,
-      λ id. rest id ∙ ap (λ stream. skipped_by entries id stream) (by_test (skipped_stream entry == id)
+      λ id. rest id ∙ ap (λ stream. stream_skipping entries id stream) (by_test (skipped_stream entry == id)
           (λ same. let equal : skipped_stream entry ≡ id = grind (arith, nat_tests) in rw (on_front (skipped_stream entry) id stream old, same, equal) refl)
           (λ apart. rw (on_front (skipped_stream entry) id stream old, apart) refl)),
     )

@@ -11,7 +11,7 @@ use Rattle.dcsctp_spec.specs.queues.Outstanding.{OutstandingState}
 use Rattle.dcsctp_spec.specs.queues.Retransmission.{RetransmissionState}
 use Rattle.dcsctp_spec.specs.queues.Transfer.{Transfer}
 use Rattle.dcsctp_spec.specs.endpoint.DataOutcomes.{with_transfer, SendsLost}
-use Rattle.dcsctp_spec.specs.endpoint.FlushOutcomes.{draft_to, goes_out, room_in}
+use Rattle.dcsctp_spec.specs.endpoint.FlushOutcomes.{draft_to, goes_out, room_of_draft}
 use Rattle.dcsctp_spec_lemmas.proofs.ChunkOutcomes.{SomeChunks, some_chunks}
 use Rattle.dcsctp_spec_lemmas.proofs.FilledAnswers.{small_room}
 use Rattle.dcsctp_spec_lemmas.proofs.FilledOutcomes.{counts_alone}
@@ -25,7 +25,7 @@ same_outstanding now bytes old new tsns e sends =
 
 pub some_lost : (e : Endpoint) (held : Held) (transfer : Transfer) → (o : Outcome) × SendsLost e held transfer o
 some_lost e held transfer =
-    let room : ℕ = room_in e (draft_to held) in
+    let room : ℕ = room_of_draft e (draft_to held) in
     let (left, tsns, sends) = some_at_once e.moment room e.queues.queue transfer.retransmission in
     let start : Stage = empty_stage (record transfer.retransmission { fast_retransmit_due = false }) e.queues.queue room in
     let resent : Stage = record (empty_stage sends.resent e.queues.queue sends.room) { tsns = tsns } in

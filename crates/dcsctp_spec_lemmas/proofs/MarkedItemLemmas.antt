@@ -7,7 +7,7 @@ use Rattle.dcsctp_spec.specs.types.declared.progress.Change.{Change}
 use Rattle.dcsctp_spec.specs.types.declared.progress.Progress.{Progress}
 use Rattle.dcsctp_spec.specs.endpoint.Event.{Event}
 use Rattle.dcsctp_spec.specs.queues.Filling.{Stage, StageSteps, more}
-use Rattle.dcsctp_spec.specs.queues.Items.{Item, number_where, marked_count, marked_items, changed_item, changed_between}
+use Rattle.dcsctp_spec.specs.queues.Items.{Item, number_or_zero, marked_count, marked_items, changed_item, changed_between}
 use Rattle.dcsctp_spec.specs.queues.NextItem.{IsNextMarked}
 use Rattle.dcsctp_spec.specs.types.queues.Progress.{is_marked, progress_changed}
 
@@ -25,7 +25,7 @@ marked_at_most change unmarks zero zero items = omega arith
 marked_at_most change unmarks zero (suc end) [] = omega arith
 marked_at_most change unmarks zero (suc end) (x ∷ xs) =
     let later = marked_at_most change unmarks zero end xs in
-    let here = ap (λ (b : Bool). number_where b 1) (unmarks x.progress) in
+    let here = ap (λ (b : Bool). number_or_zero b 1) (unmarks x.progress) in
     let old = sum_by-cons marked_count x xs in
     let new = sum_by-cons marked_count (changed_item change x) (changed_between change zero end xs) in
     omega arith
@@ -44,15 +44,15 @@ fewer_marked change unmarks zero zero place items item from to at is = absurd (o
 fewer_marked change unmarks zero (suc end) place [] item from to at is = absurd (cc)
 fewer_marked change unmarks zero (suc end) zero (x ∷ xs) item from to at is =
     let same : x ≡ item = cc in
-    let was = ap (λ (y : Item). marked_count y) same ∙ ap (λ (b : Bool). number_where b 1) is in
+    let was = ap (λ (y : Item). marked_count y) same ∙ ap (λ (b : Bool). number_or_zero b 1) is in
     let later = marked_at_most change unmarks zero end xs in
-    let here = ap (λ (b : Bool). number_where b 1) (unmarks x.progress) in
+    let here = ap (λ (b : Bool). number_or_zero b 1) (unmarks x.progress) in
     let old = sum_by-cons marked_count x xs in
     let new = sum_by-cons marked_count (changed_item change x) (changed_between change zero end xs) in
     omega arith
 fewer_marked change unmarks zero (suc end) (suc place) (x ∷ xs) item from to at is =
     let later = fewer_marked change unmarks zero end place xs item (omega arith) (omega arith) at is in
-    let here = ap (λ (b : Bool). number_where b 1) (unmarks x.progress) in
+    let here = ap (λ (b : Bool). number_or_zero b 1) (unmarks x.progress) in
     let old = sum_by-cons marked_count x xs in
     let new = sum_by-cons marked_count (changed_item change x) (changed_between change zero end xs) in
     omega arith
@@ -94,7 +94,7 @@ first_marked (x ∷ xs) = go (first_marked xs) (is_marked x.progress.state) refl
     go : (marked_items xs ≡ 0) ⊎ FirstMarked xs → (b : Bool) → is_marked x.progress.state ≡ b → (marked_items (x ∷ xs) ≡ 0) ⊎ FirstMarked (x ∷ xs)
     go later true is = inr (first_here x xs is)
     go (inl none_left) false is_not =
-        let here = ap (λ (b : Bool). number_where b 1) is_not in
+        let here = ap (λ (b : Bool). number_or_zero b 1) is_not in
         let all = sum_by-cons marked_count x xs in
         inl (omega arith)
     go (inr later) false is_not = inr (first_behind x xs is_not later)

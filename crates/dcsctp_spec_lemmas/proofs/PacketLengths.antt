@@ -10,13 +10,13 @@ use Rattle.dcsctp_spec.specs.queues.SendQueue.{SendQueueState}
 use Rattle.dcsctp_spec.specs.endpoint.Endpoint.{Endpoint}
 use Rattle.dcsctp_spec.specs.endpoint.Outcome.{contents_len}
 use Rattle.dcsctp_spec.specs.association.Choices.{plain_contents}
-use Rattle.dcsctp_spec.specs.endpoint.FlushOutcomes.{filled, IsWithinMtu, Ask, room_in, where_fits, later_ask, first_ask, begun_at}
+use Rattle.dcsctp_spec.specs.endpoint.FlushOutcomes.{filled_draft, IsWithinMtu, Ask, room_of_draft, where_fits, later_ask, first_ask, begun_by_ask}
 use Rattle.std.specs.Int.{w16, w32, to_be_bytes}
 use Rattle.dcsctp_spec.specs.wire.Format.{padding_of}
 use Rattle.dcsctp_spec.specs.types.declared.association.Held.{Held}
 use Rattle.dcsctp_spec.specs.Reconfiguration.{RequestedReset, number_answered}
 use Rattle.dcsctp_spec.specs.association.FlushChanges.{reset_request}
-use Rattle.dcsctp_spec.specs.endpoint.BegunResets.{streams_within, begun_where, begun_in, request_contents, stream_field}
+use Rattle.dcsctp_spec.specs.endpoint.BegunResets.{streams_within, begun_if_ready, begun_if_connected, request_contents, stream_field}
 
 -- ---- how long a packet is
 
@@ -38,8 +38,8 @@ fits_len false room chunk is = omega arith
 pub where_fits_len : (room : ℕ) (chunk : Plain) → contents_len (plain_contents (where_fits room chunk)) ≤ room
 where_fits_len room chunk = fits_len (nat_le (length (chunk_bytes (plain_out chunk))) room) room chunk refl
 
-pub three_within : (e : Endpoint) (draft : Emission) (one two three : List Content) → IsWithinMtu e draft → contents_len one ≤ room_in e draft → contents_len two ≤ room_in e (filled draft one)
-    → contents_len three ≤ room_in e (filled draft (one ++ two)) → IsWithinMtu e (filled draft (one ++ (two ++ three)))
+pub three_within : (e : Endpoint) (draft : Emission) (one two three : List Content) → IsWithinMtu e draft → contents_len one ≤ room_of_draft e draft → contents_len two ≤ room_of_draft e (filled_draft draft one)
+    → contents_len three ≤ room_of_draft e (filled_draft draft (one ++ two)) → IsWithinMtu e (filled_draft draft (one ++ (two ++ three)))
 three_within e draft one two three within first second third =
     let all = len_append draft.packet.contents (one ++ (two ++ three)) in
     let last = len_append one (two ++ three) in
@@ -73,7 +73,7 @@ request_len number reset =
     )
 
 -- Where it names as many streams as fit, its chunk fits.
-begun_len : (follows : Bool) (outstanding : Option ℕ) (number last_tsn room : ℕ) (streams : List ℕ) → length streams ≤ streams_within room → contents_len (request_contents (begun_where follows outstanding number last_tsn streams)) ≤ room
+begun_len : (follows : Bool) (outstanding : Option ℕ) (number last_tsn room : ℕ) (streams : List ℕ) → length streams ≤ streams_within room → contents_len (request_contents (begun_if_ready follows outstanding number last_tsn streams)) ≤ room
 begun_len follows None number last_tsn room [] few = omega arith
 begun_len follows None number last_tsn room (stream ∷ streams) few =
     let all = request_len number (record { last_tsn = last_tsn; streams = stream ∷ streams; is_new = follows }) in
@@ -81,7 +81,7 @@ begun_len follows None number last_tsn room (stream ∷ streams) few =
 begun_len follows (Some other) number last_tsn room [] few = omega arith
 begun_len follows (Some other) number last_tsn room (stream ∷ streams) few = omega arith
 
-begun_in_len : (follows : Bool) (held : Option Held) (room last_tsn : ℕ) (queue : SendQueueState) → contents_len (request_contents (begun_in follows held room last_tsn queue)) ≤ room
+begun_in_len : (follows : Bool) (held : Option Held) (room last_tsn : ℕ) (queue : SendQueueState) → contents_len (request_contents (begun_if_connected follows held room last_tsn queue)) ≤ room
 begun_in_len follows None room last_tsn queue = omega arith
 begun_in_len follows (Some held) room last_tsn queue =
     let streams : List ℕ = take (streams_within room) (ready_streams queue) in
@@ -89,6 +89,6 @@ begun_in_len follows (Some held) room last_tsn queue =
     let same = length-map streams stream_field in
     begun_len follows held.own_outstanding held.own_next last_tsn room (map stream_field streams) (omega (arith, few, same))
 
-pub begun_at_len : (ask : Ask) (follows : Bool) (held : Option Held) (room last_tsn : ℕ) (queue : SendQueueState) → contents_len (request_contents (begun_at ask follows held room last_tsn queue)) ≤ room
+pub begun_at_len : (ask : Ask) (follows : Bool) (held : Option Held) (room last_tsn : ℕ) (queue : SendQueueState) → contents_len (request_contents (begun_by_ask ask follows held room last_tsn queue)) ≤ room
 begun_at_len first_ask follows held room last_tsn queue = begun_in_len follows held room last_tsn queue
 begun_at_len later_ask follows held room last_tsn queue = omega arith

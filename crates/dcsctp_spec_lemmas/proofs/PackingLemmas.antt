@@ -3,7 +3,7 @@ use Rattle.std.proofs.Common.{◌≡◌, inl, inr, ℕ, ◌+◌, ◌-◌, ◌^�
 use Rattle.std.proofs.lemmas.List.{length-take}
 use Rattle.dcsctp_spec.specs.types.declared.progress.Change.TheVariants.{SendAgain, Abandon}
 use Rattle.dcsctp_spec.specs.endpoint.Event.{Event}
-use Rattle.dcsctp_spec.specs.queues.Filling.{Stage, ClosesMessage, GivesUpAt, SendsMarked, SendsNew, MayAdd, StepAgain, StepNew, StageSteps, none as no_step, more as one_more_step, payload_room, resent_packet_counted, FillsStage, FillsPacket}
+use Rattle.dcsctp_spec.specs.queues.Filling.{Stage, ClosesMessage, GivesUpItem, SendsMarked, SendsNew, MayAdd, StepAgain, StepNew, StageSteps, none as no_step, more as one_more_step, payload_room, resent_packet_counted, FillsStage, FillsPacket}
 use Rattle.dcsctp_spec.specs.queues.ItemMessages.{EndsDropped}
 use Rattle.dcsctp_spec.specs.queues.Items.{Item, chunk_size, item_size, changed_between}
 use Rattle.dcsctp_spec.specs.queues.Outstanding.{OutstandingState, header, next_tsn, tsn_at}
@@ -44,7 +44,7 @@ keeps_closed now last old closed false (inl (few, drops)) =
     }
 keeps_closed now last old closed false (inr (many, same)) = keeps_same old closed same
 
-packed_given_up : (now room place : ℕ) (old new : Stage) → GivesUpAt now place old new → IsPacked room old → IsPacked room new
+packed_given_up : (now room place : ℕ) (old new : Stage) → GivesUpItem now place old new → IsPacked room old → IsPacked room new
 packed_given_up now room place old new up packed =
     let keeps = keeps_closed now up.last old up.closed up.last.fragment.is_end up.closes in
     let items : List Item = changed_between Abandon up.start (up.last_place + 1) up.closed.queue.outstanding.items in

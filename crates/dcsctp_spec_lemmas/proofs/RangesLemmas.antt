@@ -3,7 +3,7 @@ use Rattle.std.proofs.Common.{◌≡◌, ◌==◌, ℕ, ◌+◌, ◌-◌, ◌<�
 use Rattle.std.proofs.lemmas.Bool.{cond_both}
 use Rattle.std.proofs.lemmas.Bool.Decides.{nat_tests}
 use Rattle.dcsctp_spec.specs.types.declared.tracking.TsnRange.{TsnRange}
-use Rattle.dcsctp_spec.specs.queues.Ranges.{IsBeyond, is_in, is_received, ReceivesNumber, MovesForwardTo, Received, tsn_range_of, put_before, put_among, reaching, received, forwarded}
+use Rattle.dcsctp_spec.specs.queues.Ranges.{IsBeyond, is_number_covered, is_received, ReceivesNumber, MovesForwardTo, ReceivedTsns, tsn_range_of, put_before, put_among, reaching, ranges_with_number, forwarded_ranges}
 
 -- ---- the numbers determine the ranges
 
@@ -60,32 +60,32 @@ three_ways a b x y z P first second third = cond_both a x (cond b y z) P first (
 
 -- the ranges lie beyond the number, and these numbers are in them
 abbrev Holds : ℕ → (ℕ → Bool) → List TsnRange → Type 0
-Holds from members ranges = IsBeyond from ranges × ((other : ℕ) → is_in other ranges ≡ members other)
+Holds from members ranges = IsBeyond from ranges × ((other : ℕ) → is_number_covered other ranges ≡ members other)
 
 -- the ranges lie beyond the cumulative number, and these numbers are received
-abbrev Receives : (ℕ → Bool) → Received → Type 0
+abbrev Receives : (ℕ → Bool) → ReceivedTsns → Type 0
 Receives members r = IsBeyond r.cumulative r.ranges × ((other : ℕ) → is_received r.cumulative other r.ranges ≡ members other)
 
-reaching_receives : (from number : ℕ) (ranges : List TsnRange) → IsBeyond from ranges → Receives (λ other. nat_le other number || is_in other ranges) (reaching number ranges)
+reaching_receives : (from number : ℕ) (ranges : List TsnRange) → IsBeyond from ranges → Receives (λ other. nat_le other number || is_number_covered other ranges) (reaching number ranges)
 reaching_receives from number [] beyond = (tt, λ other. refl)
 reaching_receives from number (range ∷ ranges) beyond =
     let rest = reaching_receives range.last number ranges beyond.2 in
-    three_ways (nat_lt (number + 1) range.first) (nat_le number range.last) _ _ _ (Receives (λ other. nat_le other number || is_in other (range ∷ ranges)))
+    three_ways (nat_lt (number + 1) range.first) (nat_le number range.last) _ _ _ (Receives (λ other. nat_le other number || is_number_covered other (range ∷ ranges)))
     (λ missing. ((grind (arith, nat_tests), beyond.1, beyond.2), λ other. refl))
     (λ touching held. (beyond.2, λ other. grind (arith, nat_tests)))
     (λ touching gone. (rest.0, λ other. grind (arith, nat_tests, rest.1 other)))
 
-put_before_holds : (from to : ℕ) (range : TsnRange) (ranges : List TsnRange) → from + 1 < range.first → range.first ≤ range.last → range.last ≤ to + 1 → IsBeyond to ranges → Holds from (λ other. is_in other (range ∷ ranges)) (put_before range ranges)
+put_before_holds : (from to : ℕ) (range : TsnRange) (ranges : List TsnRange) → from + 1 < range.first → range.first ≤ range.last → range.last ≤ to + 1 → IsBeyond to ranges → Holds from (λ other. is_number_covered other (range ∷ ranges)) (put_before range ranges)
 put_before_holds from to range [] above filled behind beyond = ((above, filled, tt), λ other. refl)
 put_before_holds from to range (next ∷ ranges) above filled behind beyond =
-    cond_both (next.first == range.last + 1) _ _ (Holds from (λ other. is_in other (range ∷ (next ∷ ranges))))
+    cond_both (next.first == range.last + 1) _ _ (Holds from (λ other. is_number_covered other (range ∷ (next ∷ ranges))))
     (λ touching. ((above, omega (arith, beyond.0, beyond.1), beyond.2), λ other. grind (arith, nat_tests, beyond.1)))
     (λ apart. ((above, filled, (grind (arith, nat_tests, beyond.0), beyond.1, beyond.2)), λ other. refl))
 
-put_among_holds : (from number : ℕ) (ranges : List TsnRange) → IsBeyond from ranges → from + 1 < number → is_in number ranges ≡ false → Holds from (λ other. is_in other ranges || (other == number)) (put_among number ranges)
+put_among_holds : (from number : ℕ) (ranges : List TsnRange) → IsBeyond from ranges → from + 1 < number → is_number_covered number ranges ≡ false → Holds from (λ other. is_number_covered other ranges || (other == number)) (put_among number ranges)
 put_among_holds from number [] beyond above new = ((above, omega arith, tt), λ other. grind (arith, nat_tests))
 put_among_holds from number (range ∷ ranges) beyond above new =
-    three_ways (nat_lt number range.first) (number == range.last + 1) _ _ _ (Holds from (λ other. is_in other (range ∷ ranges) || (other == number)))
+    three_ways (nat_lt number range.first) (number == range.last + 1) _ _ _ (Holds from (λ other. is_number_covered other (range ∷ ranges) || (other == number)))
     (λ before.
     let put = put_before_holds from (number - 1) (tsn_range_of number number) (range ∷ ranges) above (omega arith) (omega arith) (grind (arith, nat_tests), beyond.1, beyond.2) in
     (put.0, λ other. grind (arith, nat_tests, put.1 other)))
@@ -98,7 +98,7 @@ put_among_holds from number (range ∷ ranges) beyond above new =
 
 -- ---- a number is received
 
-received_receives : (number cumulative : ℕ) (ranges : List TsnRange) → IsBeyond cumulative ranges → Receives (λ other. is_received cumulative other ranges || (other == number)) (received number cumulative ranges)
+received_receives : (number cumulative : ℕ) (ranges : List TsnRange) → IsBeyond cumulative ranges → Receives (λ other. is_received cumulative other ranges || (other == number)) (ranges_with_number number cumulative ranges)
 received_receives number cumulative ranges beyond =
     let reached = reaching_receives cumulative number ranges beyond in
     three_ways (is_received cumulative number ranges) (number == cumulative + 1) _ _ _ (Receives (λ other. is_received cumulative other ranges || (other == number)))
@@ -108,26 +108,26 @@ received_receives number cumulative ranges beyond =
     let put = put_among_holds cumulative number ranges beyond (grind (arith, nat_tests)) (grind (arith, nat_tests)) in
     (put.0, λ other. grind (arith, nat_tests, put.1 other)))
 
-pub received_beyond : (number cumulative : ℕ) (ranges : List TsnRange) → IsBeyond cumulative ranges → IsBeyond (received number cumulative ranges).cumulative (received number cumulative ranges).ranges
+pub received_beyond : (number cumulative : ℕ) (ranges : List TsnRange) → IsBeyond cumulative ranges → IsBeyond (ranges_with_number number cumulative ranges).cumulative (ranges_with_number number cumulative ranges).ranges
 received_beyond number cumulative ranges beyond = (received_receives number cumulative ranges beyond).0
 
-pub received_members : (number cumulative : ℕ) (ranges : List TsnRange) → IsBeyond cumulative ranges → (other : ℕ) → is_received (received number cumulative ranges).cumulative other (received number cumulative ranges).ranges ≡ (is_received cumulative other ranges || (other == number))
+pub received_members : (number cumulative : ℕ) (ranges : List TsnRange) → IsBeyond cumulative ranges → (other : ℕ) → is_received (ranges_with_number number cumulative ranges).cumulative other (ranges_with_number number cumulative ranges).ranges ≡ (is_received cumulative other ranges || (other == number))
 received_members number cumulative ranges beyond = (received_receives number cumulative ranges beyond).1
 
 -- ---- all up to a number are received
 
-forwarded_receives : (number cumulative : ℕ) (ranges : List TsnRange) → IsBeyond cumulative ranges → Receives (λ other. is_received cumulative other ranges || nat_le other number) (forwarded number cumulative ranges)
+forwarded_receives : (number cumulative : ℕ) (ranges : List TsnRange) → IsBeyond cumulative ranges → Receives (λ other. is_received cumulative other ranges || nat_le other number) (forwarded_ranges number cumulative ranges)
 forwarded_receives number cumulative ranges beyond =
     let reached = reaching_receives cumulative number ranges beyond in
     cond_both (nat_le number cumulative) _ _ (Receives (λ other. is_received cumulative other ranges || nat_le other number))
     (λ known. (beyond, λ other. grind (arith, nat_tests)))
     (λ new. (reached.0, λ other. grind (arith, nat_tests, reached.1 other)))
 
-pub forwarded_beyond : (number cumulative : ℕ) (ranges : List TsnRange) → IsBeyond cumulative ranges → IsBeyond (forwarded number cumulative ranges).cumulative (forwarded number cumulative ranges).ranges
+pub forwarded_beyond : (number cumulative : ℕ) (ranges : List TsnRange) → IsBeyond cumulative ranges → IsBeyond (forwarded_ranges number cumulative ranges).cumulative (forwarded_ranges number cumulative ranges).ranges
 forwarded_beyond number cumulative ranges beyond = (forwarded_receives number cumulative ranges beyond).0
 
 -- Also a number that isn't above the cumulative one satisfies this.
-pub forwarded_members : (number cumulative : ℕ) (ranges : List TsnRange) → cumulative < number → IsBeyond cumulative ranges → (other : ℕ) → is_received (forwarded number cumulative ranges).cumulative other (forwarded number cumulative ranges).ranges ≡ (is_received cumulative other ranges || nat_le other number)
+pub forwarded_members : (number cumulative : ℕ) (ranges : List TsnRange) → cumulative < number → IsBeyond cumulative ranges → (other : ℕ) → is_received (forwarded_ranges number cumulative ranges).cumulative other (forwarded_ranges number cumulative ranges).ranges ≡ (is_received cumulative other ranges || nat_le other number)
 forwarded_members number cumulative ranges _ beyond = (forwarded_receives number cumulative ranges beyond).1
 
 -- ---- the rule
@@ -147,28 +147,28 @@ up_to bound other rest within = grind (arith, nat_tests)
 
 -- The function gives what the rule allows,
 pub received_is : (number cumulative : ℕ) (ranges : List TsnRange) → IsBeyond cumulative ranges
-    → ReceivesNumber number cumulative ranges (not (is_received cumulative number ranges)) (received number cumulative ranges).cumulative (received number cumulative ranges).ranges
+    → ReceivesNumber number cumulative ranges (not (is_received cumulative number ranges)) (ranges_with_number number cumulative ranges).cumulative (ranges_with_number number cumulative ranges).ranges
 received_is number cumulative ranges beyond =
     let members = received_members number cumulative ranges beyond in
     let after = received_beyond number cumulative ranges beyond in
     record {
       answer = refl;
-      forward = not_below cumulative (received number cumulative ranges).cumulative (received number cumulative ranges).ranges (λ other. is_received cumulative other ranges || (other == number)) after members
-          (λ other within. ap (λ b. b || (other == number)) (up_to cumulative other (is_in other ranges) within));
+      forward = not_below cumulative (ranges_with_number number cumulative ranges).cumulative (ranges_with_number number cumulative ranges).ranges (λ other. is_received cumulative other ranges || (other == number)) after members
+          (λ other within. ap (λ b. b || (other == number)) (up_to cumulative other (is_number_covered other ranges) within));
       beyond = after;
       members = members;
       known = unchanged (is_received cumulative number ranges) _ _;
     }
   where
-    unchanged : (b : Bool) (kept other : Received) → not b ≡ false → ((cond b kept other).cumulative ≡ kept.cumulative) × ((cond b kept other).ranges ≡ kept.ranges)
+    unchanged : (b : Bool) (kept other : ReceivedTsns) → not b ≡ false → ((cond b kept other).cumulative ≡ kept.cumulative) × ((cond b kept other).ranges ≡ kept.ranges)
     unchanged true kept other old = (refl, refl)
     unchanged false kept other old = absurd (cc)
 
 -- and the rule allows nothing else.
 pub received_only : (number cumulative : ℕ) (old : List TsnRange) (is_new : Bool) (reached : ℕ) (new : List TsnRange) → IsBeyond cumulative old → ReceivesNumber number cumulative old is_new reached new
-    → (reached ≡ (received number cumulative old).cumulative) × (new ≡ (received number cumulative old).ranges)
+    → (reached ≡ (ranges_with_number number cumulative old).cumulative) × (new ≡ (ranges_with_number number cumulative old).ranges)
 received_only number cumulative old is_new reached new beyond takes =
-    same_numbers reached (received number cumulative old).cumulative new (received number cumulative old).ranges takes.beyond (received_beyond number cumulative old beyond)
+    same_numbers reached (ranges_with_number number cumulative old).cumulative new (ranges_with_number number cumulative old).ranges takes.beyond (received_beyond number cumulative old beyond)
     (λ other. takes.members other ∙ sym (received_members number cumulative old beyond other))
 
 -- The same where all up to a number count as received.
@@ -176,23 +176,23 @@ both_orders : (cumulative number other : ℕ) (b : Bool) → cumulative < number
 both_orders cumulative number other b above = grind (arith, nat_tests)
 
 forwarded_numbers : (number cumulative : ℕ) (ranges : List TsnRange) → cumulative < number → IsBeyond cumulative ranges → (other : ℕ)
-    → is_received (forwarded number cumulative ranges).cumulative other (forwarded number cumulative ranges).ranges ≡ is_received number other ranges
-forwarded_numbers number cumulative ranges above beyond other = forwarded_members number cumulative ranges above beyond other ∙ both_orders cumulative number other (is_in other ranges) above
+    → is_received (forwarded_ranges number cumulative ranges).cumulative other (forwarded_ranges number cumulative ranges).ranges ≡ is_received number other ranges
+forwarded_numbers number cumulative ranges above beyond other = forwarded_members number cumulative ranges above beyond other ∙ both_orders cumulative number other (is_number_covered other ranges) above
 
 pub forwarded_is : (number cumulative : ℕ) (ranges : List TsnRange) → cumulative < number → IsBeyond cumulative ranges
-    → MovesForwardTo number ranges (forwarded number cumulative ranges).cumulative (forwarded number cumulative ranges).ranges
+    → MovesForwardTo number ranges (forwarded_ranges number cumulative ranges).cumulative (forwarded_ranges number cumulative ranges).ranges
 forwarded_is number cumulative ranges above beyond =
     let members = forwarded_numbers number cumulative ranges above beyond in
     let after = forwarded_beyond number cumulative ranges beyond in
     record {
-      forward = not_below number (forwarded number cumulative ranges).cumulative (forwarded number cumulative ranges).ranges (λ other. is_received number other ranges) after members
-          (λ other within. up_to number other (is_in other ranges) within);
+      forward = not_below number (forwarded_ranges number cumulative ranges).cumulative (forwarded_ranges number cumulative ranges).ranges (λ other. is_received number other ranges) after members
+          (λ other within. up_to number other (is_number_covered other ranges) within);
       beyond = after;
       members = members;
     }
 
 pub forwarded_only : (number cumulative : ℕ) (old : List TsnRange) (reached : ℕ) (new : List TsnRange) → cumulative < number → IsBeyond cumulative old → MovesForwardTo number old reached new
-    → (reached ≡ (forwarded number cumulative old).cumulative) × (new ≡ (forwarded number cumulative old).ranges)
+    → (reached ≡ (forwarded_ranges number cumulative old).cumulative) × (new ≡ (forwarded_ranges number cumulative old).ranges)
 forwarded_only number cumulative old reached new above beyond takes =
-    same_numbers reached (forwarded number cumulative old).cumulative new (forwarded number cumulative old).ranges takes.beyond (forwarded_beyond number cumulative old beyond)
+    same_numbers reached (forwarded_ranges number cumulative old).cumulative new (forwarded_ranges number cumulative old).ranges takes.beyond (forwarded_beyond number cumulative old beyond)
     (λ other. takes.members other ∙ sym (forwarded_numbers number cumulative old above beyond other))

@@ -1,6 +1,6 @@
 -- Each SACK has an outcome.
 use Rattle.std.proofs.Common.{ℕ, Option, List, refl}
-use Rattle.dcsctp_spec.specs.wire.CleanBlocks.{blocks_in}
+use Rattle.dcsctp_spec.specs.wire.CleanBlocks.{blocks_of_bytes}
 use Rattle.dcsctp_spec.specs.wire.Content.{SackContent}
 use Rattle.dcsctp_spec.specs.wire.declared.chunk.sack.GapAckBlock.{GapAckBlock}
 use Rattle.dcsctp_spec.specs.queues.Acknowledging.{AcknowledgesItems, exiting, is_recovering}
@@ -26,7 +26,7 @@ some_measured now count blocks old =
 
 pub some_taken : (now : ℕ) (sack : SackContent) (transfer : Transfer) → (left : Transfer) × TakesSack now sack transfer left
 some_taken now sack transfer =
-    let (blocks, cleaned) = some_cleaned (blocks_in sack.gap_ack_blocks) in
+    let (blocks, cleaned) = some_cleaned (blocks_of_bytes sack.gap_ack_blocks) in
     let (left, acknowledges) = some_acknowledged now sack.cumulative_tsn_ack sack.a_rwnd blocks transfer.retransmission in
     let (round_trip, measures) = some_measured now (acknowledged_count transfer.retransmission.outstanding sack.cumulative_tsn_ack) blocks transfer.retransmission in
     (_, record { blocks = blocks; cleaned = cleaned; left = left; acknowledges = acknowledges; round_trip = round_trip; measures = measures; is = refl })

@@ -6,7 +6,7 @@ use Rattle.dcsctp_spec.specs.Packet.{Emission}
 use Rattle.dcsctp_spec.specs.types.queues.SendStreams.{Waiting, Stream}
 use Rattle.dcsctp_spec.specs.queues.SendEvents.{expiry_events, expiries, falls_low, low_events}
 use Rattle.dcsctp_spec.specs.queues.SendQueue.{SendQueueState, queue_stream}
-use Rattle.dcsctp_spec.specs.queues.OwnResets.{is_open_pause, dropped_of, dropped_size, with_used, prepared, prepare_events_in, prepare_events, prepare_all_events}
+use Rattle.dcsctp_spec.specs.queues.OwnResets.{is_open_pause, dropped_of, dropped_size, with_used, queue_with_prepared, prepare_events_of, prepare_events, prepare_all_events}
 use Rattle.dcsctp_spec.specs.endpoint.FlushOutcomes.{FillingEvent, amount_is_low, total_amount_is_low, message_has_expired, message_ends, filling_event}
 
 abbrev Events : Type 0
@@ -46,7 +46,7 @@ told_expiries : (messages : List Waiting) → AreTold (expiries messages)
 told_expiries [] = told_none
 told_expiries (message ∷ messages) = told_both (expiry_events message) (expiries messages) (told_expiry_by message message.lifecycle refl) (told_expiries messages)
 
-told_in : (id : ℕ) (queue : SendQueueState) → AreTold (prepare_events_in id queue)
+told_in : (id : ℕ) (queue : SendQueueState) → AreTold (prepare_events_of id queue)
 told_in id queue = by_pause (is_open_pause (queue_stream queue id).pause)
   where
     by_pause : (b : Bool) → AreTold (if b then low_events (queue_stream queue id) queue.total_threshold queue.total_amount (dropped_size id queue) ++ expiries (dropped_of id queue) else [])
@@ -58,7 +58,7 @@ told_in id queue = by_pause (is_open_pause (queue_stream queue id).pause)
 pub told_prepared : (ids : List ℕ) (queue : SendQueueState) → AreTold (prepare_all_events ids queue)
 told_prepared [] queue = told_none
 told_prepared (id ∷ ids) queue =
-    told_both (prepare_events id queue) (prepare_all_events ids (prepared id queue)) (told_in id (with_used id queue)) (told_prepared ids (prepared id queue))
+    told_both (prepare_events id queue) (prepare_all_events ids (queue_with_prepared id queue)) (told_in id (with_used id queue)) (told_prepared ids (queue_with_prepared id queue))
 
 -- ---- they are the same with any form of packet
 
@@ -88,7 +88,7 @@ module _ {P Q : Type 0} (f : P → Q) where
   expiries_mapped (message ∷ messages) =
       both_mapped (expiry_events message) (expiries messages) (expiry_events message) (expiries messages) (expiry_mapped message message.lifecycle refl) (expiries_mapped messages)
 
-  mapped_in : (id : ℕ) (queue : SendQueueState) → map (event_map f) (prepare_events_in id queue) ≡ prepare_events_in id queue
+  mapped_in : (id : ℕ) (queue : SendQueueState) → map (event_map f) (prepare_events_of id queue) ≡ prepare_events_of id queue
   mapped_in id queue = by_pause (is_open_pause (queue_stream queue id).pause)
     where
       by_pause : (b : Bool) → map (event_map f) (if b then low_events (queue_stream queue id) queue.total_threshold queue.total_amount (dropped_size id queue) ++ expiries (dropped_of id queue) else [])

@@ -7,7 +7,7 @@ use Rattle.dcsctp_spec.specs.types.declared.sending.UnderWay.{UnderWay}
 use Rattle.dcsctp_spec.specs.queues.NextItem.{HasNone, HasMessageUnderWay, IsStuck}
 use Rattle.dcsctp_spec.specs.queues.SendQueue.{SendQueueState}
 use Rattle.dcsctp_spec.specs.types.queues.SendStreams.{Waiting, Stream, front_of, is_expired, stream_at, turns_of, IsNext}
-use Rattle.dcsctp_spec.specs.queues.Sending.{Fragment, Chooses, begun, fragment, size_produced, produced, produced_events, drop_events, without_rest, Drops, none as none_dropped, more as one_more_dropped, TakesFragment, TakesNone}
+use Rattle.dcsctp_spec.specs.queues.Sending.{Fragment, Chooses, begun_under_way, fragment, size_produced, queue_after_producing, produced_events, drop_events, without_rest, Drops, none as none_dropped, more as one_more_dropped, TakesFragment, TakesNone}
 use Rattle.dcsctp_spec_lemmas.proofs.TurnOutcomes.{by_test, next_turn, next_front, count_messages, count_dropped}
 
 abbrev Told : Type 0
@@ -72,10 +72,10 @@ size_taken max message u = let size = length-take (size_produced max message u) 
 begins : (now max : ℕ) (old mid : SendQueueState) (told events : Told) (place : ℕ) (message : Waiting) → old.under_way ≡ None → Drops now old events mid → IsNext mid.streams place
     → front_of (stream_at mid.streams place).messages ≡ Some message → is_expired now message ≡ false → TakesSome now max old told events
 begins now max old mid told events place message idle drops next front fresh =
-    let u : UnderWay = begun message (stream_at mid.streams place) in
+    let u : UnderWay = begun_under_way message (stream_at mid.streams place) in
     record {
       part = fragment u message (size_produced max message u);
-      new = produced place max message u mid;
+      new = queue_after_producing place max message u mid;
       telling = told ++ events ++ produced_events place max message u mid;
       takes = record {
         queue = mid;
@@ -171,7 +171,7 @@ goes_further : (now max : ℕ) (old : SendQueueState) (told : Told) (u : UnderWa
 goes_further now max old told u is g =
     record {
       part = fragment u g.message (size_produced max g.message u);
-      new = produced g.place max g.message u old;
+      new = queue_after_producing g.place max g.message u old;
       telling = told ++ produced_events g.place max g.message u old;
       takes = record {
         queue = old;

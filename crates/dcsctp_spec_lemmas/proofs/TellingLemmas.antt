@@ -4,13 +4,13 @@ use Rattle.std.proofs.lemmas.List.{append-nil, map-append}
 use Rattle.dcsctp_spec.specs.endpoint.Event.{Event}
 use Rattle.dcsctp_spec.specs.types.declared.sending.UnderWay.{UnderWay}
 use Rattle.dcsctp_spec.specs.queues.Abandoning.{GivesUpFirst, GivesUpAll}
-use Rattle.dcsctp_spec.specs.queues.Filling.{Stage, maybe_expired, ClosesMessage, GivesUpAt, SendsNew, FindsNone, StepAgain, StepNew, StageSteps, none, more, resent_packet_counted, FillsPacket}
+use Rattle.dcsctp_spec.specs.queues.Filling.{Stage, maybe_expired, ClosesMessage, GivesUpItem, SendsNew, FindsNone, StepAgain, StepNew, StageSteps, none, more, resent_packet_counted, FillsPacket}
 use Rattle.dcsctp_spec.specs.queues.Items.{Item}
 use Rattle.dcsctp_spec.specs.queues.SendEvents.{expiry_events, sent_events, falls_low, low_events}
 use Rattle.dcsctp_spec.specs.queues.SendQueue.{SendQueueState}
 use Rattle.dcsctp_spec.specs.types.queues.SendStreams.{Waiting, Stream, stream_at}
 use Rattle.dcsctp_spec.specs.queues.Sending.{Drops, none as none_dropped, more as more_dropped, DropsAll, drop_events, part_events, last_events, is_last, produced_events, DiscardsNamed}
-use Rattle.dcsctp_spec.specs.endpoint.FlushOutcomes.{FillingEvent, amount_is_low, total_amount_is_low, message_is_sent, message_may_have_expired, message_has_expired, message_ends, filling_event_content, FillsWhere}
+use Rattle.dcsctp_spec.specs.endpoint.FlushOutcomes.{FillingEvent, amount_is_low, total_amount_is_low, message_is_sent, message_may_have_expired, message_has_expired, message_ends, filling_event_content, FillsIfAllowed}
 
 abbrev Events : Type 0
 Events = List (Event (List ℕ))
@@ -119,7 +119,7 @@ tells_closed now last old new false (inl drops) =
     tells_discarded old.waiting new.waiting last.fragment.stream last.fragment.message_id old.told new.told drops.1.drops.is_dropped drops.1.drops.drops
 tells_closed now last old new false (inr same) = tells_same old.told new.told (ap (λ (s : Stage). s.told) same.1)
 
-pub tells_given_up : (now place : ℕ) (old new : Stage) → GivesUpAt now place old new → TellsMore old.told new.told
+pub tells_given_up : (now place : ℕ) (old new : Stage) → GivesUpItem now place old new → TellsMore old.told new.told
 tells_given_up now place old new gives_up =
     tells_then old.told gives_up.closed.told new.told (tells_closed now gives_up.last old gives_up.closed gives_up.last.fragment.is_end gives_up.closes)
     (tells_same gives_up.closed.told new.told (ap (λ (s : Stage). s.told) gives_up.is))
@@ -159,7 +159,7 @@ tells_filled now old new h =
     (tells_steps (StepNew now) (tells_anew now) (resent_packet_counted old.room fills.resent) h.sent fills.anew))
     (tells_same h.sent.told new.told (ap (λ (s : Stage). s.told) h.is))
 
-pub tells_where : (b : Bool) (now : ℕ) (old new : Stage) → FillsWhere b now old new → TellsMore old.told new.told
+pub tells_where : (b : Bool) (now : ℕ) (old new : Stage) → FillsIfAllowed b now old new → TellsMore old.told new.told
 tells_where true now old new h = tells_filled now old new h
 tells_where false now old new (inl same) = tells_same old.told new.told (ap (λ (s : Stage). s.told) same)
 tells_where false now old new (inr h) = tells_filled now old new h

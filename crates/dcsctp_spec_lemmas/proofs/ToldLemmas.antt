@@ -3,12 +3,12 @@ use Rattle.std.proofs.Common.{◌≡◌, ◌∙◌, inl, inr, ℕ, ◌+◌, ◌-
 use Rattle.dcsctp_spec.specs.types.declared.progress.Change.TheVariants.{Abandon}
 use Rattle.dcsctp_spec.specs.endpoint.Event.{Event}
 use Rattle.dcsctp_spec.specs.queues.Abandoning.{NoneDue, GivesUpFirst, GivesUpAll}
-use Rattle.dcsctp_spec.specs.queues.Filling.{Stage, maybe_expired, ClosesMessage, GivesUpAt, StepAgain, MayAdd, StepNew, StageSteps, none, more, resent_packet_counted, FillsPacket}
+use Rattle.dcsctp_spec.specs.queues.Filling.{Stage, maybe_expired, ClosesMessage, GivesUpItem, StepAgain, MayAdd, StepNew, StageSteps, none, more, resent_packet_counted, FillsPacket}
 use Rattle.dcsctp_spec.specs.queues.Items.{Item, item_size, changed_between}
 use Rattle.dcsctp_spec.specs.queues.NextItem.{Halts}
 use Rattle.dcsctp_spec.specs.queues.Outstanding.{header, next_tsn}
 use Rattle.dcsctp_spec.specs.queues.Retransmission.{timer_with, with_items}
-use Rattle.dcsctp_spec.specs.endpoint.FlushOutcomes.{FillsWhere}
+use Rattle.dcsctp_spec.specs.endpoint.FlushOutcomes.{FillsIfAllowed}
 use Rattle.dcsctp_spec_lemmas.proofs.ToldLeavingLemmas.{behind_taken, behind_none, behind_discarded, before_taken, before_none, before_discarded}
 
 abbrev Events : Type 0
@@ -40,7 +40,7 @@ behind_closed front now last old new false (inl (few, at)) =
     )
 behind_closed front now last old new false (inr (many, is)) = inr (many, ap (behind_events front) is)
 
-behind_given_up : (front : Events) (now place : ℕ) (old new : Stage) → GivesUpAt now place old new → GivesUpAt now place (behind_events front old) (behind_events front new)
+behind_given_up : (front : Events) (now place : ℕ) (old new : Stage) → GivesUpItem now place old new → GivesUpItem now place (behind_events front old) (behind_events front new)
 behind_given_up front now place old new up =
     record {
       start = up.start;
@@ -103,7 +103,7 @@ filled_behind front now old new fills =
       is = ap (behind_events front) fills.is;
     }
 
-pub told_behind : (front : List (Event (List ℕ))) (b : Bool) (now : ℕ) (old new : Stage) → FillsWhere b now old new → FillsWhere b now (behind_events front old) (behind_events front new)
+pub told_behind : (front : List (Event (List ℕ))) (b : Bool) (now : ℕ) (old new : Stage) → FillsIfAllowed b now old new → FillsIfAllowed b now (behind_events front old) (behind_events front new)
 told_behind front true now old new fills = filled_behind front now old new fills
 told_behind front false now old new (inl same) = inl (ap (behind_events front) same)
 told_behind front false now old new (inr fills) = inr (filled_behind front now old new fills)
@@ -139,7 +139,7 @@ before_closed front now last old new false (inl (few, at)) =
     }
 before_closed front now last old new false (inr (many, is)) = record { stripped = old; step = inr (many, refl); is = is }
 
-before_given_up : (front : Events) (now place : ℕ) (old new : Stage) → GivesUpAt now place (behind_events front old) new → Before front (GivesUpAt now place) old new
+before_given_up : (front : Events) (now place : ℕ) (old new : Stage) → GivesUpItem now place (behind_events front old) new → Before front (GivesUpItem now place) old new
 before_given_up front now place old new up =
     let closing = before_closed front now up.last old up.closed up.last.fragment.is_end up.closes in
     let after : Stage → Stage = λ s. record s { queue = with_items (changed_between Abandon up.start (up.last_place + 1) s.queue.outstanding.items) s.queue } in
@@ -232,8 +232,8 @@ pub filled_before : (front : List (Event (List ℕ))) (now : ℕ) (old new : Sta
     → (stripped : Stage) × FillsPacket now old stripped × (new ≡ behind_events front stripped)
 filled_before front now old new fills = let s = filled_before_by front now old new fills in (s.stripped, s.step, s.is)
 
-pub told_before : (front : List (Event (List ℕ))) (b : Bool) (now : ℕ) (old new : Stage) → FillsWhere b now (behind_events front old) new
-    → (stripped : Stage) × FillsWhere b now old stripped × (new ≡ behind_events front stripped)
+pub told_before : (front : List (Event (List ℕ))) (b : Bool) (now : ℕ) (old new : Stage) → FillsIfAllowed b now (behind_events front old) new
+    → (stripped : Stage) × FillsIfAllowed b now old stripped × (new ≡ behind_events front stripped)
 told_before front true now old new fills = filled_before front now old new fills
 told_before front false now old new (inl same) = (old, inl refl, same)
 told_before front false now old new (inr fills) = let (stripped, filled, is) = filled_before front now old new fills in (stripped, inr filled, is)

@@ -2,18 +2,18 @@
 use Rattle.std.proofs.Common.{◌≡◌, ℕ, Bool, true, false, Option, None, Some, Result, Ok, Err, List, [], ◌∷◌, ◌++◌, refl, sym, subst, ap, ◌∙◌}
 use Rattle.dcsctp_spec_lemmas.specs.spec.Packet.{Introduction, Content, init, init_ack, cookie_echo, cookie_ack, re_config, abort, shutdown, shutdown_ack, shutdown_complete, plain, Packet}
 use Rattle.dcsctp_spec_lemmas.specs.types.Settings.{SameOptions}
-use Rattle.dcsctp_spec_lemmas.specs.spec.Cookie.{Cookie, cookie_at}
+use Rattle.dcsctp_spec_lemmas.specs.spec.Cookie.{Cookie, cookie_of_bytes}
 use Rattle.dcsctp_spec_lemmas.specs.spec.endpoint.Endpoint.{Endpoint, Core, closed, cookie_wait, cookie_echoed, open_in, established, shutdown_pending, shutdown_sent, shutdown_received, shutdown_ack_sent}
 use Rattle.dcsctp_spec_lemmas.specs.spec.endpoint.Following.{Following, next_chunk, packet_end, dropped_rest}
 use Rattle.dcsctp_spec_lemmas.specs.spec.association.Effect.{Change}
 use Rattle.dcsctp_spec_lemmas.specs.spec.association.Choices.{Choices}
 use Rattle.dcsctp_spec_lemmas.specs.spec.association.HandshakeChanges.{connect_change, init_change, answered_init_change, init_ack_change}
-use Rattle.dcsctp_spec_lemmas.specs.spec.association.CookieEchoChanges.{Resolution, establish_new, restart, simultaneous_init, discard, maintain_existing, invalid_tag, stale, aged, resolve, resolved_change, read_echo_change}
+use Rattle.dcsctp_spec_lemmas.specs.spec.association.CookieEchoChanges.{Resolution, establish_new, restart, simultaneous_init, discard, maintain_existing, invalid_tag, stale, aged_resolution, resolve, resolved_change, read_echo_change}
 use Rattle.dcsctp_spec_lemmas.specs.spec.association.Acts.{chunk_change}
-use Rattle.dcsctp_spec_lemmas.specs.spec.association.Controlled.{IsControlled, ControlledChunk}
+use Rattle.dcsctp_spec_lemmas.specs.spec.association.Controlled.{IsControlled, IsControlledChunk}
 use Rattle.dcsctp_spec_runs.specs.Laws.{FitsTurns, FitsBehind, AllControlled, IsRest, dropped, ended, AreChunkTurns, AdmittedPacketsMayBeHandled, PacketsAreControlled, DeliversPacket, whole, acks, reported, DeliveriesAreControlled}
 use Rattle.dcsctp_spec_laws.specs.TurnLaws.{StandsBefore, ChunksAreControlled}
-use Rattle.dcsctp_spec_lemmas.specs.spec.Admission.{Admission, all_chunks, shutdown_acks_alone, refused, admits, shutdown_acks_in}
+use Rattle.dcsctp_spec_lemmas.specs.spec.Admission.{Admission, all_chunks, shutdown_acks_alone, refused, admits, shutdown_acks_of}
 use Rattle.dcsctp_spec_lemmas.specs.spec.endpoint.Turn.{Input, has_data_chunk}
 use Rattle.dcsctp_spec_lemmas.specs.spec.endpoint.CallTurns.{packet_tail, Transition, Turns, AfterChunk, ChunkTurns, WholeTurns, AdmittedTurns, after_all}
 use Rattle.dcsctp_spec_runs.specs.World.{MayBeHandled, ChunkChanges}
@@ -44,7 +44,7 @@ resolved_same p n core cookie choices stale = refl
 
 echo_same : (p : Options) (n : ℕ) (core : Core) (header : ℕ) (read : Result Cookie (List ℕ)) (choices : Choices)
     → read_echo_change (longest p n) core header read choices ≡ read_echo_change p core header read choices
-echo_same p n core header (Ok cookie) choices = resolved_same p n core cookie choices (aged choices.is_stale (resolve core choices.tie choices.secret header cookie))
+echo_same p n core header (Ok cookie) choices = resolved_same p n core cookie choices (aged_resolution choices.is_stale (resolve core choices.tie choices.secret header cookie))
 echo_same p n core header (Err text) choices = refl
 
 init_same : (p : Options) (n : ℕ) (core : Core) (theirs : Introduction) (choices : Choices) → init_change (longest p n) core theirs choices ≡ init_change p core theirs choices
@@ -80,7 +80,7 @@ pub chunk_same : (p : Options) (n : ℕ) (core : Core) (header : ℕ) (content :
     → chunk_change (longest p n) core header content choices ≡ chunk_change p core header content choices
 chunk_same p n core header (init theirs) choices = answered_init_same choices.may_answer p n core theirs choices
 chunk_same p n core header (init_ack theirs cookie) choices = init_ack_same p n core theirs cookie choices
-chunk_same p n core header (cookie_echo cookie) choices = echo_same p n core header (cookie_at cookie) choices
+chunk_same p n core header (cookie_echo cookie) choices = echo_same p n core header (cookie_of_bytes cookie) choices
 chunk_same p n core header cookie_ack choices = refl
 chunk_same p n core header (re_config parameters) choices = refl
 chunk_same p n core header (abort reflected causes) choices = refl
@@ -149,7 +149,7 @@ pub packets_are_controlled : ChunksAreControlled → PacketsAreControlled
 packets_are_controlled law e tag [] tail ts turns fitting = record { chunks = []; rest = ts; parts = refl; changes = []; moves = tt; controlled = tt; is_rest = ended turns }
 packets_are_controlled law e tag (content ∷ contents) tail [] turns fitting = absurd turns
 packets_are_controlled law e tag (content ∷ contents) tail (t ∷ ts) turns fitting =
-    let first : ControlledChunk e tag content t.outcome = law e tag content t.outcome turns.0.comes fitting.0 in
+    let first : IsControlledChunk e tag content t.outcome = law e tag content t.outcome turns.0.comes fitting.0 in
     let more : Follow e t first.0 tag contents tail ts =
     follows t.outcome.following e tag contents tail t first.0 ts first.2 turns.1 (λ rest. packets_are_controlled law t.outcome.after tag contents tail ts rest fitting.1) in
     record {
@@ -165,7 +165,7 @@ packets_are_controlled law e tag (content ∷ contents) tail (t ∷ ts) turns fi
 -- ---- what admission decides
 
 -- SHUTDOWN ACK chunks hold no number that could be too great.
-acks_fit : (e : Endpoint) (contents : List Content) (ts : List Transition) → FitsTurns e (shutdown_acks_in contents) ts
+acks_fit : (e : Endpoint) (contents : List Content) (ts : List Transition) → FitsTurns e (shutdown_acks_of contents) ts
 acks_fit e [] ts = tt
 acks_fit e (shutdown_ack ∷ contents) [] = tt
 acks_fit e (shutdown_ack ∷ contents) (t ∷ ts) = (tt, acks_fit t.outcome.after contents ts)
@@ -198,7 +198,7 @@ whole_delivered law may e packet (begun ∷ ts) is turns fitting =
 as_admitted : PacketsAreControlled → AdmittedPacketsMayBeHandled → (e : Endpoint) (packet : Packet) (admission : Admission) (ts : List Transition) → admits e.core packet ≡ admission
     → AdmittedTurns e packet admission ts → FitsBehind packet.contents ts → DeliversPacket e packet ts
 as_admitted law may e packet all_chunks ts is turns fitting = whole_delivered law may e packet ts is turns fitting
-as_admitted law may e packet shutdown_acks_alone ts is turns fitting = acks ts (law e packet.tag (shutdown_acks_in packet.contents) [] ts turns (acks_fit e packet.contents ts))
+as_admitted law may e packet shutdown_acks_alone ts is turns fitting = acks ts (law e packet.tag (shutdown_acks_of packet.contents) [] ts turns (acks_fit e packet.contents ts))
 as_admitted law may e packet (refused text) ts is turns fitting = refusal_reported e packet text ts turns
 
 pub deliveries_are_controlled : PacketsAreControlled → AdmittedPacketsMayBeHandled → DeliveriesAreControlled

@@ -12,13 +12,13 @@ use Rattle.dcsctp_spec_lemmas.specs.spec.Packet.{Introduction, Content, cookie_a
 use Rattle.dcsctp_spec_lemmas.specs.spec.queues.Transfer.{EndpointQueues}
 use Rattle.dcsctp_spec_lemmas.specs.spec.queues.Transfer.{Transfer}
 use Rattle.dcsctp_spec_lemmas.specs.spec.endpoint.Endpoint.{Endpoint, Core, closed, cookie_wait, cookie_echoed, open_in}
-use Rattle.dcsctp_spec_lemmas.specs.spec.endpoint.Outcome.{Outcome, still, quiet, sends, behind, then_outcome, noting, fits}
+use Rattle.dcsctp_spec_lemmas.specs.spec.endpoint.Outcome.{Outcome, still, quiet, sends, behind, then_outcome, with_effects_first, fits}
 use Rattle.dcsctp_spec_lemmas.specs.spec.association.Effect.{AssociationIdentity, identity_of, holds, connects}
 use Rattle.dcsctp_spec_lemmas.specs.spec.association.HandshakeChanges.{held_by_init_ack}
 use Rattle.dcsctp_spec_lemmas.specs.spec.association.CookieEchoChanges.{held_by_cookie}
-use Rattle.dcsctp_spec_lemmas.specs.spec.endpoint.FlushOutcomes.{Answer, answer_contents, filled, goes_out, asked, next_draft, flush_of, packets_allowed, nothing_waits, Ask, first_ask, later_ask, GivesWhere, IsAnswerOfQueues, IsFlushAnswer, AreFlushAnswers, at_limit, at_empty, after_packet, FlushAnswers, flush_answered, flush_outcome, allows_packet, AreQueuesIdle, IsIdle}
-use Rattle.dcsctp_spec_lemmas.specs.spec.endpoint.HandshakeOutcomes.{echo_emission, awaits_cookie_ack, connected_after, EchoAnswers, InitAckAnswers, InitAckTurn, init_ack_by, init_ack_outcome, CookieAckAnswers, CookieAckTurn, cookie_ack_by, cookie_ack_outcome}
-use Rattle.dcsctp_spec_lemmas.specs.spec.endpoint.CookieEchoOutcomes.{established_by, EstablishAnswers, establish_by, establish_outcome}
+use Rattle.dcsctp_spec_lemmas.specs.spec.endpoint.FlushOutcomes.{Answer, answer_contents, filled_draft, goes_out, asked_outcome, next_draft, flush_of, packets_allowed, nothing_waits, Ask, first_ask, later_ask, GivesUnlessIdle, IsAnswerOfQueues, IsFlushAnswer, AreFlushAnswers, at_limit, at_empty, after_packet, FlushAnswers, flush_answered, flush_outcome, allows_packet, AreQueuesIdle, IsIdle}
+use Rattle.dcsctp_spec_lemmas.specs.spec.endpoint.HandshakeOutcomes.{echo_emission, awaits_cookie_ack, connected_after, EchoAnswers, InitAckAnswers, InitAckTurn, init_ack_with_flush, init_ack_outcome, CookieAckAnswers, CookieAckTurn, cookie_ack_with_flush, cookie_ack_outcome}
+use Rattle.dcsctp_spec_lemmas.specs.spec.endpoint.CookieEchoOutcomes.{endpoint_established, EstablishAnswers, establish_with_flush, establish_outcome}
 
 -- ---- where nothing waits
 
@@ -26,7 +26,7 @@ abbrev draft_of : Bool → ℕ → List Content → Emission
 draft_of with_checksum tag contents = record { with_checksum = with_checksum; packet = record { tag = tag; contents = contents } }
 
 -- nothing follows what the packet holds
-asked_nothing : (e : Endpoint) (draft : Emission) → asked e draft (nothing_waits e) ≡ goes_out e [] draft.with_checksum draft.packet.tag draft.packet.contents
+asked_nothing : (e : Endpoint) (draft : Emission) → asked_outcome e draft (nothing_waits e) ≡ goes_out e [] draft.with_checksum draft.packet.tag draft.packet.contents
 asked_nothing e draft = ap (goes_out e [] draft.with_checksum draft.packet.tag) (append-nil draft.packet.contents)
 
 behind_quiet : (e : Endpoint) (words : List Word) (events : List (Event Emission)) → behind words events (quiet e [] []) ≡ quiet e words events
@@ -39,15 +39,15 @@ one_empty e draft none = ap (λ (o : Outcome). then_outcome o (still o.after)) (
 
 idle_below : (ask : Ask) (e : Endpoint) (draft : Emission) (answer : Answer) (transfer : Option Transfer) → AreQueuesIdle e.queues.queue transfer → IsAnswerOfQueues ask e draft answer transfer → answer ≡ nothing_waits e
 idle_below ask e draft answer None idle h = h
-idle_below ask e draft answer (Some transfer) idle h = subst (λ (b : Bool). GivesWhere b ask e draft transfer answer) idle h
+idle_below ask e draft answer (Some transfer) idle h = subst (λ (b : Bool). GivesUnlessIdle b ask e draft transfer answer) idle h
 
 -- There is one answer.
 answered_idle : (ask : Ask) (e : Endpoint) (draft : Emission) (answer : Answer) → IsIdle e → IsFlushAnswer ask e draft answer → answer ≡ nothing_waits e
 answered_idle ask e draft answer idle h = idle_below ask e draft answer e.queues.transfer idle h.by_transfer
 
 -- what the packet holds, with nothing after it
-filled_with_nothing : (e : Endpoint) (draft : Emission) (answer : Answer) → answer ≡ nothing_waits e → (filled draft (answer_contents answer)).packet.contents ≡ draft.packet.contents
-filled_with_nothing e draft answer is = ap (λ (a : Answer). (filled draft (answer_contents a)).packet.contents) is ∙ append-nil draft.packet.contents
+filled_with_nothing : (e : Endpoint) (draft : Emission) (answer : Answer) → answer ≡ nothing_waits e → (filled_draft draft (answer_contents answer)).packet.contents ≡ draft.packet.contents
+filled_with_nothing e draft answer is = ap (λ (a : Answer). (filled_draft draft (answer_contents a)).packet.contents) is ∙ append-nil draft.packet.contents
 
 -- a flush whose first packet is empty brings nothing
 ends_still : (ask : Ask) (n : ℕ) (e : Endpoint) (draft : Emission) (answers : List Answer) → IsIdle e → draft.packet.contents ≡ [] → AreFlushAnswers ask n e draft answers → flush_of e draft answers ≡ still e
@@ -62,16 +62,16 @@ next_is_empty (cookie_echoed my held cookie) draft = refl
 next_is_empty (open_in phase my held) draft = refl
 
 -- nothing waits once a packet has gone out
-asked_idle : (e : Endpoint) (draft : Emission) (contents : List Content) → draft.packet.contents ≡ contents → IsIdle e → IsIdle (asked e draft (nothing_waits e)).after
+asked_idle : (e : Endpoint) (draft : Emission) (contents : List Content) → draft.packet.contents ≡ contents → IsIdle e → IsIdle (asked_outcome e draft (nothing_waits e)).after
 asked_idle e draft [] is idle = subst (λ (o : Outcome). IsIdle o.after) (sym (asked_nothing e draft ∙ ap (goes_out e [] draft.with_checksum draft.packet.tag) is)) idle
 asked_idle e draft (content ∷ contents) is idle = subst (λ (o : Outcome). IsIdle o.after) (sym (asked_nothing e draft ∙ ap (goes_out e [] draft.with_checksum draft.packet.tag) is)) idle
 
 -- a packet that holds a chunk goes out alone
 alone : (e : Endpoint) (draft : Emission) (content : Content) (contents : List Content) (answers : List Answer) (n : ℕ) → IsIdle e → draft.packet.contents ≡ content ∷ contents
-    → AreFlushAnswers later_ask n (asked e draft (nothing_waits e)).after (next_draft e.core draft) answers
+    → AreFlushAnswers later_ask n (asked_outcome e draft (nothing_waits e)).after (next_draft e.core draft) answers
     → flush_of e draft (nothing_waits e ∷ answers) ≡ sends e [] [] draft
 alone e draft content contents answers n idle some rest =
-    ap (then_outcome (asked e draft (nothing_waits e))) (ends_still later_ask n _ (next_draft e.core draft) answers (asked_idle e draft (content ∷ contents) some idle) (next_is_empty e.core draft) rest)
+    ap (then_outcome (asked_outcome e draft (nothing_waits e))) (ends_still later_ask n _ (next_draft e.core draft) answers (asked_idle e draft (content ∷ contents) some idle) (next_is_empty e.core draft) rest)
     ∙ ap (λ (o : Outcome). then_outcome o (still o.after)) (asked_nothing e draft ∙ ap (goes_out e [] draft.with_checksum draft.packet.tag) some)
     ∙ ap (λ (cs : List Content). sends e [] [] (record draft { packet = record draft.packet { contents = cs } })) (sym some)
 
@@ -82,7 +82,7 @@ one_packet ask n e draft content contents _ idle some (at_empty _ _ _ _ answer i
 one_packet ask n e draft content contents _ idle some (after_packet _ _ _ _ answer answers is not_empty rest) =
     let same : answer ≡ nothing_waits e = answered_idle ask e draft answer idle is in
     ap (λ (a : Answer). flush_of e draft (a ∷ answers)) same
-    ∙ alone e draft content contents answers n idle some (subst (λ (a : Answer). AreFlushAnswers later_ask n (asked e draft a).after (next_draft e.core draft) answers) same rest)
+    ∙ alone e draft content contents answers n idle some (subst (λ (a : Answer). AreFlushAnswers later_ask n (asked_outcome e draft a).after (next_draft e.core draft) answers) same rest)
 
 none_allowed : (ask : Ask) (e : Endpoint) (draft : Emission) (answers : List Answer) → AreFlushAnswers ask zero e draft answers → flush_of e draft answers ≡ still e
 none_allowed _ _ _ _ (at_limit _ e draft) = refl
@@ -127,8 +127,8 @@ init_ack_turn_now e theirs cookie mine o is idle turn =
     let answers : InitAckAnswers e theirs (Some cookie) (cookie_wait mine) turn.0 turn.1 = subst (λ (core : Core). InitAckAnswers e theirs (Some cookie) core turn.0 turn.1) is turn.2 in (
       turn.0,
       turn.3
-          ∙ ap (λ (core : Core). init_ack_by (flush_answered turn.1) e theirs (Some cookie) core turn.0) is
-          ∙ ap (noting (holds (identity_of mine (held_by_init_ack e.options mine theirs)) ∷ []))
+          ∙ ap (λ (core : Core). init_ack_with_flush (flush_answered turn.1) e theirs (Some cookie) core turn.0) is
+          ∙ ap (with_effects_first (holds (identity_of mine (held_by_init_ack e.options mine theirs)) ∷ []))
           (echo_now (fits after (echo_emission theirs.pair.tag cookie)) after (U64 turn.0 ∷ []) theirs.pair.tag cookie turn.1 (idle turn.0) answers),
     )
 
@@ -139,13 +139,13 @@ pub cookie_ack_turn_now : (e : Endpoint) (mine : Pair) (held : Held) (cookie : L
 cookie_ack_turn_now e mine held cookie o is idle turn =
     let answers : CookieAckAnswers e (cookie_echoed mine held cookie) turn.0 = subst (λ (core : Core). CookieAckAnswers e core turn.0) is turn.1 in
     turn.2
-    ∙ ap (cookie_ack_by (flush_answered turn.0) e) is
-    ∙ ap (noting (connects (identity_of mine held) ∷ [])) (flush_is_now (connected_after e mine held) [] (connected ∷ []) (held.capabilities.zero_checksum_method.0 == 0) held.peer.tag [] turn.0 idle answers)
+    ∙ ap (cookie_ack_with_flush (flush_answered turn.0) e) is
+    ∙ ap (with_effects_first (connects (identity_of mine held) ∷ [])) (flush_is_now (connected_after e mine held) [] (connected ∷ []) (held.capabilities.zero_checksum_method.0 == 0) held.peer.tag [] turn.0 idle answers)
 
 -- ---- COOKIE ECHO
 
-pub establish_now : (e : Endpoint) (cookie : Cookie) (queues : EndpointQueues) (tie : ℕ) (events : List (Event Emission)) (answers : List Answer) → IsIdle (established_by e cookie queues tie)
-    → EstablishAnswers e cookie queues tie answers → establish_by (flush_answered answers) e cookie queues tie events ≡ establish_outcome e cookie queues tie events
+pub establish_now : (e : Endpoint) (cookie : Cookie) (queues : EndpointQueues) (tie : ℕ) (events : List (Event Emission)) (answers : List Answer) → IsIdle (endpoint_established e cookie queues tie)
+    → EstablishAnswers e cookie queues tie answers → establish_with_flush (flush_answered answers) e cookie queues tie events ≡ establish_outcome e cookie queues tie events
 establish_now e cookie queues tie events answers idle h =
     let link : AssociationIdentity = identity_of cookie.maker (held_by_cookie e.options cookie) in
-    ap (noting (holds link ∷ connects link ∷ [])) (flush_is_now (established_by e cookie queues tie) (U64 tie ∷ []) events _ cookie.addressee.tag (cookie_ack ∷ []) answers idle h)
+    ap (with_effects_first (holds link ∷ connects link ∷ [])) (flush_is_now (endpoint_established e cookie queues tie) (U64 tie ∷ []) events _ cookie.addressee.tag (cookie_ack ∷ []) answers idle h)

@@ -3,11 +3,11 @@ use Rattle.std.proofs.Common.{◌≡◌, ◌&&◌, ℕ, Bool, true, false, Optio
 use Rattle.dcsctp_spec_lemmas.specs.types.declared.association.Held.{Held}
 use Rattle.dcsctp_spec_lemmas.specs.types.declared.tracking.AckState.{AckState}
 use Rattle.dcsctp_spec_lemmas.specs.types.declared.tracking.AckState.TheVariants.{Idle, BecomingDelayed, Delayed, Immediate}
-use Rattle.dcsctp_spec_lemmas.specs.spec.Packet.{Introduction, Content, init, packet_in}
+use Rattle.dcsctp_spec_lemmas.specs.spec.Packet.{Introduction, Content, init, packet_of_content}
 use Rattle.dcsctp_spec_lemmas.specs.spec.Admission.{Admission, all_chunks, shutdown_acks_alone, refused, admits, is_single_init}
-use Rattle.dcsctp_spec_lemmas.specs.spec.queues.Tracker.{TrackerState, is_sack_due, delayed_from, after_packet_end, is_acknowledgement_due, sacked}
+use Rattle.dcsctp_spec_lemmas.specs.spec.queues.Tracker.{TrackerState, is_sack_due, delayed_from, after_packet_end, is_acknowledgement_due, tracker_after_sack}
 use Rattle.dcsctp_spec_lemmas.specs.spec.queues.Transfer.{Transfer}
-use Rattle.dcsctp_spec_lemmas.specs.spec.endpoint.Endpoint.{Endpoint, Core, closed, cookie_wait, cookie_echoed, open_in, is_cookie_echoed, shutdown_sent, held_in}
+use Rattle.dcsctp_spec_lemmas.specs.spec.endpoint.Endpoint.{Endpoint, Core, closed, cookie_wait, cookie_echoed, open_in, is_cookie_echoed, shutdown_sent, held_by_core}
 use Rattle.dcsctp_spec_lemmas.specs.spec.endpoint.Following.{next_chunk}
 use Rattle.dcsctp_spec_lemmas.specs.spec.endpoint.Outcome.{Outcome, still}
 use Rattle.dcsctp_spec_lemmas.specs.types.declared.options.Options.{Options}
@@ -17,8 +17,8 @@ use Rattle.dcsctp_spec_laws.proofs.DataLemmas.{flushed_act, end_at}
 use Rattle.dcsctp_spec_lemmas.specs.spec.endpoint.Turn.{arrival, refusal, packet_ends, BeginTurn, unreadable_text}
 use Rattle.dcsctp_spec_lemmas.specs.spec.endpoint.CallTurns.{asked_again, Transition, IsTurn, Turns, ChunkTurns, WholeTurns, AdmittedTurns, unreadable, readable, after_all}
 use Rattle.dcsctp_spec_lemmas.specs.spec.endpoint.BegunResets.{BegunReset, core_asking, after_begun}
-use Rattle.dcsctp_spec_lemmas.specs.spec.endpoint.FlushOutcomes.{own_sack, first_ask, packets_allowed, room_in, draft_to}
-use Rattle.dcsctp_spec_lemmas.specs.spec.endpoint.DataOutcomes.{endpoint_with_tracker, acknowledging, EndWhere, EndsBy}
+use Rattle.dcsctp_spec_lemmas.specs.spec.endpoint.FlushOutcomes.{own_sack, first_ask, packets_allowed, room_of_draft, draft_to}
+use Rattle.dcsctp_spec_lemmas.specs.spec.endpoint.DataOutcomes.{endpoint_with_tracker, acknowledging, AnswersPacketIfDue, AcknowledgesPacket}
 use Rattle.dcsctp_spec_runs.specs.Laws.{CountsSentOnly, is_earlier_acknowledgement_due, StaysAs, unchanged_core, asking_core, InitPacketLeavesAssociation}
 use Rattle.dcsctp_spec_lemmas.proofs.FlushKeeps.{begun_by, flush_keeps}
 use Rattle.dcsctp_spec_lemmas.proofs.OneAnswerLemmas.{init_by}
@@ -39,21 +39,21 @@ begun_stays : (begun : Option BegunReset) (e : Endpoint) (is_sack_due : Bool) (n
 begun_stays None e is_sack_due new due is = unchanged_core is
 begun_stays (Some begun) e is_sack_due new due is = asking_core due is
 
-end_where_stays : (b : Bool) (e : Endpoint) (peer : Option Held) (transfer : Transfer) (tracker : TrackerState) (o : Outcome) → EndWhere b e peer transfer tracker o → StaysAs b e.core o.after.core
+end_where_stays : (b : Bool) (e : Endpoint) (peer : Option Held) (transfer : Transfer) (tracker : TrackerState) (o : Outcome) → AnswersPacketIfDue b e peer transfer tracker o → StaysAs b e.core o.after.core
 end_where_stays true e (Some held) transfer tracker o turn =
-    let base : Endpoint = endpoint_with_tracker e transfer (sacked tracker) in
-    let draft = acknowledging e held (own_sack (room_in e (draft_to held)) (record transfer { tracker = tracker })) in
+    let base : Endpoint = endpoint_with_tracker e transfer (tracker_after_sack tracker) in
+    let draft = acknowledging e held (own_sack (room_of_draft e (draft_to held)) (record transfer { tracker = tracker })) in
     let kept = flush_keeps first_ask (packets_allowed base.options.max_burst base.core) base draft turn.answers turn.allowed in
     begun_stays (begun_by turn.answers) base true o.after.core refl (ap (λ (x : Outcome). x.after.core) turn.is ∙ kept.core)
 end_where_stays true e None transfer tracker o turn = unchanged_core (ap (λ (x : Outcome). x.after.core) turn)
 end_where_stays false e peer transfer tracker o turn = unchanged_core (ap (λ (x : Outcome). x.after.core) turn)
 
-end_stays : (e : Endpoint) (transfer : Option Transfer) (o : Outcome) → EndsBy e transfer o → StaysAs (is_earlier_acknowledgement_due transfer) e.core o.after.core
+end_stays : (e : Endpoint) (transfer : Option Transfer) (o : Outcome) → AcknowledgesPacket e transfer o → StaysAs (is_earlier_acknowledgement_due transfer) e.core o.after.core
 end_stays e None o turn = unchanged_core (ap (λ (x : Outcome). x.after.core) turn)
 end_stays e (Some transfer) o turn =
     let tracker : TrackerState = after_packet_end e.moment transfer.tracker in
     subst (λ (b : Bool). StaysAs b e.core o.after.core) (due_where e.moment transfer.tracker transfer.tracker.acknowledgement refl)
-    (end_where_stays (is_acknowledgement_due tracker) e (held_in e.core) transfer tracker o turn)
+    (end_where_stays (is_acknowledgement_due tracker) e (held_by_core e.core) transfer tracker o turn)
 
 -- ---- its turns
 
@@ -178,4 +178,4 @@ pub init_packet_leaves_association : InitPacketLeavesAssociation
 init_packet_leaves_association e bytes _ (unreadable ts none turns) are = unreadable_stays e ts turns
 init_packet_leaves_association e bytes _ (readable packet counted ts found counts turns) are =
     counted_stays e counted ts counts
-    (single_stays counted.outcome.after packet.verification_tag (packet_in packet).contents (admits e.core (packet_in packet)) ts (are packet found) turns)
+    (single_stays counted.outcome.after packet.verification_tag (packet_of_content packet).contents (admits e.core (packet_of_content packet)) ts (are packet found) turns)

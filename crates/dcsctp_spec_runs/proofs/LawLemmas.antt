@@ -3,7 +3,7 @@ use Rattle.std.proofs.Common.{◌≡◌, ◌==◌, ◌∙◌, ℕ, Bool, true, f
 use Rattle.std.specs.Prelude.{if◌then◌else◌}
 use Rattle.dcsctp_spec_lemmas.specs.types.declared.association.Pair.{Pair}
 use Rattle.std.proofs.lemmas.Bool.Decides.{nat_tests}
-use Rattle.dcsctp_spec_lemmas.specs.types.Offer.{negotiated}
+use Rattle.dcsctp_spec_lemmas.specs.types.Offer.{negotiated_capabilities}
 use Rattle.dcsctp_spec_lemmas.specs.types.declared.word.Word.{Word}
 use Rattle.dcsctp_spec_lemmas.specs.spec.Packet.{Introduction, shutdown_ack, Emission}
 use Rattle.dcsctp_spec_lemmas.specs.spec.endpoint.Endpoint.{Endpoint, Core, closed, cookie_wait, cookie_echoed, open_in, established, shutdown_pending, shutdown_sent, shutdown_received, shutdown_ack_sent, number_of_pair, with_secret, secret_with}
@@ -41,7 +41,7 @@ method_again m n = grind (arith, nat_tests)
 
 pub answer_keeps_agreement : AnswerKeepsAgreement
 answer_keeps_agreement mine theirs =
-    ap (λ n. record (negotiated mine theirs) { zero_checksum_method = record { 0 = n } }) (method_again mine.zero_checksum_method theirs.zero_checksum_method)
+    ap (λ n. record (negotiated_capabilities mine theirs) { zero_checksum_method = record { 0 = n } }) (method_again mine.zero_checksum_method theirs.zero_checksum_method)
 
 -- what an INIT may do
 abbrev IsSmall : Endpoint → Outcome → Type 0

@@ -3,18 +3,18 @@ use Rattle.std.proofs.Common.{◌≡◌, ◌≤◌, ◌+◌, ℕ, suc, Bool, Lis
 use Rattle.std.specs.List.{AllByRecursion}
 use Rattle.dcsctp_spec_lemmas.specs.types.declared.options.Options.{Options}
 use Rattle.dcsctp_spec_lemmas.specs.types.Settings.{packet_size_limit}
-use Rattle.dcsctp_spec_lemmas.specs.spec.endpoint.Event.{Event, sent, packets_in}
+use Rattle.dcsctp_spec_lemmas.specs.spec.endpoint.Event.{Event, sent, packets_of_events}
 use Rattle.dcsctp_spec_lemmas.specs.spec.Packet.{Content, Emission}
 use Rattle.dcsctp_spec_lemmas.specs.spec.endpoint.Endpoint.{Endpoint}
 use Rattle.dcsctp_spec_lemmas.specs.spec.endpoint.Outcome.{contents_len}
-use Rattle.dcsctp_spec_lemmas.specs.spec.endpoint.FlushOutcomes.{FillingEvent, amount_is_low, total_amount_is_low, message_is_sent, message_may_have_expired, message_has_expired, message_ends, filling_event, Answer, answer_contents, filled, goes_out, asked, next_draft, flush_of, Ask, first_ask, later_ask, AreFlushAnswers, at_limit, at_empty, after_packet, packets_allowed, IsWithinMtu, IsFlushEvent}
+use Rattle.dcsctp_spec_lemmas.specs.spec.endpoint.FlushOutcomes.{FillingEvent, amount_is_low, total_amount_is_low, message_is_sent, message_may_have_expired, message_has_expired, message_ends, filling_event, Answer, answer_contents, filled_draft, goes_out, asked_outcome, next_draft, flush_of, Ask, first_ask, later_ask, AreFlushAnswers, at_limit, at_empty, after_packet, packets_allowed, IsWithinMtu, IsFlushEvent}
 use Rattle.dcsctp_spec_runs.specs.Laws.{FlushKeepsLimits}
 use Rattle.dcsctp_spec_lemmas.proofs.FlushKeeps.{asked_keeps, next_is_empty}
 
 -- what events of so many packets keep
 record KeepsFor (n : ℕ) (e : Endpoint) (events : List (Event Emission)) : Type 0 where
-  packets : length (packets_in events) ≤ n
-  sizes : AllByRecursion (IsWithinMtu e) (packets_in events)
+  packets : length (packets_of_events events) ≤ n
+  sizes : AllByRecursion (IsWithinMtu e) (packets_of_events events)
   others : AllByRecursion IsFlushEvent events
 
 -- What it reports is no packet.
@@ -57,12 +57,12 @@ empty_within e f draft next is empty within =
 keeps : (ask : Ask) (n : ℕ) (e : Endpoint) (draft : Emission) (answers : List Answer) → AreFlushAnswers ask n e draft answers → IsWithinMtu e draft → KeepsFor n e (flush_of e draft answers).events
 keeps _ _ _ _ _ (at_limit ask e draft) within = nothing_keeps 0 e
 keeps _ _ _ _ _ (at_empty ask more e draft answer h empty) within =
-    out_keeps more e answer.after answer.told draft.with_checksum draft.packet.tag (filled draft (answer_contents answer)).packet.contents [] (h.within within) (nothing_keeps more e)
+    out_keeps more e answer.after answer.told draft.with_checksum draft.packet.tag (filled_draft draft (answer_contents answer)).packet.contents [] (h.within within) (nothing_keeps more e)
 keeps _ _ _ _ _ (after_packet ask more e draft answer answers h some rest) within =
-    let after : Endpoint = (asked e draft answer).after in
+    let after : Endpoint = (asked_outcome e draft answer).after in
     let next : Emission = next_draft e.core draft in
     let options : after.options ≡ e.options = (asked_keeps ask e draft answer h).options in
-    out_keeps more e answer.after answer.told draft.with_checksum draft.packet.tag (filled draft (answer_contents answer)).packet.contents (flush_of after next answers).events (h.within within)
+    out_keeps more e answer.after answer.told draft.with_checksum draft.packet.tag (filled_draft draft (answer_contents answer)).packet.contents (flush_of after next answers).events (h.within within)
     (same_options more e after (flush_of after next answers).events options
     (keeps later_ask more after next answers rest (empty_within e after draft next options (next_is_empty e.core draft) within)))
 

@@ -4,7 +4,7 @@ use Rattle.std.proofs.lemmas.Bool.Decides.{nat_tests}
 use Rattle.dcsctp_spec_lemmas.specs.types.declared.options.Options.{Options}
 use Rattle.dcsctp_spec_lemmas.specs.spec.endpoint.Endpoint.{Core, closed, cookie_wait, cookie_echoed, open_in, own_tag}
 use Rattle.dcsctp_spec_lemmas.specs.spec.Packet.{Content, init, cookie_echo, abort, shutdown_ack, shutdown_complete, Packet}
-use Rattle.dcsctp_spec_lemmas.specs.spec.Admission.{all_chunks, shutdown_acks_alone, first_abort, first_shutdown_complete, has_shutdown_ack, shutdown_acks_in, is_echo_in_front, is_single_init, is_own_tag, bears_tag, abort_text, shutdown_complete_text, shutdown_ack_text, single_init_text, wrong_tag_text, admitted_where, admits_shutdown_ack, admits_by, admits}
+use Rattle.dcsctp_spec_lemmas.specs.spec.Admission.{all_chunks, shutdown_acks_alone, first_abort, first_shutdown_complete, has_shutdown_ack, shutdown_acks_of, is_echo_in_front, is_single_init, is_own_tag, bears_tag, abort_text, shutdown_complete_text, shutdown_ack_text, single_init_text, wrong_tag_text, all_chunks_or_none, admits_shutdown_ack, admission_by_answers, admits}
 use Rattle.dcsctp_spec_runs.specs.World.{HasEnding, MayBeHandled, own_tag_borne, echo_in_front, init_alone, ending_in}
 use Rattle.dcsctp_spec_lemmas.specs.spec.association.Acts.{chunk_change}
 use Rattle.dcsctp_spec_lemmas.specs.spec.association.Choices.{Choices}
@@ -28,7 +28,7 @@ ends_by_shutdown_ack [] is = absurd (cc)
 ends_by_shutdown_ack (shutdown_ack ∷ contents) is = inl tt
 ends_by_shutdown_ack (content ∷ contents) is = inr (ends_by_shutdown_ack contents is)
 
-shutdown_acks_end : (contents : List Content) → has_shutdown_ack contents ≡ true → HasEnding (shutdown_acks_in contents)
+shutdown_acks_end : (contents : List Content) → has_shutdown_ack contents ≡ true → HasEnding (shutdown_acks_of contents)
 shutdown_acks_end [] is = absurd (cc)
 shutdown_acks_end (shutdown_ack ∷ contents) is = inl tt
 shutdown_acks_end (content ∷ contents) is = shutdown_acks_end contents is
@@ -46,11 +46,11 @@ init_may core tag (init theirs ∷ []) is = init_alone theirs refl
 init_may core tag (content ∷ []) is = absurd (cc)
 init_may core tag (content ∷ next ∷ contents) is = absurd (cc)
 
-holds_where : (test : Bool) (text : List ℕ) → admitted_where test text ≡ all_chunks → test ≡ true
+holds_where : (test : Bool) (text : List ℕ) → all_chunks_or_none test text ≡ all_chunks → test ≡ true
 holds_where true text is = refl
 holds_where false text is = absurd (cc)
 
-never_cut : (test : Bool) (text : List ℕ) → admitted_where test text ≡ shutdown_acks_alone → ⊥
+never_cut : (test : Bool) (text : List ℕ) → all_chunks_or_none test text ≡ shutdown_acks_alone → ⊥
 never_cut true text is = cc
 never_cut false text is = cc
 
@@ -59,7 +59,7 @@ own_tag_may core packet is = own_tag_borne (grind (arith, nat_tests))
 
 line_may : (core : Core) (packet : Packet) (aborts completes : Option Bool) (acks echo zero : Bool)
     → first_abort packet.contents ≡ aborts → first_shutdown_complete packet.contents ≡ completes → has_shutdown_ack packet.contents ≡ acks → is_echo_in_front packet.contents ≡ echo
-    → admits_by core packet aborts completes acks echo zero ≡ all_chunks → MayBeHandled core packet
+    → admission_by_answers core packet aborts completes acks echo zero ≡ all_chunks → MayBeHandled core packet
 line_may core packet (Some reflected) completes acks echo zero a c s e is = ending_in (ends_by_abort packet.contents reflected a)
 line_may core packet None (Some reflected) acks echo zero a c s e is = ending_in (ends_by_shutdown_complete packet.contents reflected c)
 line_may core packet None None true echo zero a c s e is = ending_in (ends_by_shutdown_ack packet.contents s)
@@ -76,7 +76,7 @@ whole_may core packet is =
 -- ---- the line for SHUTDOWN ACK, which alone cuts
 
 cut_by_shutdown_ack : (core : Core) (packet : Packet) (aborts completes : Option Bool) (acks echo zero : Bool)
-    → admits_by core packet aborts completes acks echo zero ≡ shutdown_acks_alone → (acks ≡ true) × (admits_shutdown_ack core packet.tag ≡ shutdown_acks_alone)
+    → admission_by_answers core packet aborts completes acks echo zero ≡ shutdown_acks_alone → (acks ≡ true) × (admits_shutdown_ack core packet.tag ≡ shutdown_acks_alone)
 cut_by_shutdown_ack core packet (Some reflected) completes acks echo zero is = absurd (never_cut (bears_tag core packet.tag reflected) abort_text is)
 cut_by_shutdown_ack core packet None (Some reflected) acks echo zero is = absurd (never_cut (bears_tag core packet.tag reflected) shutdown_complete_text is)
 cut_by_shutdown_ack core packet None None true echo zero is = (refl, is)
@@ -89,7 +89,7 @@ where_cut core packet is =
     let contents = packet.contents in
     cut_by_shutdown_ack core packet (first_abort contents) (first_shutdown_complete contents) (has_shutdown_ack contents) (is_echo_in_front contents) (packet.tag == 0) is
 
-cut_may : (core : Core) (packet : Packet) → admits core packet ≡ shutdown_acks_alone → MayBeHandled core (record packet { contents = shutdown_acks_in packet.contents })
+cut_may : (core : Core) (packet : Packet) → admits core packet ≡ shutdown_acks_alone → MayBeHandled core (record packet { contents = shutdown_acks_of packet.contents })
 cut_may core packet is = ending_in (shutdown_acks_end packet.contents (where_cut core packet is).0)
 
 -- Where a SHUTDOWN ACK is cut out, it is answered.

@@ -5,7 +5,7 @@ use Rattle.dcsctp_spec_lemmas.specs.wire.declared.packet.WireOptions.{WireOption
 use Rattle.dcsctp_spec_lemmas.specs.wire.Content.{ParameterContent, supported_extensions, zero_checksum_acceptable, forward_tsn_supported, PacketContent}
 use Rattle.dcsctp_spec_lemmas.specs.types.Offer.{Offer, offer_announced}
 use Rattle.dcsctp_spec_lemmas.specs.wire.Numbers.{re_config_type, forward_tsn_type, i_data_type, i_forward_tsn_type}
-use Rattle.dcsctp_spec_lemmas.specs.spec.Packet.{cookie_parameters, packet_in}
+use Rattle.dcsctp_spec_lemmas.specs.spec.Packet.{cookie_parameters, packet_of_content}
 use Rattle.dcsctp_spec_lemmas.specs.types.Settings.{wire_options}
 use Rattle.dcsctp_spec_lemmas.specs.spec.endpoint.Endpoint.{Endpoint}
 use Rattle.dcsctp_spec_lemmas.specs.spec.endpoint.Outcome.{Outcome}
@@ -88,13 +88,13 @@ unreadable_refused e bytes turns (unreadable ts none taken) nothing = counted_an
 unreadable_refused e bytes turns (readable packet counted ts found turn admitted) nothing = absurd (nothing packet found)
 
 admission_refused : OneReading → (e : Endpoint) (bytes text : List ℕ) (packet : PacketContent) (turns : List Transition) → HandleInput e bytes turns
-    → IsPacket (wire_options e.options) packet bytes → admits e.core (packet_in packet) ≡ refused text
+    → IsPacket (wire_options e.options) packet bytes → admits e.core (packet_of_content packet) ≡ refused text
     → IsPacketRefused e text turns
 admission_refused one e bytes text packet turns (unreadable ts none taken) found refuses = absurd (none packet found)
 admission_refused one e bytes text packet turns (readable other counted ts there turn admitted) found refuses =
     let same : other ≡ packet = one (wire_options e.options) bytes other packet there found in
-    let says : admits e.core (packet_in other) ≡ refused text = ap (λ (p : PacketContent). admits e.core (packet_in p)) same ∙ refuses in
-    let taken : Turns counted.outcome.after (refusal text ∷ []) ts = subst (λ (a : Admission). AdmittedTurns counted.outcome.after (packet_in other) a ts) says admitted in
+    let says : admits e.core (packet_of_content other) ≡ refused text = ap (λ (p : PacketContent). admits e.core (packet_of_content p)) same ∙ refuses in
+    let taken : Turns counted.outcome.after (refusal text ∷ []) ts = subst (λ (a : Admission). AdmittedTurns counted.outcome.after (packet_of_content other) a ts) says admitted in
     counted_and_refused e text (counted ∷ ts) (turn, taken)
 
 pub refused_packet_adds_one_error : OneReading → RefusedPacketAddsOneError

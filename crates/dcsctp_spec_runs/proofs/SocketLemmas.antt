@@ -8,7 +8,7 @@ use Rattle.dcsctp_spec_lemmas.specs.spec.endpoint.Endpoint.{Endpoint, fresh_endp
 use Rattle.dcsctp_spec_lemmas.specs.spec.endpoint.Outcome.{Outcome}
 use Rattle.dcsctp_spec_lemmas.specs.spec.association.Acts.{Act, shutdown_repeats, flushes}
 use Rattle.dcsctp_spec_lemmas.specs.spec.endpoint.OwnTimers.{timer_act}
-use Rattle.dcsctp_spec_lemmas.specs.spec.association.Controlled.{ControlledAct}
+use Rattle.dcsctp_spec_lemmas.specs.spec.association.Controlled.{IsControlledAct}
 use Rattle.dcsctp_spec_lemmas.specs.spec.endpoint.Turn.{Input, arrival, refusal, packet_begins, chunk_input, packet_ends, act_input, user_sets, user_sends, user_resets, user_takes, timer_expires, time_passes, restores, Turn, BeginTurn, has_data_chunk}
 use Rattle.dcsctp_spec_lemmas.specs.spec.endpoint.CallTurns.{Transition, IsTurn, AlongTurns, after_all}
 use Rattle.dcsctp_spec_runs.specs.Sockets.{Both, of_side, PerformedAct, SocketRun, turns_after, endpoint_after, TurnsOfAct}
@@ -22,7 +22,7 @@ use Rattle.dcsctp_spec_laws.proofs.ControlRestores.{restore_stands}
 
 -- ---- one socket
 
-kept_by_act : (e : Endpoint) (act : Act) (o : Outcome) → ControlledAct e act o → SameOptions e.options o.after.options
+kept_by_act : (e : Endpoint) (act : Act) (o : Outcome) → IsControlledAct e act o → SameOptions e.options o.after.options
 kept_by_act e act o turn = turn.1.options
 
 begin_keeps : (e : Endpoint) (has : Bool) (o : Outcome) → BeginTurn e e.core has o → SameOptions e.options o.after.options

@@ -9,7 +9,7 @@ use Rattle.dcsctp_spec_lemmas.specs.spec.endpoint.Endpoint.{Endpoint, Core, clos
 use Rattle.dcsctp_spec_lemmas.specs.spec.Handover.{readiness_of}
 use Rattle.dcsctp_spec_lemmas.specs.types.Schedule.{OutsideContent, input_outside, handover_outside, restore_outside, ActContent, step_act, outside_act}
 use Rattle.dcsctp_spec_lemmas.specs.types.Snapshot.{Snapshot, is_valid_snapshot}
-use Rattle.dcsctp_spec_lemmas.specs.spec.SocketSnapshot.{snapshot_in, snapshot_of}
+use Rattle.dcsctp_spec_lemmas.specs.spec.SocketSnapshot.{snapshot_by_core, snapshot_of}
 use Rattle.dcsctp_spec_lemmas.specs.spec.HandoverInputs.{inputs_of_snapshot}
 use Rattle.dcsctp_spec_runs.specs.Sockets.{inputs_where_valid, inputs_of_both, OutsideTurns, TurnsOfAct, Both, of_side, of_other, PerformedAct, SocketRun, turns_after, endpoint_after, packets_shown, side_of_act}
 use Rattle.dcsctp_spec_lemmas.specs.spec.Soundness.{IsSoundCore, IsSound}
@@ -21,7 +21,7 @@ use Rattle.dcsctp_spec_laws.proofs.SoundTurns.{MaySound, KeepsSound, turn_sound,
 -- ---- acts from outside
 
 -- the tags of its own snapshot
-own_says : (e : Endpoint) (core : Core) → IsSoundCore e.options core → AllByRecursion MaySound (inputs_of_snapshot (snapshot_in e core).socket_state (snapshot_in e core))
+own_says : (e : Endpoint) (core : Core) → IsSoundCore e.options core → AllByRecursion MaySound (inputs_of_snapshot (snapshot_by_core e core).socket_state (snapshot_by_core e core))
 own_says e closed h = tt
 own_says e (cookie_wait my) h = tt
 own_says e (cookie_echoed my held cookie) h = tt

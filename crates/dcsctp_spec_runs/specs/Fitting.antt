@@ -5,7 +5,7 @@ use Rattle.dcsctp_spec_lemmas.specs.wire.ReadsBack.{FitsEcho, FitsChunk}
 use Rattle.dcsctp_spec_lemmas.specs.types.declared.association.Held.{Held}
 use Rattle.dcsctp_spec_lemmas.specs.types.Settings.{IsValid, FitsOptions}
 use Rattle.dcsctp_spec_lemmas.specs.spec.endpoint.Event.{Event, sent}
-use Rattle.dcsctp_spec_lemmas.specs.spec.Packet.{Content, init, init_ack, Packet, Emission, content_in, chunk_out}
+use Rattle.dcsctp_spec_lemmas.specs.spec.Packet.{Content, init, init_ack, Packet, Emission, content_of_chunk, chunk_out}
 use Rattle.dcsctp_spec_lemmas.specs.spec.endpoint.Endpoint.{Endpoint, Core, closed, cookie_wait, cookie_echoed, open_in}
 use Rattle.dcsctp_spec_runs.specs.Deadlines.{T1Runs}
 use Rattle.dcsctp_spec_lemmas.specs.spec.endpoint.Outcome.{Outcome}
@@ -20,7 +20,7 @@ FitsSaid content = Unit {0}
 
 pub record Sendable (content : Content) : Type 0 where
   pub fits : FitsChunk (chunk_out content)
-  pub reads : content_in (chunk_out content) ≡ content
+  pub reads : content_of_chunk (chunk_out content) ≡ content
   pub said : FitsSaid content
 
 pub record SendablePacket (packet : Packet) : Type 0 where
@@ -31,14 +31,14 @@ abbrev pub IsSendable : Emission → Type 0
 IsSendable emission = SendablePacket emission.packet
 
 -- what an event says of its packet, if it has one
-abbrev pub OfSent : (Emission → Type 0) → Event Emission → Type 0
-OfSent Good (sent emission) = Good emission
-OfSent Good event = Unit {0}
+abbrev pub HoldsIfSent : (Emission → Type 0) → Event Emission → Type 0
+HoldsIfSent Good (sent emission) = Good emission
+HoldsIfSent Good event = Unit {0}
 
 -- what holds of each packet among events
 abbrev pub AllSent : (Emission → Type 0) → List (Event Emission) → Type 0
 AllSent Good [] = Unit {0}
-AllSent Good (event ∷ events) = OfSent Good event × AllSent Good events
+AllSent Good (event ∷ events) = HoldsIfSent Good event × AllSent Good events
 
 -- a number of a request, if there is one
 abbrev pub FitsNumber : Option ℕ → Type 0

@@ -4,7 +4,7 @@ use Rattle.dcsctp_spec_lemmas.specs.types.declared.capabilities.Capabilities.{Ca
 use Rattle.dcsctp_spec_lemmas.specs.types.declared.kinds.ErrorKind.TheVariants.{ParseFailed}
 use Rattle.dcsctp_spec_lemmas.specs.types.declared.options.Options.{Options}
 use Rattle.dcsctp_spec_lemmas.specs.types.Settings.{SameOptions, wire_options}
-use Rattle.dcsctp_spec_lemmas.specs.spec.Admission.{all_chunks, shutdown_acks_alone, refused, admits, shutdown_acks_in, is_single_init}
+use Rattle.dcsctp_spec_lemmas.specs.spec.Admission.{all_chunks, shutdown_acks_alone, refused, admits, shutdown_acks_of, is_single_init}
 use Rattle.dcsctp_spec_lemmas.specs.types.declared.schedule.Side.{Side}
 use Rattle.dcsctp_spec_lemmas.specs.types.Schedule.{ActContent}
 use Rattle.dcsctp_spec_runs.specs.Sockets.{Both, of_side, TurnsOfAct, PerformedAct, SocketRun, turns_after, endpoint_after}
@@ -15,8 +15,8 @@ use Rattle.dcsctp_spec_lemmas.specs.spec.association.Controlled.{IsControlled}
 use Rattle.dcsctp_spec_lemmas.specs.spec.association.Effect.{Change}
 use Rattle.dcsctp_spec_lemmas.specs.wire.Content.{PacketContent}
 use Rattle.dcsctp_spec_lemmas.specs.wire.Format.{IsPacket}
-use Rattle.dcsctp_spec_lemmas.specs.types.Offer.{Offer, offer_of, offer_in, offer_parameters, offer_announced, capabilities_offered, negotiated, answering_offer}
-use Rattle.dcsctp_spec_lemmas.specs.spec.Packet.{Introduction, Content, shutdown_ack, Packet, Emission, cookie_parameters, packet_in}
+use Rattle.dcsctp_spec_lemmas.specs.types.Offer.{Offer, offer_of, offer_of_capabilities, offer_parameters, offer_announced, capabilities_offered, negotiated_capabilities, answering_offer}
+use Rattle.dcsctp_spec_lemmas.specs.spec.Packet.{Introduction, Content, shutdown_ack, Packet, Emission, cookie_parameters, packet_of_content}
 use Rattle.dcsctp_spec_lemmas.specs.spec.endpoint.Endpoint.{Endpoint, Core, closed}
 use Rattle.dcsctp_spec_runs.specs.World.{MayBeHandled, ChunkChanges}
 use Rattle.dcsctp_spec_lemmas.specs.spec.association.Acts.{chunk_change}
@@ -40,11 +40,11 @@ pub record IsMirrored (mine theirs : Capabilities) : Type 0 where
   pub outgoing : mine.negotiated_maximum_outgoing_streams ≡ theirs.negotiated_maximum_incoming_streams
 
 abbrev pub NegotiationIsMutual : Type 0
-NegotiationIsMutual = (a b : Offer) → IsMirrored (negotiated a b) (negotiated b a)
+NegotiationIsMutual = (a b : Offer) → IsMirrored (negotiated_capabilities a b) (negotiated_capabilities b a)
 
 -- An answer may leave out a method that isn't common: what is agreed is the same.
 abbrev pub AnswerKeepsAgreement : Type 0
-AnswerKeepsAgreement = (mine theirs : Offer) → negotiated mine (answering_offer mine theirs) ≡ negotiated mine theirs
+AnswerKeepsAgreement = (mine theirs : Offer) → negotiated_capabilities mine (answering_offer mine theirs) ≡ negotiated_capabilities mine theirs
 
 -- The secret stays. By the RFC's rules a closed socket that has none yet gets one.
 abbrev pub SecretStays : Endpoint → Endpoint → Type 0
@@ -87,7 +87,7 @@ pub data StaysAs (is_due : Bool) (old new : Core) : Type 0 where
 abbrev pub InitPacketLeavesAssociation : Type 0
 InitPacketLeavesAssociation =
     (e : Endpoint) (bytes : List ℕ) (turns : List Transition) → HandleInput e bytes turns
-    → ((packet : PacketContent) → IsPacket (wire_options e.options) packet bytes → is_single_init (packet_in packet).contents ≡ true)
+    → ((packet : PacketContent) → IsPacket (wire_options e.options) packet bytes → is_single_init (packet_of_content packet).contents ≡ true)
     → StaysAs (is_earlier_acknowledgement_due e.queues.transfer) e.core (after_all e turns).core
 
 -- What a socket announces in an INIT or INIT ACK is read back from it, with a cookie after it or without.
@@ -98,7 +98,7 @@ OfferReadsBack = (options : Options) (method : ℕ) (cookie : Option (List ℕ))
 
 -- An offer is found again in its capabilities.
 abbrev pub CapabilitiesHoldOffer : Type 0
-CapabilitiesHoldOffer = (offer : Offer) → offer_in (capabilities_offered offer) ≡ offer
+CapabilitiesHoldOffer = (offer : Offer) → offer_of_capabilities (capabilities_offered offer) ≡ offer
 
 -- A packet that can't be read, or that admission refuses, is counted, adds one error, and changes nothing else (RFC 9260, section
 -- 8.5). That a chunk of the packet before was answered counts no longer.
@@ -113,7 +113,7 @@ pub record RefusedPacketAddsOneError : Type 0 where
       → ((packet : PacketContent) → IsPacket (wire_options e.options) packet bytes → ⊥)
       → IsPacketRefused e unreadable_text turns
   pub refused : (e : Endpoint) (bytes text : List ℕ) (packet : PacketContent) (turns : List Transition) → HandleInput e bytes turns
-      → IsPacket (wire_options e.options) packet bytes → admits e.core (packet_in packet) ≡ refused text
+      → IsPacket (wire_options e.options) packet bytes → admits e.core (packet_of_content packet) ≡ refused text
       → IsPacketRefused e text turns
 
 -- Whatever admission lets in is let in by `World`, too: a whole packet, or only its SHUTDOWN ACK chunks. Each of these that is
@@ -121,7 +121,7 @@ pub record RefusedPacketAddsOneError : Type 0 where
 pub record AdmittedPacketsMayBeHandled : Type 0 where
   pub whole : (core : Core) (packet : Packet) → admits core packet ≡ all_chunks → MayBeHandled core packet
   pub cut : (core : Core) (packet : Packet) → admits core packet ≡ shutdown_acks_alone
-      → MayBeHandled core (record packet { contents = shutdown_acks_in packet.contents })
+      → MayBeHandled core (record packet { contents = shutdown_acks_of packet.contents })
   pub answered : (options : Options) (core : Core) (packet : Packet) (choices : Choices) → admits core packet ≡ shutdown_acks_alone
       → chunk_change options core packet.tag shutdown_ack choices ≡ reflected_change core packet.tag choices.following
 
@@ -171,7 +171,7 @@ pub record IsDelivery (e : Endpoint) (packet : Packet) (begun : Transition) (tur
 -- error.
 pub data DeliversPacket (e : Endpoint) (packet : Packet) : List Transition → Type 0 where
   whole : (begun : Transition) (turns : List Transition) → IsDelivery e packet begun turns → DeliversPacket e packet (begun ∷ turns)
-  acks : (turns : List Transition) → AreChunkTurns e packet.tag (shutdown_acks_in packet.contents) [] turns → DeliversPacket e packet turns
+  acks : (turns : List Transition) → AreChunkTurns e packet.tag (shutdown_acks_of packet.contents) [] turns → DeliversPacket e packet turns
   reported : (text : List ℕ) (turn : Transition) → turn.outcome ≡ refusal_outcome e text → DeliversPacket e packet (turn ∷ [])
 
 -- where the chunks of a packet fit at their turns, after the turn that comes before them

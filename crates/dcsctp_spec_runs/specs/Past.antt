@@ -56,21 +56,21 @@ current (performs peer number ∷ earlier) = current earlier
 current (renews peer number ∷ earlier) = current earlier
 
 -- the existing association and hasn't connected
-abbrev pub unconnected : List Effect → Option AssociationIdentity
-unconnected [] = None
-unconnected (holds link ∷ earlier) = Some link
-unconnected (resumes link own last ∷ earlier) = Some link
-unconnected (connects link ∷ earlier) = None
-unconnected (ends ∷ earlier) = None
-unconnected (draws pair ∷ earlier) = unconnected earlier
-unconnected (sends packet ∷ earlier) = unconnected earlier
-unconnected (begins number ∷ earlier) = unconnected earlier
-unconnected (completes my number ∷ earlier) = unconnected earlier
-unconnected (fails number ∷ earlier) = unconnected earlier
-unconnected (gives_up number ∷ earlier) = unconnected earlier
-unconnected (accepts number ∷ earlier) = unconnected earlier
-unconnected (performs peer number ∷ earlier) = unconnected earlier
-unconnected (renews peer number ∷ earlier) = unconnected earlier
+abbrev pub unconnected_association : List Effect → Option AssociationIdentity
+unconnected_association [] = None
+unconnected_association (holds link ∷ earlier) = Some link
+unconnected_association (resumes link own last ∷ earlier) = Some link
+unconnected_association (connects link ∷ earlier) = None
+unconnected_association (ends ∷ earlier) = None
+unconnected_association (draws pair ∷ earlier) = unconnected_association earlier
+unconnected_association (sends packet ∷ earlier) = unconnected_association earlier
+unconnected_association (begins number ∷ earlier) = unconnected_association earlier
+unconnected_association (completes my number ∷ earlier) = unconnected_association earlier
+unconnected_association (fails number ∷ earlier) = unconnected_association earlier
+unconnected_association (gives_up number ∷ earlier) = unconnected_association earlier
+unconnected_association (accepts number ∷ earlier) = unconnected_association earlier
+unconnected_association (performs peer number ∷ earlier) = unconnected_association earlier
+unconnected_association (renews peer number ∷ earlier) = unconnected_association earlier
 
 -- the number that its own request must carry: its own first TSN or what it was restored with, and then one more each time
 abbrev pub number_to_begin : List Effect → Option ℕ
@@ -181,7 +181,7 @@ WasPerformed peer number past = HasEffect (performs peer number) past ⊎ HasEff
 -- once, or found to be the one before, under its pair, and none that wasn't accepted. An association that is restored takes the place of none, and its numbers go
 -- on from those of the snapshot.
 abbrev pub InPlace : Effect → List Effect → Type 0
-InPlace (connects link) earlier = unconnected earlier ≡ Some link
+InPlace (connects link) earlier = unconnected_association earlier ≡ Some link
 InPlace (begins number) earlier = (number_to_begin earlier ≡ Some number) × (outstanding earlier ≡ None)
 InPlace (completes my number) earlier = (outstanding earlier ≡ Some number) × (my_of (current earlier) ≡ Some my)
 InPlace (fails number) earlier = outstanding earlier ≡ Some number

@@ -8,7 +8,7 @@ use Rattle.dcsctp_spec_lemmas.specs.types.declared.schedule.Side.{Side}
 use Rattle.dcsctp_spec_lemmas.specs.types.declared.schedule.Side.TheVariants as sides
 use Rattle.dcsctp_spec_lemmas.specs.types.Schedule.{StepContent, call_step, delivery_step, OutsideContent, input_outside, handover_outside, restore_outside, ActContent, step_act, outside_act}
 use Rattle.dcsctp_spec_lemmas.specs.types.Settings.{ports_of}
-use Rattle.dcsctp_spec_lemmas.specs.spec.endpoint.Event.{Event, event_map, packets_in}
+use Rattle.dcsctp_spec_lemmas.specs.spec.endpoint.Event.{Event, event_map, packets_of_events}
 use Rattle.dcsctp_spec_lemmas.specs.spec.Packet.{emission_bytes}
 use Rattle.dcsctp_spec_lemmas.specs.spec.endpoint.Endpoint.{Endpoint, Core, closed, fresh_endpoint, association_of}
 use Rattle.dcsctp_spec_lemmas.specs.spec.Handover.{readiness_of}
@@ -32,7 +32,7 @@ events_shown options turns = map (event_map (emission_bytes (ports_of options)))
 
 -- the bytes of all packets that it ever emitted
 abbrev pub packets_shown : Options → List Transition → List (List ℕ)
-packets_shown options turns = packets_in (events_shown options turns)
+packets_shown options turns = packets_of_events (events_shown options turns)
 
 -- ---- steps
 

@@ -9,7 +9,7 @@ use Rattle.dcsctp_spec_lemmas.specs.spec.association.Effect.{Effect, sends, Chan
 use Rattle.dcsctp_spec_lemmas.specs.spec.association.Choices.{Choices}
 use Rattle.dcsctp_spec_lemmas.specs.spec.association.Acts.{Act, act_change, chunk_change, ChunkChange}
 use Rattle.dcsctp_spec_lemmas.specs.spec.association.ResumeChanges.{resumed_held, resume_change}
-use Rattle.dcsctp_spec_lemmas.specs.spec.Admission.{shutdown_acks_in}
+use Rattle.dcsctp_spec_lemmas.specs.spec.Admission.{shutdown_acks_of}
 use Rattle.dcsctp_spec_runs.specs.Past.{HasEffect}
 
 -- ---- one side
@@ -90,7 +90,7 @@ ChunkChanges options core header (content ∷ contents) (change ∷ changes) =
 -- section 8.5.1).
 pub data PacketChanges (options : Options) (core : Core) (packet : Packet) (changes : List Change) : Type 0 where
   worked_whole : MayBeHandled core packet → ChunkChanges options core packet.tag packet.contents changes → PacketChanges options core packet changes
-  worked_acks : ChunkChanges options core packet.tag (shutdown_acks_in packet.contents) changes → PacketChanges options core packet changes
+  worked_acks : ChunkChanges options core packet.tag (shutdown_acks_of packet.contents) changes → PacketChanges options core packet changes
 
 -- ---- two sides
 
@@ -107,17 +107,17 @@ MoveChanges side sent (does act) changes = (choices : Choices) × (changes ≡ a
 MoveChanges side sent (receives packet) changes = HasEffect (sends packet) sent × PacketChanges side.options side.core packet changes
 
 -- a move, and what came of it
-pub record Moved : Type 0 where
+pub record MoveResult : Type 0 where
   pub move : Move
   pub changes : List Change
 
 -- What one call of a socket is to its side: any number of moves, one after another. Separate moves are: the answer to data before
 -- a packet's chunks, these chunks, the packet's end, each expired timer, an abort and a flush.
-abbrev pub MovesMade : SideState → List Effect → List Moved → Type 0
-MovesMade side sent [] = Unit {0}
-MovesMade side sent (moved ∷ moves) = MoveChanges side sent moved.move moved.changes × MovesMade (after_changes side moved.changes) sent moves
+abbrev pub MakesMoves : SideState → List Effect → List MoveResult → Type 0
+MakesMoves side sent [] = Unit {0}
+MakesMoves side sent (moved ∷ moves) = MoveChanges side sent moved.move moved.changes × MakesMoves (after_changes side moved.changes) sent moves
 
-abbrev pub after_moves : SideState → List Moved → SideState
+abbrev pub after_moves : SideState → List MoveResult → SideState
 after_moves side [] = side
 after_moves side (moved ∷ moves) = after_moves (after_changes side moved.changes) moves
 
@@ -166,6 +166,6 @@ steps_of which [] = []
 steps_of which (step ∷ earlier) = steps_with which step.side step.changes (steps_of which earlier)
 
 -- the steps of a run, newest first, with these moves of one side after them
-abbrev pub with_moves : Which → List Moved → List WorldStep → List WorldStep
+abbrev pub with_moves : Which → List MoveResult → List WorldStep → List WorldStep
 with_moves which [] steps = steps
 with_moves which (moved ∷ moves) steps = with_moves which moves (record { side = which; move = moved.move; changes = moved.changes } ∷ steps)

@@ -11,7 +11,7 @@ use Rattle.dcsctp_spec_lemmas.specs.spec.association.Effect.{Effect, begins, giv
 use Rattle.dcsctp_spec_lemmas.specs.spec.association.Choices.{Choices}
 use Rattle.dcsctp_spec_lemmas.specs.spec.association.FlushChanges.{further_packets, flush, reset_request}
 use Rattle.dcsctp_spec_lemmas.specs.spec.endpoint.Cause.{causes_of}
-use Rattle.dcsctp_spec_lemmas.specs.spec.association.Acts.{Act, connect, t1_expires, shut_down, step_of_shutdown, shutdown_repeats, abort_with, flushes, request_again, request_renewed, hands_over, sent_then_flushed, hand_over_change_in, hand_over_change, flush_change, request_sent, request_again_change, renewed_by, request_renewed_change, act_change}
+use Rattle.dcsctp_spec_lemmas.specs.spec.association.Acts.{Act, connect, t1_expires, shut_down, step_of_shutdown, shutdown_repeats, abort_with, flushes, request_again, request_renewed, hands_over, sent_then_flushed, hand_over_change_by_phase, hand_over_change, flush_change, request_sent, request_again_change, renewed_if_fitting, request_renewed_change, act_change}
 use Rattle.dcsctp_spec_runs.specs.Past.{HasFreshTags}
 use Rattle.dcsctp_spec_runs.specs.World.{after_effects}
 use Rattle.dcsctp_theorem_association.proofs.Facts.{TrueEffects, TruePast, PeerFacts, TrueCore}
@@ -53,7 +53,7 @@ flush_kept my_offer their_offer mine theirs (open_in phase my held) choices h =
     (flush_peer my_offer their_offer mine theirs my held.peer.tag held [] choices.filling h) (sent_true my_offer their_offer mine theirs held choices)
 
 hand_over_in_kept : (my_offer their_offer : Offer) (mine theirs : List Effect) (phase : OpenPhase) (my : Pair) (held : Held)
-    → PeerFacts my_offer their_offer mine theirs my held → Kept my_offer their_offer mine theirs (hand_over_change_in phase my held)
+    → PeerFacts my_offer their_offer mine theirs my held → Kept my_offer their_offer mine theirs (hand_over_change_by_phase phase my held)
 hand_over_in_kept my_offer their_offer mine theirs established my held h = ended_kept my_offer their_offer mine theirs [] tt
 hand_over_in_kept my_offer their_offer mine theirs shutdown_pending my held h = unchanged_kept my_offer their_offer mine theirs (open_in shutdown_pending my held) h
 hand_over_in_kept my_offer their_offer mine theirs shutdown_sent my held h = unchanged_kept my_offer their_offer mine theirs (open_in shutdown_sent my held) h
@@ -89,25 +89,25 @@ request_kept my_offer their_offer mine theirs (open_in phase my held) reset fits
 
 -- A request that is sent again under the next number changes only our own numbers.
 renewed_true : (my_offer their_offer : Offer) (mine theirs : List Effect) (held : Held) (outstanding : Option ℕ) (reset : RequestedReset) (fits : Bool)
-    → TrueEffects my_offer their_offer mine theirs (renewed_by held outstanding reset fits).effects
+    → TrueEffects my_offer their_offer mine theirs (renewed_if_fitting held outstanding reset fits).effects
 renewed_true my_offer their_offer mine theirs held None reset fits = tt
 renewed_true my_offer their_offer mine theirs held (Some number) reset false = tt
 renewed_true my_offer their_offer mine theirs held (Some number) reset true =
     (tt, (tt, alone_true my_offer their_offer (begins held.own_next ∷ gives_up number ∷ mine) theirs true held.peer.tag (reset_request held.own_next (renewed_reset reset)) (tt, tt)))
 
-renewed_free : (held : Held) (outstanding : Option ℕ) (reset : RequestedReset) (fits : Bool) → AllEchoFree (renewed_by held outstanding reset fits).effects
+renewed_free : (held : Held) (outstanding : Option ℕ) (reset : RequestedReset) (fits : Bool) → AllEchoFree (renewed_if_fitting held outstanding reset fits).effects
 renewed_free held None reset fits = tt
 renewed_free held (Some number) reset false = tt
 renewed_free held (Some number) reset true = (tt, (tt, (tt, tt)))
 
 renewed_peer : (my_offer their_offer : Offer) (mine theirs : List Effect) (my : Pair) (held : Held) (outstanding : Option ℕ) (reset : RequestedReset) (fits : Bool)
-    → PeerFacts my_offer their_offer mine theirs my held → PeerFacts my_offer their_offer mine theirs my (renewed_by held outstanding reset fits).held
+    → PeerFacts my_offer their_offer mine theirs my held → PeerFacts my_offer their_offer mine theirs my (renewed_if_fitting held outstanding reset fits).held
 renewed_peer my_offer their_offer mine theirs my held None reset fits h = h
 renewed_peer my_offer their_offer mine theirs my held (Some number) reset false h = h
 renewed_peer my_offer their_offer mine theirs my held (Some number) reset true h =
     record { my_drawn = h.my_drawn; peer_drawn = h.peer_drawn; capabilities = h.capabilities; shown = h.shown; nothing = h.nothing; performed = h.performed }
 
-renewed_pair : (held : Held) (outstanding : Option ℕ) (reset : RequestedReset) (fits : Bool) → (renewed_by held outstanding reset fits).held.peer ≡ held.peer
+renewed_pair : (held : Held) (outstanding : Option ℕ) (reset : RequestedReset) (fits : Bool) → (renewed_if_fitting held outstanding reset fits).held.peer ≡ held.peer
 renewed_pair held None reset fits = refl
 renewed_pair held (Some number) reset false = refl
 renewed_pair held (Some number) reset true = refl
@@ -118,11 +118,11 @@ renewed_kept my_offer their_offer mine theirs closed reset fits h = unchanged_ke
 renewed_kept my_offer their_offer mine theirs (cookie_wait my) reset fits h = unchanged_kept my_offer their_offer mine theirs (cookie_wait my) h
 renewed_kept my_offer their_offer mine theirs (cookie_echoed my held bytes) reset fits h =
     let number : Option ℕ = held.own_outstanding in
-    let effects : List Effect = (renewed_by held number reset fits).effects in
+    let effects : List Effect = (renewed_if_fitting held number reset fits).effects in
     record {
       effects = renewed_true my_offer their_offer mine theirs held number reset fits;
       core = (
-        peer_grows my_offer their_offer mine theirs (after_effects effects mine) theirs my (renewed_by held number reset fits).held (after_within effects mine) (same theirs)
+        peer_grows my_offer their_offer mine theirs (after_effects effects mine) theirs my (renewed_if_fitting held number reset fits).held (after_within effects mine) (same theirs)
             (renewed_peer my_offer their_offer mine theirs my held number reset fits h.0),
         one_echo_after my.tag bytes effects mine (free_is_only bytes effects (renewed_free held number reset fits)) h.1,
         record { cookie = h.2.cookie; reads = h.2.reads; maker = h.2.maker ∙ sym (renewed_pair held number reset fits); addressee = h.2.addressee; offer = h.2.offer },
@@ -130,7 +130,7 @@ renewed_kept my_offer their_offer mine theirs (cookie_echoed my held bytes) rese
     }
 renewed_kept my_offer their_offer mine theirs (open_in phase my held) reset fits h =
     let number : Option ℕ = held.own_outstanding in
-    open_kept my_offer their_offer mine theirs phase my (renewed_by held number reset fits).held (renewed_by held number reset fits).effects next_chunk
+    open_kept my_offer their_offer mine theirs phase my (renewed_if_fitting held number reset fits).held (renewed_if_fitting held number reset fits).effects next_chunk
     (renewed_peer my_offer their_offer mine theirs my held number reset fits h) (renewed_true my_offer their_offer mine theirs held number reset fits)
 
 pub act_kept : (options : Options) (their_offer : Offer) (mine theirs : List Effect) (core : Core) (act : Act) (choices : Choices)

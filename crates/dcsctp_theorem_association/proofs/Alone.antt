@@ -2,7 +2,7 @@
 use Rattle.std.proofs.Common.{◌≡◌, ℕ, List, [], ◌∷◌, refl, sym, subst, ap, ◌∙◌}
 use Rattle.dcsctp_spec_lemmas.specs.types.declared.options.Options.{Options}
 use Rattle.dcsctp_spec_lemmas.specs.spec.Packet.{Content, Packet}
-use Rattle.dcsctp_spec_lemmas.specs.spec.Admission.{shutdown_acks_in}
+use Rattle.dcsctp_spec_lemmas.specs.spec.Admission.{shutdown_acks_of}
 use Rattle.dcsctp_spec_lemmas.specs.spec.endpoint.Endpoint.{Core}
 use Rattle.dcsctp_spec_lemmas.specs.spec.association.Effect.{Effect, Change}
 use Rattle.dcsctp_spec_runs.specs.World.{SideState, after_change, after_changes, acted, worked, ControlTurns, SideRun, side_after, ChunkChanges, PacketChanges, worked_whole, worked_acks, Move, does, receives, MoveChanges, Which, at_a, at_b, World, step_after, world_after, WorldStep, StepChanges, WorldRun, steps_with, steps_of}
@@ -17,7 +17,7 @@ chunk_turns options core header (content ∷ contents) (change ∷ changes) turn
 
 pub packet_turns : (options : Options) (core : Core) (packet : Packet) (changes : List Change) → PacketChanges options core packet changes → ControlTurns options core changes
 packet_turns options core packet changes (worked_whole may turns) = chunk_turns options core packet.tag packet.contents changes turns
-packet_turns options core packet changes (worked_acks turns) = chunk_turns options core packet.tag (shutdown_acks_in packet.contents) changes turns
+packet_turns options core packet changes (worked_acks turns) = chunk_turns options core packet.tag (shutdown_acks_of packet.contents) changes turns
 
 pub move_turns : (side : SideState) (sent : List Effect) (move : Move) (changes : List Change) → MoveChanges side sent move changes → ControlTurns side.options side.core changes
 move_turns side sent (does act) changes turns =

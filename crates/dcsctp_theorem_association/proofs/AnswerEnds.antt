@@ -7,10 +7,10 @@ use Rattle.dcsctp_spec_lemmas.specs.wire.declared.reconfiguration.Reconfiguratio
 use Rattle.dcsctp_spec_lemmas.specs.wire.declared.reconfiguration.ReconfigurationResponseResult.TheVariants.{SuccessNothingToDo, SuccessPerformed, Denied, ErrorWrongSSN, ErrorRequestAlreadyInProgress, ErrorBadSequenceNumber, InProgress}
 use Rattle.dcsctp_spec_lemmas.specs.spec.Reconfiguration.{RequestState, early, due, renewed, RequestedReset, ResetParameter, outgoing_reset_request, incoming_reset_request, reconfiguration_response, other_reset_parameter}
 use Rattle.dcsctp_spec_lemmas.specs.spec.Packet.{Plain, Content, re_config}
-use Rattle.dcsctp_spec_lemmas.specs.spec.association.Effect.{Effect, ends, completes, fails, emitted, emitted_alone}
+use Rattle.dcsctp_spec_lemmas.specs.spec.association.Effect.{Effect, ends, completes, fails, emission_effects, emitted_alone}
 use Rattle.dcsctp_spec_lemmas.specs.spec.association.Choices.{plain_contents, Filling, Choices}
-use Rattle.dcsctp_spec_lemmas.specs.spec.association.FlushChanges.{reset_to_begin, further_packets, chunks_behind, flush_packets, flushed_with, flush_where, flush}
-use Rattle.dcsctp_spec_lemmas.specs.spec.association.ResetChanges.{RequestPlace, again, next, astray, request_place, RequestOutcome, performed_request, repeated, next_request, is_due, outgoing_by, incoming_by, Informed, informed_where, is_outstanding, HandledParameters, work_parameters, work_chunk, answers_emitted, reset_sent, peer_part_handled}
+use Rattle.dcsctp_spec_lemmas.specs.spec.association.FlushChanges.{reset_to_begin, further_packets, chunks_behind, flush_packets, flushed_with, flush_if_allowed, flush}
+use Rattle.dcsctp_spec_lemmas.specs.spec.association.ResetChanges.{RequestPlace, again, next, astray, request_place, RequestOutcome, performed_request, repeated_request_outcome, next_request, is_due, outgoing_by_place, incoming_by_place, AnswerResult, result_if_outstanding, is_outstanding, HandledParameters, parameters_outcome, reset_chunk_outcome, answers_emitted, reset_sent, peer_part_handled}
 use Rattle.dcsctp_spec_runs.specs.Past.{HasEffect}
 use Rattle.dcsctp_theorem_association.specs.OneSide.{IsSuccess, IsRefusal, HasResponse}
 
@@ -54,7 +54,7 @@ all_answer-more parameter parameters (effect ∷ effects) all = (answers-more pa
 -- ---- packets and flushes
 
 module _ (parameters : List ResetParameter) where
-  emitted_answers : (tag : ℕ) (contents : List Content) → AllAnswer parameters (emitted tag contents)
+  emitted_answers : (tag : ℕ) (contents : List Content) → AllAnswer parameters (emission_effects tag contents)
   emitted_answers tag [] = tt
   emitted_answers tag (content ∷ contents) = (tt, tt)
 
@@ -70,13 +70,13 @@ module _ (parameters : List ResetParameter) where
   pub further_answer : (tag : ℕ) (packets : List (List Plain)) → AllAnswer parameters (further_packets tag packets)
   further_answer tag [] = tt
   further_answer tag (chunks ∷ packets) =
-      all_answer-append parameters (emitted tag (plain_contents chunks)) (further_packets tag packets) (emitted_answers tag (plain_contents chunks)) (further_answer tag packets)
+      all_answer-append parameters (emission_effects tag (plain_contents chunks)) (further_packets tag packets) (emitted_answers tag (plain_contents chunks)) (further_answer tag packets)
 
   packets_answer : (tag number : ℕ) (front : List Content) (filling : Filling) (reset : Option RequestedReset)
       → AllAnswer parameters (flush_packets tag number front filling reset)
   packets_answer tag number front filling reset =
       let contents : List Content = front ++ chunks_behind number filling reset in
-      all_answer-append parameters (emitted tag contents) (further_packets tag filling.further) (emitted_answers tag contents) (further_answer tag filling.further)
+      all_answer-append parameters (emission_effects tag contents) (further_packets tag filling.further) (emitted_answers tag contents) (further_answer tag filling.further)
 
   flushed_answers : (tag : ℕ) (held : Held) (front : List Content) (filling : Filling) (reset : Option RequestedReset)
       → AllAnswer parameters (flushed_with tag held front filling reset).effects
@@ -84,7 +84,7 @@ module _ (parameters : List ResetParameter) where
   flushed_answers tag held front filling (Some reset) = (tt, packets_answer tag held.own_next front filling (Some reset))
 
   flush_where_answers : (is_allowed : Bool) (tag : ℕ) (held : Held) (front : List Content) (filling : Filling)
-      → AllAnswer parameters (flush_where is_allowed tag held front filling).effects
+      → AllAnswer parameters (flush_if_allowed is_allowed tag held front filling).effects
   flush_where_answers false tag held front filling = tt
   flush_where_answers true tag held front filling = flushed_answers tag held front filling (reset_to_begin held.own_outstanding filling.reset)
 
@@ -97,7 +97,7 @@ module _ (parameters : List ResetParameter) where
   worked_answers held number true = (tt, tt)
   worked_answers held number false = tt
 
-  repeated_answers : (held : Held) (result : ReconfigurationResponseResult) (is_reached : Bool) → AllAnswer parameters (repeated held result is_reached).effects
+  repeated_answers : (held : Held) (result : ReconfigurationResponseResult) (is_reached : Bool) → AllAnswer parameters (repeated_request_outcome held result is_reached).effects
   repeated_answers held InProgress is_reached = worked_answers held held.peer_last is_reached
   repeated_answers held result is_reached = tt
 
@@ -106,12 +106,12 @@ module _ (parameters : List ResetParameter) where
   next_answers held number due = (tt, tt)
   next_answers held number renewed = (tt, tt)
 
-  outgoing_answers : (held : Held) (number : ℕ) (state : RequestState) (place : RequestPlace) → AllAnswer parameters (outgoing_by held number state place).effects
+  outgoing_answers : (held : Held) (number : ℕ) (state : RequestState) (place : RequestPlace) → AllAnswer parameters (outgoing_by_place held number state place).effects
   outgoing_answers held number state again = repeated_answers held held.peer_result (is_due state)
   outgoing_answers held number state next = (tt, next_answers held number state)
   outgoing_answers held number state astray = tt
 
-  incoming_answers : (held : Held) (number : ℕ) (place : RequestPlace) → AllAnswer parameters (incoming_by held number place).effects
+  incoming_answers : (held : Held) (number : ℕ) (place : RequestPlace) → AllAnswer parameters (incoming_by_place held number place).effects
   incoming_answers held number again = tt
   incoming_answers held number next = (tt, tt)
   incoming_answers held number astray = tt
@@ -133,7 +133,7 @@ module _ (parameters : List ResetParameter) where
 module _ (my : Pair) where
   -- A response ends the request that it answers, or none.
   informed_answers : (held : Held) (number : ℕ) (result : ReconfigurationResponseResult) (is_it : Bool) (parameters : List ResetParameter)
-      → AllAnswer (reconfiguration_response number result ∷ parameters) (informed_where my held number result is_it).effects
+      → AllAnswer (reconfiguration_response number result ∷ parameters) (result_if_outstanding my held number result is_it).effects
   informed_answers held number result false parameters = tt
   informed_answers held number SuccessNothingToDo true parameters = (inl (refl, tt), tt)
   informed_answers held number SuccessPerformed true parameters = (inl (refl, tt), tt)
@@ -144,37 +144,37 @@ module _ (my : Pair) where
   informed_answers held number InProgress true parameters = tt
 
   parameters_answer : (state : RequestState) (has_worked : Bool) (held : Held) (parameters : List ResetParameter)
-      → AllAnswer parameters (work_parameters my state has_worked held parameters).effects
+      → AllAnswer parameters (parameters_outcome my state has_worked held parameters).effects
   parameters_answer state has_worked held [] = tt
   parameters_answer state true held (outgoing_reset_request number answered reset ∷ parameters) = tt
   parameters_answer state false held (outgoing_reset_request number answered reset ∷ parameters) =
       let all : List ResetParameter = outgoing_reset_request number answered reset ∷ parameters in
-      let first : RequestOutcome = outgoing_by held number state (request_place held.peer_last number) in
-      let rest : List Effect = (work_parameters my state true first.held parameters).effects in
+      let first : RequestOutcome = outgoing_by_place held number state (request_place held.peer_last number) in
+      let rest : List Effect = (parameters_outcome my state true first.held parameters).effects in
       all_answer-append all first.effects rest (outgoing_answers all held number state (request_place held.peer_last number))
       (all_answer-more (outgoing_reset_request number answered reset) parameters rest (parameters_answer state true first.held parameters))
   parameters_answer state has_worked held (incoming_reset_request number streams ∷ parameters) =
       let all : List ResetParameter = incoming_reset_request number streams ∷ parameters in
-      let first : RequestOutcome = incoming_by held number (request_place held.peer_last number) in
-      let rest : List Effect = (work_parameters my state has_worked first.held parameters).effects in
+      let first : RequestOutcome = incoming_by_place held number (request_place held.peer_last number) in
+      let rest : List Effect = (parameters_outcome my state has_worked first.held parameters).effects in
       all_answer-append all first.effects rest (incoming_answers all held number (request_place held.peer_last number))
       (all_answer-more (incoming_reset_request number streams) parameters rest (parameters_answer state has_worked first.held parameters))
   parameters_answer state has_worked held (reconfiguration_response number result ∷ parameters) =
       let all : List ResetParameter = reconfiguration_response number result ∷ parameters in
-      let first : Informed = informed_where my held number result (is_outstanding number held.own_outstanding) in
-      let rest : List Effect = (work_parameters my state has_worked first.held parameters).effects in
+      let first : AnswerResult = result_if_outstanding my held number result (is_outstanding number held.own_outstanding) in
+      let rest : List Effect = (parameters_outcome my state has_worked first.held parameters).effects in
       all_answer-append all first.effects rest (informed_answers held number result (is_outstanding number held.own_outstanding) parameters)
       (all_answer-more (reconfiguration_response number result) parameters rest (parameters_answer state has_worked first.held parameters))
   parameters_answer state has_worked held (other_reset_parameter parameter ∷ parameters) =
-      all_answer-more (other_reset_parameter parameter) parameters (work_parameters my state has_worked held parameters).effects
+      all_answer-more (other_reset_parameter parameter) parameters (parameters_outcome my state has_worked held parameters).effects
       (parameters_answer state has_worked held parameters)
 
-  chunk_answers : (state : RequestState) (held : Held) (parameters : List ResetParameter) → AllAnswer parameters (work_chunk my state held parameters).effects
+  chunk_answers : (state : RequestState) (held : Held) (parameters : List ResetParameter) → AllAnswer parameters (reset_chunk_outcome my state held parameters).effects
   chunk_answers state held [] = tt
   chunk_answers state held (parameter ∷ parameters) = parameters_answer state false held (parameter ∷ parameters)
 
   pub reset_answers : (held : Held) (parameters : List ResetParameter) (choices : Choices) → AllAnswer parameters (peer_part_handled my held parameters choices).effects
   reset_answers held parameters choices =
-      let first : HandledParameters = work_chunk my choices.state held parameters in
+      let first : HandledParameters = reset_chunk_outcome my choices.state held parameters in
       all_answer-append parameters first.effects (reset_sent first.is_refused first.held first.answers choices).effects
       (chunk_answers choices.state held parameters) (sent_answers parameters first.is_refused first.held first.answers choices)

@@ -4,7 +4,7 @@ use Rattle.dcsctp_spec_lemmas.specs.types.declared.association.Pair.{Pair}
 use Rattle.dcsctp_spec_lemmas.specs.types.declared.association.Held.{Held}
 use Rattle.dcsctp_spec_lemmas.specs.types.declared.options.Options.{Options}
 use Rattle.dcsctp_spec_lemmas.specs.wire.Numbers.{state_cookie_type}
-use Rattle.dcsctp_spec_lemmas.specs.spec.Cookie.{Cookie, cookie_at}
+use Rattle.dcsctp_spec_lemmas.specs.spec.Cookie.{Cookie, cookie_of_bytes}
 use Rattle.dcsctp_spec_lemmas.specs.spec.endpoint.Cause.{Cause, missing_mandatory_parameter, causes_of}
 use Rattle.dcsctp_spec_lemmas.specs.spec.Reconfiguration.{ResetParameter, RequestedReset}
 use Rattle.dcsctp_spec_lemmas.specs.spec.Packet.{Introduction, Content, init, init_ack, cookie_echo, cookie_ack, re_config, abort, shutdown, shutdown_ack, shutdown_complete, plain}
@@ -14,11 +14,11 @@ use Rattle.dcsctp_spec_lemmas.specs.spec.association.Effect.{Effect, completes, 
 use Rattle.dcsctp_spec_lemmas.specs.spec.association.Choices.{Filling, Choices}
 use Rattle.dcsctp_spec_lemmas.specs.spec.association.FlushChanges.{further_packets, reset_request, flush}
 use Rattle.dcsctp_spec_lemmas.specs.spec.association.HandshakeChanges.{introduction_of, connect_change, init_change, echo_change, held_by_init_ack, init_ack_change, cookie_ack_change, t1_again_change, t1_gives_up_change}
-use Rattle.dcsctp_spec_lemmas.specs.spec.association.CookieEchoChanges.{stale_error, Resolution, establish_new, restart, simultaneous_init, discard, maintain_existing, invalid_tag, stale, aged, resolve, held_by_cookie, new_association_change, restart_change, maintain_change, resolved_change, read_echo_change}
+use Rattle.dcsctp_spec_lemmas.specs.spec.association.CookieEchoChanges.{stale_error, Resolution, establish_new, restart, simultaneous_init, discard, maintain_existing, invalid_tag, stale, aged_resolution, resolve, held_by_cookie, new_association_change, restart_change, maintain_change, resolved_change, read_echo_change}
 use Rattle.dcsctp_spec_lemmas.specs.spec.association.ResetChanges.{re_config_change}
-use Rattle.dcsctp_spec_lemmas.specs.spec.association.ShutdownChanges.{shutdown_call_change_echoed, shutdown_step_change_in, shutdown_step_change, shutdown_call_change, abort_call_change, shutdown_again_change, abort_change, shutdown_change, shutdown_ack_change, shutdown_complete_change}
-use Rattle.dcsctp_spec_lemmas.specs.spec.association.Acts.{Act, connect, t1_expires, shut_down, step_of_shutdown, shutdown_repeats, abort_with, hands_over, flushes, request_again, request_renewed, sent_then_flushed, flush_change, hand_over_change, request_sent, request_again_change, renewed_by, request_renewed_change, act_change, violation_change, plain_change, chunk_change}
-use Rattle.dcsctp_theorem_association.specs.OneSide.{parameters_in, AnswersEndRequests}
+use Rattle.dcsctp_spec_lemmas.specs.spec.association.ShutdownChanges.{shutdown_call_change_echoed, shutdown_step_change_by_phase, shutdown_step_change, shutdown_call_change, abort_call_change, shutdown_again_change, abort_change, shutdown_change, shutdown_ack_change, shutdown_complete_change}
+use Rattle.dcsctp_spec_lemmas.specs.spec.association.Acts.{Act, connect, t1_expires, shut_down, step_of_shutdown, shutdown_repeats, abort_with, hands_over, flushes, request_again, request_renewed, sent_then_flushed, flush_change, hand_over_change, request_sent, request_again_change, renewed_if_fitting, request_renewed_change, act_change, violation_change, plain_change, chunk_change}
+use Rattle.dcsctp_theorem_association.specs.OneSide.{parameters_of_content, AnswersEndRequests}
 use Rattle.dcsctp_spec_lemmas.proofs.AbortLemmas.{by_abort}
 use Rattle.dcsctp_spec_lemmas.proofs.OneAnswerLemmas.{change_by}
 use Rattle.dcsctp_theorem_association.proofs.AnswerEnds.{AllAnswer, answer_of, all_answer-append, alone_answers, end_answers-alone, further_answer, flush_answers, reset_answers}
@@ -88,7 +88,7 @@ resolved_ends options core cookie choices stale = alone_answers [] (options.foll
 
 echo_ends : (options : Options) (core : Core) (header : ℕ) (read : Result Cookie (List ℕ)) (choices : Choices) → EndsNone (read_echo_change options core header read choices).effects
 echo_ends options core header (Err text) choices = tt
-echo_ends options core header (Ok cookie) choices = resolved_ends options core cookie choices (aged choices.is_stale (resolve core choices.tie choices.secret header cookie))
+echo_ends options core header (Ok cookie) choices = resolved_ends options core cookie choices (aged_resolution choices.is_stale (resolve core choices.tie choices.secret header cookie))
 
 -- ---- flushes and resets
 
@@ -117,7 +117,7 @@ request_again_ends (cookie_echoed my held cookie) reset fits = request_sent_ends
 request_again_ends (open_in phase my held) reset fits = request_sent_ends held held.own_outstanding reset fits
 request_again_ends core reset fits = tt
 
-renewed_ends : (held : Held) (request : Option ℕ) (reset : RequestedReset) (fits : Bool) → EndsNone (renewed_by held request reset fits).effects
+renewed_ends : (held : Held) (request : Option ℕ) (reset : RequestedReset) (fits : Bool) → EndsNone (renewed_if_fitting held request reset fits).effects
 renewed_ends held None reset fits = tt
 renewed_ends held (Some number) reset false = tt
 renewed_ends held (Some number) reset true = (tt, (tt, (tt, tt)))
@@ -129,7 +129,7 @@ request_renewed_ends core reset fits = tt
 
 -- ---- shutdown
 
-step_ends_in : (phase : OpenPhase) (my : Pair) (held : Held) (tsn : ℕ) (is_acknowledged : Bool) → EndsNone (shutdown_step_change_in phase my held tsn is_acknowledged).effects
+step_ends_in : (phase : OpenPhase) (my : Pair) (held : Held) (tsn : ℕ) (is_acknowledged : Bool) → EndsNone (shutdown_step_change_by_phase phase my held tsn is_acknowledged).effects
 step_ends_in shutdown_pending my held tsn false = tt
 step_ends_in shutdown_pending my held tsn true = (tt, tt)
 step_ends_in shutdown_received my held tsn false = tt
@@ -212,10 +212,10 @@ other_ends core false choices =
     all_answer-append [] stepped.effects (flush_change stepped.core choices).effects (step_ends core choices.tsn choices.is_acknowledged) (flush_ends stepped.core choices)
 
 chunk_answers : (options : Options) (core : Core) (header : ℕ) (content : Content) (choices : Choices)
-    → AllAnswer (parameters_in content) (chunk_change options core header content choices).effects
+    → AllAnswer (parameters_of_content content) (chunk_change options core header content choices).effects
 chunk_answers options core header (init theirs) choices = change_by (λ change. EndsNone change.effects) options core theirs choices tt (init_ends options core theirs choices)
 chunk_answers options core header (init_ack theirs cookie) choices = init_ack_ends options core theirs cookie choices
-chunk_answers options core header (cookie_echo cookie) choices = echo_ends options core header (cookie_at cookie) choices
+chunk_answers options core header (cookie_echo cookie) choices = echo_ends options core header (cookie_of_bytes cookie) choices
 chunk_answers options core header cookie_ack choices = cookie_ack_ends core choices
 chunk_answers options core header (re_config parameters) choices = re_config_answers options.follow_rfc core parameters choices
 chunk_answers options core header (abort reflected causes) choices = abort_ends options core
@@ -229,9 +229,9 @@ chunk_answers options core header (plain chunk) choices = other_ends core choice
 pub answers_end_requests : AnswersEndRequests
 answers_end_requests = record {
   completed = λ options core header content choices my number h.
-      answer_of (parameters_in content) (completes my number) (chunk_change options core header content choices).effects (chunk_answers options core header content choices) h;
+      answer_of (parameters_of_content content) (completes my number) (chunk_change options core header content choices).effects (chunk_answers options core header content choices) h;
   failed = λ options core header content choices number h.
-      answer_of (parameters_in content) (fails number) (chunk_change options core header content choices).effects (chunk_answers options core header content choices) h;
+      answer_of (parameters_of_content content) (fails number) (chunk_change options core header content choices).effects (chunk_answers options core header content choices) h;
   none_completed = λ options core act choices my number h. answer_of [] (completes my number) (act_change options core act choices).effects (act_ends options core act choices) h;
   none_failed = λ options core act choices number h. answer_of [] (fails number) (act_change options core act choices).effects (act_ends options core act choices) h;
 }

@@ -3,7 +3,7 @@
 use Rattle.std.proofs.Common.{◌≡◌, ℕ, Some, List, [], ◌∷◌, inl, inr, refl, arith}
 use Rattle.dcsctp_spec_lemmas.specs.types.declared.association.Pair.{Pair}
 use Rattle.dcsctp_spec_lemmas.specs.types.declared.options.Options.{Options}
-use Rattle.dcsctp_spec_lemmas.specs.spec.Cookie.{cookie_bytes, cookie_at}
+use Rattle.dcsctp_spec_lemmas.specs.spec.Cookie.{cookie_bytes, cookie_of_bytes}
 use Rattle.dcsctp_spec_lemmas.specs.spec.Packet.{init, init_ack, cookie_echo, cookie_ack}
 use Rattle.dcsctp_spec_lemmas.specs.spec.endpoint.Endpoint.{established, open_in}
 use Rattle.dcsctp_spec_lemmas.specs.spec.association.Effect.{draws, sends, holds, connects}
@@ -34,7 +34,7 @@ collision =
     ∷ []
 
 collision_goes : (a b : Options) → GoesOn a b collision
-unfolding cookie_bytes cookie_at
+unfolding cookie_bytes cookie_of_bytes
 collision_goes a b =
     (inl refl, own_tag_borne refl, tt)
     after (inl refl, own_tag_borne refl, tt)
@@ -65,7 +65,7 @@ collision_end : (a b : Options) → end_of a b collision
           ∷ sends (packet 0 (init (introduction two))) ∷ draws two
           ∷ []);
     }
-unfolding cookie_bytes cookie_at
+unfolding cookie_bytes cookie_of_bytes
 collision_end a b = refl
 
 -- B's COOKIE ECHO and its answer come after that: neither side connects again.
@@ -73,7 +73,7 @@ abbrev both_echoes : List Doing
 both_echoes = gets at_b 9 cookie_ack plain ∷ gets at_a 7 (cookie_echo cookie_for_b) plain ∷ collision
 
 both_echoes_go : (a b : Options) → GoesOn a b both_echoes
-unfolding cookie_bytes cookie_at
+unfolding cookie_bytes cookie_of_bytes
 both_echoes_go a b =
     (inl refl, own_tag_borne refl, tt)
     after (inr (inr (inl refl)), own_tag_borne refl, tt)
@@ -83,15 +83,15 @@ both_echoes_are_a_run : (a b : Options) → IsRun a b both_echoes
 both_echoes_are_a_run a b = is_run (configured a) (configured b) both_echoes (both_echoes_go a b)
 
 both_echoes_tags : (a b : Options) → tags_of a b both_echoes ≡ 0 ∷ 0 ∷ 7 ∷ 9 ∷ 9 ∷ 7 ∷ 7 ∷ 9 ∷ []
-unfolding cookie_bytes cookie_at
+unfolding cookie_bytes cookie_of_bytes
 both_echoes_tags a b = refl
 
 both_echoes_connect_a_once : (a b : Options) → connections (end_of a b both_echoes).a.past ≡ link one two ∷ []
-unfolding cookie_bytes cookie_at
+unfolding cookie_bytes cookie_of_bytes
 both_echoes_connect_a_once a b = refl
 
 both_echoes_connect_b_once : (a b : Options) → connections (end_of a b both_echoes).b.past ≡ link two one ∷ []
-unfolding cookie_bytes cookie_at
+unfolding cookie_bytes cookie_of_bytes
 both_echoes_connect_b_once a b = refl
 
 -- ---- a COOKIE ECHO that is discarded (RFC 9260, section 5.2.4, C)
@@ -123,7 +123,7 @@ abbrev settled : List Doing
 settled = gets at_b 11 cookie_ack plain ∷ gets at_a 7 (cookie_echo third_cookie) plain ∷ discarded
 
 settled_goes : (a b : Options) → GoesOn a b settled
-unfolding cookie_bytes cookie_at
+unfolding cookie_bytes cookie_of_bytes
 settled_goes a b =
     (inl refl, own_tag_borne refl, tt)
     after (inl refl, own_tag_borne refl, tt)
@@ -141,11 +141,11 @@ settled_is_a_run a b = is_run (configured a) (configured b) settled (settled_goe
 
 -- No COOKIE ACK is sent, and nothing changes.
 discarded_end : (a b : Options) → end_of a b discarded ≡ end_of a b overtaken
-unfolding cookie_bytes cookie_at
+unfolding cookie_bytes cookie_of_bytes
 discarded_end a b = refl
 
 settled_has_fresh_tags : (a b : Options) → FreshWorld (end_of a b settled)
-unfolding cookie_bytes cookie_at
+unfolding cookie_bytes cookie_of_bytes
 settled_has_fresh_tags a b =
     record {
       a = fresh_where (end_of a b settled).a.past (tt, tt);
@@ -167,5 +167,5 @@ settled_end : (a b : Options) → end_of a b settled
           ∷ sends (packet 7 (init_ack (introduction two) (Some first_cookie))) ∷ draws two
           ∷ []);
     }
-unfolding cookie_bytes cookie_at
+unfolding cookie_bytes cookie_of_bytes
 settled_end a b = refl

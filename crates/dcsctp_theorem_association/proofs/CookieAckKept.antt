@@ -3,7 +3,7 @@ use Rattle.std.proofs.Common.{◌≡◌, ℕ, List, [], ◌∷◌, sym, subst, a
 use Rattle.dcsctp_spec_lemmas.specs.types.declared.association.Pair.{Pair}
 use Rattle.dcsctp_spec_lemmas.specs.types.declared.association.Held.{Held}
 use Rattle.dcsctp_spec_lemmas.specs.types.Offer.{Offer}
-use Rattle.dcsctp_spec_lemmas.specs.spec.Cookie.{Cookie, cookie_at}
+use Rattle.dcsctp_spec_lemmas.specs.spec.Cookie.{Cookie, cookie_of_bytes}
 use Rattle.dcsctp_spec_lemmas.specs.spec.Packet.{Content}
 use Rattle.dcsctp_spec_lemmas.specs.spec.endpoint.Endpoint.{Core, closed, cookie_wait, cookie_echoed, open_in, established, own_tag}
 use Rattle.dcsctp_spec_lemmas.specs.spec.endpoint.Following.{next_chunk}
@@ -24,7 +24,7 @@ acknowledged : (my_offer their_offer : Offer) (mine theirs : List Effect) (my : 
     → HasEffect (holds (agreed_link their_offer my_offer held.peer my)) theirs
 acknowledged my_offer their_offer mine theirs my held bytes header one echo ack is =
     let same_bytes : ack.bytes ≡ bytes = one ack.header ack.bytes ack.behind ack.cookie ack.echoed ack.reads (sym ack.under ∙ is) in
-    let same_cookie : ack.cookie ≡ echo.cookie = same_reading bytes ack.cookie echo.cookie (subst (λ (b : List ℕ). cookie_at b ≡ Ok ack.cookie) same_bytes ack.reads) echo.reads in
+    let same_cookie : ack.cookie ≡ echo.cookie = same_reading bytes ack.cookie echo.cookie (subst (λ (b : List ℕ). cookie_of_bytes b ≡ Ok ack.cookie) same_bytes ack.reads) echo.reads in
     let maker : ack.cookie.maker ≡ held.peer = ap (λ (c : Cookie). c.maker) same_cookie ∙ echo.maker in
     let addressee : ack.cookie.addressee ≡ my = ap (λ (c : Cookie). c.addressee) same_cookie ∙ echo.addressee in
     subst (λ (p : Pair). HasEffect (holds (agreed_link their_offer my_offer held.peer p)) theirs) addressee

@@ -4,7 +4,7 @@ use Rattle.std.proofs.lemmas.Bool.Decides.{nat_tests}
 use Rattle.dcsctp_spec_lemmas.specs.types.declared.association.Pair.{Pair}
 use Rattle.dcsctp_spec_lemmas.specs.types.declared.association.Held.{Held}
 use Rattle.dcsctp_spec_lemmas.specs.types.declared.options.Options.{Options}
-use Rattle.dcsctp_spec_lemmas.specs.types.Offer.{Offer, offer_of, negotiated}
+use Rattle.dcsctp_spec_lemmas.specs.types.Offer.{Offer, offer_of, negotiated_capabilities}
 use Rattle.dcsctp_spec_lemmas.specs.spec.Cookie.{Cookie}
 use Rattle.dcsctp_spec_lemmas.specs.spec.Packet.{Content, cookie_echo, cookie_ack}
 use Rattle.dcsctp_spec_lemmas.specs.spec.endpoint.Endpoint.{Core, closed, cookie_wait, cookie_echoed, open_in, established, shutdown_pending, shutdown_sent, shutdown_received, shutdown_ack_sent}
@@ -12,7 +12,7 @@ use Rattle.dcsctp_spec_lemmas.specs.spec.endpoint.Following.{next_chunk, dropped
 use Rattle.dcsctp_spec_lemmas.specs.spec.association.Effect.{AssociationIdentity, Effect, sends, holds, connects, emitted_alone, identity_of}
 use Rattle.dcsctp_spec_lemmas.specs.spec.association.Choices.{Choices}
 use Rattle.dcsctp_spec_lemmas.specs.spec.association.FlushChanges.{flush}
-use Rattle.dcsctp_spec_lemmas.specs.spec.association.CookieEchoChanges.{stale_error, Resolution, establish_new, restart, simultaneous_init, discard, maintain_existing, invalid_tag, stale, aged, case_by, case_without_peer, case_with_peer, resolve, held_by_cookie, new_association_change, restart_change, maintain_change, resolved_change, read_echo_change, cookie_echo_change}
+use Rattle.dcsctp_spec_lemmas.specs.spec.association.CookieEchoChanges.{stale_error, Resolution, establish_new, restart, simultaneous_init, discard, maintain_existing, invalid_tag, stale, aged_resolution, case_by_answers, case_without_peer, case_with_peer, resolve, held_by_cookie, new_association_change, restart_change, maintain_change, resolved_change, read_echo_change, cookie_echo_change}
 use Rattle.dcsctp_spec_runs.specs.Past.{HasEffect}
 use Rattle.dcsctp_spec_lemmas.proofs.ControlEcho.{kept_by_age}
 use Rattle.dcsctp_theorem_association.proofs.Facts.{agreed_link, TrueEcho, TrueAck, PeerFacts, TrueCore}
@@ -37,9 +37,9 @@ new_kept options their_offer mine theirs header bytes behind choices echo delive
     let link : AssociationIdentity = identity_of echo.cookie.maker held in
     let shown : HasEffect (holds (agreed_link (offer_of options) their_offer echo.cookie.maker echo.cookie.addressee)) (connects link ∷ holds link ∷ mine) =
     inr (inl (ap holds (sym (new_link options their_offer echo.cookie echo.offer)))) in
-    let agreed : held.capabilities ≡ negotiated (offer_of options) their_offer = ap (negotiated (offer_of options)) echo.offer in
+    let agreed : held.capabilities ≡ negotiated_capabilities (offer_of options) their_offer = ap (negotiated_capabilities (offer_of options)) echo.offer in
     let facts : PeerFacts (offer_of options) their_offer (connects link ∷ holds link ∷ mine) theirs echo.cookie.maker held =
-    new_peer (offer_of options) their_offer (connects link ∷ holds link ∷ mine) theirs echo.cookie.maker echo.cookie.addressee (negotiated (offer_of options) echo.cookie.offer)
+    new_peer (offer_of options) their_offer (connects link ∷ holds link ∷ mine) theirs echo.cookie.maker echo.cookie.addressee (negotiated_capabilities (offer_of options) echo.cookie.offer)
     (inr (inr echo.maker)) echo.addressee agreed shown in
     let ack : TrueAck (offer_of options) their_offer (connects link ∷ holds link ∷ mine) theirs echo.cookie.addressee.tag =
     record { header = header; bytes = bytes; behind = behind; echoed = delivered; cookie = echo.cookie; reads = echo.reads; under = refl; held = shown } in
@@ -67,7 +67,7 @@ without_peer_not : (b : Bool) → case_without_peer b ≡ maintain_existing → 
 without_peer_not true e = cc
 without_peer_not false e = cc
 
-maintained_by : (b c d e : Bool) → case_by b c d e ≡ maintain_existing → (b ≡ true) × (c ≡ true)
+maintained_by : (b c d e : Bool) → case_by_answers b c d e ≡ maintain_existing → (b ≡ true) × (c ≡ true)
 maintained_by true true d e is = (refl, refl)
 maintained_by true false d e is = absurd (cc)
 maintained_by false true d true is = absurd (cc)
@@ -185,5 +185,5 @@ pub cookie_echo_kept : (options : Options) (their_offer : Offer) (mine theirs : 
     → Kept (offer_of options) their_offer mine theirs (cookie_echo_change options core header bytes choices)
 cookie_echo_kept options their_offer mine theirs core header bytes behind choices my_tags their_tags h echo delivered =
     subst (λ (r : Result Cookie (List ℕ)). Kept (offer_of options) their_offer mine theirs (read_echo_change options core header r choices)) (sym echo.reads)
-    (resolved_kept options their_offer mine theirs core header bytes behind choices (aged choices.is_stale (resolve core choices.tie choices.secret header echo.cookie)) my_tags their_tags h echo delivered
+    (resolved_kept options their_offer mine theirs core header bytes behind choices (aged_resolution choices.is_stale (resolve core choices.tie choices.secret header echo.cookie)) my_tags their_tags h echo delivered
     (λ case. maintained_in core choices.tie choices.secret header echo.cookie (kept_by_age choices.is_stale (resolve core choices.tie choices.secret header echo.cookie) case)))

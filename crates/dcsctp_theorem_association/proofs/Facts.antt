@@ -6,8 +6,8 @@ use Rattle.dcsctp_spec_lemmas.specs.wire.declared.reconfiguration.Reconfiguratio
 use Rattle.dcsctp_spec_lemmas.specs.wire.declared.reconfiguration.ReconfigurationResponseResult.TheVariants.{SuccessNothingToDo, SuccessPerformed}
 use Rattle.dcsctp_spec_lemmas.specs.types.declared.association.Pair.{Pair}
 use Rattle.dcsctp_spec_lemmas.specs.types.declared.association.Held.{Held}
-use Rattle.dcsctp_spec_lemmas.specs.types.Offer.{Offer, negotiated}
-use Rattle.dcsctp_spec_lemmas.specs.spec.Cookie.{Cookie, cookie_at}
+use Rattle.dcsctp_spec_lemmas.specs.types.Offer.{Offer, negotiated_capabilities}
+use Rattle.dcsctp_spec_lemmas.specs.spec.Cookie.{Cookie, cookie_of_bytes}
 use Rattle.dcsctp_spec_lemmas.specs.spec.Reconfiguration.{ResetParameter, outgoing_reset_request, incoming_reset_request, reconfiguration_response, other_reset_parameter}
 use Rattle.dcsctp_spec_lemmas.specs.spec.Packet.{Introduction, Content, init, init_ack, cookie_echo, cookie_ack, re_config, plain}
 use Rattle.dcsctp_spec_lemmas.specs.spec.endpoint.Endpoint.{Core, closed, cookie_wait, cookie_echoed, open_in}
@@ -23,25 +23,25 @@ number_before pair = (pair.first_tsn + (2 ^ 32 - 1)) % 2 ^ 32
 
 -- an association with what was negotiated
 abbrev pub agreed_link : Offer → Offer → Pair → Pair → AssociationIdentity
-agreed_link my_offer their_offer my peer = record { my = my; peer = peer; capabilities = negotiated my_offer their_offer }
+agreed_link my_offer their_offer my peer = record { my = my; peer = peer; capabilities = negotiated_capabilities my_offer their_offer }
 
 -- ---- what a packet says truly
 
 -- INIT ACK: its cookie holds the pair that it carries and the pair and offer of the INIT that it answers.
 pub record TrueInitAck (my_offer their_offer : Offer) (mine theirs : List Effect) (tag : ℕ) (introduction : Introduction) (bytes : List ℕ) : Type 0 where
   pub cookie : Cookie
-  pub reads : cookie_at bytes ≡ Ok cookie
+  pub reads : cookie_of_bytes bytes ≡ Ok cookie
   pub under : tag ≡ cookie.addressee.tag
   pub pair : cookie.maker ≡ introduction.pair
   pub maker : HasEffect (draws cookie.maker) mine
   pub addressee : HasEffect (draws cookie.addressee) theirs
   pub offer : cookie.offer ≡ their_offer
-  pub announced : negotiated their_offer introduction.offer ≡ negotiated their_offer my_offer
+  pub announced : negotiated_capabilities their_offer introduction.offer ≡ negotiated_capabilities their_offer my_offer
 
 -- COOKIE ECHO: its cookie was made by the other side, and the sender held the association of its pairs.
 pub record TrueEcho (my_offer their_offer : Offer) (mine theirs : List Effect) (tag : ℕ) (bytes : List ℕ) : Type 0 where
   pub cookie : Cookie
-  pub reads : cookie_at bytes ≡ Ok cookie
+  pub reads : cookie_of_bytes bytes ≡ Ok cookie
   pub under : tag ≡ cookie.maker.tag
   pub maker : HasEffect (draws cookie.maker) theirs
   pub addressee : HasEffect (draws cookie.addressee) mine
@@ -55,7 +55,7 @@ pub record TrueAck (my_offer their_offer : Offer) (mine theirs : List Effect) (t
   pub behind : List Content
   pub echoed : HasEffect (sends (record { tag = header; contents = cookie_echo bytes ∷ behind })) theirs
   pub cookie : Cookie
-  pub reads : cookie_at bytes ≡ Ok cookie
+  pub reads : cookie_of_bytes bytes ≡ Ok cookie
   pub under : tag ≡ cookie.addressee.tag
   pub held : HasEffect (holds (agreed_link my_offer their_offer cookie.maker cookie.addressee)) mine
 
@@ -123,7 +123,7 @@ TrueContents my_offer their_offer mine theirs tag (content ∷ contents) = TrueF
 
 -- the other side holds the crossed association, or held it
 pub record Found (my_offer their_offer : Offer) (theirs : List Effect) (link : AssociationIdentity) : Type 0 where
-  pub capabilities : link.capabilities ≡ negotiated my_offer their_offer
+  pub capabilities : link.capabilities ≡ negotiated_capabilities my_offer their_offer
   pub held : HasEffect (holds (agreed_link their_offer my_offer link.peer link.my)) theirs
 
 -- Of two sides none is restored.
@@ -150,7 +150,7 @@ TrueEffects my_offer their_offer mine theirs (effect ∷ effects) =
 pub record PeerFacts (my_offer their_offer : Offer) (mine theirs : List Effect) (my : Pair) (held : Held) : Type 0 where
   pub my_drawn : HasEffect (draws my) mine
   pub peer_drawn : HasEffect (draws held.peer) theirs
-  pub capabilities : held.capabilities ≡ negotiated my_offer their_offer
+  pub capabilities : held.capabilities ≡ negotiated_capabilities my_offer their_offer
   pub shown : HasEffect (holds (agreed_link my_offer their_offer my held.peer)) mine
   pub nothing : held.peer_result ≡ SuccessNothingToDo → held.peer_last ≡ number_before held.peer
   pub performed : held.peer_result ≡ SuccessPerformed → WasPerformed held.peer held.peer_last mine
@@ -159,18 +159,18 @@ pub record PeerFacts (my_offer their_offer : Offer) (mine theirs : List Effect) 
 abbrev pub NoEcho : ℕ → List Effect → Type 0
 NoEcho tag past =
     (header : ℕ) (bytes : List ℕ) (behind : List Content) (cookie : Cookie)
-    → HasEffect (sends (record { tag = header; contents = cookie_echo bytes ∷ behind })) past → cookie_at bytes ≡ Ok cookie → cookie.addressee.tag ≢ tag
+    → HasEffect (sends (record { tag = header; contents = cookie_echo bytes ∷ behind })) past → cookie_of_bytes bytes ≡ Ok cookie → cookie.addressee.tag ≢ tag
 
 -- None but this one.
 abbrev pub OneEcho : ℕ → List ℕ → List Effect → Type 0
 OneEcho tag echoed past =
     (header : ℕ) (bytes : List ℕ) (behind : List Content) (cookie : Cookie)
-    → HasEffect (sends (record { tag = header; contents = cookie_echo bytes ∷ behind })) past → cookie_at bytes ≡ Ok cookie → cookie.addressee.tag ≡ tag → bytes ≡ echoed
+    → HasEffect (sends (record { tag = header; contents = cookie_echo bytes ∷ behind })) past → cookie_of_bytes bytes ≡ Ok cookie → cookie.addressee.tag ≡ tag → bytes ≡ echoed
 
 -- the cookie of the association that is echoed
 pub record EchoedCookie (my_offer : Offer) (my : Pair) (held : Held) (bytes : List ℕ) : Type 0 where
   pub cookie : Cookie
-  pub reads : cookie_at bytes ≡ Ok cookie
+  pub reads : cookie_of_bytes bytes ≡ Ok cookie
   pub maker : cookie.maker ≡ held.peer
   pub addressee : cookie.addressee ≡ my
   pub offer : cookie.offer ≡ my_offer

@@ -6,9 +6,9 @@ use Rattle.dcsctp_spec_lemmas.specs.types.declared.association.Held.{Held}
 use Rattle.dcsctp_spec_lemmas.specs.types.Offer.{Offer}
 use Rattle.dcsctp_spec_lemmas.specs.spec.Reconfiguration.{RequestedReset, ResetParameter, outgoing_reset_request, incoming_reset_request, reconfiguration_response, other_reset_parameter}
 use Rattle.dcsctp_spec_lemmas.specs.spec.Packet.{Plain, Content, init, init_ack, cookie_echo, cookie_ack, re_config, abort, shutdown, shutdown_ack, shutdown_complete, plain}
-use Rattle.dcsctp_spec_lemmas.specs.spec.association.Effect.{Effect, begins, emitted, emitted_alone}
+use Rattle.dcsctp_spec_lemmas.specs.spec.association.Effect.{Effect, begins, emission_effects, emitted_alone}
 use Rattle.dcsctp_spec_lemmas.specs.spec.association.Choices.{plain_contents, Filling}
-use Rattle.dcsctp_spec_lemmas.specs.spec.association.FlushChanges.{reset_request, reset_to_begin, chunks_behind, further_packets, flushed_with, flush_where, flush}
+use Rattle.dcsctp_spec_lemmas.specs.spec.association.FlushChanges.{reset_request, reset_to_begin, chunks_behind, further_packets, flushed_with, flush_if_allowed, flush}
 use Rattle.dcsctp_theorem_association.proofs.Facts.{TrueParameters, Requests, TrueFront, Behind, AllBehind, TrueContents, TrueEffects, PeerFacts}
 use Rattle.dcsctp_theorem_association.proofs.Growth.{one_more, effects-append, effects_grow}
 use Rattle.dcsctp_theorem_association.proofs.Echoes.{NoEchoFront, AllEchoFree, AllEchoOnly, free_append, free_is_only, behind_is_free}
@@ -65,11 +65,11 @@ no_echo_front (shutdown_complete reflected ∷ contents) behind h k = tt
 no_echo_front (plain chunk ∷ contents) behind h k = tt
 
 pub emitted_true : (my_offer their_offer : Offer) (mine theirs : List Effect) (tag : ℕ) (contents : List Content)
-    → TrueContents my_offer their_offer mine theirs tag contents → TrueEffects my_offer their_offer mine theirs (emitted tag contents)
+    → TrueContents my_offer their_offer mine theirs tag contents → TrueEffects my_offer their_offer mine theirs (emission_effects tag contents)
 emitted_true my_offer their_offer mine theirs tag [] h = tt
 emitted_true my_offer their_offer mine theirs tag (content ∷ contents) h = (h, tt)
 
-pub emitted_free : (tag : ℕ) (contents : List Content) → NoEchoFront contents → AllEchoFree (emitted tag contents)
+pub emitted_free : (tag : ℕ) (contents : List Content) → NoEchoFront contents → AllEchoFree (emission_effects tag contents)
 emitted_free tag [] h = tt
 emitted_free tag (content ∷ contents) h = (h, tt)
 
@@ -82,23 +82,23 @@ pub alone_free : (fits : Bool) (tag : ℕ) (content : Content) → NoEchoFront (
 alone_free true tag content h = (h, tt)
 alone_free false tag content h = tt
 
-plain_true : (my_offer their_offer : Offer) (mine theirs : List Effect) (tag : ℕ) (chunks : List Plain) → TrueEffects my_offer their_offer mine theirs (emitted tag (plain_contents chunks))
+plain_true : (my_offer their_offer : Offer) (mine theirs : List Effect) (tag : ℕ) (chunks : List Plain) → TrueEffects my_offer their_offer mine theirs (emission_effects tag (plain_contents chunks))
 plain_true my_offer their_offer mine theirs tag [] = tt
 plain_true my_offer their_offer mine theirs tag (chunk ∷ chunks) = ((tt, plain_behind chunks), tt)
 
-plain_free : (tag : ℕ) (chunks : List Plain) → AllEchoFree (emitted tag (plain_contents chunks))
+plain_free : (tag : ℕ) (chunks : List Plain) → AllEchoFree (emission_effects tag (plain_contents chunks))
 plain_free tag [] = tt
 plain_free tag (chunk ∷ chunks) = (tt, tt)
 
 pub further_true : (my_offer their_offer : Offer) (mine theirs : List Effect) (tag : ℕ) (packets : List (List Plain)) → TrueEffects my_offer their_offer mine theirs (further_packets tag packets)
 further_true my_offer their_offer mine theirs tag [] = tt
 further_true my_offer their_offer mine theirs tag (chunks ∷ packets) =
-    effects-append my_offer their_offer mine theirs (emitted tag (plain_contents chunks)) (further_packets tag packets)
+    effects-append my_offer their_offer mine theirs (emission_effects tag (plain_contents chunks)) (further_packets tag packets)
     (plain_true my_offer their_offer mine theirs tag chunks) (further_true my_offer their_offer mine theirs tag packets)
 
 pub further_free : (tag : ℕ) (packets : List (List Plain)) → AllEchoFree (further_packets tag packets)
 further_free tag [] = tt
-further_free tag (chunks ∷ packets) = free_append (emitted tag (plain_contents chunks)) (further_packets tag packets) (plain_free tag chunks) (further_free tag packets)
+further_free tag (chunks ∷ packets) = free_append (emission_effects tag (plain_contents chunks)) (further_packets tag packets) (plain_free tag chunks) (further_free tag packets)
 
 -- ---- a flush
 
@@ -109,9 +109,9 @@ chunks_behind_behind number filling (Some reset) =
 
 packets_true : (my_offer their_offer : Offer) (mine theirs : List Effect) (tag : ℕ) (held : Held) (front : List Content) (filling : Filling) (reset : Option RequestedReset)
     → TrueContents my_offer their_offer mine theirs tag front
-    → TrueEffects my_offer their_offer mine theirs (emitted tag (front ++ chunks_behind held.own_next filling reset) ++ further_packets tag filling.further)
+    → TrueEffects my_offer their_offer mine theirs (emission_effects tag (front ++ chunks_behind held.own_next filling reset) ++ further_packets tag filling.further)
 packets_true my_offer their_offer mine theirs tag held front filling reset h =
-    effects-append my_offer their_offer mine theirs (emitted tag (front ++ chunks_behind held.own_next filling reset)) (further_packets tag filling.further)
+    effects-append my_offer their_offer mine theirs (emission_effects tag (front ++ chunks_behind held.own_next filling reset)) (further_packets tag filling.further)
     (emitted_true my_offer their_offer mine theirs tag (front ++ chunks_behind held.own_next filling reset) (contents_true my_offer their_offer mine theirs tag front (chunks_behind held.own_next filling reset) h (chunks_behind_behind held.own_next filling reset)))
     (further_true my_offer their_offer mine theirs tag filling.further)
 
@@ -120,12 +120,12 @@ flushed_true : (my_offer their_offer : Offer) (mine theirs : List Effect) (tag :
 flushed_true my_offer their_offer mine theirs tag held front filling None h = packets_true my_offer their_offer mine theirs tag held front filling None h
 flushed_true my_offer their_offer mine theirs tag held front filling (Some reset) h = (
   tt,
-  effects_grow my_offer their_offer mine theirs (begins held.own_next ∷ mine) (emitted tag (front ++ chunks_behind held.own_next filling (Some reset)) ++ further_packets tag filling.further)
+  effects_grow my_offer their_offer mine theirs (begins held.own_next ∷ mine) (emission_effects tag (front ++ chunks_behind held.own_next filling (Some reset)) ++ further_packets tag filling.further)
       (one_more (begins held.own_next) mine) (packets_true my_offer their_offer mine theirs tag held front filling (Some reset) h),
 )
 
 flush_true_where : (my_offer their_offer : Offer) (mine theirs : List Effect) (is_allowed : Bool) (tag : ℕ) (held : Held) (front : List Content) (filling : Filling)
-    → TrueContents my_offer their_offer mine theirs tag front → TrueEffects my_offer their_offer mine theirs (flush_where is_allowed tag held front filling).effects
+    → TrueContents my_offer their_offer mine theirs tag front → TrueEffects my_offer their_offer mine theirs (flush_if_allowed is_allowed tag held front filling).effects
 flush_true_where my_offer their_offer mine theirs false tag held front filling h = tt
 flush_true_where my_offer their_offer mine theirs true tag held front filling h =
     flushed_true my_offer their_offer mine theirs tag held front filling (reset_to_begin held.own_outstanding filling.reset) h
@@ -136,15 +136,15 @@ flush_true my_offer their_offer mine theirs tag held front filling h = flush_tru
 
 flushed_free : (tag : ℕ) (held : Held) (front : List Content) (filling : Filling) (reset : Option RequestedReset) → NoEchoFront front → AllEchoFree (flushed_with tag held front filling reset).effects
 flushed_free tag held front filling None h =
-    free_append (emitted tag (front ++ chunks_behind held.own_next filling None)) (further_packets tag filling.further)
+    free_append (emission_effects tag (front ++ chunks_behind held.own_next filling None)) (further_packets tag filling.further)
     (emitted_free tag (front ++ chunks_behind held.own_next filling None) (no_echo_front front (chunks_behind held.own_next filling None) h (chunks_behind_behind held.own_next filling None))) (further_free tag filling.further)
 flushed_free tag held front filling (Some reset) h = (
   tt,
-  free_append (emitted tag (front ++ chunks_behind held.own_next filling (Some reset))) (further_packets tag filling.further)
+  free_append (emission_effects tag (front ++ chunks_behind held.own_next filling (Some reset))) (further_packets tag filling.further)
       (emitted_free tag (front ++ chunks_behind held.own_next filling (Some reset)) (no_echo_front front (chunks_behind held.own_next filling (Some reset)) h (chunks_behind_behind held.own_next filling (Some reset)))) (further_free tag filling.further),
 )
 
-flush_free_where : (is_allowed : Bool) (tag : ℕ) (held : Held) (front : List Content) (filling : Filling) → NoEchoFront front → AllEchoFree (flush_where is_allowed tag held front filling).effects
+flush_free_where : (is_allowed : Bool) (tag : ℕ) (held : Held) (front : List Content) (filling : Filling) → NoEchoFront front → AllEchoFree (flush_if_allowed is_allowed tag held front filling).effects
 flush_free_where false tag held front filling h = tt
 flush_free_where true tag held front filling h = flushed_free tag held front filling (reset_to_begin held.own_outstanding filling.reset) h
 
@@ -156,7 +156,7 @@ echoed_only : (tag : ℕ) (held : Held) (bytes : List ℕ) (filling : Filling) (
 echoed_only tag held bytes filling None = (refl, free_is_only bytes (further_packets tag filling.further) (further_free tag filling.further))
 echoed_only tag held bytes filling (Some reset) = (tt, (refl, free_is_only bytes (further_packets tag filling.further) (further_free tag filling.further)))
 
-echo_only_where : (is_allowed : Bool) (tag : ℕ) (held : Held) (bytes : List ℕ) (filling : Filling) → AllEchoOnly bytes (flush_where is_allowed tag held (cookie_echo bytes ∷ []) filling).effects
+echo_only_where : (is_allowed : Bool) (tag : ℕ) (held : Held) (bytes : List ℕ) (filling : Filling) → AllEchoOnly bytes (flush_if_allowed is_allowed tag held (cookie_echo bytes ∷ []) filling).effects
 echo_only_where false tag held bytes filling = tt
 echo_only_where true tag held bytes filling = echoed_only tag held bytes filling (reset_to_begin held.own_outstanding filling.reset)
 
@@ -171,7 +171,7 @@ flushed_peer my_offer their_offer mine theirs my tag held front filling (Some re
     record { my_drawn = h.my_drawn; peer_drawn = h.peer_drawn; capabilities = h.capabilities; shown = h.shown; nothing = h.nothing; performed = h.performed }
 
 flush_peer_where : (my_offer their_offer : Offer) (mine theirs : List Effect) (my : Pair) (is_allowed : Bool) (tag : ℕ) (held : Held) (front : List Content) (filling : Filling)
-    → PeerFacts my_offer their_offer mine theirs my held → PeerFacts my_offer their_offer mine theirs my (flush_where is_allowed tag held front filling).held
+    → PeerFacts my_offer their_offer mine theirs my held → PeerFacts my_offer their_offer mine theirs my (flush_if_allowed is_allowed tag held front filling).held
 flush_peer_where my_offer their_offer mine theirs my false tag held front filling h = h
 flush_peer_where my_offer their_offer mine theirs my true tag held front filling h =
     flushed_peer my_offer their_offer mine theirs my tag held front filling (reset_to_begin held.own_outstanding filling.reset) h
@@ -184,7 +184,7 @@ flushed_pair : (tag : ℕ) (held : Held) (front : List Content) (filling : Filli
 flushed_pair tag held front filling None = refl
 flushed_pair tag held front filling (Some reset) = refl
 
-flush_pair_where : (is_allowed : Bool) (tag : ℕ) (held : Held) (front : List Content) (filling : Filling) → (flush_where is_allowed tag held front filling).held.peer ≡ held.peer
+flush_pair_where : (is_allowed : Bool) (tag : ℕ) (held : Held) (front : List Content) (filling : Filling) → (flush_if_allowed is_allowed tag held front filling).held.peer ≡ held.peer
 flush_pair_where false tag held front filling = refl
 flush_pair_where true tag held front filling = flushed_pair tag held front filling (reset_to_begin held.own_outstanding filling.reset)
 

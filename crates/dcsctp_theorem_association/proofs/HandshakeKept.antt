@@ -4,9 +4,9 @@ use Rattle.dcsctp_spec_lemmas.specs.types.declared.association.Pair.{Pair}
 use Rattle.dcsctp_spec_lemmas.specs.types.declared.association.Held.{Held}
 use Rattle.dcsctp_spec_lemmas.specs.types.declared.capabilities.Capabilities.{Capabilities}
 use Rattle.dcsctp_spec_lemmas.specs.types.declared.options.Options.{Options}
-use Rattle.dcsctp_spec_lemmas.specs.types.Offer.{Offer, offer_of, answering_offer, negotiated}
+use Rattle.dcsctp_spec_lemmas.specs.types.Offer.{Offer, offer_of, answering_offer, negotiated_capabilities}
 use Rattle.dcsctp_spec_runs.specs.Laws.{AnswerKeepsAgreement}
-use Rattle.dcsctp_spec_lemmas.specs.spec.Cookie.{Cookie, cookie_at}
+use Rattle.dcsctp_spec_lemmas.specs.spec.Cookie.{Cookie, cookie_of_bytes}
 use Rattle.dcsctp_spec_lemmas.specs.spec.Packet.{Introduction, Content, init, init_ack, cookie_echo}
 use Rattle.dcsctp_spec_lemmas.specs.spec.endpoint.Endpoint.{Core, closed, cookie_wait, cookie_echoed, open_in, established, shutdown_pending, shutdown_sent, shutdown_received, shutdown_ack_sent, own_tag}
 use Rattle.dcsctp_spec_lemmas.specs.spec.endpoint.Following.{next_chunk}
@@ -23,7 +23,7 @@ use Rattle.dcsctp_theorem_association.proofs.Flushes.{alone_true, alone_free, fl
 use Rattle.dcsctp_theorem_association.proofs.Turns.{Kept, stays_kept, unchanged_kept, ended_kept, open_kept, SameTag}
 
 -- one reading
-pub same_reading : (bytes : List ℕ) (one other : Cookie) → cookie_at bytes ≡ Ok one → cookie_at bytes ≡ Ok other → one ≡ other
+pub same_reading : (bytes : List ℕ) (one other : Cookie) → cookie_of_bytes bytes ≡ Ok one → cookie_of_bytes bytes ≡ Ok other → one ≡ other
 same_reading bytes one other e f = cc
 
 -- ---- connect
@@ -74,7 +74,7 @@ true_init_ack law options their_offer mine theirs introduction pair bytes mine_d
       maker = subst (λ (p : Pair). HasEffect (draws p) mine) (sym is.2) mine_drawn;
       addressee = subst (λ (p : Pair). HasEffect (draws p) theirs) (sym is.3) theirs_drawn;
       offer = is.4 ∙ offer;
-      announced = ap (λ (o : Offer). negotiated their_offer (answering_offer o (offer_of options))) offer ∙ law their_offer (offer_of options);
+      announced = ap (λ (o : Offer). negotiated_capabilities their_offer (answering_offer o (offer_of options))) offer ∙ law their_offer (offer_of options);
     }
 
 answer_kept : AnswerKeepsAgreement → (options : Options) (their_offer : Offer) (mine theirs : List Effect) (core : Core) (introduction : Introduction) (pair : Pair) (choices : Choices)
@@ -164,7 +164,7 @@ echoes_kept my_offer their_offer mine theirs my held bytes true filling h one ec
 
 -- what an association begins with is true
 pub new_peer : (my_offer their_offer : Offer) (mine theirs : List Effect) (my peer : Pair) (capabilities : Capabilities)
-    → HasEffect (draws my) mine → HasEffect (draws peer) theirs → capabilities ≡ negotiated my_offer their_offer → HasEffect (holds (agreed_link my_offer their_offer my peer)) mine
+    → HasEffect (draws my) mine → HasEffect (draws peer) theirs → capabilities ≡ negotiated_capabilities my_offer their_offer → HasEffect (holds (agreed_link my_offer their_offer my peer)) mine
     → PeerFacts my_offer their_offer mine theirs my (new_held my peer capabilities)
 new_peer my_offer their_offer mine theirs my peer capabilities my_drawn peer_drawn agreed shown =
     record { my_drawn = my_drawn; peer_drawn = peer_drawn; capabilities = agreed; shown = shown; nothing = λ is. refl; performed = λ is. absurd (cc) }
@@ -178,7 +178,7 @@ init_ack_in_wait options their_offer mine theirs my introduction bytes choices h
     let shown : HasEffect (holds (agreed_link (offer_of options) their_offer my introduction.pair)) (holds (identity_of my held) ∷ mine) =
     inl (ap (λ (c : Capabilities). holds (record { my = my; peer = introduction.pair; capabilities = c })) (sym ack.announced)) in
     let facts : PeerFacts (offer_of options) their_offer (holds (identity_of my held) ∷ mine) theirs my held =
-    new_peer (offer_of options) their_offer (holds (identity_of my held) ∷ mine) theirs my introduction.pair (negotiated (offer_of options) introduction.offer)
+    new_peer (offer_of options) their_offer (holds (identity_of my held) ∷ mine) theirs my introduction.pair (negotiated_capabilities (offer_of options) introduction.offer)
     (inr drawn) (subst (λ (p : Pair). HasEffect (draws p) theirs) ack.pair ack.maker) ack.announced shown in
     let echo : EchoedCookie (offer_of options) my held bytes = record { cookie = ack.cookie; reads = ack.reads; maker = ack.pair; addressee = my_pair; offer = ack.offer } in
     let one : OneEcho my.tag bytes (holds (identity_of my held) ∷ mine) = one_echo_more my.tag bytes (holds (identity_of my held)) mine tt (none_is_one my.tag bytes mine none) in

@@ -6,14 +6,14 @@ use Rattle.dcsctp_spec_lemmas.specs.types.declared.capabilities.Capabilities.{Ca
 use Rattle.dcsctp_spec_lemmas.specs.types.declared.association.Pair.{Pair}
 use Rattle.dcsctp_spec_lemmas.specs.types.Offer.{Offer, offer_of}
 use Rattle.dcsctp_spec_runs.specs.Laws.{AnswerKeepsAgreement}
-use Rattle.dcsctp_spec_lemmas.specs.spec.Cookie.{Cookie, cookie_at}
+use Rattle.dcsctp_spec_lemmas.specs.spec.Cookie.{Cookie, cookie_of_bytes}
 use Rattle.dcsctp_spec_lemmas.specs.spec.endpoint.Endpoint.{closed, open_in, established}
 use Rattle.dcsctp_spec_lemmas.specs.spec.association.Effect.{Change}
 use Rattle.dcsctp_spec_lemmas.specs.spec.association.HandshakeChanges.{introduction_of, new_held}
 use Rattle.dcsctp_spec_lemmas.specs.spec.association.Acts.{connect}
 use Rattle.dcsctp_spec_lemmas.specs.spec.association.CookieEchoChanges.{case_without_peer, resolved_change, read_echo_change, new_association_change}
 use Rattle.dcsctp_spec_runs.specs.World.{own_tag_borne, echo_in_front, init_alone, worked_whole, does, at_a, at_b, WorldStep, world_after, WorldRun}
-use Rattle.dcsctp_theorem_association.specs.InTurn.{Handshake, choices_for, CookieReads, connecting, init_handled, init_ack_handled, cookie_echo_handled, delivery_in_turn, AreConnectedOnce, HandshakeConnects, sent_first, works}
+use Rattle.dcsctp_theorem_association.specs.InTurn.{Handshake, choices_for, CookieReads, connecting, init_handled, init_ack_handled, cookie_echo_handled, delivery_in_turn, AreConnectedOnce, HandshakeConnects, sent_first, change_of_packet}
 
 same_number : (n : ℕ) → (n == n) ≡ true
 same_number n = grind (arith, nat_tests)
@@ -23,7 +23,7 @@ abbrev made : Options → Handshake → ℕ → ℕ → ℕ → Cookie
 made options_a handshake window tie moment = record { maker = handshake.b; addressee = handshake.a; offer = offer_of options_a; window = window; tie = tie; moment = moment }
 
 reads_as_made : (options_a : Options) (handshake : Handshake) (reads : CookieReads options_a handshake)
-    → cookie_at handshake.cookie ≡ Ok (made options_a handshake reads.0.window reads.0.tie reads.0.moment)
+    → cookie_of_bytes handshake.cookie ≡ Ok (made options_a handshake reads.0.window reads.0.tie reads.0.moment)
 reads_as_made options_a handshake reads =
     let cookie : Cookie = reads.0 in
     reads.1 ∙ ap (λ (c : Cookie). let r : Result Cookie (List ℕ) = Ok c in r)
@@ -41,7 +41,7 @@ establishes options_a options_b handshake reads =
 -- the steps, by what the COOKIE ECHO brings
 abbrev steps_from : Options → Options → Handshake → Change → List WorldStep
 steps_from options_a options_b handshake echoed =
-    delivery_in_turn at_a echoed (works options_a (init_ack_handled options_a options_b handshake).core (sent_first echoed.effects) (choices_for handshake handshake.a))
+    delivery_in_turn at_a echoed (change_of_packet options_a (init_ack_handled options_a options_b handshake).core (sent_first echoed.effects) (choices_for handshake handshake.a))
     ∷ delivery_in_turn at_b (init_ack_handled options_a options_b handshake) echoed
     ∷ delivery_in_turn at_a (init_handled options_a options_b handshake) (init_ack_handled options_a options_b handshake)
     ∷ delivery_in_turn at_b (connecting options_a options_b handshake) (init_handled options_a options_b handshake)

@@ -3,7 +3,7 @@
 use Rattle.std.proofs.Common.{◌≡◌, ℕ, false, Some, List, [], ◌∷◌, inl, inr, refl, ap, ◌∙◌, arith, codes}
 use Rattle.dcsctp_spec_lemmas.specs.types.declared.association.Pair.{Pair}
 use Rattle.dcsctp_spec_lemmas.specs.types.declared.options.Options.{Options}
-use Rattle.dcsctp_spec_lemmas.specs.spec.Cookie.{cookie_bytes, cookie_at}
+use Rattle.dcsctp_spec_lemmas.specs.spec.Cookie.{cookie_bytes, cookie_of_bytes}
 use Rattle.dcsctp_spec_lemmas.specs.types.declared.ends.AbortReason.TheVariants.{CloseCalled}
 use Rattle.dcsctp_spec_lemmas.specs.spec.endpoint.Cause.{user_initiated_abort}
 use Rattle.dcsctp_spec_lemmas.specs.spec.Packet.{Content, init, init_ack, cookie_echo, cookie_ack, abort}
@@ -33,7 +33,7 @@ replay =
     ∷ four_packets
 
 replay_goes : (a b : Options) → GoesOn a b replay
-unfolding cookie_bytes cookie_at
+unfolding cookie_bytes cookie_of_bytes
 replay_goes a b =
     (inr (inr (inr (inl refl))), echo_in_front first_cookie [] refl, tt)
     after tt
@@ -59,16 +59,16 @@ replay_end : (a b : Options) → end_of a b replay
           ∷ sends (packet 7 (init_ack (introduction two) (Some first_cookie))) ∷ draws two
           ∷ []);
     }
-unfolding cookie_bytes cookie_at
+unfolding cookie_bytes cookie_of_bytes
 replay_end a b = refl
 
 replay_has_fresh_tags : (a b : Options) → FreshWorld (end_of a b replay)
-unfolding cookie_bytes cookie_at
+unfolding cookie_bytes cookie_of_bytes
 replay_has_fresh_tags a b = record { a = fresh_where (end_of a b replay).a.past (tt, tt); b = fresh_where (end_of a b replay).b.past (tt, tt) }
 
 -- The association that matches B's is in A's past.
 replay_is_found : (a b : Options) → FindsCrossed (end_of a b replay).b (end_of a b replay).a (link two one)
-unfolding cookie_bytes cookie_at
+unfolding cookie_bytes cookie_of_bytes
 replay_is_found a b =
     record { other = link one two; held = inr (inr (inr (inr (inl refl)))); crossed = record { my = refl; peer = refl }; capabilities = refl; other_capabilities = refl }
 
@@ -97,7 +97,7 @@ late_ack =
     ∷ []
 
 late_ack_goes : (a b : Options) → GoesOn a b late_ack
-unfolding cookie_bytes cookie_at
+unfolding cookie_bytes cookie_of_bytes
 late_ack_goes a b =
     (inr (inr (inl refl)), own_tag_borne refl, tt)
     after (inl refl, own_tag_borne refl, tt)
@@ -129,16 +129,16 @@ late_ack_end : (a b : Options) → end_of a b late_ack
           ∷ sends (packet 7 (init_ack (introduction two) (Some first_cookie))) ∷ draws two
           ∷ []);
     }
-unfolding cookie_bytes cookie_at
+unfolding cookie_bytes cookie_of_bytes
 late_ack_end a b = refl
 
 late_ack_connects : (a b : Options) → HasEffect (connects (link again new_two)) (end_of a b late_ack).a.past
-unfolding cookie_bytes cookie_at
+unfolding cookie_bytes cookie_of_bytes
 late_ack_connects a b = inl refl
 
 -- B held one association, whose peer is A's first pair.
 late_ack_held : (a b : Options) → holdings (end_of a b late_ack).b.past ≡ link two one ∷ []
-unfolding cookie_bytes cookie_at
+unfolding cookie_bytes cookie_of_bytes
 late_ack_held a b = refl
 
 -- It isn't crossed with A's.
@@ -148,7 +148,7 @@ peer_differs other (inl is) crossed =
 peer_differs other (inr none) crossed = absurd none
 
 late_ack_is_not_found : (a b : Options) → FindsCrossed (end_of a b late_ack).a (end_of a b late_ack).b (link again new_two) → ⊥
-unfolding cookie_bytes cookie_at
+unfolding cookie_bytes cookie_of_bytes
 late_ack_is_not_found a b found = peer_differs found.other (held_among (end_of a b late_ack).b.past found.other found.held) found.crossed.my
 
 late_ack_is_not_crossed : (a b : Options) → ConnectsCrossed (end_of a b late_ack).a (end_of a b late_ack).b → ⊥
@@ -156,11 +156,11 @@ late_ack_is_not_crossed a b crossed = late_ack_is_not_found a b (crossed (link a
 
 -- So fresh tags at one side aren't enough: B's are fresh and A's aren't.
 late_ack_fresh_at_b : (a b : Options) → HasFreshTags (end_of a b late_ack).b.past
-unfolding cookie_bytes cookie_at
+unfolding cookie_bytes cookie_of_bytes
 late_ack_fresh_at_b a b = fresh_where (end_of a b late_ack).b.past ((λ same. absurd (omega (arith, same)), tt), (tt, tt))
 
 late_ack_has_no_fresh_tags : (a b : Options) → HasFreshTags (end_of a b late_ack).a.past → ⊥
-unfolding cookie_bytes cookie_at
+unfolding cookie_bytes cookie_of_bytes
 late_ack_has_no_fresh_tags a b fresh = fresh.1.1.1.1.0 one (inr (inr (inr (inr (inr (inl refl)))))) refl
 
 -- B drops A's second COOKIE ECHO: its peer tag is that of the association, and its tag is another.
@@ -168,12 +168,12 @@ abbrev second_echo : List Doing
 second_echo = gets at_b 19 (cookie_echo second_cookie) (with_tie 12) ∷ late_ack
 
 second_echo_goes : (a b : Options) → GoesOn a b second_echo
-unfolding cookie_bytes cookie_at
+unfolding cookie_bytes cookie_of_bytes
 second_echo_goes a b = (inr (inl refl), echo_in_front second_cookie [] refl, tt) after late_ack_goes a b
 
 second_echo_is_a_run : (a b : Options) → IsRun a b second_echo
 second_echo_is_a_run a b = is_run (configured a) (configured b) second_echo (second_echo_goes a b)
 
 second_echo_end : (a b : Options) → end_of a b second_echo ≡ end_of a b late_ack
-unfolding cookie_bytes cookie_at
+unfolding cookie_bytes cookie_of_bytes
 second_echo_end a b = refl

@@ -6,27 +6,27 @@ use Rattle.dcsctp_spec_lemmas.specs.spec.Packet.{Plain, Content}
 use Rattle.dcsctp_spec_lemmas.specs.spec.Reconfiguration.{RequestedReset}
 use Rattle.dcsctp_spec_lemmas.specs.spec.endpoint.Endpoint.{Core, closed, open_in, established}
 use Rattle.dcsctp_spec_lemmas.specs.spec.endpoint.Following.{Following}
-use Rattle.dcsctp_spec_lemmas.specs.spec.association.Effect.{AssociationIdentity, Effect, draws, holds, connects, ends, begins, completes, performs, renews, resumes, Change, emitted, emitted_alone, identity_of, identity_in}
+use Rattle.dcsctp_spec_lemmas.specs.spec.association.Effect.{AssociationIdentity, Effect, draws, holds, connects, ends, begins, completes, performs, renews, resumes, Change, emission_effects, emitted_alone, identity_of, identity_of_core}
 use Rattle.dcsctp_spec_lemmas.specs.spec.association.Choices.{plain_contents, Filling, Choices}
-use Rattle.dcsctp_spec_lemmas.specs.spec.association.FlushChanges.{reset_to_begin, further_packets, chunks_behind, flushed_with, flush_where, flush}
-use Rattle.dcsctp_spec_lemmas.specs.spec.association.Acts.{sent_then_flushed, renewed_by}
+use Rattle.dcsctp_spec_lemmas.specs.spec.association.FlushChanges.{reset_to_begin, further_packets, chunks_behind, flushed_with, flush_if_allowed, flush}
+use Rattle.dcsctp_spec_lemmas.specs.spec.association.Acts.{sent_then_flushed, renewed_if_fitting}
 use Rattle.dcsctp_spec_runs.specs.Past.{HasEffect}
 use Rattle.dcsctp_spec_lemmas.specs.spec.association.ResumeChanges.{resume_change}
-use Rattle.dcsctp_theorem_association.specs.OneSide.{IsEstablished, outstanding_in, MayDraw, IsShown, Means}
+use Rattle.dcsctp_theorem_association.specs.OneSide.{IsEstablished, outstanding_of_core, MayDraw, IsShown, Means}
 
 -- ---- one effect and several
 
 -- what an effect says of the association after its turn, where it isn't one that draws a pair
 abbrev pub Says : Core → Effect → Type 0
 Says core (draws pair) = ⊥
-Says core (holds link) = identity_in core ≡ Some link
-Says core (resumes link own last) = identity_in core ≡ Some link
+Says core (holds link) = identity_of_core core ≡ Some link
+Says core (resumes link own last) = identity_of_core core ≡ Some link
 Says core (connects link) = IsEstablished core link
 Says core ends = core ≡ closed
-Says core (begins number) = outstanding_in core ≡ Some number
-Says core (completes my number) = (link : AssociationIdentity) × (identity_in core ≡ Some link) × (link.my ≡ my)
-Says core (performs peer number) = (link : AssociationIdentity) × (identity_in core ≡ Some link) × (link.peer ≡ peer)
-Says core (renews peer number) = (link : AssociationIdentity) × (identity_in core ≡ Some link) × (link.peer ≡ peer)
+Says core (begins number) = outstanding_of_core core ≡ Some number
+Says core (completes my number) = (link : AssociationIdentity) × (identity_of_core core ≡ Some link) × (link.my ≡ my)
+Says core (performs peer number) = (link : AssociationIdentity) × (identity_of_core core ≡ Some link) × (link.peer ≡ peer)
+Says core (renews peer number) = (link : AssociationIdentity) × (identity_of_core core ≡ Some link) × (link.peer ≡ peer)
 Says core effect = Unit {0}
 
 abbrev pub AllSay : Core → List Effect → Type 0
@@ -70,13 +70,13 @@ tells_of core after effect effects all h = tells_by core after effect (says_of a
 -- Each effect says what is true, and what is newly held is shown.
 pub record Meant (core : Core) (change : Change) : Type 0 where
   pub says : AllMean core change.core change.effects
-  pub newly_held : (link : AssociationIdentity) → identity_in change.core ≡ Some link → (identity_in core ≡ Some link) ⊎ HasEffect (holds link) change.effects
+  pub newly_held : (link : AssociationIdentity) → identity_of_core change.core ≡ Some link → (identity_of_core core ≡ Some link) ⊎ HasEffect (holds link) change.effects
 
 some_same : (link other : AssociationIdentity) → Some other ≡ Some link → link ≡ other
 some_same link other e = cc
 
 means_of : (core : Core) (change : Change) → AllMean core change.core change.effects
-    → ((link : AssociationIdentity) → identity_in change.core ≡ Some link → (identity_in core ≡ Some link) ⊎ IsShown link change.effects) → Means core change
+    → ((link : AssociationIdentity) → identity_of_core change.core ≡ Some link → (identity_of_core core ≡ Some link) ⊎ IsShown link change.effects) → Means core change
 means_of core change says shown =
     let tells : (effect : Effect) → HasEffect effect change.effects → Tells core change.core effect = λ effect h. tells_of core change.core effect change.effects says h in
     record {
@@ -102,12 +102,12 @@ resume_means core my held =
     (λ link e. inr (inr (held.own_next, held.peer_last, inl (ap (λ (l : AssociationIdentity). resumes l held.own_next held.peer_last) (some_same link (identity_of my held) e)))))
 
 -- The same association is held, or none.
-pub same_meant : {core after : Core} {effects : List Effect} {following : Following} → identity_in after ≡ identity_in core → AllSay after effects
+pub same_meant : {core after : Core} {effects : List Effect} {following : Following} → identity_of_core after ≡ identity_of_core core → AllSay after effects
     → Meant core (record { core = after; effects = effects; following = following })
 same_meant {core} {after} {effects} same all = record { says = none_drawn core after effects all; newly_held = λ link e. inl (sym same ∙ e) }
 
 -- The association stays, and a pair is drawn.
-pub drawn_meant : {core after : Core} {pair : Pair} {effects : List Effect} {following : Following} → MayDraw core → identity_in after ≡ identity_in core → AllSay after effects
+pub drawn_meant : {core after : Core} {pair : Pair} {effects : List Effect} {following : Following} → MayDraw core → identity_of_core after ≡ identity_of_core core → AllSay after effects
     → Meant core (record { core = after; effects = draws pair ∷ effects; following = following })
 drawn_meant may same all = record { says = (may, all); newly_held = λ link e. inl (sym same ∙ e) }
 
@@ -117,7 +117,7 @@ ended_meant {core} {effects} all = record { says = none_drawn core closed effect
 
 -- ---- packets
 
-emitted_says : (core : Core) (tag : ℕ) (contents : List Content) → AllSay core (emitted tag contents)
+emitted_says : (core : Core) (tag : ℕ) (contents : List Content) → AllSay core (emission_effects tag contents)
 emitted_says core tag [] = tt
 emitted_says core tag (content ∷ contents) = (tt, tt)
 
@@ -133,11 +133,11 @@ end_says-alone false tag content = (refl, tt)
 further_say : (core : Core) (tag : ℕ) (packets : List (List Plain)) → AllSay core (further_packets tag packets)
 further_say core tag [] = tt
 further_say core tag (chunks ∷ packets) =
-    all_say-append core (emitted tag (plain_contents chunks)) (further_packets tag packets) (emitted_says core tag (plain_contents chunks)) (further_say core tag packets)
+    all_say-append core (emission_effects tag (plain_contents chunks)) (further_packets tag packets) (emitted_says core tag (plain_contents chunks)) (further_say core tag packets)
 
-packets_say : (core : Core) (tag : ℕ) (contents : List Content) (packets : List (List Plain)) → AllSay core (emitted tag contents ++ further_packets tag packets)
+packets_say : (core : Core) (tag : ℕ) (contents : List Content) (packets : List (List Plain)) → AllSay core (emission_effects tag contents ++ further_packets tag packets)
 packets_say core tag contents packets =
-    all_say-append core (emitted tag contents) (further_packets tag packets) (emitted_says core tag contents) (further_say core tag packets)
+    all_say-append core (emission_effects tag contents) (further_packets tag packets) (emitted_says core tag contents) (further_say core tag packets)
 
 -- ---- flushes
 
@@ -148,7 +148,7 @@ flushed_link my tag held front filling None = refl
 flushed_link my tag held front filling (Some reset) = refl
 
 flush_where_link : (my : Pair) (is_allowed : Bool) (tag : ℕ) (held : Held) (front : List Content) (filling : Filling)
-    → identity_of my (flush_where is_allowed tag held front filling).held ≡ identity_of my held
+    → identity_of my (flush_if_allowed is_allowed tag held front filling).held ≡ identity_of my held
 flush_where_link my false tag held front filling = refl
 flush_where_link my true tag held front filling = flushed_link my tag held front filling (reset_to_begin held.own_outstanding filling.reset)
 
@@ -156,34 +156,34 @@ pub flush_link : (my : Pair) (tag : ℕ) (held : Held) (front : List Content) (f
 flush_link my tag held front filling = flush_where_link my filling.is_allowed tag held front filling
 
 flushed_says : (core : Core) (tag : ℕ) (held : Held) (front : List Content) (filling : Filling) (reset : Option RequestedReset)
-    → outstanding_in core ≡ (flushed_with tag held front filling reset).held.own_outstanding → AllSay core (flushed_with tag held front filling reset).effects
+    → outstanding_of_core core ≡ (flushed_with tag held front filling reset).held.own_outstanding → AllSay core (flushed_with tag held front filling reset).effects
 flushed_says core tag held front filling None e = packets_say core tag (front ++ chunks_behind held.own_next filling None) filling.further
 flushed_says core tag held front filling (Some reset) e = (e, packets_say core tag (front ++ chunks_behind held.own_next filling (Some reset)) filling.further)
 
 flush_where_says : (core : Core) (is_allowed : Bool) (tag : ℕ) (held : Held) (front : List Content) (filling : Filling)
-    → outstanding_in core ≡ (flush_where is_allowed tag held front filling).held.own_outstanding → AllSay core (flush_where is_allowed tag held front filling).effects
+    → outstanding_of_core core ≡ (flush_if_allowed is_allowed tag held front filling).held.own_outstanding → AllSay core (flush_if_allowed is_allowed tag held front filling).effects
 flush_where_says core false tag held front filling e = tt
 flush_where_says core true tag held front filling e = flushed_says core tag held front filling (reset_to_begin held.own_outstanding filling.reset) e
 
 -- The request that is begun is outstanding then.
-pub flush_says : (core : Core) (tag : ℕ) (held : Held) (front : List Content) (filling : Filling) → outstanding_in core ≡ (flush tag held front filling).held.own_outstanding
+pub flush_says : (core : Core) (tag : ℕ) (held : Held) (front : List Content) (filling : Filling) → outstanding_of_core core ≡ (flush tag held front filling).held.own_outstanding
     → AllSay core (flush tag held front filling).effects
 flush_says core tag held front filling e = flush_where_says core filling.is_allowed tag held front filling e
 
 -- with packets before it
-pub sent_says : (core : Core) (held : Held) (choices : Choices) → outstanding_in core ≡ (sent_then_flushed held choices).held.own_outstanding → AllSay core (sent_then_flushed held choices).effects
+pub sent_says : (core : Core) (held : Held) (choices : Choices) → outstanding_of_core core ≡ (sent_then_flushed held choices).held.own_outstanding → AllSay core (sent_then_flushed held choices).effects
 sent_says core held choices e =
     all_say-append core (further_packets held.peer.tag choices.plain) (flush held.peer.tag held [] choices.filling).effects (further_say core held.peer.tag choices.plain)
     (flush_says core held.peer.tag held [] choices.filling e)
 
 -- A request that is sent under the next number: the association is the same, and that number is outstanding then.
-pub renewed_link : (my : Pair) (held : Held) (number : Option ℕ) (reset : RequestedReset) (fits : Bool) → identity_of my (renewed_by held number reset fits).held ≡ identity_of my held
+pub renewed_link : (my : Pair) (held : Held) (number : Option ℕ) (reset : RequestedReset) (fits : Bool) → identity_of my (renewed_if_fitting held number reset fits).held ≡ identity_of my held
 renewed_link my held None reset fits = refl
 renewed_link my held (Some number) reset false = refl
 renewed_link my held (Some number) reset true = refl
 
-pub renewed_says : (core : Core) (held : Held) (number : Option ℕ) (reset : RequestedReset) (fits : Bool) → outstanding_in core ≡ (renewed_by held number reset fits).held.own_outstanding
-    → AllSay core (renewed_by held number reset fits).effects
+pub renewed_says : (core : Core) (held : Held) (number : Option ℕ) (reset : RequestedReset) (fits : Bool) → outstanding_of_core core ≡ (renewed_if_fitting held number reset fits).held.own_outstanding
+    → AllSay core (renewed_if_fitting held number reset fits).effects
 renewed_says core held None reset fits e = tt
 renewed_says core held (Some number) reset false e = tt
 renewed_says core held (Some number) reset true e = (tt, (e, (tt, tt)))

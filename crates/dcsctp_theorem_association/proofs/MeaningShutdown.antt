@@ -7,14 +7,14 @@ use Rattle.dcsctp_spec_lemmas.specs.spec.Packet.{abort}
 use Rattle.dcsctp_spec_lemmas.specs.spec.endpoint.Endpoint.{Core, cookie_wait, cookie_echoed, open_in, OpenPhase, established, shutdown_pending, shutdown_sent, shutdown_received, shutdown_ack_sent}
 use Rattle.dcsctp_spec_lemmas.specs.spec.endpoint.Following.{Following}
 use Rattle.dcsctp_spec_lemmas.specs.types.declared.options.Options.{Options}
-use Rattle.dcsctp_spec_lemmas.specs.spec.association.Effect.{Change, identity_of, identity_in}
-use Rattle.dcsctp_spec_lemmas.specs.spec.association.ShutdownChanges.{shutdown_call_change_echoed, shutdown_step_change_in, shutdown_step_change, shutdown_call_change, abort_call_change, shutdown_again_change, abort_change, shutdown_change, shutdown_ack_change, shutdown_complete_change}
+use Rattle.dcsctp_spec_lemmas.specs.spec.association.Effect.{Change, identity_of, identity_of_core}
+use Rattle.dcsctp_spec_lemmas.specs.spec.association.ShutdownChanges.{shutdown_call_change_echoed, shutdown_step_change_by_phase, shutdown_step_change, shutdown_call_change, abort_call_change, shutdown_again_change, abort_change, shutdown_change, shutdown_ack_change, shutdown_complete_change}
 use Rattle.dcsctp_spec_lemmas.specs.spec.association.Acts.{hand_over_change}
 use Rattle.dcsctp_spec_lemmas.proofs.AbortLemmas.{by_abort}
 use Rattle.dcsctp_theorem_association.proofs.Meaning.{AllSay, Meant, same_meant, ended_meant, end_says-alone}
 
 step_link_in : (phase : OpenPhase) (my : Pair) (held : Held) (tsn : ℕ) (is_acknowledged : Bool)
-    → identity_in (shutdown_step_change_in phase my held tsn is_acknowledged).core ≡ Some (identity_of my held)
+    → identity_of_core (shutdown_step_change_by_phase phase my held tsn is_acknowledged).core ≡ Some (identity_of my held)
 step_link_in shutdown_pending my held tsn false = refl
 step_link_in shutdown_pending my held tsn true = refl
 step_link_in shutdown_received my held tsn false = refl
@@ -22,7 +22,7 @@ step_link_in shutdown_received my held tsn true = refl
 step_link_in phase my held tsn is_acknowledged = refl
 
 step_says_in : (after : Core) (phase : OpenPhase) (my : Pair) (held : Held) (tsn : ℕ) (is_acknowledged : Bool)
-    → AllSay after (shutdown_step_change_in phase my held tsn is_acknowledged).effects
+    → AllSay after (shutdown_step_change_by_phase phase my held tsn is_acknowledged).effects
 step_says_in after shutdown_pending my held tsn false = tt
 step_says_in after shutdown_pending my held tsn true = (tt, tt)
 step_says_in after shutdown_received my held tsn false = tt
@@ -30,13 +30,13 @@ step_says_in after shutdown_received my held tsn true = (tt, tt)
 step_says_in after phase my held tsn is_acknowledged = tt
 
 -- a step after which the phase is another
-step_meant_in : (core : Core) (phase : OpenPhase) (my : Pair) (held : Held) (tsn : ℕ) (is_acknowledged : Bool) → Some (identity_of my held) ≡ identity_in core
-    → Meant core (shutdown_step_change_in phase my held tsn is_acknowledged)
+step_meant_in : (core : Core) (phase : OpenPhase) (my : Pair) (held : Held) (tsn : ℕ) (is_acknowledged : Bool) → Some (identity_of my held) ≡ identity_of_core core
+    → Meant core (shutdown_step_change_by_phase phase my held tsn is_acknowledged)
 step_meant_in core phase my held tsn is_acknowledged same =
-    let stepped : Change = shutdown_step_change_in phase my held tsn is_acknowledged in
+    let stepped : Change = shutdown_step_change_by_phase phase my held tsn is_acknowledged in
     same_meant (step_link_in phase my held tsn is_acknowledged ∙ same) (step_says_in stepped.core phase my held tsn is_acknowledged)
 
-pub step_link : (core : Core) (tsn : ℕ) (is_acknowledged : Bool) → identity_in (shutdown_step_change core tsn is_acknowledged).core ≡ identity_in core
+pub step_link : (core : Core) (tsn : ℕ) (is_acknowledged : Bool) → identity_of_core (shutdown_step_change core tsn is_acknowledged).core ≡ identity_of_core core
 step_link (open_in phase my held) tsn is_acknowledged = step_link_in phase my held tsn is_acknowledged
 step_link core tsn is_acknowledged = refl
 
@@ -72,7 +72,7 @@ again_meant core tsn = same_meant refl tt
 pub abort_meant : (options : Options) (core : Core) → Meant core (abort_change options core)
 abort_meant options core = by_abort (Meant core) options core (ended_meant (refl, tt)) (same_meant refl tt)
 
-pub shutdown_link : (core : Core) (tsn : ℕ) (is_acknowledged : Bool) → identity_in (shutdown_change core tsn is_acknowledged).core ≡ identity_in core
+pub shutdown_link : (core : Core) (tsn : ℕ) (is_acknowledged : Bool) → identity_of_core (shutdown_change core tsn is_acknowledged).core ≡ identity_of_core core
 shutdown_link (open_in established my held) tsn is_acknowledged = step_link_in shutdown_received my held tsn is_acknowledged
 shutdown_link (open_in shutdown_pending my held) tsn is_acknowledged = step_link_in shutdown_received my held tsn is_acknowledged
 shutdown_link (open_in shutdown_received my held) tsn is_acknowledged = step_link_in shutdown_received my held tsn is_acknowledged

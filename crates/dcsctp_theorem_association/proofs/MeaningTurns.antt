@@ -4,21 +4,21 @@ use Rattle.dcsctp_spec_lemmas.specs.types.declared.association.Pair.{Pair}
 use Rattle.dcsctp_spec_lemmas.specs.types.declared.association.Held.{Held}
 use Rattle.dcsctp_spec_lemmas.specs.types.declared.options.Options.{Options}
 use Rattle.dcsctp_spec_lemmas.specs.wire.Numbers.{state_cookie_type}
-use Rattle.dcsctp_spec_lemmas.specs.spec.Cookie.{Cookie, cookie_at}
+use Rattle.dcsctp_spec_lemmas.specs.spec.Cookie.{Cookie, cookie_of_bytes}
 use Rattle.dcsctp_spec_lemmas.specs.spec.endpoint.Cause.{missing_mandatory_parameter, causes_of}
 use Rattle.dcsctp_spec_lemmas.specs.spec.Reconfiguration.{ResetParameter, RequestedReset}
 use Rattle.dcsctp_spec_lemmas.specs.spec.Packet.{Introduction, Content, init, init_ack, cookie_echo, cookie_ack, re_config, abort, shutdown, shutdown_ack, shutdown_complete, plain}
 use Rattle.dcsctp_spec_lemmas.specs.spec.endpoint.Endpoint.{Core, closed, cookie_wait, cookie_echoed, open_in, OpenPhase, established, shutdown_ack_sent}
 use Rattle.dcsctp_spec_lemmas.specs.spec.endpoint.Following.{next_chunk}
-use Rattle.dcsctp_spec_lemmas.specs.spec.association.Effect.{AssociationIdentity, holds, connects, Change, identity_of, identity_in}
+use Rattle.dcsctp_spec_lemmas.specs.spec.association.Effect.{AssociationIdentity, holds, connects, Change, identity_of, identity_of_core}
 use Rattle.dcsctp_spec_lemmas.specs.spec.association.ResumeChanges.{resumed_held}
 use Rattle.dcsctp_spec_lemmas.specs.spec.association.Choices.{Filling, Choices}
-use Rattle.dcsctp_spec_lemmas.specs.spec.association.FlushChanges.{reset_request, Flushed, flush}
+use Rattle.dcsctp_spec_lemmas.specs.spec.association.FlushChanges.{reset_request, FlushResult, flush}
 use Rattle.dcsctp_spec_lemmas.specs.spec.association.HandshakeChanges.{introduction_of, connect_change, init_change, echo_change, held_by_init_ack, init_ack_change, cookie_ack_change, t1_again_change, t1_gives_up_change}
-use Rattle.dcsctp_spec_lemmas.specs.spec.association.CookieEchoChanges.{stale_error, Resolution, establish_new, restart, simultaneous_init, discard, maintain_existing, invalid_tag, stale, aged, resolve, held_by_cookie, new_association_change, restart_change, maintain_change, resolved_change, read_echo_change}
+use Rattle.dcsctp_spec_lemmas.specs.spec.association.CookieEchoChanges.{stale_error, Resolution, establish_new, restart, simultaneous_init, discard, maintain_existing, invalid_tag, stale, aged_resolution, resolve, held_by_cookie, new_association_change, restart_change, maintain_change, resolved_change, read_echo_change}
 use Rattle.dcsctp_spec_lemmas.specs.spec.association.ResetChanges.{re_config_change, peer_part_handled}
 use Rattle.dcsctp_spec_lemmas.specs.spec.association.ShutdownChanges.{shutdown_step_change, shutdown_change}
-use Rattle.dcsctp_spec_lemmas.specs.spec.association.Acts.{Act, connect, t1_expires, shut_down, step_of_shutdown, shutdown_repeats, abort_with, hands_over, flushes, request_again, request_renewed, sent_then_flushed, flush_change, request_sent, request_again_change, renewed_by, request_renewed_change, act_change, violation_change, plain_change, chunk_change, shutdown_chunk_change}
+use Rattle.dcsctp_spec_lemmas.specs.spec.association.Acts.{Act, connect, t1_expires, shut_down, step_of_shutdown, shutdown_repeats, abort_with, hands_over, flushes, request_again, request_renewed, sent_then_flushed, flush_change, request_sent, request_again_change, renewed_if_fitting, request_renewed_change, act_change, violation_change, plain_change, chunk_change, shutdown_chunk_change}
 use Rattle.dcsctp_spec_lemmas.proofs.OneAnswerLemmas.{change_by}
 use Rattle.dcsctp_spec_runs.specs.World.{acted, worked, resumed}
 use Rattle.dcsctp_theorem_association.specs.OneSide.{Means, EffectsMean}
@@ -32,7 +32,7 @@ some_link : {one two : AssociationIdentity} → one ≡ two → Some one ≡ Som
 some_link e = ap (λ (l : AssociationIdentity). Some l) e
 
 -- An association with a peer is newly held, and is shown as that in front of these effects.
-shown_meant : (core : Core) (my : Pair) (held : Held) (change : Change) → identity_in change.core ≡ Some (identity_of my held) → AllSay change.core change.effects
+shown_meant : (core : Core) (my : Pair) (held : Held) (change : Change) → identity_of_core change.core ≡ Some (identity_of my held) → AllSay change.core change.effects
     → Meant core (record change { effects = holds (identity_of my held) ∷ change.effects })
 shown_meant core my held change same all = record { says = (same, all); newly_held = λ link e. inr (inl (cc)) }
 
@@ -55,7 +55,7 @@ init_meant options (open_in shutdown_ack_sent my held) theirs choices = same_mea
 init_meant options closed theirs choices = drawn_meant tt refl (alone_says closed choices.fits _ _)
 init_meant options (open_in phase my held) theirs choices = drawn_meant tt refl (alone_says (open_in phase my held) choices.fits _ _)
 
-echoes_link : (my : Pair) (held : Held) (cookie : List ℕ) (fits : Bool) (filling : Filling) → identity_in (echo_change my held cookie fits filling).core ≡ Some (identity_of my held)
+echoes_link : (my : Pair) (held : Held) (cookie : List ℕ) (fits : Bool) (filling : Filling) → identity_of_core (echo_change my held cookie fits filling).core ≡ Some (identity_of my held)
 echoes_link my held cookie false filling = refl
 echoes_link my held cookie true filling = some_link (flush_link my held.peer.tag held (cookie_echo cookie ∷ []) filling)
 
@@ -63,7 +63,7 @@ echoes_say : (my : Pair) (held : Held) (cookie : List ℕ) (fits : Bool) (fillin
     → AllSay (echo_change my held cookie fits filling).core (echo_change my held cookie fits filling).effects
 echoes_say my held cookie false filling = tt
 echoes_say my held cookie true filling =
-    let after : Flushed = flush held.peer.tag held (cookie_echo cookie ∷ []) filling in
+    let after : FlushResult = flush held.peer.tag held (cookie_echo cookie ∷ []) filling in
     flush_says (cookie_echoed my after.held cookie) held.peer.tag held (cookie_echo cookie ∷ []) filling refl
 
 init_ack_meant : (options : Options) (core : Core) (theirs : Introduction) (cookie : Option (List ℕ)) (choices : Choices) → Meant core (init_ack_change options core theirs cookie choices)
@@ -98,7 +98,7 @@ new_meant options core cookie choices =
     let my : Pair = cookie.maker in
     let tag : ℕ = cookie.addressee.tag in
     let held : Held = held_by_cookie options cookie in
-    let after : Flushed = flush tag held (cookie_ack ∷ []) choices.filling in
+    let after : FlushResult = flush tag held (cookie_ack ∷ []) choices.filling in
     shown_meant core my held
     (record { core = open_in established my after.held; effects = connects (identity_of my held) ∷ after.effects; following = next_chunk })
     (some_link (flush_link my tag held (cookie_ack ∷ []) choices.filling))
@@ -125,11 +125,11 @@ resolved_meant options core cookie choices stale = same_meant refl (alone_says c
 
 echo_meant : (options : Options) (core : Core) (header : ℕ) (read : Result Cookie (List ℕ)) (choices : Choices) → Meant core (read_echo_change options core header read choices)
 echo_meant options core header (Err text) choices = same_meant refl tt
-echo_meant options core header (Ok cookie) choices = resolved_meant options core cookie choices (aged choices.is_stale (resolve core choices.tie choices.secret header cookie))
+echo_meant options core header (Ok cookie) choices = resolved_meant options core cookie choices (aged_resolution choices.is_stale (resolve core choices.tie choices.secret header cookie))
 
 -- ---- flushes and resets
 
-flush_change_link : (core : Core) (choices : Choices) → identity_in (flush_change core choices).core ≡ identity_in core
+flush_change_link : (core : Core) (choices : Choices) → identity_of_core (flush_change core choices).core ≡ identity_of_core core
 flush_change_link (cookie_echoed my held cookie) choices = some_link (flush_link my held.peer.tag held [] choices.filling)
 flush_change_link (open_in phase my held) choices = some_link (flush_link my held.peer.tag held [] choices.filling)
 flush_change_link core choices = refl
@@ -163,10 +163,10 @@ request_again_meant core reset fits = same_meant refl tt
 
 request_renewed_meant : (core : Core) (reset : RequestedReset) (fits : Bool) → Meant core (request_renewed_change core reset fits)
 request_renewed_meant (cookie_echoed my held cookie) reset fits =
-    let after : Held = (renewed_by held held.own_outstanding reset fits).held in
+    let after : Held = (renewed_if_fitting held held.own_outstanding reset fits).held in
     same_meant (some_link (renewed_link my held held.own_outstanding reset fits)) (renewed_says (cookie_echoed my after cookie) held held.own_outstanding reset fits refl)
 request_renewed_meant (open_in phase my held) reset fits =
-    let after : Held = (renewed_by held held.own_outstanding reset fits).held in
+    let after : Held = (renewed_if_fitting held held.own_outstanding reset fits).held in
     same_meant (some_link (renewed_link my held held.own_outstanding reset fits)) (renewed_says (open_in phase my after) held held.own_outstanding reset fits refl)
 request_renewed_meant core reset fits = same_meant refl tt
 
@@ -208,7 +208,7 @@ heard_meant core choices =
 chunk_meant : (options : Options) (core : Core) (header : ℕ) (content : Content) (choices : Choices) → Meant core (chunk_change options core header content choices)
 chunk_meant options core header (init theirs) choices = change_by (Meant core) options core theirs choices (same_meant refl tt) (init_meant options core theirs choices)
 chunk_meant options core header (init_ack theirs cookie) choices = init_ack_meant options core theirs cookie choices
-chunk_meant options core header (cookie_echo cookie) choices = echo_meant options core header (cookie_at cookie) choices
+chunk_meant options core header (cookie_echo cookie) choices = echo_meant options core header (cookie_of_bytes cookie) choices
 chunk_meant options core header cookie_ack choices = cookie_ack_meant core choices
 chunk_meant options core header (re_config parameters) choices = re_config_meant options.follow_rfc core parameters choices
 chunk_meant options core header (abort reflected causes) choices = abort_meant options core

@@ -9,7 +9,7 @@ use Rattle.dcsctp_spec_lemmas.specs.spec.endpoint.Following.{next_chunk}
 use Rattle.dcsctp_spec_lemmas.specs.spec.association.Effect.{Effect, sends, Change}
 use Rattle.dcsctp_spec_lemmas.specs.spec.association.Choices.{Choices}
 use Rattle.dcsctp_spec_lemmas.specs.spec.association.Acts.{MakesCookie, act_change, chunk_change, flush_change, plain_change, violation_change, shutdown_chunk_change}
-use Rattle.dcsctp_spec_lemmas.specs.spec.Admission.{shutdown_acks_in}
+use Rattle.dcsctp_spec_lemmas.specs.spec.Admission.{shutdown_acks_of}
 use Rattle.dcsctp_spec_lemmas.specs.spec.association.ShutdownChanges.{shutdown_step_change, shutdown_change}
 use Rattle.dcsctp_spec_runs.specs.Past.{HasEffect, HasFreshTags}
 use Rattle.dcsctp_spec_runs.specs.World.{after_effects, SideState, after_change, after_changes, HasEnding, MayBeHandled, own_tag_borne, echo_in_front, init_alone, ending_in, ChunkChanges, PacketChanges, worked_whole, worked_acks, Move, does, receives, MoveChanges}
@@ -186,7 +186,7 @@ packet_true_after law their_offer side theirs header (content ∷ behind) (chang
 
 -- SHUTDOWN ACK chunks alone, under any tag
 acks_true_after : (their_offer : Offer) (side : SideState) (theirs : List Effect) (header : ℕ) (contents : List Content) (changes : List Change)
-    → TrueSide their_offer side theirs → ChunkChanges side.options side.core header (shutdown_acks_in contents) changes → TrueSide their_offer (after_changes side changes) theirs
+    → TrueSide their_offer side theirs → ChunkChanges side.options side.core header (shutdown_acks_of contents) changes → TrueSide their_offer (after_changes side changes) theirs
 acks_true_after their_offer side theirs header [] [] h turns = h
 acks_true_after their_offer side theirs header [] (change ∷ changes) h turns = absurd turns
 acks_true_after their_offer side theirs header (shutdown_ack ∷ contents) [] h turns = h

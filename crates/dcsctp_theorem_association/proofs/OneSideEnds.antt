@@ -3,7 +3,7 @@ use Rattle.std.proofs.Common.{◌&&◌, ◌≡◌, ℕ, Bool, true, false, Optio
 use Rattle.dcsctp_spec_lemmas.specs.types.declared.association.Pair.{Pair}
 use Rattle.dcsctp_spec_lemmas.specs.types.declared.association.Held.{Held}
 use Rattle.dcsctp_spec_lemmas.specs.types.declared.options.Options.{Options}
-use Rattle.dcsctp_spec_lemmas.specs.spec.Cookie.{Cookie, cookie_at}
+use Rattle.dcsctp_spec_lemmas.specs.spec.Cookie.{Cookie, cookie_of_bytes}
 use Rattle.dcsctp_spec_lemmas.specs.spec.endpoint.Cause.{Cause, causes_of}
 use Rattle.dcsctp_spec_lemmas.specs.spec.Reconfiguration.{ResetParameter, RequestedReset}
 use Rattle.dcsctp_spec_lemmas.specs.spec.Packet.{Introduction, Content, init, init_ack, cookie_echo, cookie_ack, re_config, abort, shutdown, shutdown_ack, shutdown_complete, plain}
@@ -13,12 +13,12 @@ use Rattle.dcsctp_spec_lemmas.specs.spec.association.Effect.{AssociationIdentity
 use Rattle.dcsctp_spec_lemmas.specs.spec.association.Choices.{Filling, Choices}
 use Rattle.dcsctp_spec_lemmas.specs.spec.association.FlushChanges.{reset_request}
 use Rattle.dcsctp_spec_lemmas.specs.spec.association.HandshakeChanges.{connect_change, init_change, echo_change, held_by_init_ack, init_ack_change, cookie_ack_change, t1_again_change, t1_gives_up_change}
-use Rattle.dcsctp_spec_lemmas.specs.spec.association.CookieEchoChanges.{stale_error, Resolution, establish_new, restart, simultaneous_init, discard, maintain_existing, invalid_tag, stale, aged, resolve, held_by_cookie, new_association_change, restart_change, maintain_change, resolved_change, read_echo_change}
+use Rattle.dcsctp_spec_lemmas.specs.spec.association.CookieEchoChanges.{stale_error, Resolution, establish_new, restart, simultaneous_init, discard, maintain_existing, invalid_tag, stale, aged_resolution, resolve, held_by_cookie, new_association_change, restart_change, maintain_change, resolved_change, read_echo_change}
 use Rattle.dcsctp_spec_lemmas.specs.spec.association.ResetChanges.{re_config_change}
-use Rattle.dcsctp_spec_lemmas.specs.spec.association.ShutdownChanges.{shutdown_call_change_echoed, shutdown_step_change_in, shutdown_step_change, shutdown_call_change, abort_call_change, shutdown_again_change, abort_change, shutdown_ack_change, shutdown_complete_change}
-use Rattle.dcsctp_spec_lemmas.specs.spec.association.Acts.{Act, connect, t1_expires, shut_down, step_of_shutdown, shutdown_repeats, abort_with, hands_over, flushes, request_again, request_renewed, flush_change, hand_over_change, request_sent, request_again_change, renewed_by, request_renewed_change, act_change, then_changes, violation_change, plain_change, chunk_change, shutdown_chunk_change}
+use Rattle.dcsctp_spec_lemmas.specs.spec.association.ShutdownChanges.{shutdown_call_change_echoed, shutdown_step_change_by_phase, shutdown_step_change, shutdown_call_change, abort_call_change, shutdown_again_change, abort_change, shutdown_ack_change, shutdown_complete_change}
+use Rattle.dcsctp_spec_lemmas.specs.spec.association.Acts.{Act, connect, t1_expires, shut_down, step_of_shutdown, shutdown_repeats, abort_with, hands_over, flushes, request_again, request_renewed, flush_change, hand_over_change, request_sent, request_again_change, renewed_if_fitting, request_renewed_change, act_change, then_changes, violation_change, plain_change, chunk_change, shutdown_chunk_change}
 use Rattle.dcsctp_spec_runs.specs.World.{acted, worked, resumed}
-use Rattle.dcsctp_theorem_association.specs.OneSide.{ends_in, OneEnd, it_ends, it_stays, EndsOnce}
+use Rattle.dcsctp_theorem_association.specs.OneSide.{count_of_ends, OneEnd, it_ends, it_stays, EndsOnce}
 use Rattle.dcsctp_spec_lemmas.proofs.AbortLemmas.{by_abort}
 use Rattle.dcsctp_spec_lemmas.proofs.OneAnswerLemmas.{change_by}
 use Rattle.dcsctp_theorem_association.proofs.OneSideNoEnds.{no_ends-alone, one_end-alone, no_ends-flush, no_ends-sent, no_ends-reset}
@@ -26,27 +26,27 @@ use Rattle.dcsctp_theorem_association.proofs.OneSideNoEnds.{no_ends-alone, one_e
 -- ---- how a turn may go
 
 -- The association stays as it is.
-stays : {core : Core} {effects : List Effect} {following : Following} → ends_in effects ≡ 0 → OneEnd core (record { core = core; effects = effects; following = following })
+stays : {core : Core} {effects : List Effect} {following : Following} → count_of_ends effects ≡ 0 → OneEnd core (record { core = core; effects = effects; following = following })
 stays none = it_stays (λ e. e) none
 
 -- One with a peer is there afterwards.
-stays_open : {core : Core} {phase : OpenPhase} {my : Pair} {held : Held} {effects : List Effect} {following : Following} → ends_in effects ≡ 0
+stays_open : {core : Core} {phase : OpenPhase} {my : Pair} {held : Held} {effects : List Effect} {following : Following} → count_of_ends effects ≡ 0
     → OneEnd core (record { core = open_in phase my held; effects = effects; following = following })
 stays_open none = it_stays (λ e. absurd (cc)) none
 
-stays_echoed : {core : Core} {my : Pair} {held : Held} {cookie : List ℕ} {effects : List Effect} {following : Following} → ends_in effects ≡ 0
+stays_echoed : {core : Core} {my : Pair} {held : Held} {cookie : List ℕ} {effects : List Effect} {following : Following} → count_of_ends effects ≡ 0
     → OneEnd core (record { core = cookie_echoed my held cookie; effects = effects; following = following })
 stays_echoed none = it_stays (λ e. absurd (cc)) none
 
 -- It ends.
-ends_wait : {my : Pair} {effects : List Effect} {following : Following} → ends_in effects ≡ 1 → OneEnd (cookie_wait my) (record { core = closed; effects = effects; following = following })
+ends_wait : {my : Pair} {effects : List Effect} {following : Following} → count_of_ends effects ≡ 1 → OneEnd (cookie_wait my) (record { core = closed; effects = effects; following = following })
 ends_wait one = it_ends (λ e. absurd (cc)) refl one
 
-ends_echoed : {my : Pair} {held : Held} {cookie : List ℕ} {effects : List Effect} {following : Following} → ends_in effects ≡ 1
+ends_echoed : {my : Pair} {held : Held} {cookie : List ℕ} {effects : List Effect} {following : Following} → count_of_ends effects ≡ 1
     → OneEnd (cookie_echoed my held cookie) (record { core = closed; effects = effects; following = following })
 ends_echoed one = it_ends (λ e. absurd (cc)) refl one
 
-ends_open : {phase : OpenPhase} {my : Pair} {held : Held} {effects : List Effect} {following : Following} → ends_in effects ≡ 1
+ends_open : {phase : OpenPhase} {my : Pair} {held : Held} {effects : List Effect} {following : Following} → count_of_ends effects ≡ 1
     → OneEnd (open_in phase my held) (record { core = closed; effects = effects; following = following })
 ends_open one = it_ends (λ e. absurd (cc)) refl one
 
@@ -115,7 +115,7 @@ resolved_ends_once options core cookie choices stale = stays (no_ends-alone (opt
 
 echo_ends_once : (options : Options) (core : Core) (header : ℕ) (read : Result Cookie (List ℕ)) (choices : Choices) → OneEnd core (read_echo_change options core header read choices)
 echo_ends_once options core header (Err text) choices = stays refl
-echo_ends_once options core header (Ok cookie) choices = resolved_ends_once options core cookie choices (aged choices.is_stale (resolve core choices.tie choices.secret header cookie))
+echo_ends_once options core header (Ok cookie) choices = resolved_ends_once options core cookie choices (aged_resolution choices.is_stale (resolve core choices.tie choices.secret header cookie))
 
 -- ---- flushes and resets
 
@@ -130,7 +130,7 @@ re_config_ends_once false (cookie_echoed my held cookie) parameters choices = st
 re_config_ends_once follows (open_in phase my held) parameters choices = stays_open (no_ends-reset my held parameters choices)
 re_config_ends_once follows core parameters choices = stays refl
 
-no_ends-request : (held : Held) (request : Option ℕ) (reset : RequestedReset) (fits : Bool) → ends_in (request_sent held request reset fits) ≡ 0
+no_ends-request : (held : Held) (request : Option ℕ) (reset : RequestedReset) (fits : Bool) → count_of_ends (request_sent held request reset fits) ≡ 0
 no_ends-request held None reset fits = refl
 no_ends-request held (Some number) reset fits = no_ends-alone fits held.peer.tag (reset_request number reset)
 
@@ -139,7 +139,7 @@ request_again_ends_once (cookie_echoed my held cookie) reset fits = stays (no_en
 request_again_ends_once (open_in phase my held) reset fits = stays (no_ends-request held held.own_outstanding reset fits)
 request_again_ends_once core reset fits = stays refl
 
-no_ends-renewed : (held : Held) (request : Option ℕ) (reset : RequestedReset) (fits : Bool) → ends_in (renewed_by held request reset fits).effects ≡ 0
+no_ends-renewed : (held : Held) (request : Option ℕ) (reset : RequestedReset) (fits : Bool) → count_of_ends (renewed_if_fitting held request reset fits).effects ≡ 0
 no_ends-renewed held None reset fits = refl
 no_ends-renewed held (Some number) reset false = refl
 no_ends-renewed held (Some number) reset true = refl
@@ -151,7 +151,7 @@ request_renewed_ends_once core reset fits = stays refl
 
 -- ---- shutdown
 
-step_ends_once_in : (core : Core) (phase : OpenPhase) (my : Pair) (held : Held) (tsn : ℕ) (is_acknowledged : Bool) → OneEnd core (shutdown_step_change_in phase my held tsn is_acknowledged)
+step_ends_once_in : (core : Core) (phase : OpenPhase) (my : Pair) (held : Held) (tsn : ℕ) (is_acknowledged : Bool) → OneEnd core (shutdown_step_change_by_phase phase my held tsn is_acknowledged)
 step_ends_once_in core shutdown_pending my held tsn false = stays_open refl
 step_ends_once_in core shutdown_received my held tsn false = stays_open refl
 step_ends_once_in core phase my held tsn is_acknowledged = stays_open refl
@@ -222,7 +222,7 @@ violation_ends_once core choices = stays refl
 
 -- a step of shutdown, and a flush
 stepped_ends_once : (phase : OpenPhase) (my : Pair) (held : Held) (choices : Choices) (is_acknowledged : Bool)
-    → OneEnd (open_in phase my held) (then_changes (shutdown_step_change_in phase my held choices.tsn is_acknowledged) (flush_change (shutdown_step_change_in phase my held choices.tsn is_acknowledged).core choices) choices.following)
+    → OneEnd (open_in phase my held) (then_changes (shutdown_step_change_by_phase phase my held choices.tsn is_acknowledged) (flush_change (shutdown_step_change_by_phase phase my held choices.tsn is_acknowledged).core choices) choices.following)
 stepped_ends_once shutdown_pending my held choices false = stays_open (no_ends-sent held choices)
 stepped_ends_once shutdown_received my held choices false = stays_open (no_ends-sent held choices)
 stepped_ends_once phase my held choices is_acknowledged = stays_open (no_ends-sent held choices)
@@ -235,7 +235,7 @@ other_ends_once core false choices = stays refl
 
 -- a SHUTDOWN, a step from ShutdownReceived, and a flush
 received_ends_once : (core : Core) (my : Pair) (held : Held) (choices : Choices) (is_acknowledged : Bool)
-    → OneEnd core (then_changes (shutdown_step_change_in shutdown_received my held choices.tsn is_acknowledged) (flush_change (shutdown_step_change_in shutdown_received my held choices.tsn is_acknowledged).core choices) next_chunk)
+    → OneEnd core (then_changes (shutdown_step_change_by_phase shutdown_received my held choices.tsn is_acknowledged) (flush_change (shutdown_step_change_by_phase shutdown_received my held choices.tsn is_acknowledged).core choices) next_chunk)
 received_ends_once core my held choices true = stays_open (no_ends-sent held choices)
 received_ends_once core my held choices false = stays_open (no_ends-sent held choices)
 
@@ -250,7 +250,7 @@ heard_ends_once core choices = stays refl
 chunk_ends_once : (options : Options) (core : Core) (header : ℕ) (content : Content) (choices : Choices) → OneEnd core (chunk_change options core header content choices)
 chunk_ends_once options core header (init theirs) choices = change_by (OneEnd core) options core theirs choices (stays refl) (init_ends_once options core theirs choices)
 chunk_ends_once options core header (init_ack theirs cookie) choices = init_ack_ends_once options core theirs cookie choices
-chunk_ends_once options core header (cookie_echo cookie) choices = echo_ends_once options core header (cookie_at cookie) choices
+chunk_ends_once options core header (cookie_echo cookie) choices = echo_ends_once options core header (cookie_of_bytes cookie) choices
 chunk_ends_once options core header cookie_ack choices = cookie_ack_ends_once core choices
 chunk_ends_once options core header (re_config parameters) choices = re_config_ends_once options.follow_rfc core parameters choices
 chunk_ends_once options core header (abort reflected causes) choices = abort_ends_once options core

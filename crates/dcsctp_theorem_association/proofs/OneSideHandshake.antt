@@ -8,10 +8,10 @@ use Rattle.dcsctp_spec_lemmas.specs.spec.Cookie.{Cookie}
 use Rattle.dcsctp_spec_lemmas.specs.spec.endpoint.Cause.{missing_mandatory_parameter}
 use Rattle.dcsctp_spec_lemmas.specs.spec.Packet.{Introduction, Content, init, cookie_echo, cookie_ack, abort, Packet}
 use Rattle.dcsctp_spec_lemmas.specs.spec.endpoint.Endpoint.{Core, closed, cookie_wait, cookie_echoed, open_in, OpenPhase, established, shutdown_ack_sent}
-use Rattle.dcsctp_spec_lemmas.specs.spec.association.Effect.{AssociationIdentity, Effect, draws, sends, holds, connects, ends, Change, emitted, emitted_alone, identity_of}
+use Rattle.dcsctp_spec_lemmas.specs.spec.association.Effect.{AssociationIdentity, Effect, draws, sends, holds, connects, ends, Change, emission_effects, emitted_alone, identity_of}
 use Rattle.dcsctp_spec_lemmas.specs.spec.association.Choices.{Filling, Choices}
 use Rattle.dcsctp_spec_lemmas.specs.spec.association.HandshakeChanges.{introduction_of, connect_change, init_change, echo_change, held_by_init_ack, init_ack_change, cookie_ack_change, t1_again_change, t1_gives_up_change}
-use Rattle.dcsctp_spec_lemmas.specs.spec.association.CookieEchoChanges.{stale_error, Resolution, establish_new, restart, simultaneous_init, discard, maintain_existing, invalid_tag, stale, aged, resolve, held_by_cookie, new_association_change, restart_change, maintain_change, resolved_change, read_echo_change}
+use Rattle.dcsctp_spec_lemmas.specs.spec.association.CookieEchoChanges.{stale_error, Resolution, establish_new, restart, simultaneous_init, discard, maintain_existing, invalid_tag, stale, aged_resolution, resolve, held_by_cookie, new_association_change, restart_change, maintain_change, resolved_change, read_echo_change}
 use Rattle.dcsctp_spec_runs.specs.Past.{Each, InPlace, current}
 use Rattle.dcsctp_spec_runs.specs.World.{after_effects}
 use Rattle.dcsctp_theorem_association.proofs.OneSideLemmas.{Stands, stands-sends, stands-draws, stands-connects, stands-new, flush_leads}
@@ -52,7 +52,7 @@ good-draws (cookie_wait my) pair past good = record { none = good.none; in_place
 good-draws (cookie_echoed my held cookie) pair past good = stands-draws pair good
 good-draws (open_in phase my held) pair past good = (good.0, stands-draws pair good.1)
 
-pub good-emitted : (core : Core) (tag : ℕ) (contents : List Content) (past : List Effect) → Good core past → Good core (after_effects (emitted tag contents) past)
+pub good-emitted : (core : Core) (tag : ℕ) (contents : List Content) (past : List Effect) → Good core past → Good core (after_effects (emission_effects tag contents) past)
 good-emitted core tag [] past good = good
 good-emitted core tag (content ∷ contents) past good = good-sends core _ past good
 
@@ -153,4 +153,4 @@ resolved_keeps options core cookie choices stale past good = good-emitted_alone 
 
 pub echo_keeps : (options : Options) (core : Core) (header : ℕ) (read : Result Cookie (List ℕ)) (choices : Choices) → Keeps core (read_echo_change options core header read choices)
 echo_keeps options core header (Err text) choices past good = good
-echo_keeps options core header (Ok cookie) choices past good = resolved_keeps options core cookie choices (aged choices.is_stale (resolve core choices.tie choices.secret header cookie)) past good
+echo_keeps options core header (Ok cookie) choices past good = resolved_keeps options core cookie choices (aged_resolution choices.is_stale (resolve core choices.tie choices.secret header cookie)) past good

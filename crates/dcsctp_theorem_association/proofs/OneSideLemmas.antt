@@ -6,13 +6,13 @@ use Rattle.dcsctp_spec_lemmas.specs.types.declared.capabilities.Capabilities.{Ca
 use Rattle.dcsctp_spec_lemmas.specs.wire.declared.reconfiguration.ReconfigurationResponseResult.TheVariants.{InProgress}
 use Rattle.dcsctp_spec_lemmas.specs.spec.Packet.{Plain, Content, Packet}
 use Rattle.dcsctp_spec_lemmas.specs.spec.Reconfiguration.{RequestedReset}
-use Rattle.dcsctp_spec_lemmas.specs.spec.association.Effect.{AssociationIdentity, Effect, draws, sends, holds, connects, begins, gives_up, resumes, emitted, identity_of}
+use Rattle.dcsctp_spec_lemmas.specs.spec.association.Effect.{AssociationIdentity, Effect, draws, sends, holds, connects, begins, gives_up, resumes, emission_effects, identity_of}
 use Rattle.dcsctp_spec_lemmas.specs.spec.association.Choices.{plain_contents, Filling, Choices}
-use Rattle.dcsctp_spec_lemmas.specs.spec.association.FlushChanges.{Flushed, next_number, reset_to_begin, further_packets, flushed_with, flush_where, flush}
+use Rattle.dcsctp_spec_lemmas.specs.spec.association.FlushChanges.{FlushResult, next_number, reset_to_begin, further_packets, flushed_with, flush_if_allowed, flush}
 use Rattle.dcsctp_spec_lemmas.specs.spec.association.HandshakeChanges.{new_held}
-use Rattle.dcsctp_spec_lemmas.specs.spec.association.Acts.{sent_then_flushed, renewed_by}
+use Rattle.dcsctp_spec_lemmas.specs.spec.association.Acts.{sent_then_flushed, renewed_if_fitting}
 use Rattle.dcsctp_spec_lemmas.specs.spec.association.ResumeChanges.{resumed_held}
-use Rattle.dcsctp_spec_runs.specs.Past.{Each, InPlace, current, unconnected, number_to_begin, outstanding, number_to_accept, number_to_perform}
+use Rattle.dcsctp_spec_runs.specs.Past.{Each, InPlace, current, unconnected_association, number_to_begin, outstanding, number_to_accept, number_to_perform}
 use Rattle.dcsctp_spec_runs.specs.World.{after_effects}
 
 -- The association that is held is this link, as the past has it; it has connected, unless it is the one that
@@ -21,7 +21,7 @@ pub record Stands (link : AssociationIdentity) (waiting : Option AssociationIden
   pub same_peer : held.peer ≡ link.peer
   pub same_capabilities : held.capabilities ≡ link.capabilities
   pub is_current : current past ≡ Some link
-  pub is_waiting : unconnected past ≡ waiting
+  pub is_waiting : unconnected_association past ≡ waiting
   pub begins_next : number_to_begin past ≡ Some held.own_next
   pub is_outstanding : outstanding past ≡ held.own_outstanding
   pub accepts_next : number_to_accept past ≡ Some (next_number held.peer_last)
@@ -147,19 +147,19 @@ module _ (link : AssociationIdentity) (waiting : Option AssociationIdentity) whe
   leads-append before between after xs ys first second past s =
       subst (Stands link waiting after) (sym (after_effects-append xs ys past)) (second (after_effects xs past) (first past s))
 
-  emitted_leads : (held : Held) (tag : ℕ) (contents : List Content) → Leads link waiting held (emitted tag contents) held
+  emitted_leads : (held : Held) (tag : ℕ) (contents : List Content) → Leads link waiting held (emission_effects tag contents) held
   emitted_leads held tag [] past s = s
   emitted_leads held tag (content ∷ contents) past s = stands-sends _ s
 
   further_leads : (held : Held) (tag : ℕ) (packets : List (List Plain)) → Leads link waiting held (further_packets tag packets) held
   further_leads held tag [] past s = s
   further_leads held tag (chunks ∷ packets) past s =
-      leads-append held held held (emitted tag (plain_contents chunks)) (further_packets tag packets)
+      leads-append held held held (emission_effects tag (plain_contents chunks)) (further_packets tag packets)
       (emitted_leads held tag (plain_contents chunks)) (further_leads held tag packets) past s
 
-  packets_lead : (held : Held) (tag : ℕ) (contents : List Content) (packets : List (List Plain)) → Leads link waiting held (emitted tag contents ++ further_packets tag packets) held
+  packets_lead : (held : Held) (tag : ℕ) (contents : List Content) (packets : List (List Plain)) → Leads link waiting held (emission_effects tag contents ++ further_packets tag packets) held
   packets_lead held tag contents packets =
-      leads-append held held held (emitted tag contents) (further_packets tag packets) (emitted_leads held tag contents) (further_leads held tag packets)
+      leads-append held held held (emission_effects tag contents) (further_packets tag packets) (emitted_leads held tag contents) (further_leads held tag packets)
 
   flush_leads_by : (tag : ℕ) (held : Held) (front : List Content) (filling : Filling) (request : Option ℕ) (reset : Option RequestedReset) → held.own_outstanding ≡ request
       → Leads link waiting held (flushed_with tag held front filling (reset_to_begin request reset)).effects (flushed_with tag held front filling (reset_to_begin request reset)).held
@@ -168,7 +168,7 @@ module _ (link : AssociationIdentity) (waiting : Option AssociationIdentity) whe
   flush_leads_by tag held front filling (Some number) reset e past s = packets_lead held tag _ filling.further past s
 
   flush_leads_where : (is_allowed : Bool) (tag : ℕ) (held : Held) (front : List Content) (filling : Filling)
-      → Leads link waiting held (flush_where is_allowed tag held front filling).effects (flush_where is_allowed tag held front filling).held
+      → Leads link waiting held (flush_if_allowed is_allowed tag held front filling).effects (flush_if_allowed is_allowed tag held front filling).held
   flush_leads_where false tag held front filling past s = s
   flush_leads_where true tag held front filling past s = flush_leads_by tag held front filling held.own_outstanding filling.reset refl past s
 
@@ -177,14 +177,14 @@ module _ (link : AssociationIdentity) (waiting : Option AssociationIdentity) whe
 
   pub sent_leads : (held : Held) (choices : Choices) → Leads link waiting held (sent_then_flushed held choices).effects (sent_then_flushed held choices).held
   sent_leads held choices =
-      let after : Flushed = flush held.peer.tag held [] choices.filling in
+      let after : FlushResult = flush held.peer.tag held [] choices.filling in
       leads-append held held after.held (further_packets held.peer.tag choices.plain) after.effects
       (further_leads held held.peer.tag choices.plain) (flush_leads held.peer.tag held [] choices.filling)
 
   -- ---- the request under the next number
 
   pub renewed_leads : (held : Held) (number : Option ℕ) (reset : RequestedReset) (fits : Bool) → held.own_outstanding ≡ number
-      → Leads link waiting held (renewed_by held number reset fits).effects (renewed_by held number reset fits).held
+      → Leads link waiting held (renewed_if_fitting held number reset fits).effects (renewed_if_fitting held number reset fits).held
   renewed_leads held None reset fits e past s = s
   renewed_leads held (Some number) reset false e past s = s
   renewed_leads held (Some number) reset true e past s = stands-sends _ (stands-begins refl (stands-gives_up number e s))

@@ -7,8 +7,8 @@ use Rattle.dcsctp_spec_lemmas.specs.wire.declared.reconfiguration.Reconfiguratio
 use Rattle.dcsctp_spec_lemmas.specs.spec.Reconfiguration.{RequestState, early, due, renewed, ResetParameter, outgoing_reset_request, incoming_reset_request, reconfiguration_response, other_reset_parameter}
 use Rattle.dcsctp_spec_lemmas.specs.spec.association.Effect.{AssociationIdentity, Effect, completes, fails, accepts, performs, renews}
 use Rattle.dcsctp_spec_lemmas.specs.spec.association.Choices.{Choices}
-use Rattle.dcsctp_spec_lemmas.specs.spec.association.FlushChanges.{Flushed, next_number, flush}
-use Rattle.dcsctp_spec_lemmas.specs.spec.association.ResetChanges.{RequestPlace, again, next, astray, request_place, RequestOutcome, with_last, performed_request, repeated, next_request, is_due, outgoing_by, incoming_by, without_outstanding, informed_by, informed_where, is_outstanding, Informed, HandledParameters, work_parameters, work_chunk, answers_emitted, reset_sent, peer_part_handled}
+use Rattle.dcsctp_spec_lemmas.specs.spec.association.FlushChanges.{FlushResult, next_number, flush}
+use Rattle.dcsctp_spec_lemmas.specs.spec.association.ResetChanges.{RequestPlace, again, next, astray, request_place, RequestOutcome, with_last, performed_request, repeated_request_outcome, next_request, is_due, outgoing_by_place, incoming_by_place, without_outstanding, result_of_answer, result_if_outstanding, is_outstanding, AnswerResult, HandledParameters, parameters_outcome, reset_chunk_outcome, answers_emitted, reset_sent, peer_part_handled}
 use Rattle.dcsctp_spec_runs.specs.Past.{my_of, peer_of}
 use Rattle.dcsctp_theorem_association.proofs.OneSideLemmas.{Stands, Leads, stands-sends, leads-append, flush_leads}
 
@@ -132,7 +132,7 @@ module _ (link : AssociationIdentity) (waiting : Option AssociationIdentity) whe
   worked_leads held true e past s = stands-performs e s
   worked_leads held false e past s = stands-answers held.peer_last InProgress refl (λ i. e) s
 
-  repeated_leads : (held : Held) (result : ReconfigurationResponseResult) (is_reached : Bool) → held.peer_result ≡ result → Leads link waiting held (repeated held result is_reached).effects (repeated held result is_reached).held
+  repeated_leads : (held : Held) (result : ReconfigurationResponseResult) (is_reached : Bool) → held.peer_result ≡ result → Leads link waiting held (repeated_request_outcome held result is_reached).effects (repeated_request_outcome held result is_reached).held
   repeated_leads held InProgress is_reached e past s = worked_leads held is_reached e past s
   repeated_leads held result is_reached e past s = s
 
@@ -143,13 +143,13 @@ module _ (link : AssociationIdentity) (waiting : Option AssociationIdentity) whe
   accepted_leads held number renewed e past s = stands-renews refl (stands-accepts number InProgress e s)
 
   outgoing_leads : (held : Held) (number : ℕ) (state : RequestState) (place : RequestPlace) → Placed place held.peer_last number
-      → Leads link waiting held (outgoing_by held number state place).effects (outgoing_by held number state place).held
+      → Leads link waiting held (outgoing_by_place held number state place).effects (outgoing_by_place held number state place).held
   outgoing_leads held number state again e past s = repeated_leads held held.peer_result (is_due state) refl past s
   outgoing_leads held number state next e past s = accepted_leads held number state e past s
   outgoing_leads held number state astray e past s = s
 
   incoming_leads : (held : Held) (number : ℕ) (place : RequestPlace) → Placed place held.peer_last number
-      → Leads link waiting held (incoming_by held number place).effects (incoming_by held number place).held
+      → Leads link waiting held (incoming_by_place held number place).effects (incoming_by_place held number place).held
   incoming_leads held number again e past s = stands-answers number SuccessNothingToDo e (λ i. absurd (cc)) s
   incoming_leads held number next e past s = stands-accepts number SuccessNothingToDo e s
   incoming_leads held number astray e past s = s
@@ -157,38 +157,38 @@ module _ (link : AssociationIdentity) (waiting : Option AssociationIdentity) whe
   -- ---- an answer of the peer
 
   informed_leads : (held : Held) (number : ℕ) (result : ReconfigurationResponseResult) → held.own_outstanding ≡ Some number
-      → Leads link waiting held (informed_by link.my held number result).effects (informed_by link.my held number result).held
+      → Leads link waiting held (result_of_answer link.my held number result).effects (result_of_answer link.my held number result).held
   informed_leads held number SuccessNothingToDo e past s = stands-completes number e s
   informed_leads held number SuccessPerformed e past s = stands-completes number e s
   informed_leads held number InProgress e past s = s
   informed_leads held number result e past s = stands-fails number e s
 
   informed_leads_where : (held : Held) (number : ℕ) (result : ReconfigurationResponseResult) (is_it : Bool) → (is_it ≡ true → held.own_outstanding ≡ Some number)
-      → Leads link waiting held (informed_where link.my held number result is_it).effects (informed_where link.my held number result is_it).held
+      → Leads link waiting held (result_if_outstanding link.my held number result is_it).effects (result_if_outstanding link.my held number result is_it).held
   informed_leads_where held number result true e past s = informed_leads held number result (e refl) past s
   informed_leads_where held number result false e past s = s
 
   -- ---- the parameters
 
   parameters_lead : (state : RequestState) (has_worked : Bool) (held : Held) (parameters : List ResetParameter)
-      → Leads link waiting held (work_parameters link.my state has_worked held parameters).effects (work_parameters link.my state has_worked held parameters).held
+      → Leads link waiting held (parameters_outcome link.my state has_worked held parameters).effects (parameters_outcome link.my state has_worked held parameters).held
   parameters_lead state has_worked held [] past s = s
   parameters_lead state true held (outgoing_reset_request number answered reset ∷ parameters) past s = s
   parameters_lead state false held (outgoing_reset_request number answered reset ∷ parameters) past s =
-      let first : RequestOutcome = outgoing_by held number state (request_place held.peer_last number) in
-      let rest : HandledParameters = work_parameters link.my state true first.held parameters in
+      let first : RequestOutcome = outgoing_by_place held number state (request_place held.peer_last number) in
+      let rest : HandledParameters = parameters_outcome link.my state true first.held parameters in
       leads-append link waiting held first.held rest.held first.effects rest.effects
       (outgoing_leads held number state (request_place held.peer_last number) (placed held.peer_last number))
       (parameters_lead state true first.held parameters) past s
   parameters_lead state has_worked held (incoming_reset_request number streams ∷ parameters) past s =
-      let first : RequestOutcome = incoming_by held number (request_place held.peer_last number) in
-      let rest : HandledParameters = work_parameters link.my state has_worked first.held parameters in
+      let first : RequestOutcome = incoming_by_place held number (request_place held.peer_last number) in
+      let rest : HandledParameters = parameters_outcome link.my state has_worked first.held parameters in
       leads-append link waiting held first.held rest.held first.effects rest.effects
       (incoming_leads held number (request_place held.peer_last number) (placed held.peer_last number))
       (parameters_lead state has_worked first.held parameters) past s
   parameters_lead state has_worked held (reconfiguration_response number result ∷ parameters) past s =
-      let first : Informed = informed_where link.my held number result (is_outstanding number held.own_outstanding) in
-      let rest : HandledParameters = work_parameters link.my state has_worked first.held parameters in
+      let first : AnswerResult = result_if_outstanding link.my held number result (is_outstanding number held.own_outstanding) in
+      let rest : HandledParameters = parameters_outcome link.my state has_worked first.held parameters in
       leads-append link waiting held first.held rest.held first.effects rest.effects
       (informed_leads_where held number result (is_outstanding number held.own_outstanding) (is_outstanding_means number held.own_outstanding))
       (parameters_lead state has_worked first.held parameters) past s
@@ -197,7 +197,7 @@ module _ (link : AssociationIdentity) (waiting : Option AssociationIdentity) whe
   -- ---- the chunk
 
   chunk_leads : (state : RequestState) (held : Held) (parameters : List ResetParameter)
-      → Leads link waiting held (work_chunk link.my state held parameters).effects (work_chunk link.my state held parameters).held
+      → Leads link waiting held (reset_chunk_outcome link.my state held parameters).effects (reset_chunk_outcome link.my state held parameters).held
   chunk_leads state held [] past s = s
   chunk_leads state held (parameter ∷ parameters) past s = parameters_lead state false held (parameter ∷ parameters) past s
 
@@ -210,7 +210,7 @@ module _ (link : AssociationIdentity) (waiting : Option AssociationIdentity) whe
       → Leads link waiting held (reset_sent is_refused held answers choices).effects (reset_sent is_refused held answers choices).held
   sent_lead true held answers choices past s = s
   sent_lead false held answers choices past s =
-      let after : Flushed = flush held.peer.tag held [] choices.filling in
+      let after : FlushResult = flush held.peer.tag held [] choices.filling in
       leads-append link waiting held held after.held (answers_emitted choices.fits held.peer.tag answers) after.effects
       (answers_lead held choices.fits held.peer.tag answers)
       (flush_leads link waiting held.peer.tag held [] choices.filling) past s
@@ -218,8 +218,8 @@ module _ (link : AssociationIdentity) (waiting : Option AssociationIdentity) whe
   pub reset_leads : (held : Held) (parameters : List ResetParameter) (choices : Choices)
       → Leads link waiting held (peer_part_handled link.my held parameters choices).effects (peer_part_handled link.my held parameters choices).held
   reset_leads held parameters choices =
-      let performed_request : HandledParameters = work_chunk link.my choices.state held parameters in
-      let after : Flushed = reset_sent performed_request.is_refused performed_request.held performed_request.answers choices in
+      let performed_request : HandledParameters = reset_chunk_outcome link.my choices.state held parameters in
+      let after : FlushResult = reset_sent performed_request.is_refused performed_request.held performed_request.answers choices in
       leads-append link waiting held performed_request.held after.held performed_request.effects after.effects
       (chunk_leads choices.state held parameters)
       (sent_lead performed_request.is_refused performed_request.held performed_request.answers choices)

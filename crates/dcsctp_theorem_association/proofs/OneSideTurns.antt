@@ -5,7 +5,7 @@ use Rattle.dcsctp_spec_lemmas.specs.types.declared.association.Pair.{Pair}
 use Rattle.dcsctp_spec_lemmas.specs.types.declared.association.Held.{Held}
 use Rattle.dcsctp_spec_lemmas.specs.types.declared.capabilities.Capabilities.{Capabilities}
 use Rattle.dcsctp_spec_lemmas.specs.types.declared.options.Options.{Options}
-use Rattle.dcsctp_spec_lemmas.specs.spec.Cookie.{cookie_at}
+use Rattle.dcsctp_spec_lemmas.specs.spec.Cookie.{cookie_of_bytes}
 use Rattle.dcsctp_spec_lemmas.specs.spec.endpoint.Cause.{Cause, causes_of}
 use Rattle.dcsctp_spec_lemmas.specs.spec.Reconfiguration.{ResetParameter, RequestedReset}
 use Rattle.dcsctp_spec_lemmas.specs.spec.Packet.{Content, init, init_ack, cookie_echo, cookie_ack, re_config, abort, shutdown, shutdown_ack, shutdown_complete, plain}
@@ -15,7 +15,7 @@ use Rattle.dcsctp_spec_lemmas.specs.spec.association.Effect.{Effect, Change, ide
 use Rattle.dcsctp_spec_lemmas.specs.spec.association.Choices.{Choices}
 use Rattle.dcsctp_spec_lemmas.specs.spec.association.FlushChanges.{reset_request}
 use Rattle.dcsctp_spec_lemmas.specs.spec.association.ResetChanges.{re_config_change}
-use Rattle.dcsctp_spec_lemmas.specs.spec.association.ShutdownChanges.{shutdown_call_change_echoed, shutdown_step_change_in, shutdown_step_change, shutdown_call_change, abort_call_change, shutdown_again_change, abort_change, shutdown_change, shutdown_ack_change, shutdown_complete_change}
+use Rattle.dcsctp_spec_lemmas.specs.spec.association.ShutdownChanges.{shutdown_call_change_echoed, shutdown_step_change_by_phase, shutdown_step_change, shutdown_call_change, abort_call_change, shutdown_again_change, abort_change, shutdown_change, shutdown_ack_change, shutdown_complete_change}
 use Rattle.dcsctp_spec_lemmas.specs.spec.association.Acts.{Act, connect, t1_expires, shut_down, step_of_shutdown, shutdown_repeats, abort_with, hands_over, flushes, request_again, request_renewed, flush_change, hand_over_change, request_sent, request_again_change, request_renewed_change, act_change, then_changes, violation_change, plain_change, chunk_change}
 use Rattle.dcsctp_spec_lemmas.specs.spec.association.ResumeChanges.{resumed_held, resume_change}
 use Rattle.dcsctp_spec_runs.specs.World.{SideState, after_effects, after_change, after_changes, ControlTurn, acted, worked, resumed, ControlTurns, SideRun, side_after}
@@ -59,7 +59,7 @@ request_renewed_keeps core reset fits past good = good
 
 -- ---- shutdown
 
-step_keeps_open : (phase : OpenPhase) (my : Pair) (held : Held) (tsn : ℕ) (is_acknowledged : Bool) → Keeps (open_in phase my held) (shutdown_step_change_in phase my held tsn is_acknowledged)
+step_keeps_open : (phase : OpenPhase) (my : Pair) (held : Held) (tsn : ℕ) (is_acknowledged : Bool) → Keeps (open_in phase my held) (shutdown_step_change_by_phase phase my held tsn is_acknowledged)
 step_keeps_open shutdown_pending my held tsn true past good = good-sends (open_in shutdown_sent my held) _ past good
 step_keeps_open shutdown_received my held tsn true past good = good-sends (open_in shutdown_ack_sent my held) _ past good
 step_keeps_open phase my held tsn is_acknowledged past good = good
@@ -147,7 +147,7 @@ other_keeps core false choices past good =
 chunk_keeps : (options : Options) (core : Core) (header : ℕ) (content : Content) (choices : Choices) → Keeps core (chunk_change options core header content choices)
 chunk_keeps options core header (init theirs) choices past good = change_by (Keeps core) options core theirs choices (λ before h. h) (init_keeps options core theirs choices) past good
 chunk_keeps options core header (init_ack theirs cookie) choices past good = init_ack_keeps options core theirs cookie choices past good
-chunk_keeps options core header (cookie_echo cookie) choices past good = echo_keeps options core header (cookie_at cookie) choices past good
+chunk_keeps options core header (cookie_echo cookie) choices past good = echo_keeps options core header (cookie_of_bytes cookie) choices past good
 chunk_keeps options core header cookie_ack choices past good = cookie_ack_keeps core choices past good
 chunk_keeps options core header (re_config parameters) choices past good = re_config_keeps options.follow_rfc core parameters choices past good
 chunk_keeps options core header (abort reflected causes) choices past good = abort_keeps options core past good

@@ -9,7 +9,7 @@ use Rattle.dcsctp_spec_lemmas.specs.types.Offer.{Offer}
 use Rattle.dcsctp_spec_lemmas.specs.spec.Reconfiguration.{RequestState, early, due, renewed}
 use Rattle.dcsctp_spec_lemmas.specs.spec.association.Effect.{Effect, draws, completes, fails, accepts, performs, renews}
 use Rattle.dcsctp_spec_lemmas.specs.spec.association.FlushChanges.{next_number}
-use Rattle.dcsctp_spec_lemmas.specs.spec.association.ResetChanges.{RequestPlace, again, next, astray, request_place, RequestOutcome, performed_request, repeated, next_request, is_due, outgoing_by, informed_by, informed_where}
+use Rattle.dcsctp_spec_lemmas.specs.spec.association.ResetChanges.{RequestPlace, again, next, astray, request_place, RequestOutcome, performed_request, repeated_request_outcome, next_request, is_due, outgoing_by_place, result_of_answer, result_if_outstanding}
 use Rattle.dcsctp_spec_runs.specs.Past.{HasEffect, WasPerformed}
 use Rattle.dcsctp_spec_runs.specs.World.{after_effects}
 use Rattle.dcsctp_theorem_association.proofs.Facts.{number_before, TruePerformed, TrueNothing, TrueResult, TrueEffects, PeerFacts}
@@ -66,7 +66,7 @@ worked_answer my_offer their_offer mine theirs my held number false h =
 
 repeated_answer : (my_offer their_offer : Offer) (mine theirs : List Effect) (my : Pair) (held : Held) (number : ℕ) (is_reached : Bool) (result : ReconfigurationResponseResult)
     → PeerFacts my_offer their_offer mine theirs my held → held.peer_result ≡ result → number ≡ held.peer_last
-    → Answering my_offer their_offer mine theirs my held number (repeated held result is_reached)
+    → Answering my_offer their_offer mine theirs my held number (repeated_request_outcome held result is_reached)
 repeated_answer my_offer their_offer mine theirs my held number is_reached SuccessNothingToDo h is last =
     kept_answer my_offer their_offer mine theirs my held number SuccessNothingToDo h (record { pair = held.peer; under = refl; drawn = h.peer_drawn; before = last ∙ h.nothing is })
 repeated_answer my_offer their_offer mine theirs my held number is_reached SuccessPerformed h is last =
@@ -108,7 +108,7 @@ again_is_last last number is = again_where (number == last) (number == next_numb
 
 pub outgoing_answer : (my_offer their_offer : Offer) (mine theirs : List Effect) (my : Pair) (held : Held) (number : ℕ) (state : RequestState) (place : RequestPlace)
     → PeerFacts my_offer their_offer mine theirs my held → (place ≡ again → number ≡ held.peer_last)
-    → Answering my_offer their_offer mine theirs my held number (outgoing_by held number state place)
+    → Answering my_offer their_offer mine theirs my held number (outgoing_by_place held number state place)
 outgoing_answer my_offer their_offer mine theirs my held number state again h last =
     repeated_answer my_offer their_offer mine theirs my held number (is_due state) held.peer_result h refl (last refl)
 outgoing_answer my_offer their_offer mine theirs my held number state next h last =
@@ -146,7 +146,7 @@ ended_request my_offer their_offer mine theirs my held effect h is_true free nev
 
 informed_working : (my_offer their_offer : Offer) (mine theirs : List Effect) (my : Pair) (held : Held) (number : ℕ) (result : ReconfigurationResponseResult)
     → SameTag mine → PeerFacts my_offer their_offer mine theirs my held → TrueResult theirs mine my.tag number result
-    → Working my_offer their_offer mine theirs my held (informed_by my held number result).held (informed_by my held number result).effects
+    → Working my_offer their_offer mine theirs my held (result_of_answer my held number result).held (result_of_answer my held number result).effects
 informed_working my_offer their_offer mine theirs my held number SuccessNothingToDo tags h answer =
     ended_request my_offer their_offer mine theirs my held (completes my number) h (inr (nothing_done mine theirs my number tags h.my_drawn answer), tt) (tt, tt) (λ pair e. cc)
 informed_working my_offer their_offer mine theirs my held number SuccessPerformed tags h answer =
@@ -159,6 +159,6 @@ informed_working my_offer their_offer mine theirs my held number InProgress tags
 
 pub informed_where_working : (my_offer their_offer : Offer) (mine theirs : List Effect) (my : Pair) (held : Held) (number : ℕ) (result : ReconfigurationResponseResult) (is_own : Bool)
     → SameTag mine → PeerFacts my_offer their_offer mine theirs my held → TrueResult theirs mine my.tag number result
-    → Working my_offer their_offer mine theirs my held (informed_where my held number result is_own).held (informed_where my held number result is_own).effects
+    → Working my_offer their_offer mine theirs my held (result_if_outstanding my held number result is_own).held (result_if_outstanding my held number result is_own).effects
 informed_where_working my_offer their_offer mine theirs my held number result true tags h answer = informed_working my_offer their_offer mine theirs my held number result tags h answer
 informed_where_working my_offer their_offer mine theirs my held number result false tags h answer = record { true_effects = tt; free = tt; facts = h; pair = refl; tags = λ t. t }

@@ -5,7 +5,7 @@ use Rattle.dcsctp_spec_lemmas.specs.wire.declared.reconfiguration.Reconfiguratio
 use Rattle.dcsctp_spec_lemmas.specs.wire.declared.reconfiguration.ReconfigurationResponseResult.TheVariants.{SuccessNothingToDo, SuccessPerformed, InProgress}
 use Rattle.dcsctp_spec_lemmas.specs.types.declared.association.Pair.{Pair}
 use Rattle.dcsctp_spec_lemmas.specs.types.declared.options.Options.{Options}
-use Rattle.dcsctp_spec_lemmas.specs.spec.Cookie.{cookie_bytes, cookie_at}
+use Rattle.dcsctp_spec_lemmas.specs.spec.Cookie.{cookie_bytes, cookie_of_bytes}
 use Rattle.dcsctp_spec_lemmas.specs.spec.Reconfiguration.{RequestedReset, outgoing_reset_request, reconfiguration_response}
 use Rattle.dcsctp_spec_lemmas.specs.spec.Packet.{Content, init, init_ack, cookie_echo, cookie_ack, re_config}
 use Rattle.dcsctp_spec_lemmas.specs.spec.endpoint.Endpoint.{established, open_in}
@@ -46,7 +46,7 @@ performed =
     ∷ deferred
 
 performed_goes : (a b : Options) → GoesOn a b performed
-unfolding cookie_bytes cookie_at
+unfolding cookie_bytes cookie_of_bytes
 performed_goes a b =
     (inl refl, own_tag_borne refl, tt)
     after (inl refl, own_tag_borne refl, tt)
@@ -62,16 +62,16 @@ performed_is_a_run a b = is_run (configured a) (configured b) performed (perform
 
 -- A's request is outstanding, and B has accepted it.
 deferred_at_a : (a b : Options) → (end_of a b deferred).a.core ≡ open_in established one (held two 101 (Some 100) 199 SuccessNothingToDo)
-unfolding cookie_bytes cookie_at
+unfolding cookie_bytes cookie_of_bytes
 deferred_at_a a b = refl
 
 deferred_at_b : (a b : Options) → (end_of a b deferred).b.core ≡ open_in established two (held one 200 None 100 InProgress)
-unfolding cookie_bytes cookie_at
+unfolding cookie_bytes cookie_of_bytes
 deferred_at_b a b = refl
 
 -- No other is begun meanwhile.
 one_at_a_time : (a b : Options) → end_of a b (acts at_a flushes (with_reset wanted) ∷ deferred) ≡ end_of a b deferred
-unfolding cookie_bytes cookie_at
+unfolding cookie_bytes cookie_of_bytes
 one_at_a_time a b = refl
 
 performed_end : (a b : Options) → end_of a b performed
@@ -92,23 +92,23 @@ performed_end : (a b : Options) → end_of a b performed
           ∷ sends (packet 7 (init_ack (introduction two) (Some first_cookie))) ∷ draws two
           ∷ []);
     }
-unfolding cookie_bytes cookie_at
+unfolding cookie_bytes cookie_of_bytes
 performed_end a b = refl
 
 begun_once : (a b : Options) → numbers_begun (end_of a b performed).a.past ≡ 100 ∷ []
-unfolding cookie_bytes cookie_at
+unfolding cookie_bytes cookie_of_bytes
 begun_once a b = refl
 
 accepted_once : (a b : Options) → numbers_accepted (end_of a b performed).b.past ≡ 100 ∷ []
-unfolding cookie_bytes cookie_at
+unfolding cookie_bytes cookie_of_bytes
 accepted_once a b = refl
 
 performed_once : (a b : Options) → numbers_performed (end_of a b performed).b.past ≡ 100 ∷ []
-unfolding cookie_bytes cookie_at
+unfolding cookie_bytes cookie_of_bytes
 performed_once a b = refl
 
 completed_once : (a b : Options) → numbers_completed (end_of a b performed).a.past ≡ 100 ∷ []
-unfolding cookie_bytes cookie_at
+unfolding cookie_bytes cookie_of_bytes
 completed_once a b = refl
 
 -- The two answers come once more, in the other order: A's request has ended.
@@ -116,7 +116,7 @@ abbrev late_answers : List Doing
 late_answers = gets at_a 7 (answer 100 InProgress) plain ∷ gets at_a 7 (answer 100 SuccessPerformed) plain ∷ performed
 
 late_answers_go : (a b : Options) → GoesOn a b late_answers
-unfolding cookie_bytes cookie_at
+unfolding cookie_bytes cookie_of_bytes
 late_answers_go a b =
     (inr (inr (inr (inl refl))), own_tag_borne refl, tt)
     after (inl refl, own_tag_borne refl, tt)
@@ -126,7 +126,7 @@ late_answers_are_a_run : (a b : Options) → IsRun a b late_answers
 late_answers_are_a_run a b = is_run (configured a) (configured b) late_answers (late_answers_go a b)
 
 late_answers_end : (a b : Options) → end_of a b late_answers ≡ end_of a b performed
-unfolding cookie_bytes cookie_at
+unfolding cookie_bytes cookie_of_bytes
 late_answers_end a b = refl
 
 -- ---- a reset that is deferred, and sent again under the next number (RFC 6525, section 5.2.7)
@@ -141,7 +141,7 @@ renewed =
     ∷ deferred
 
 renewed_goes : (a b : Options) → GoesOn a b renewed
-unfolding cookie_bytes cookie_at
+unfolding cookie_bytes cookie_of_bytes
 renewed_goes a b =
     (inl refl, own_tag_borne refl, tt)
     after (inr (inr (inr (inl refl))), own_tag_borne refl, tt)
@@ -157,7 +157,7 @@ renewed_is_a_run a b = is_run (configured a) (configured b) renewed (renewed_goe
 
 -- The next number is outstanding.
 renewed_at_a : (a b : Options) → (end_of a b (acts at_a (request_renewed wanted) plain ∷ deferred)).a.core ≡ open_in established one (held two 102 (Some 101) 199 SuccessNothingToDo)
-unfolding cookie_bytes cookie_at
+unfolding cookie_bytes cookie_of_bytes
 renewed_at_a a b = refl
 
 renewed_end : (a b : Options) → end_of a b renewed
@@ -177,12 +177,12 @@ renewed_end : (a b : Options) → end_of a b renewed
           ∷ sends (packet 7 (init_ack (introduction two) (Some first_cookie))) ∷ draws two
           ∷ []);
     }
-unfolding cookie_bytes cookie_at
+unfolding cookie_bytes cookie_of_bytes
 renewed_end a b = refl
 
 -- None is outstanding: there is nothing to renew.
 none_is_renewed : (a b : Options) → end_of a b (acts at_a (request_renewed wanted) plain ∷ renewed) ≡ end_of a b renewed
-unfolding cookie_bytes cookie_at
+unfolding cookie_bytes cookie_of_bytes
 none_is_renewed a b = refl
 
 -- ---- numbers that go round 2^32 (RFC 6525, section 4.1)
@@ -215,7 +215,7 @@ both_resets =
     ∷ first_reset
 
 both_resets_go : (a b : Options) → GoesOn a b both_resets
-unfolding cookie_bytes cookie_at
+unfolding cookie_bytes cookie_of_bytes
 both_resets_go a b =
     (inl refl, own_tag_borne refl, tt)
     after (inl refl, own_tag_borne refl, tt)
@@ -234,15 +234,15 @@ both_resets_are_a_run : (a b : Options) → IsRun a b both_resets
 both_resets_are_a_run a b = is_run (configured a) (configured b) both_resets (both_resets_go a b)
 
 last_before : (a b : Options) → (end_of a b greatest_packets).b.core ≡ open_in established two (new greatest 200 4294967294)
-unfolding cookie_bytes cookie_at
+unfolding cookie_bytes cookie_of_bytes
 last_before a b = refl
 
 own_next_goes_round : (a b : Options) → (end_of a b first_reset).a.core ≡ open_in established greatest (held two 0 (Some 4294967295) 199 SuccessNothingToDo)
-unfolding cookie_bytes cookie_at
+unfolding cookie_bytes cookie_of_bytes
 own_next_goes_round a b = refl
 
 last_after : (a b : Options) → (end_of a b first_reset).b.core ≡ open_in established two (held greatest 200 None 4294967295 SuccessPerformed)
-unfolding cookie_bytes cookie_at
+unfolding cookie_bytes cookie_of_bytes
 last_after a b = refl
 
 both_resets_end : (a b : Options) → end_of a b both_resets
@@ -261,5 +261,5 @@ both_resets_end : (a b : Options) → end_of a b both_resets
           ∷ sends (packet 7 (init_ack (introduction two) (Some greatest_cookie))) ∷ draws two
           ∷ []);
     }
-unfolding cookie_bytes cookie_at
+unfolding cookie_bytes cookie_of_bytes
 both_resets_end a b = refl

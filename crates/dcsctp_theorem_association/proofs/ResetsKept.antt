@@ -8,8 +8,8 @@ use Rattle.dcsctp_spec_lemmas.specs.spec.Packet.{re_config}
 use Rattle.dcsctp_spec_lemmas.specs.spec.endpoint.Endpoint.{Core, closed, cookie_wait, cookie_echoed, open_in, own_tag}
 use Rattle.dcsctp_spec_lemmas.specs.spec.association.Effect.{Effect}
 use Rattle.dcsctp_spec_lemmas.specs.spec.association.Choices.{Choices}
-use Rattle.dcsctp_spec_lemmas.specs.spec.association.FlushChanges.{Flushed, flush}
-use Rattle.dcsctp_spec_lemmas.specs.spec.association.ResetChanges.{request_place, RequestOutcome, outgoing_by, Informed, informed_where, is_outstanding, HandledParameters, after_request, after_answer, work_parameters, work_chunk, answers_emitted, reset_sent, peer_part_handled, re_config_change}
+use Rattle.dcsctp_spec_lemmas.specs.spec.association.FlushChanges.{FlushResult, flush}
+use Rattle.dcsctp_spec_lemmas.specs.spec.association.ResetChanges.{request_place, RequestOutcome, outgoing_by_place, AnswerResult, result_if_outstanding, is_outstanding, HandledParameters, after_request, after_answer, parameters_outcome, reset_chunk_outcome, answers_emitted, reset_sent, peer_part_handled, re_config_change}
 use Rattle.dcsctp_spec_runs.specs.World.{after_effects}
 use Rattle.dcsctp_theorem_association.proofs.Facts.{TrueParameters, TrueEffects, PeerFacts, TrueCore}
 use Rattle.dcsctp_theorem_association.proofs.Growth.{after_effects-append, after_within, effects-append, parameters_grow, peer_grows, same, then_true}
@@ -50,7 +50,7 @@ then_request my_offer their_offer mine theirs my held number first rest h k =
       answers = subst (λ (past : List Effect). TrueParameters past theirs held.peer.tag (reconfiguration_response number first.result ∷ rest.answers)) (sym (after_effects-append first.effects rest.effects mine)) (result.0, answers);
     }
 
-then_answer : (my_offer their_offer : Offer) (mine theirs : List Effect) (my : Pair) (held : Held) (first : Informed) (rest : HandledParameters)
+then_answer : (my_offer their_offer : Offer) (mine theirs : List Effect) (my : Pair) (held : Held) (first : AnswerResult) (rest : HandledParameters)
     → Working my_offer their_offer mine theirs my held first.held first.effects → WorkedKept my_offer their_offer (after_effects first.effects mine) theirs my first.held rest
     → WorkedKept my_offer their_offer mine theirs my held (after_answer first rest)
 then_answer my_offer their_offer mine theirs my held first rest h k =
@@ -66,28 +66,28 @@ nothing_worked my_offer their_offer mine theirs my held is_refused h = record { 
 
 parameters_kept : (my_offer their_offer : Offer) (mine theirs : List Effect) (my : Pair) (state : RequestState) (has_worked : Bool) (held : Held) (parameters : List ResetParameter)
     → SameTag mine → PeerFacts my_offer their_offer mine theirs my held → TrueParameters theirs mine my.tag parameters
-    → WorkedKept my_offer their_offer mine theirs my held (work_parameters my state has_worked held parameters)
+    → WorkedKept my_offer their_offer mine theirs my held (parameters_outcome my state has_worked held parameters)
 parameters_kept my_offer their_offer mine theirs my state true held [] tags h are = nothing_worked my_offer their_offer mine theirs my held false h
 parameters_kept my_offer their_offer mine theirs my state false held [] tags h are = nothing_worked my_offer their_offer mine theirs my held false h
 parameters_kept my_offer their_offer mine theirs my state true held (outgoing_reset_request number answered reset ∷ parameters) tags h are =
     nothing_worked my_offer their_offer mine theirs my held true h
 parameters_kept my_offer their_offer mine theirs my state false held (outgoing_reset_request number answered reset ∷ parameters) tags h are =
-    let first : RequestOutcome = outgoing_by held number state (request_place held.peer_last number) in
+    let first : RequestOutcome = outgoing_by_place held number state (request_place held.peer_last number) in
     let one : Answering my_offer their_offer mine theirs my held number first = outgoing_answer my_offer their_offer mine theirs my held number state (request_place held.peer_last number) h (again_is_last held.peer_last number) in
-    then_request my_offer their_offer mine theirs my held number first (work_parameters my state true first.held parameters) one
+    then_request my_offer their_offer mine theirs my held number first (parameters_outcome my state true first.held parameters) one
     (parameters_kept my_offer their_offer (after_effects first.effects mine) theirs my state true first.held parameters (one.working.tags tags) one.working.facts
     (parameters_grow theirs mine theirs (after_effects first.effects mine) my.tag parameters (same theirs) (after_within first.effects mine) are.1))
 parameters_kept my_offer their_offer mine theirs my state has_worked held (incoming_reset_request number streams ∷ parameters) tags h are = absurd are.0
 parameters_kept my_offer their_offer mine theirs my state true held (reconfiguration_response number result ∷ parameters) tags h are =
-    let first : Informed = informed_where my held number result (is_outstanding number held.own_outstanding) in
+    let first : AnswerResult = result_if_outstanding my held number result (is_outstanding number held.own_outstanding) in
     let one : Working my_offer their_offer mine theirs my held first.held first.effects = informed_where_working my_offer their_offer mine theirs my held number result (is_outstanding number held.own_outstanding) tags h are.0 in
-    then_answer my_offer their_offer mine theirs my held first (work_parameters my state true first.held parameters) one
+    then_answer my_offer their_offer mine theirs my held first (parameters_outcome my state true first.held parameters) one
     (parameters_kept my_offer their_offer (after_effects first.effects mine) theirs my state true first.held parameters (one.tags tags) one.facts
     (parameters_grow theirs mine theirs (after_effects first.effects mine) my.tag parameters (same theirs) (after_within first.effects mine) are.1))
 parameters_kept my_offer their_offer mine theirs my state false held (reconfiguration_response number result ∷ parameters) tags h are =
-    let first : Informed = informed_where my held number result (is_outstanding number held.own_outstanding) in
+    let first : AnswerResult = result_if_outstanding my held number result (is_outstanding number held.own_outstanding) in
     let one : Working my_offer their_offer mine theirs my held first.held first.effects = informed_where_working my_offer their_offer mine theirs my held number result (is_outstanding number held.own_outstanding) tags h are.0 in
-    then_answer my_offer their_offer mine theirs my held first (work_parameters my state false first.held parameters) one
+    then_answer my_offer their_offer mine theirs my held first (parameters_outcome my state false first.held parameters) one
     (parameters_kept my_offer their_offer (after_effects first.effects mine) theirs my state false first.held parameters (one.tags tags) one.facts
     (parameters_grow theirs mine theirs (after_effects first.effects mine) my.tag parameters (same theirs) (after_within first.effects mine) are.1))
 parameters_kept my_offer their_offer mine theirs my state true held (other_reset_parameter parameter ∷ parameters) tags h are =
@@ -107,7 +107,7 @@ emission_free tag fits [] = tt
 emission_free tag fits (answer ∷ answers) = alone_free fits tag (re_config (answer ∷ answers)) tt
 
 -- what the answers, and the flush after them, leave
-pub record SentKept (my_offer their_offer : Offer) (mine theirs : List Effect) (my : Pair) (held : Held) (sent : Flushed) : Type 0 where
+pub record SentKept (my_offer their_offer : Offer) (mine theirs : List Effect) (my : Pair) (held : Held) (sent : FlushResult) : Type 0 where
   pub true_effects : TrueEffects my_offer their_offer mine theirs sent.effects
   pub free : AllEchoFree sent.effects
   pub facts : PeerFacts my_offer their_offer mine theirs my sent.held
@@ -129,13 +129,13 @@ answers_kept my_offer their_offer mine theirs my false held answers choices h ar
 
 chunk_kept : (my_offer their_offer : Offer) (mine theirs : List Effect) (my : Pair) (state : RequestState) (held : Held) (parameters : List ResetParameter)
     → SameTag mine → PeerFacts my_offer their_offer mine theirs my held → TrueParameters theirs mine my.tag parameters
-    → WorkedKept my_offer their_offer mine theirs my held (work_chunk my state held parameters)
+    → WorkedKept my_offer their_offer mine theirs my held (reset_chunk_outcome my state held parameters)
 chunk_kept my_offer their_offer mine theirs my state held [] tags h are = nothing_worked my_offer their_offer mine theirs my held true h
 chunk_kept my_offer their_offer mine theirs my state held (parameter ∷ parameters) tags h are =
     parameters_kept my_offer their_offer mine theirs my state false held (parameter ∷ parameters) tags h are
 
 -- the whole chunk
-pub record ResetKept (my_offer their_offer : Offer) (mine theirs : List Effect) (my : Pair) (held : Held) (after : Informed) : Type 0 where
+pub record ResetKept (my_offer their_offer : Offer) (mine theirs : List Effect) (my : Pair) (held : Held) (after : AnswerResult) : Type 0 where
   pub true_effects : TrueEffects my_offer their_offer mine theirs after.effects
   pub free : AllEchoFree after.effects
   pub facts : PeerFacts my_offer their_offer (after_effects after.effects mine) theirs my after.held
@@ -145,7 +145,7 @@ reset_kept : (my_offer their_offer : Offer) (mine theirs : List Effect) (my : Pa
     → SameTag mine → PeerFacts my_offer their_offer mine theirs my held → TrueParameters theirs mine my.tag parameters
     → ResetKept my_offer their_offer mine theirs my held (peer_part_handled my held parameters choices)
 reset_kept my_offer their_offer mine theirs my held parameters choices tags h are =
-    let worked : HandledParameters = work_chunk my choices.state held parameters in
+    let worked : HandledParameters = reset_chunk_outcome my choices.state held parameters in
     let past : List Effect = after_effects worked.effects mine in
     let k : WorkedKept my_offer their_offer mine theirs my held worked = chunk_kept my_offer their_offer mine theirs my choices.state held parameters tags h are in
     let answers : TrueParameters past theirs worked.held.peer.tag worked.answers = subst (λ (p : Pair). TrueParameters past theirs p.tag worked.answers) (sym k.working.pair) k.answers in

@@ -3,7 +3,7 @@
 use Rattle.std.proofs.Common.{◌≡◌, ℕ, false, Some, List, [], ◌∷◌, inl, refl, arith, codes}
 use Rattle.dcsctp_spec_lemmas.specs.types.declared.association.Pair.{Pair}
 use Rattle.dcsctp_spec_lemmas.specs.types.declared.options.Options.{Options}
-use Rattle.dcsctp_spec_lemmas.specs.spec.Cookie.{cookie_bytes, cookie_at}
+use Rattle.dcsctp_spec_lemmas.specs.spec.Cookie.{cookie_bytes, cookie_of_bytes}
 use Rattle.dcsctp_spec_lemmas.specs.types.declared.ends.AbortReason.TheVariants.{CloseCalled}
 use Rattle.dcsctp_spec_lemmas.specs.spec.endpoint.Cause.{user_initiated_abort}
 use Rattle.dcsctp_spec_lemmas.specs.spec.Packet.{init, init_ack, cookie_echo, cookie_ack, abort}
@@ -38,7 +38,7 @@ four_packets =
     ∷ []
 
 pub four_packets_go : (a b : Options) → GoesOn a b four_packets
-unfolding cookie_bytes cookie_at
+unfolding cookie_bytes cookie_of_bytes
 four_packets_go a b =
     (inl refl, own_tag_borne refl, tt)
     after (inl refl, echo_in_front first_cookie [] refl, tt)
@@ -62,20 +62,20 @@ four_packets_end : (a b : Options) → end_of a b four_packets
           ∷ sends (packet 7 (init_ack (introduction two) (Some first_cookie))) ∷ draws two
           ∷ []);
     }
-unfolding cookie_bytes cookie_at
+unfolding cookie_bytes cookie_of_bytes
 four_packets_end a b = refl
 
 -- INIT is sent under 0, the other three under the tag of the side that gets them.
 four_packets_tags : (a b : Options) → tags_of a b four_packets ≡ 0 ∷ 7 ∷ 9 ∷ 7 ∷ []
-unfolding cookie_bytes cookie_at
+unfolding cookie_bytes cookie_of_bytes
 four_packets_tags a b = refl
 
 four_packets_connect_a_once : (a b : Options) → connections (end_of a b four_packets).a.past ≡ link one two ∷ []
-unfolding cookie_bytes cookie_at
+unfolding cookie_bytes cookie_of_bytes
 four_packets_connect_a_once a b = refl
 
 four_packets_connect_b_once : (a b : Options) → connections (end_of a b four_packets).b.past ≡ link two one ∷ []
-unfolding cookie_bytes cookie_at
+unfolding cookie_bytes cookie_of_bytes
 four_packets_connect_b_once a b = refl
 
 -- ---- a restart (RFC 9260, sections 5.2.2 and 5.2.4, A)
@@ -107,7 +107,7 @@ restart =
     ∷ restart_echoed
 
 restart_echoed_goes : (a b : Options) → GoesOn a b restart_echoed
-unfolding cookie_bytes cookie_at
+unfolding cookie_bytes cookie_of_bytes
 restart_echoed_goes a b =
     (inl refl, own_tag_borne refl, tt)
     after (inl refl, init_alone (introduction new_one) refl, (cookie new_two new_one 12, refl, refl, refl, refl))
@@ -117,7 +117,7 @@ restart_echoed_goes a b =
 
 -- The COOKIE ECHO carries the fresh tag, which isn't B's tag yet.
 restart_goes : (a b : Options) → GoesOn a b restart
-unfolding cookie_bytes cookie_at
+unfolding cookie_bytes cookie_of_bytes
 restart_goes a b =
     (inl refl, own_tag_borne refl, tt)
     after (inl refl, echo_in_front restart_cookie [] refl, tt)
@@ -144,11 +144,11 @@ restart_end : (a b : Options) → end_of a b restart
           ∷ sends (packet 7 (init_ack (introduction two) (Some first_cookie))) ∷ draws two
           ∷ []);
     }
-unfolding cookie_bytes cookie_at
+unfolding cookie_bytes cookie_of_bytes
 restart_end a b = refl
 
 restart_has_fresh_tags : (a b : Options) → FreshWorld (end_of a b restart)
-unfolding cookie_bytes cookie_at
+unfolding cookie_bytes cookie_of_bytes
 restart_has_fresh_tags a b =
     record {
       a = fresh_where (end_of a b restart).a.past ((λ same. absurd (omega (arith, same)), tt), (tt, tt));
@@ -157,7 +157,7 @@ restart_has_fresh_tags a b =
 
 -- B held its association until the COOKIE ECHO came.
 restart_echoed_end : (a b : Options) → (end_of a b restart_echoed).b.core ≡ open_in established two (new one 200 99)
-unfolding cookie_bytes cookie_at
+unfolding cookie_bytes cookie_of_bytes
 restart_echoed_end a b = refl
 
 -- The tie tag is another one: B drops the COOKIE ECHO.
@@ -165,12 +165,12 @@ abbrev restart_of_another : List Doing
 restart_of_another = gets at_b 19 (cookie_echo restart_cookie) (with_tie 13) ∷ restart_echoed
 
 restart_of_another_goes : (a b : Options) → GoesOn a b restart_of_another
-unfolding cookie_bytes cookie_at
+unfolding cookie_bytes cookie_of_bytes
 restart_of_another_goes a b = (inl refl, echo_in_front restart_cookie [] refl, tt) after restart_echoed_goes a b
 
 restart_of_another_is_a_run : (a b : Options) → IsRun a b restart_of_another
 restart_of_another_is_a_run a b = is_run (configured a) (configured b) restart_of_another (restart_of_another_goes a b)
 
 restart_of_another_end : (a b : Options) → end_of a b restart_of_another ≡ end_of a b restart_echoed
-unfolding cookie_bytes cookie_at
+unfolding cookie_bytes cookie_of_bytes
 restart_of_another_end a b = refl

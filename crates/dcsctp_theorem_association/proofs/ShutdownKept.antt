@@ -8,8 +8,8 @@ use Rattle.dcsctp_spec_lemmas.specs.spec.Packet.{Content, abort, shutdown, shutd
 use Rattle.dcsctp_spec_lemmas.specs.spec.endpoint.Endpoint.{Core, closed, cookie_wait, cookie_echoed, open_in, OpenPhase, established, shutdown_pending, shutdown_sent, shutdown_received, shutdown_ack_sent}
 use Rattle.dcsctp_spec_lemmas.specs.spec.endpoint.Following.{Following, next_chunk}
 use Rattle.dcsctp_spec_lemmas.specs.types.declared.options.Options.{Options}
-use Rattle.dcsctp_spec_lemmas.specs.spec.association.Effect.{Effect, emitted}
-use Rattle.dcsctp_spec_lemmas.specs.spec.association.ShutdownChanges.{shutdown_call_change_echoed, sending_change, shutdown_step_change_in, shutdown_step_change, shutdown_call_change_in, shutdown_call_change, abort_call_change, shutdown_again_change_in, shutdown_again_change, abort_change, shutdown_change_in, shutdown_change, reflected_change, shutdown_ack_change_in, shutdown_ack_change, shutdown_complete_change_in, shutdown_complete_change}
+use Rattle.dcsctp_spec_lemmas.specs.spec.association.Effect.{Effect, emission_effects}
+use Rattle.dcsctp_spec_lemmas.specs.spec.association.ShutdownChanges.{shutdown_call_change_echoed, sending_change, shutdown_step_change_by_phase, shutdown_step_change, shutdown_call_change_by_phase, shutdown_call_change, abort_call_change, shutdown_again_change_by_phase, shutdown_again_change, abort_change, shutdown_change_by_phase, shutdown_change, reflected_change, shutdown_ack_change_by_phase, shutdown_ack_change, shutdown_complete_change_by_phase, shutdown_complete_change}
 use Rattle.dcsctp_spec_lemmas.proofs.AbortLemmas.{by_abort}
 use Rattle.dcsctp_theorem_association.proofs.Facts.{TrueContents, PeerFacts, TrueCore}
 use Rattle.dcsctp_theorem_association.proofs.Flushes.{alone_true, emitted_true}
@@ -21,10 +21,10 @@ in_kept : (my_offer their_offer : Offer) (mine theirs : List Effect) (phase : Op
     → PeerFacts my_offer their_offer mine theirs my held → TrueContents my_offer their_offer mine theirs held.peer.tag contents
     → Kept my_offer their_offer mine theirs (sending_change phase my held contents)
 in_kept my_offer their_offer mine theirs phase my held contents h is =
-    open_kept my_offer their_offer mine theirs phase my held (emitted held.peer.tag contents) next_chunk h (emitted_true my_offer their_offer mine theirs held.peer.tag contents is)
+    open_kept my_offer their_offer mine theirs phase my held (emission_effects held.peer.tag contents) next_chunk h (emitted_true my_offer their_offer mine theirs held.peer.tag contents is)
 
 step_in_kept : (my_offer their_offer : Offer) (mine theirs : List Effect) (phase : OpenPhase) (my : Pair) (held : Held) (tsn : ℕ) (is_acknowledged : Bool)
-    → PeerFacts my_offer their_offer mine theirs my held → Kept my_offer their_offer mine theirs (shutdown_step_change_in phase my held tsn is_acknowledged)
+    → PeerFacts my_offer their_offer mine theirs my held → Kept my_offer their_offer mine theirs (shutdown_step_change_by_phase phase my held tsn is_acknowledged)
 step_in_kept my_offer their_offer mine theirs established my held tsn is_acknowledged h = in_kept my_offer their_offer mine theirs established my held [] h tt
 step_in_kept my_offer their_offer mine theirs shutdown_pending my held tsn false h = in_kept my_offer their_offer mine theirs shutdown_pending my held [] h tt
 step_in_kept my_offer their_offer mine theirs shutdown_pending my held tsn true h = in_kept my_offer their_offer mine theirs shutdown_sent my held (shutdown tsn ∷ []) h (tt, tt)
@@ -34,7 +34,7 @@ step_in_kept my_offer their_offer mine theirs shutdown_received my held tsn true
 step_in_kept my_offer their_offer mine theirs shutdown_ack_sent my held tsn is_acknowledged h = in_kept my_offer their_offer mine theirs shutdown_ack_sent my held [] h tt
 
 call_in_kept : (my_offer their_offer : Offer) (mine theirs : List Effect) (phase : OpenPhase) (my : Pair) (held : Held) (tsn : ℕ) (is_acknowledged : Bool)
-    → PeerFacts my_offer their_offer mine theirs my held → Kept my_offer their_offer mine theirs (shutdown_call_change_in phase my held tsn is_acknowledged)
+    → PeerFacts my_offer their_offer mine theirs my held → Kept my_offer their_offer mine theirs (shutdown_call_change_by_phase phase my held tsn is_acknowledged)
 call_in_kept my_offer their_offer mine theirs established my held tsn is_acknowledged h = step_in_kept my_offer their_offer mine theirs shutdown_pending my held tsn is_acknowledged h
 call_in_kept my_offer their_offer mine theirs shutdown_pending my held tsn is_acknowledged h = unchanged_kept my_offer their_offer mine theirs (open_in shutdown_pending my held) h
 call_in_kept my_offer their_offer mine theirs shutdown_sent my held tsn is_acknowledged h = unchanged_kept my_offer their_offer mine theirs (open_in shutdown_sent my held) h
@@ -42,7 +42,7 @@ call_in_kept my_offer their_offer mine theirs shutdown_received my held tsn is_a
 call_in_kept my_offer their_offer mine theirs shutdown_ack_sent my held tsn is_acknowledged h = unchanged_kept my_offer their_offer mine theirs (open_in shutdown_ack_sent my held) h
 
 again_in_kept : (my_offer their_offer : Offer) (mine theirs : List Effect) (phase : OpenPhase) (my : Pair) (held : Held) (tsn : ℕ)
-    → PeerFacts my_offer their_offer mine theirs my held → Kept my_offer their_offer mine theirs (shutdown_again_change_in phase my held tsn)
+    → PeerFacts my_offer their_offer mine theirs my held → Kept my_offer their_offer mine theirs (shutdown_again_change_by_phase phase my held tsn)
 again_in_kept my_offer their_offer mine theirs established my held tsn h = unchanged_kept my_offer their_offer mine theirs (open_in established my held) h
 again_in_kept my_offer their_offer mine theirs shutdown_pending my held tsn h = unchanged_kept my_offer their_offer mine theirs (open_in shutdown_pending my held) h
 again_in_kept my_offer their_offer mine theirs shutdown_sent my held tsn h = in_kept my_offer their_offer mine theirs shutdown_sent my held (shutdown tsn ∷ []) h (tt, tt)
@@ -50,7 +50,7 @@ again_in_kept my_offer their_offer mine theirs shutdown_received my held tsn h =
 again_in_kept my_offer their_offer mine theirs shutdown_ack_sent my held tsn h = in_kept my_offer their_offer mine theirs shutdown_ack_sent my held (shutdown_ack ∷ []) h (tt, tt)
 
 change_in_kept : (my_offer their_offer : Offer) (mine theirs : List Effect) (phase : OpenPhase) (my : Pair) (held : Held) (tsn : ℕ) (is_acknowledged : Bool)
-    → PeerFacts my_offer their_offer mine theirs my held → Kept my_offer their_offer mine theirs (shutdown_change_in phase my held tsn is_acknowledged)
+    → PeerFacts my_offer their_offer mine theirs my held → Kept my_offer their_offer mine theirs (shutdown_change_by_phase phase my held tsn is_acknowledged)
 change_in_kept my_offer their_offer mine theirs established my held tsn is_acknowledged h = step_in_kept my_offer their_offer mine theirs shutdown_received my held tsn is_acknowledged h
 change_in_kept my_offer their_offer mine theirs shutdown_pending my held tsn is_acknowledged h = step_in_kept my_offer their_offer mine theirs shutdown_received my held tsn is_acknowledged h
 change_in_kept my_offer their_offer mine theirs shutdown_sent my held tsn is_acknowledged h = in_kept my_offer their_offer mine theirs shutdown_ack_sent my held (shutdown_ack ∷ []) h (tt, tt)
@@ -59,18 +59,18 @@ change_in_kept my_offer their_offer mine theirs shutdown_ack_sent my held tsn is
 
 reflects_kept : (my_offer their_offer : Offer) (mine theirs : List Effect) (core : Core) (header : ℕ) (following : Following) → TrueCore my_offer their_offer mine theirs core
     → Kept my_offer their_offer mine theirs (reflected_change core header following)
-reflects_kept my_offer their_offer mine theirs core header following h = stays_kept my_offer their_offer mine theirs core (emitted header (shutdown_complete true ∷ [])) following h ((tt, tt), tt) (tt, tt)
+reflects_kept my_offer their_offer mine theirs core header following h = stays_kept my_offer their_offer mine theirs core (emission_effects header (shutdown_complete true ∷ [])) following h ((tt, tt), tt) (tt, tt)
 
 ack_in_kept : (my_offer their_offer : Offer) (mine theirs : List Effect) (phase : OpenPhase) (my : Pair) (held : Held) (header : ℕ) (following : Following)
-    → PeerFacts my_offer their_offer mine theirs my held → Kept my_offer their_offer mine theirs (shutdown_ack_change_in phase my held header following)
+    → PeerFacts my_offer their_offer mine theirs my held → Kept my_offer their_offer mine theirs (shutdown_ack_change_by_phase phase my held header following)
 ack_in_kept my_offer their_offer mine theirs established my held header following h = reflects_kept my_offer their_offer mine theirs (open_in established my held) header following h
 ack_in_kept my_offer their_offer mine theirs shutdown_pending my held header following h = reflects_kept my_offer their_offer mine theirs (open_in shutdown_pending my held) header following h
-ack_in_kept my_offer their_offer mine theirs shutdown_sent my held header following h = ended_kept my_offer their_offer mine theirs (emitted held.peer.tag (shutdown_complete false ∷ [])) ((tt, tt), tt)
+ack_in_kept my_offer their_offer mine theirs shutdown_sent my held header following h = ended_kept my_offer their_offer mine theirs (emission_effects held.peer.tag (shutdown_complete false ∷ [])) ((tt, tt), tt)
 ack_in_kept my_offer their_offer mine theirs shutdown_received my held header following h = reflects_kept my_offer their_offer mine theirs (open_in shutdown_received my held) header following h
-ack_in_kept my_offer their_offer mine theirs shutdown_ack_sent my held header following h = ended_kept my_offer their_offer mine theirs (emitted held.peer.tag (shutdown_complete false ∷ [])) ((tt, tt), tt)
+ack_in_kept my_offer their_offer mine theirs shutdown_ack_sent my held header following h = ended_kept my_offer their_offer mine theirs (emission_effects held.peer.tag (shutdown_complete false ∷ [])) ((tt, tt), tt)
 
 complete_in_kept : (my_offer their_offer : Offer) (mine theirs : List Effect) (phase : OpenPhase) (my : Pair) (held : Held)
-    → PeerFacts my_offer their_offer mine theirs my held → Kept my_offer their_offer mine theirs (shutdown_complete_change_in phase my held)
+    → PeerFacts my_offer their_offer mine theirs my held → Kept my_offer their_offer mine theirs (shutdown_complete_change_by_phase phase my held)
 complete_in_kept my_offer their_offer mine theirs established my held h = unchanged_kept my_offer their_offer mine theirs (open_in established my held) h
 complete_in_kept my_offer their_offer mine theirs shutdown_pending my held h = unchanged_kept my_offer their_offer mine theirs (open_in shutdown_pending my held) h
 complete_in_kept my_offer their_offer mine theirs shutdown_sent my held h = unchanged_kept my_offer their_offer mine theirs (open_in shutdown_sent my held) h

@@ -5,7 +5,7 @@ use Rattle.dcsctp_spec_lemmas.specs.types.declared.association.Held.{Held}
 use Rattle.dcsctp_spec_lemmas.specs.types.Offer.{Offer}
 use Rattle.dcsctp_spec_lemmas.specs.spec.endpoint.Endpoint.{Core, open_in, OpenPhase}
 use Rattle.dcsctp_spec_lemmas.specs.spec.endpoint.Following.{Following}
-use Rattle.dcsctp_spec_lemmas.specs.spec.association.Effect.{Effect, draws, ends, Change, unchanged, rest_dropped, ended}
+use Rattle.dcsctp_spec_lemmas.specs.spec.association.Effect.{Effect, draws, ends, Change, no_change, rest_dropped, ending_change}
 use Rattle.dcsctp_spec_lemmas.specs.spec.association.Acts.{then_changes}
 use Rattle.dcsctp_spec_runs.specs.Past.{HasEffect, FreshDraw, HasFreshTags}
 use Rattle.dcsctp_spec_runs.specs.World.{after_effects}
@@ -25,7 +25,7 @@ stays_kept my_offer their_offer mine theirs core effects following h true_effect
     record { effects = true_effects; core = core_stays my_offer their_offer mine theirs core effects free h }
 
 pub unchanged_kept : (my_offer their_offer : Offer) (mine theirs : List Effect) (core : Core)
-    → TrueCore my_offer their_offer mine theirs core → Kept my_offer their_offer mine theirs (unchanged core)
+    → TrueCore my_offer their_offer mine theirs core → Kept my_offer their_offer mine theirs (no_change core)
 unchanged_kept my_offer their_offer mine theirs core h = record { effects = tt; core = h }
 
 pub dropped_kept : (my_offer their_offer : Offer) (mine theirs : List Effect) (core : Core)
@@ -33,7 +33,7 @@ pub dropped_kept : (my_offer their_offer : Offer) (mine theirs : List Effect) (c
 dropped_kept my_offer their_offer mine theirs core h = record { effects = tt; core = h }
 
 pub ended_kept : (my_offer their_offer : Offer) (mine theirs : List Effect) (before : List Effect)
-    → TrueEffects my_offer their_offer mine theirs before → Kept my_offer their_offer mine theirs (ended before)
+    → TrueEffects my_offer their_offer mine theirs before → Kept my_offer their_offer mine theirs (ending_change before)
 ended_kept my_offer their_offer mine theirs before h =
     record { effects = effects-append my_offer their_offer mine theirs before (ends ∷ []) h (tt, tt); core = tt }
 

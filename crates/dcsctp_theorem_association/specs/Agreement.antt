@@ -1,7 +1,7 @@
 -- What two sides agree on, over every schedule that loses, repeats, delays and reorders their packets.
 use Rattle.std.specs.Prelude.{◌≡◌, ◌-◌, ◌^◌, ◌≤◌, List}
 use Rattle.dcsctp_spec_lemmas.specs.types.declared.options.Options.{Options}
-use Rattle.dcsctp_spec_lemmas.specs.types.Offer.{offer_of, negotiated}
+use Rattle.dcsctp_spec_lemmas.specs.types.Offer.{offer_of, negotiated_capabilities}
 use Rattle.dcsctp_spec_lemmas.specs.spec.association.Effect.{AssociationIdentity, Effect, holds, connects, completes}
 use Rattle.dcsctp_spec_runs.specs.Past.{HasEffect, WasPerformed, Each, HasFreshTags, requests_begun}
 use Rattle.dcsctp_spec_runs.specs.World.{SideState, SideRun, side_after, at_a, at_b, World, WorldStep, world_after, WorldRun, steps_of}
@@ -16,8 +16,8 @@ pub record FindsCrossed (mine theirs : SideState) (link : AssociationIdentity) :
   pub other : AssociationIdentity
   pub held : HasEffect (holds other) theirs.past
   pub crossed : IsCrossed link other
-  pub capabilities : link.capabilities ≡ negotiated (offer_of mine.options) (offer_of theirs.options)
-  pub other_capabilities : other.capabilities ≡ negotiated (offer_of theirs.options) (offer_of mine.options)
+  pub capabilities : link.capabilities ≡ negotiated_capabilities (offer_of mine.options) (offer_of theirs.options)
+  pub other_capabilities : other.capabilities ≡ negotiated_capabilities (offer_of theirs.options) (offer_of mine.options)
 
 -- Each OnConnected of the one side finds the other so.
 abbrev pub ConnectsCrossed : SideState → SideState → Type 0

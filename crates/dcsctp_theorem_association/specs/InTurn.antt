@@ -2,10 +2,10 @@
 use Rattle.std.specs.Prelude.{◌≡◌, ℕ, ◌+◌, List, [], ◌∷◌}
 use Rattle.dcsctp_spec_lemmas.specs.types.declared.options.Options.{Options}
 use Rattle.dcsctp_spec_lemmas.specs.types.declared.association.Pair.{Pair}
-use Rattle.dcsctp_spec_lemmas.specs.types.Offer.{offer_of, negotiated}
+use Rattle.dcsctp_spec_lemmas.specs.types.Offer.{offer_of, negotiated_capabilities}
 use Rattle.dcsctp_spec_lemmas.specs.spec.Packet.{Content, Packet}
 use Rattle.dcsctp_spec_lemmas.specs.spec.endpoint.Endpoint.{Core, closed, open_in, established}
-use Rattle.dcsctp_spec_lemmas.specs.spec.association.Effect.{Effect, sends, connects, Change, unchanged}
+use Rattle.dcsctp_spec_lemmas.specs.spec.association.Effect.{Effect, sends, connects, Change, no_change}
 use Rattle.dcsctp_spec_lemmas.specs.spec.association.Choices.{Choices, idle_choices}
 use Rattle.dcsctp_spec_lemmas.specs.spec.association.HandshakeChanges.{introduction_of, new_held, IsCookieOf}
 use Rattle.dcsctp_spec_lemmas.specs.spec.association.Acts.{connect, act_change, chunk_change}
@@ -33,12 +33,12 @@ sent_first (sends packet ∷ effects) = packet
 sent_first (effect ∷ effects) = sent_first effects
 
 -- its first chunk is handled
-abbrev pub works_first : Options → Core → ℕ → List Content → Choices → Change
-works_first options core header [] choices = unchanged core
-works_first options core header (content ∷ contents) choices = chunk_change options core header content choices
+abbrev pub change_of_first_chunk : Options → Core → ℕ → List Content → Choices → Change
+change_of_first_chunk options core header [] choices = no_change core
+change_of_first_chunk options core header (content ∷ contents) choices = chunk_change options core header content choices
 
-abbrev pub works : Options → Core → Packet → Choices → Change
-works options core packet choices = works_first options core packet.tag packet.contents choices
+abbrev pub change_of_packet : Options → Core → Packet → Choices → Change
+change_of_packet options core packet choices = change_of_first_chunk options core packet.tag packet.contents choices
 
 -- connect, and what INIT, INIT ACK, COOKIE ECHO and COOKIE ACK bring in turn
 abbrev pub connecting : Options → Options → Handshake → Change
@@ -46,21 +46,21 @@ connecting options_a options_b handshake = act_change options_a closed connect (
 
 abbrev pub init_handled : Options → Options → Handshake → Change
 init_handled options_a options_b handshake =
-    works options_b closed (sent_first (connecting options_a options_b handshake).effects) (choices_for handshake handshake.b)
+    change_of_packet options_b closed (sent_first (connecting options_a options_b handshake).effects) (choices_for handshake handshake.b)
 
 abbrev pub init_ack_handled : Options → Options → Handshake → Change
 init_ack_handled options_a options_b handshake =
-    works options_a (connecting options_a options_b handshake).core (sent_first (init_handled options_a options_b handshake).effects)
+    change_of_packet options_a (connecting options_a options_b handshake).core (sent_first (init_handled options_a options_b handshake).effects)
     (choices_for handshake handshake.a)
 
 abbrev pub cookie_echo_handled : Options → Options → Handshake → Change
 cookie_echo_handled options_a options_b handshake =
-    works options_b (init_handled options_a options_b handshake).core (sent_first (init_ack_handled options_a options_b handshake).effects)
+    change_of_packet options_b (init_handled options_a options_b handshake).core (sent_first (init_ack_handled options_a options_b handshake).effects)
     (choices_for handshake handshake.b)
 
 abbrev pub cookie_ack_handled : Options → Options → Handshake → Change
 cookie_ack_handled options_a options_b handshake =
-    works options_a (init_ack_handled options_a options_b handshake).core (sent_first (cookie_echo_handled options_a options_b handshake).effects)
+    change_of_packet options_a (init_ack_handled options_a options_b handshake).core (sent_first (cookie_echo_handled options_a options_b handshake).effects)
     (choices_for handshake handshake.a)
 
 abbrev pub delivery_in_turn : Which → Change → Change → WorldStep
@@ -84,8 +84,8 @@ connections_of_effects (effect ∷ earlier) = connections_of_effects earlier
 
 -- Both are Established and crossed, and each has connected once.
 pub record AreConnectedOnce (options_a options_b : Options) (handshake : Handshake) (world : World) : Type 0 where
-  pub a : world.a.core ≡ open_in established handshake.a (new_held handshake.a handshake.b (negotiated (offer_of options_a) (offer_of options_b)))
-  pub b : world.b.core ≡ open_in established handshake.b (new_held handshake.b handshake.a (negotiated (offer_of options_b) (offer_of options_a)))
+  pub a : world.a.core ≡ open_in established handshake.a (new_held handshake.a handshake.b (negotiated_capabilities (offer_of options_a) (offer_of options_b)))
+  pub b : world.b.core ≡ open_in established handshake.b (new_held handshake.b handshake.a (negotiated_capabilities (offer_of options_b) (offer_of options_a)))
   pub a_once : connections_of_effects world.a.past ≡ 1
   pub b_once : connections_of_effects world.b.past ≡ 1
 

@@ -5,15 +5,15 @@ use Rattle.dcsctp_spec_lemmas.specs.types.declared.association.Pair.{Pair}
 use Rattle.dcsctp_spec_lemmas.specs.types.declared.association.Held.{Held}
 use Rattle.dcsctp_spec_lemmas.specs.types.declared.options.Options.{Options}
 use Rattle.dcsctp_spec_lemmas.specs.spec.endpoint.Cause.{Cause, causes_of}
-use Rattle.dcsctp_spec_lemmas.specs.spec.Cookie.{Cookie, cookie_at}
+use Rattle.dcsctp_spec_lemmas.specs.spec.Cookie.{Cookie, cookie_of_bytes}
 use Rattle.dcsctp_spec_lemmas.specs.spec.Packet.{Introduction, Content, init, init_ack, cookie_echo, cookie_ack, re_config, abort, shutdown, shutdown_ack, shutdown_complete, plain}
 use Rattle.dcsctp_spec_lemmas.specs.spec.endpoint.Endpoint.{Core, closed, cookie_wait, cookie_echoed, open_in, OpenPhase, established, shutdown_pending, shutdown_sent, shutdown_received, shutdown_ack_sent}
 use Rattle.dcsctp_spec_lemmas.specs.spec.endpoint.Following.{Following}
-use Rattle.dcsctp_spec_lemmas.specs.spec.association.Effect.{Effect, ends, Change, ended}
+use Rattle.dcsctp_spec_lemmas.specs.spec.association.Effect.{Effect, ends, Change, ending_change}
 use Rattle.dcsctp_spec_lemmas.specs.spec.association.Choices.{Filling, Choices}
 use Rattle.dcsctp_spec_lemmas.specs.spec.association.HandshakeChanges.{introduction_of, answering_introduction, connect_change, sends_init_ack, init_change, echo_change, held_by_init_ack, init_ack_change, cookie_ack_change, t1_again_change, t1_gives_up_change}
-use Rattle.dcsctp_spec_lemmas.specs.spec.association.CookieEchoChanges.{stale_error, Resolution, establish_new, restart, simultaneous_init, discard, maintain_existing, invalid_tag, stale, aged, resolve, held_by_cookie, new_association_change, restart_change, maintain_change, resolved_change, read_echo_change}
-use Rattle.dcsctp_spec_lemmas.specs.spec.association.ShutdownChanges.{shutdown_call_change_echoed, shutdown_step_change_in, shutdown_step_change, shutdown_call_change, abort_call_change, shutdown_again_change, abort_change, shutdown_change, shutdown_ack_change, shutdown_complete_change}
+use Rattle.dcsctp_spec_lemmas.specs.spec.association.CookieEchoChanges.{stale_error, Resolution, establish_new, restart, simultaneous_init, discard, maintain_existing, invalid_tag, stale, aged_resolution, resolve, held_by_cookie, new_association_change, restart_change, maintain_change, resolved_change, read_echo_change}
+use Rattle.dcsctp_spec_lemmas.specs.spec.association.ShutdownChanges.{shutdown_call_change_echoed, shutdown_step_change_by_phase, shutdown_step_change, shutdown_call_change, abort_call_change, shutdown_again_change, abort_change, shutdown_change, shutdown_ack_change, shutdown_complete_change}
 use Rattle.dcsctp_spec_lemmas.specs.spec.association.Acts.{Act, connect, t1_expires, shut_down, step_of_shutdown, shutdown_repeats, abort_with, hands_over, flushes, request_again, request_renewed, flush_change, hand_over_change, act_change, violation_change, plain_change, shutdown_chunk_change, chunk_change}
 use Rattle.dcsctp_spec_lemmas.proofs.AbortLemmas.{by_abort}
 use Rattle.dcsctp_spec_lemmas.proofs.OneAnswerLemmas.{change_by}
@@ -22,7 +22,7 @@ use Rattle.dcsctp_theorem_cookies.proofs.ResetsKeep.{re_config_keeps, request_ag
 
 module _ (rules : Rules) where
   -- the association ends, after these effects
-  ended_keeps : (before : List Effect) → EffectsKeep rules before → ChangeKeeps rules (ended before)
+  ended_keeps : (before : List Effect) → EffectsKeep rules before → ChangeKeeps rules (ending_change before)
   ended_keeps before h = record { effects = effects_append rules before (ends ∷ []) h (tt, tt); core = tt }
 
   -- ---- the handshake
@@ -96,11 +96,11 @@ module _ (rules : Rules) where
   cookie_echo_keeps : (options : Options) (core : Core) (header : ℕ) (read : Result Cookie (List ℕ)) (choices : Choices) → CoreKeeps rules core
       → ChangeKeeps rules (read_echo_change options core header read choices)
   cookie_echo_keeps options core header (Err text) choices h = record { effects = tt; core = h }
-  cookie_echo_keeps options core header (Ok cookie) choices h = resolved_keeps options core cookie choices (aged choices.is_stale (resolve core choices.tie choices.secret header cookie)) h
+  cookie_echo_keeps options core header (Ok cookie) choices h = resolved_keeps options core cookie choices (aged_resolution choices.is_stale (resolve core choices.tie choices.secret header cookie)) h
 
   -- ---- shutdown and ends
 
-  step_keeps_in : (phase : OpenPhase) (my : Pair) (held : Held) (tsn : ℕ) (is_acknowledged : Bool) → ChangeKeeps rules (shutdown_step_change_in phase my held tsn is_acknowledged)
+  step_keeps_in : (phase : OpenPhase) (my : Pair) (held : Held) (tsn : ℕ) (is_acknowledged : Bool) → ChangeKeeps rules (shutdown_step_change_by_phase phase my held tsn is_acknowledged)
   step_keeps_in shutdown_pending my held tsn true = record { effects = ((tt, tt), tt); core = tt }
   step_keeps_in shutdown_received my held tsn true = record { effects = ((tt, tt), tt); core = tt }
   step_keeps_in phase my held tsn is_acknowledged = record { effects = tt; core = tt }
@@ -202,7 +202,7 @@ module _ (rules : Rules) where
   chunk_keeps options core header (init theirs) choices h k made =
       change_by (ChangeKeeps rules) options core theirs choices (unchanged_keeps rules core h) (init_keeps options core theirs choices h made)
   chunk_keeps options core header (init_ack theirs cookie) choices h k made = init_ack_keeps options core theirs cookie choices h k
-  chunk_keeps options core header (cookie_echo bytes) choices h k made = cookie_echo_keeps options core header (cookie_at bytes) choices h
+  chunk_keeps options core header (cookie_echo bytes) choices h k made = cookie_echo_keeps options core header (cookie_of_bytes bytes) choices h
   chunk_keeps options core header cookie_ack choices h k made = cookie_ack_keeps core choices h
   chunk_keeps options core header (re_config parameters) choices h k made = re_config_keeps rules options.follow_rfc core parameters choices h
   chunk_keeps options core header (abort reflected causes) choices h k made = abort_keeps options core h

@@ -5,14 +5,14 @@ use Rattle.std.specs.List.{AllByRecursion}
 use Rattle.dcsctp_spec_lemmas.specs.types.declared.ends.AbortReason.TheVariants.{CloseCalled, TooManyErrors}
 use Rattle.dcsctp_spec_lemmas.specs.types.Schedule.{CallContent, connect_call, close_call, shutdown_call, advance_call, set_call, send_call, send_many_call, reset_call, take_call, hand_over_call}
 use Rattle.dcsctp_spec_lemmas.specs.spec.Packet.{Content, shutdown_ack, Packet}
-use Rattle.dcsctp_spec_lemmas.specs.spec.Admission.{Admission, all_chunks, shutdown_acks_alone, refused, shutdown_acks_in}
+use Rattle.dcsctp_spec_lemmas.specs.spec.Admission.{Admission, all_chunks, shutdown_acks_alone, refused, shutdown_acks_of}
 use Rattle.dcsctp_spec_lemmas.specs.spec.endpoint.Endpoint.{Endpoint, Core, closed, cookie_wait, cookie_echoed, open_in}
 use Rattle.dcsctp_spec_lemmas.specs.spec.endpoint.Following.{Following, next_chunk, packet_end, dropped_rest}
 use Rattle.dcsctp_spec_lemmas.specs.spec.association.Acts.{connect, shut_down, abort_with, flushes}
 use Rattle.dcsctp_spec_lemmas.specs.spec.endpoint.HeartbeatOutcomes.{is_exhausted}
 use Rattle.dcsctp_spec_lemmas.specs.spec.endpoint.MessageOutcomes.{awaits_opening, sending_of}
 use Rattle.dcsctp_spec_lemmas.specs.spec.endpoint.Turn.{Input, refusal, packet_begins, chunk_input, packet_ends, act_input, user_sets, user_sends, user_resets, user_takes, time_passes}
-use Rattle.dcsctp_spec_lemmas.specs.spec.endpoint.TimeTurns.{Timer, t1_timer, own_timer, t2_timer, timers_in, deadline, has_come, has_restart, t2_input, expiry_input, inputs_behind, after_expiries, ExpiryThen, ExpiryTurns, MomentTurns, TimeTurns}
+use Rattle.dcsctp_spec_lemmas.specs.spec.endpoint.TimeTurns.{Timer, t1_timer, own_timer, t2_timer, handled_timers, deadline, has_come, has_restart, t2_input, expiry_input, inputs_behind, after_expiries, ExpiryThen, ExpiryTurns, MomentTurns, TimeTurns}
 use Rattle.dcsctp_spec_lemmas.specs.spec.endpoint.CallTurns.{packet_tail, asked_again, Transition, IsTurn, Turns, AfterChunk, ChunkTurns, WholeTurns, AdmittedTurns}
 use Rattle.dcsctp_spec_lemmas.specs.spec.Handover.{readiness_of}
 use Rattle.dcsctp_spec_lemmas.specs.spec.HandoverInputs.{inputs_of_handover}
@@ -80,7 +80,7 @@ module _ (Good : Content → Type 0) where
 
   of_moment : (e : Endpoint) (moment : ℕ) (turns : List Transition) → MomentTurns e moment turns → OfChunks Good turns
   of_moment e moment [] taken = absurd taken
-  of_moment e moment (t ∷ turns) taken = (of_input e (time_passes moment) t taken.0 tt, of_expiries (timers_in t.outcome.after.core) false t.outcome.after turns taken.1)
+  of_moment e moment (t ∷ turns) taken = (of_input e (time_passes moment) t taken.0 tt, of_expiries (handled_timers t.outcome.after.core) false t.outcome.after turns taken.1)
 
   of_time : (later : Bool) (e : Endpoint) (moment : ℕ) (turns : List Transition) → TimeTurns later e moment turns → OfChunks Good turns
   of_time true e moment turns taken = of_moment e moment turns taken
@@ -106,7 +106,7 @@ module _ (Good : Content → Type 0) where
 
   -- ---- a packet
 
-  of_acks : (contents : List Content) → AllByRecursion Good contents → AllByRecursion Good (shutdown_acks_in contents)
+  of_acks : (contents : List Content) → AllByRecursion Good contents → AllByRecursion Good (shutdown_acks_of contents)
   of_acks [] each = tt
   of_acks (shutdown_ack ∷ contents) each = (each.0, of_acks contents each.1)
   of_acks (content ∷ contents) each = of_acks contents each.1
@@ -141,5 +141,5 @@ module _ (Good : Content → Type 0) where
   pub of_admitted : (e : Endpoint) (packet : Packet) (admission : Admission) (turns : List Transition) → AllByRecursion Good packet.contents → AdmittedTurns e packet admission turns
       → OfChunks Good turns
   of_admitted e packet all_chunks turns each taken = of_whole e packet turns each taken
-  of_admitted e packet shutdown_acks_alone turns each taken = of_contents e packet.tag (shutdown_acks_in packet.contents) [] turns (of_acks packet.contents each) tt taken
+  of_admitted e packet shutdown_acks_alone turns each taken = of_contents e packet.tag (shutdown_acks_of packet.contents) [] turns (of_acks packet.contents each) tt taken
   of_admitted e packet (refused text) turns each taken = of_turns e (refusal text ∷ []) turns (tt, tt) taken

@@ -6,9 +6,9 @@ use Rattle.dcsctp_spec_lemmas.specs.types.declared.association.Held.{Held}
 use Rattle.dcsctp_spec_lemmas.specs.spec.Reconfiguration.{RequestedReset}
 use Rattle.dcsctp_spec_lemmas.specs.spec.Packet.{Plain, Content, init, init_ack, cookie_echo}
 use Rattle.dcsctp_spec_lemmas.specs.spec.endpoint.Endpoint.{Core, cookie_echoed}
-use Rattle.dcsctp_spec_lemmas.specs.spec.association.Effect.{Effect, sends, emitted, emitted_alone, Change, unchanged}
+use Rattle.dcsctp_spec_lemmas.specs.spec.association.Effect.{Effect, sends, emission_effects, emitted_alone, Change, no_change}
 use Rattle.dcsctp_spec_lemmas.specs.spec.association.Choices.{plain_contents, Filling, Choices}
-use Rattle.dcsctp_spec_lemmas.specs.spec.association.FlushChanges.{reset_request, reset_to_begin, chunks_behind, further_packets, flush_packets, flushed_with, flush_where, flush}
+use Rattle.dcsctp_spec_lemmas.specs.spec.association.FlushChanges.{reset_request, reset_to_begin, chunks_behind, further_packets, flush_packets, flushed_with, flush_if_allowed, flush}
 use Rattle.dcsctp_spec_lemmas.specs.spec.association.Acts.{sent_then_flushed}
 
 -- ---- rules
@@ -58,7 +58,7 @@ all_append P [] ys h k = k
 all_append P (x ∷ xs) ys h k = (h.0, all_append P xs ys h.1 k)
 
 module _ (rules : Rules) where
-  pub unchanged_keeps : (core : Core) → CoreKeeps rules core → ChangeKeeps rules (unchanged core)
+  pub unchanged_keeps : (core : Core) → CoreKeeps rules core → ChangeKeeps rules (no_change core)
   unchanged_keeps core h = record { effects = tt; core = h }
 
   -- ---- packets
@@ -69,7 +69,7 @@ module _ (rules : Rules) where
   contents_append : (xs ys : List Content) → ContentsKeep rules xs → ContentsKeep rules ys → ContentsKeep rules (xs ++ ys)
   contents_append xs ys h k = all_append (ContentKeeps rules) xs ys h k
 
-  emitted_keeps : (tag : ℕ) (contents : List Content) → ContentsKeep rules contents → EffectsKeep rules (emitted tag contents)
+  emitted_keeps : (tag : ℕ) (contents : List Content) → ContentsKeep rules contents → EffectsKeep rules (emission_effects tag contents)
   emitted_keeps tag [] h = tt
   emitted_keeps tag (content ∷ contents) h = (h, tt)
 
@@ -84,7 +84,7 @@ module _ (rules : Rules) where
   further_keeps : (tag : ℕ) (packets : List (List Plain)) → EffectsKeep rules (further_packets tag packets)
   further_keeps tag [] = tt
   further_keeps tag (chunks ∷ packets) =
-      effects_append (emitted tag (plain_contents chunks)) (further_packets tag packets) (emitted_keeps tag (plain_contents chunks) (plain_keeps chunks)) (further_keeps tag packets)
+      effects_append (emission_effects tag (plain_contents chunks)) (further_packets tag packets) (emitted_keeps tag (plain_contents chunks) (plain_keeps chunks)) (further_keeps tag packets)
 
   -- ---- a flush
 
@@ -99,7 +99,7 @@ module _ (rules : Rules) where
       → EffectsKeep rules (flush_packets tag number front filling reset)
   packets_keep tag number front filling reset h =
       let first : List Content = front ++ chunks_behind number filling reset in
-      effects_append (emitted tag first) (further_packets tag filling.further)
+      effects_append (emission_effects tag first) (further_packets tag filling.further)
       (emitted_keeps tag first (contents_append front (chunks_behind number filling reset) h (behind_keeps number filling reset))) (further_keeps tag filling.further)
 
   flushed_keeps : (tag : ℕ) (held : Held) (front : List Content) (filling : Filling) (reset : Option RequestedReset) → ContentsKeep rules front
@@ -108,7 +108,7 @@ module _ (rules : Rules) where
   flushed_keeps tag held front filling (Some reset) h = (tt, packets_keep tag held.own_next front filling (Some reset) h)
 
   flush_keeps_where : (is_allowed : Bool) (tag : ℕ) (held : Held) (front : List Content) (filling : Filling) → ContentsKeep rules front
-      → EffectsKeep rules (flush_where is_allowed tag held front filling).effects
+      → EffectsKeep rules (flush_if_allowed is_allowed tag held front filling).effects
   flush_keeps_where false tag held front filling h = tt
   flush_keeps_where true tag held front filling h = flushed_keeps tag held front filling (reset_to_begin held.own_outstanding filling.reset) h
 

@@ -7,7 +7,7 @@ use Rattle.dcsctp_spec_lemmas.specs.spec.endpoint.Event.{Event, sent}
 use Rattle.dcsctp_spec_lemmas.specs.spec.Packet.{Content, init_ack, cookie_echo, Emission}
 use Rattle.dcsctp_spec_lemmas.specs.spec.endpoint.Endpoint.{Core, cookie_echoed}
 use Rattle.dcsctp_spec_lemmas.specs.spec.endpoint.CallTurns.{Transition, events_of}
-use Rattle.dcsctp_spec_runs.specs.Fitting.{OfSent, AllSent}
+use Rattle.dcsctp_spec_runs.specs.Fitting.{HoldsIfSent, AllSent}
 use Rattle.dcsctp_theorem_sockets.proofs.Sent.{all_sent_map}
 use Rattle.dcsctp_theorem_cookies.specs.Cookies.{BearCookie, GaveCookie, AllEchoGiven}
 use Rattle.dcsctp_theorem_cookies.proofs.CookieRules.{Rules, ContentKeeps, ContentsKeep, CoreKeeps, TakenKeeps}
@@ -58,7 +58,7 @@ given_more : (event : Event Emission) (events : List (Event Emission)) → Impli
 given_more (sent emission) events bytes h = inr h
 given_more event events bytes h = h
 
-given_first : (event : Event Emission) (events : List (Event Emission)) → OfSent (λ emission. Implies (Bears emission) (GaveCookie (event ∷ events))) event
+given_first : (event : Event Emission) (events : List (Event Emission)) → HoldsIfSent (λ emission. Implies (Bears emission) (GaveCookie (event ∷ events))) event
 given_first (sent emission) events = λ bytes borne. inl borne
 given_first event events = tt
 

@@ -10,13 +10,13 @@ use Rattle.dcsctp_spec_lemmas.specs.types.declared.schedule.Side.TheVariants as 
 use Rattle.dcsctp_spec_lemmas.specs.types.Schedule.{StepContent, call_step, delivery_step, ActContent, step_act, outside_act, IsHonestAct, AreHonest}
 use Rattle.dcsctp_spec_lemmas.specs.types.Settings.{FitsOptions, wire_options, ports_of}
 use Rattle.dcsctp_spec_lemmas.specs.spec.endpoint.Event.{Event, sent}
-use Rattle.dcsctp_spec_lemmas.specs.spec.Packet.{Content, cookie_echo, Packet, Emission, packet_in, emission_bytes}
+use Rattle.dcsctp_spec_lemmas.specs.spec.Packet.{Content, cookie_echo, Packet, Emission, packet_of_content, emission_bytes}
 use Rattle.dcsctp_spec_lemmas.specs.spec.Admission.{admits}
 use Rattle.dcsctp_spec_lemmas.specs.spec.endpoint.Endpoint.{Endpoint, fresh_endpoint}
 use Rattle.dcsctp_spec_lemmas.specs.spec.endpoint.Turn.{Input, arrival, refusal, chunk_input, unreadable_text}
 use Rattle.dcsctp_spec_lemmas.specs.spec.endpoint.CallTurns.{Transition, AdmittedTurns, HandleInput, unreadable, readable, AlongTurns, events_of}
 use Rattle.dcsctp_spec_laws.specs.TurnLaws.{ChunksAreControlled}
-use Rattle.dcsctp_spec_runs.specs.Fitting.{OfSent, AllSent, IsSendable}
+use Rattle.dcsctp_spec_runs.specs.Fitting.{HoldsIfSent, AllSent, IsSendable}
 use Rattle.dcsctp_spec_runs.specs.Sockets.{PerformedAct, Both, of_side, of_other, side_of, side_turns_added, turns_after, endpoint_after, packets_shown, DeliveryTurns, StepTurns, SocketRun, side_of_act, NextTurns, acts_of}
 use Rattle.dcsctp_spec_runs.proofs.RunsAlong.{act_along}
 use Rattle.dcsctp_spec_lemmas.proofs.TurnLists.{after_all-append, events_of-append}
@@ -25,7 +25,7 @@ use Rattle.dcsctp_theorem_sockets.proofs.Deliver.{IsSent, sent_at, reads_as_sent
 use Rattle.dcsctp_theorem_sockets.proofs.Moves.{Below}
 use Rattle.dcsctp_theorem_sockets.proofs.Sent.{all_sent_append, all_sent_map}
 use Rattle.dcsctp_theorem_sockets.proofs.SocketsAgree.{Joined, joined}
-use Rattle.dcsctp_theorem_cookies.specs.Cookies.{GaveCookie, EchoesGiven, AllEchoGiven, GivenThroughout, CookiesWereGiven}
+use Rattle.dcsctp_theorem_cookies.specs.Cookies.{GaveCookie, EchoesGivenCookie, AllEchoGiven, GivesCookiesThroughout, CookiesWereGiven}
 use Rattle.dcsctp_theorem_cookies.proofs.CookieRules.{ContentKeeps, ContentsKeep, CoreKeeps, TakenKeeps}
 use Rattle.dcsctp_theorem_cookies.proofs.TurnsKeep.{EmissionKeeps, InputKeeps, TurnKeeps, turn_keeps, TurnsKeep, turns_keep}
 use Rattle.dcsctp_theorem_cookies.proofs.ChunksIn.{OfChunk, OfChunks, of_turns, of_call, of_admitted}
@@ -68,7 +68,7 @@ inputs_keep : (turns others more : List Transition) → OfChunks (GoodChunk turn
 inputs_keep turns others [] h = tt
 inputs_keep turns others (t ∷ more) h = (taken_in turns others t.input h.0, inputs_keep turns others more h.1)
 
-echo_given : (turns others : List Transition) (events : List (Event Emission)) (input : Input) → Implies (GivenBy turns) (GaveCookie events) → OfChunk (GoodChunk turns others) input → EchoesGiven events input
+echo_given : (turns others : List Transition) (events : List (Event Emission)) (input : Input) → Implies (GivenBy turns) (GaveCookie events) → OfChunk (GoodChunk turns others) input → EchoesGivenCookie events input
 echo_given turns others events (chunk_input tag (cookie_echo bytes)) f h = f bytes h.1
 echo_given turns others events input f h = tt
 
@@ -101,8 +101,8 @@ record Known (turns others : List Transition) (emission : Emission) : Type 0 whe
   given : Implies (Bears emission) (GivenBy others)
   echoed : EmissionKeeps (echoing (GivenBy turns)) emission
 
-known_one : (turns others : List Transition) (event : Event Emission) → OfSent IsSendable event → OfSent (λ emission. Implies (Bears emission) (GivenBy others)) event
-    → OfSent (EmissionKeeps (echoing (GivenBy turns))) event → OfSent (Known turns others) event
+known_one : (turns others : List Transition) (event : Event Emission) → HoldsIfSent IsSendable event → HoldsIfSent (λ emission. Implies (Bears emission) (GivenBy others)) event
+    → HoldsIfSent (EmissionKeeps (echoing (GivenBy turns))) event → HoldsIfSent (Known turns others) event
 known_one turns others (sent emission) sendable given echoed = record { sendable = sendable; given = given; echoed = echoed }
 known_one turns others event sendable given echoed = tt
 
@@ -124,7 +124,7 @@ input_chunks law mine theirs turns others bytes more fits out (unreadable ts non
 input_chunks law mine theirs turns others bytes more fits out (readable packet counted ts is_packet counting admitted) =
     let e : Endpoint = endpoint_after mine turns in
     let emitted : Packet = out.emission.packet in
-    let is : packet_in packet ≡ emitted =
+    let is : packet_of_content packet ≡ emitted =
     reads_as_sent law e.options theirs out.emission packet fits out.good.sendable (subst (λ (bs : List ℕ). IsPacket (wire_options e.options) packet bs) out.is is_packet) in
     let each : AllByRecursion (GoodChunk turns others) emitted.contents =
     good_chunks turns others emitted.contents (borne_keep (GivenBy others) emitted.contents out.good.given) out.good.echoed in (
@@ -195,7 +195,7 @@ given_at : (options : Both Options) (turns : Both (List Transition)) (side : Sid
 given_at options turns sides.A h = h.a.given
 given_at options turns sides.B h = h.b.given
 
-throughout : CookieLaws → (options : Both Options) (run : List PerformedAct) → AreUsable options → SocketRun options run → GivenThroughout run
+throughout : CookieLaws → (options : Both Options) (run : List PerformedAct) → AreUsable options → SocketRun options run → GivesCookiesThroughout run
 throughout law options [] are runs = tt
 throughout law options (worked ∷ earlier) are runs = (
   (λ honest side. given_at options (turns_after (worked ∷ earlier)) side (both_keep law options (worked ∷ earlier) are runs honest)),

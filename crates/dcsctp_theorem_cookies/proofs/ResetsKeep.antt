@@ -10,8 +10,8 @@ use Rattle.dcsctp_spec_lemmas.specs.spec.Packet.{re_config}
 use Rattle.dcsctp_spec_lemmas.specs.spec.endpoint.Endpoint.{Core, cookie_echoed, open_in}
 use Rattle.dcsctp_spec_lemmas.specs.spec.association.Choices.{Choices}
 use Rattle.dcsctp_spec_lemmas.specs.spec.association.FlushChanges.{reset_request, flush}
-use Rattle.dcsctp_spec_lemmas.specs.spec.association.ResetChanges.{RequestPlace, again, next, astray, request_place, RequestOutcome, performed_request, repeated, next_request, is_due, outgoing_by, incoming_by, Informed, informed_where, is_outstanding, HandledParameters, work_parameters, work_chunk, answers_emitted, reset_sent, peer_part_handled, re_config_change}
-use Rattle.dcsctp_spec_lemmas.specs.spec.association.Acts.{request_sent, request_again_change, renewed_by, request_renewed_change}
+use Rattle.dcsctp_spec_lemmas.specs.spec.association.ResetChanges.{RequestPlace, again, next, astray, request_place, RequestOutcome, performed_request, repeated_request_outcome, next_request, is_due, outgoing_by_place, incoming_by_place, AnswerResult, result_if_outstanding, is_outstanding, HandledParameters, parameters_outcome, reset_chunk_outcome, answers_emitted, reset_sent, peer_part_handled, re_config_change}
+use Rattle.dcsctp_spec_lemmas.specs.spec.association.Acts.{request_sent, request_again_change, renewed_if_fitting, request_renewed_change}
 use Rattle.dcsctp_theorem_cookies.proofs.CookieRules.{Rules, EffectsKeep, CoreKeeps, ChangeKeeps, unchanged_keeps, effects_append, alone_keeps, flush_keeps}
 
 module _ (rules : Rules) where
@@ -21,7 +21,7 @@ module _ (rules : Rules) where
   worked_keeps held number true = (tt, tt)
   worked_keeps held number false = tt
 
-  repeated_keeps : (held : Held) (result : ReconfigurationResponseResult) (is_reached : Bool) → EffectsKeep rules (repeated held result is_reached).effects
+  repeated_keeps : (held : Held) (result : ReconfigurationResponseResult) (is_reached : Bool) → EffectsKeep rules (repeated_request_outcome held result is_reached).effects
   repeated_keeps held InProgress is_reached = worked_keeps held held.peer_last is_reached
   repeated_keeps held result is_reached = tt
 
@@ -30,39 +30,39 @@ module _ (rules : Rules) where
   next_keeps held number due = (tt, tt)
   next_keeps held number renewed = (tt, tt)
 
-  outgoing_keeps : (held : Held) (number : ℕ) (state : RequestState) (place : RequestPlace) → EffectsKeep rules (outgoing_by held number state place).effects
+  outgoing_keeps : (held : Held) (number : ℕ) (state : RequestState) (place : RequestPlace) → EffectsKeep rules (outgoing_by_place held number state place).effects
   outgoing_keeps held number state again = repeated_keeps held held.peer_result (is_due state)
   outgoing_keeps held number state next = (tt, next_keeps held number state)
   outgoing_keeps held number state astray = tt
 
-  incoming_keeps : (held : Held) (number : ℕ) (place : RequestPlace) → EffectsKeep rules (incoming_by held number place).effects
+  incoming_keeps : (held : Held) (number : ℕ) (place : RequestPlace) → EffectsKeep rules (incoming_by_place held number place).effects
   incoming_keeps held number next = (tt, tt)
   incoming_keeps held number place = tt
 
-  informed_keeps : (my : Pair) (held : Held) (number : ℕ) (result : ReconfigurationResponseResult) (is_it : Bool) → EffectsKeep rules (informed_where my held number result is_it).effects
+  informed_keeps : (my : Pair) (held : Held) (number : ℕ) (result : ReconfigurationResponseResult) (is_it : Bool) → EffectsKeep rules (result_if_outstanding my held number result is_it).effects
   informed_keeps my held number result false = tt
   informed_keeps my held number InProgress true = tt
   informed_keeps my held number result true = (tt, tt)
 
   parameters_keep : (my : Pair) (state : RequestState) (has_worked : Bool) (held : Held) (parameters : List ResetParameter)
-      → EffectsKeep rules (work_parameters my state has_worked held parameters).effects
+      → EffectsKeep rules (parameters_outcome my state has_worked held parameters).effects
   parameters_keep my state has_worked held [] = tt
   parameters_keep my state true held (outgoing_reset_request number answered reset ∷ parameters) = tt
   parameters_keep my state false held (outgoing_reset_request number answered reset ∷ parameters) =
-      let first : RequestOutcome = outgoing_by held number state (request_place held.peer_last number) in
-      effects_append rules first.effects (work_parameters my state true first.held parameters).effects
+      let first : RequestOutcome = outgoing_by_place held number state (request_place held.peer_last number) in
+      effects_append rules first.effects (parameters_outcome my state true first.held parameters).effects
       (outgoing_keeps held number state (request_place held.peer_last number)) (parameters_keep my state true first.held parameters)
   parameters_keep my state has_worked held (incoming_reset_request number streams ∷ parameters) =
-      let first : RequestOutcome = incoming_by held number (request_place held.peer_last number) in
-      effects_append rules first.effects (work_parameters my state has_worked first.held parameters).effects
+      let first : RequestOutcome = incoming_by_place held number (request_place held.peer_last number) in
+      effects_append rules first.effects (parameters_outcome my state has_worked first.held parameters).effects
       (incoming_keeps held number (request_place held.peer_last number)) (parameters_keep my state has_worked first.held parameters)
   parameters_keep my state has_worked held (reconfiguration_response number result ∷ parameters) =
-      let first : Informed = informed_where my held number result (is_outstanding number held.own_outstanding) in
-      effects_append rules first.effects (work_parameters my state has_worked first.held parameters).effects
+      let first : AnswerResult = result_if_outstanding my held number result (is_outstanding number held.own_outstanding) in
+      effects_append rules first.effects (parameters_outcome my state has_worked first.held parameters).effects
       (informed_keeps my held number result (is_outstanding number held.own_outstanding)) (parameters_keep my state has_worked first.held parameters)
   parameters_keep my state has_worked held (other_reset_parameter parameter ∷ parameters) = parameters_keep my state has_worked held parameters
 
-  chunk_keeps_in : (my : Pair) (state : RequestState) (held : Held) (parameters : List ResetParameter) → EffectsKeep rules (work_chunk my state held parameters).effects
+  chunk_keeps_in : (my : Pair) (state : RequestState) (held : Held) (parameters : List ResetParameter) → EffectsKeep rules (reset_chunk_outcome my state held parameters).effects
   chunk_keeps_in my state held [] = tt
   chunk_keeps_in my state held (parameter ∷ parameters) = parameters_keep my state false held (parameter ∷ parameters)
 
@@ -78,7 +78,7 @@ module _ (rules : Rules) where
 
   reset_keeps : (my : Pair) (held : Held) (parameters : List ResetParameter) (choices : Choices) → EffectsKeep rules (peer_part_handled my held parameters choices).effects
   reset_keeps my held parameters choices =
-      let first : HandledParameters = work_chunk my choices.state held parameters in
+      let first : HandledParameters = reset_chunk_outcome my choices.state held parameters in
       effects_append rules first.effects (reset_sent first.is_refused first.held first.answers choices).effects
       (chunk_keeps_in my choices.state held parameters) (reset_sent_keeps first.is_refused first.held first.answers choices)
 
@@ -97,7 +97,7 @@ module _ (rules : Rules) where
   request_again_keeps (open_in phase my held) reset fits h = record { effects = request_keeps held held.own_outstanding reset fits; core = h }
   request_again_keeps core reset fits h = unchanged_keeps rules core h
 
-  renewed_keeps : (held : Held) (number : Option ℕ) (reset : RequestedReset) (fits : Bool) → EffectsKeep rules (renewed_by held number reset fits).effects
+  renewed_keeps : (held : Held) (number : Option ℕ) (reset : RequestedReset) (fits : Bool) → EffectsKeep rules (renewed_if_fitting held number reset fits).effects
   renewed_keeps held None reset fits = tt
   renewed_keeps held (Some number) reset false = tt
   renewed_keeps held (Some number) reset true = (tt, (tt, alone_keeps rules true held.peer.tag (reset_request held.own_next (renewed_reset reset)) tt))

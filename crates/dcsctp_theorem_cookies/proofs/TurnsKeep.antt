@@ -14,7 +14,7 @@ use Rattle.dcsctp_spec_lemmas.specs.spec.endpoint.Turn.{Input, arrival, refusal,
 use Rattle.dcsctp_spec_lemmas.specs.spec.association.Effect.{Effect, sends, Change}
 use Rattle.dcsctp_spec_lemmas.specs.spec.association.Choices.{Choices}
 use Rattle.dcsctp_spec_lemmas.specs.spec.association.Acts.{Act, act_change, shutdown_repeats, flushes}
-use Rattle.dcsctp_spec_lemmas.specs.spec.association.Controlled.{IsControlled, ControlledChunk, ControlledAct}
+use Rattle.dcsctp_spec_lemmas.specs.spec.association.Controlled.{IsControlled, IsControlledChunk, IsControlledAct}
 use Rattle.dcsctp_spec_lemmas.specs.spec.endpoint.CallTurns.{Transition, IsTurn, AlongTurns, after_all, events_of}
 use Rattle.dcsctp_spec_lemmas.proofs.OneAnswerLemmas.{init_by}
 use Rattle.dcsctp_spec_laws.specs.TurnLaws.{ChunksAreControlled, ActsAreControlled}
@@ -67,10 +67,10 @@ module _ (rules : Rules) where
         core = subst (CoreKeeps rules) (sym is.core) h.core;
       }
 
-  by_act : (e : Endpoint) (act : Act) (o : Outcome) → ControlledAct e act o → CoreKeeps rules e.core → OutcomeKeeps rules o
+  by_act : (e : Endpoint) (act : Act) (o : Outcome) → IsControlledAct e act o → CoreKeeps rules e.core → OutcomeKeeps rules o
   by_act e act o turn h = by_change e o (act_change e.options e.core act turn.0) turn.1 (act_keeps rules e.options e.core act turn.0 h)
 
-  by_chunk : (e : Endpoint) (tag : ℕ) (content : Content) (o : Outcome) → ControlledChunk e tag content o → CoreKeeps rules e.core → TakenKeeps rules content
+  by_chunk : (e : Endpoint) (tag : ℕ) (content : Content) (o : Outcome) → IsControlledChunk e tag content o → CoreKeeps rules e.core → TakenKeeps rules content
       → ((choices : Choices) → AnswerKeeps rules content choices) → OutcomeKeeps rules o
   by_chunk e tag content o turn h k made =
       by_change e o turn.0 turn.2 (subst (ChangeKeeps rules) (sym turn.1.2) (chunk_keeps rules e.options e.core tag content turn.1.0 h k (made turn.1.0)))

@@ -5,7 +5,7 @@ use Rattle.std.specs.Duration.{as_nanos}
 use Rattle.dcsctp_spec_lemmas.specs.types.declared.options.Options.{Options}
 use Rattle.dcsctp_spec_lemmas.specs.types.declared.schedule.Side.{Side}
 use Rattle.dcsctp_spec_lemmas.specs.types.Schedule.{AreHonest}
-use Rattle.dcsctp_spec_lemmas.specs.spec.Cookie.{cut}
+use Rattle.dcsctp_spec_lemmas.specs.spec.Cookie.{cookie_moment}
 use Rattle.dcsctp_spec_lemmas.specs.spec.Packet.{cookie_echo}
 use Rattle.dcsctp_spec_lemmas.specs.spec.endpoint.Endpoint.{Endpoint, fresh_endpoint}
 use Rattle.dcsctp_spec_lemmas.specs.spec.endpoint.Turn.{chunk_input}
@@ -28,7 +28,7 @@ pub record MakesFrom (bytes : List ℕ) (turn : Transition) : Type 0 where
 abbrev pub GaveInTime : ℕ → ℕ → List ℕ → Endpoint → List Transition → Type 0
 GaveInTime lifetime now bytes e [] = ⊥
 GaveInTime lifetime now bytes e (turn ∷ turns) =
-    (GaveCookie turn.outcome.events bytes × (cut now ≤ cut e.moment + lifetime)) ⊎ GaveInTime lifetime now bytes turn.outcome.after turns
+    (GaveCookie turn.outcome.events bytes × (cookie_moment now ≤ cookie_moment e.moment + lifetime)) ⊎ GaveInTime lifetime now bytes turn.outcome.after turns
 
 -- If the turn makes an association from a cookie, one of the turns before it gave that cookie away in time.
 abbrev pub IsInTime : Options → List Transition → Transition → Type 0

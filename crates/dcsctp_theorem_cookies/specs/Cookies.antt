@@ -24,22 +24,22 @@ GaveCookie (sent emission ∷ events) bytes = BearCookie emission.packet.content
 GaveCookie (event ∷ events) bytes = GaveCookie events bytes
 
 -- If the input is a COOKIE ECHO, these events gave its cookie away.
-abbrev pub EchoesGiven : List (Event Emission) → Input → Type 0
-EchoesGiven events (chunk_input tag (cookie_echo bytes)) = GaveCookie events bytes
-EchoesGiven events input = Unit {0}
+abbrev pub EchoesGivenCookie : List (Event Emission) → Input → Type 0
+EchoesGivenCookie events (chunk_input tag (cookie_echo bytes)) = GaveCookie events bytes
+EchoesGivenCookie events input = Unit {0}
 
 -- So it is at each of these turns, by the events before it: these first, and then those of the turns before it.
 abbrev pub AllEchoGiven : List (Event Emission) → List Transition → Type 0
 AllEchoGiven before [] = Unit {0}
-AllEchoGiven before (turn ∷ turns) = EchoesGiven before turn.input × AllEchoGiven (before ++ turn.outcome.events) turns
+AllEchoGiven before (turn ∷ turns) = EchoesGivenCookie before turn.input × AllEchoGiven (before ++ turn.outcome.events) turns
 
 -- It holds of each side at the end of each first part of the run that is honest, whatever comes later. Before its first turn a
 -- side has sent nothing.
-abbrev pub GivenThroughout : List PerformedAct → Type 0
-GivenThroughout [] = Unit {0}
-GivenThroughout (worked ∷ earlier) =
+abbrev pub GivesCookiesThroughout : List PerformedAct → Type 0
+GivesCookiesThroughout [] = Unit {0}
+GivesCookiesThroughout (worked ∷ earlier) =
     (AreHonest (acts_of (worked ∷ earlier)) → (side : Side) → AllEchoGiven [] (of_side side (turns_after (worked ∷ earlier))))
-    × GivenThroughout earlier
+    × GivesCookiesThroughout earlier
 
 abbrev pub CookiesWereGiven : Type 0
-CookiesWereGiven = (options : Both Options) (run : List PerformedAct) → AreUsable options → SocketRun options run → GivenThroughout run
+CookiesWereGiven = (options : Both Options) (run : List PerformedAct) → AreUsable options → SocketRun options run → GivesCookiesThroughout run

@@ -5,17 +5,17 @@ use Rattle.dcsctp_spec_lemmas.specs.types.declared.association.Pair.{Pair}
 use Rattle.dcsctp_spec_lemmas.specs.types.declared.association.Held.{Held}
 use Rattle.dcsctp_spec_lemmas.specs.types.declared.options.Options.{Options}
 use Rattle.dcsctp_spec_lemmas.specs.types.Settings.{ports_of}
-use Rattle.dcsctp_spec_lemmas.specs.spec.Cookie.{Cookie, cookie_bytes, cookie_at}
+use Rattle.dcsctp_spec_lemmas.specs.spec.Cookie.{Cookie, cookie_bytes, cookie_of_bytes}
 use Rattle.dcsctp_spec_lemmas.specs.spec.Packet.{cookie_echo, cookie_ack, emission_bytes}
 use Rattle.dcsctp_spec_lemmas.specs.spec.endpoint.Event.{connected}
 use Rattle.dcsctp_spec_lemmas.specs.spec.endpoint.Endpoint.{Endpoint, Core, cookie_echoed, open_in, established, own_tag}
-use Rattle.dcsctp_spec_lemmas.specs.spec.endpoint.Outcome.{Outcome, quiet, sends, still, noting}
+use Rattle.dcsctp_spec_lemmas.specs.spec.endpoint.Outcome.{Outcome, quiet, sends, still, with_effects_first}
 use Rattle.dcsctp_spec_lemmas.specs.spec.endpoint.Turn.{BeginTurn}
 use Rattle.dcsctp_spec_lemmas.specs.spec.endpoint.FlushOutcomes.{FlushKind, flush_answered, IsIdle}
 use Rattle.dcsctp_spec_lemmas.specs.spec.endpoint.MessageOutcomes.{awaits_opening}
-use Rattle.dcsctp_spec_lemmas.specs.spec.endpoint.HandshakeOutcomes.{connected_after, cookie_ack_by}
-use Rattle.dcsctp_spec_lemmas.specs.spec.endpoint.CookieEchoOutcomes.{is_spent, ResolvedAnswers, EchoedAnswers, MaintainAnswers, resolved_now, resolved_by, cookie_echo_by, cookie_ack_emission}
-use Rattle.dcsctp_spec_lemmas.specs.spec.association.CookieEchoChanges.{Resolution, maintain_existing, aged}
+use Rattle.dcsctp_spec_lemmas.specs.spec.endpoint.HandshakeOutcomes.{connected_after, cookie_ack_with_flush}
+use Rattle.dcsctp_spec_lemmas.specs.spec.endpoint.CookieEchoOutcomes.{is_spent, ResolvedAnswers, EchoedAnswers, MaintainAnswers, resolved_now, resolve_with_flush, cookie_echo_with_flush, cookie_ack_emission}
+use Rattle.dcsctp_spec_lemmas.specs.spec.association.CookieEchoChanges.{Resolution, maintain_existing, aged_resolution}
 use Rattle.dcsctp_spec_lemmas.specs.spec.association.Effect.{connects, identity_of}
 use Rattle.dcsctp_spec_lemmas.specs.spec.endpoint.CallTurns.{Transition, HandleInput}
 use Rattle.dcsctp_spec_lemmas.specs.spec.Admission.{admits}
@@ -33,12 +33,12 @@ use Rattle.dcsctp_theorem_progress.proofs.Cookies.{same_case, whatever_age}
 -- The association opens, and COOKIE ACK is sent.
 abbrev pub opening : Endpoint → Cookie → Held → Outcome
 opening e cookie held =
-    noting (connects (identity_of cookie.maker held) ∷ []) (sends (connected_after e cookie.maker held) [] (connected ∷ []) (cookie_ack_emission held cookie))
+    with_effects_first (connects (identity_of cookie.maker held) ∷ []) (sends (connected_after e cookie.maker held) [] (connected ∷ []) (cookie_ack_emission held cookie))
 
 kept : (f : Endpoint) (cookie : Cookie) (held : Held) (echoed : List ℕ) → cookie.addressee ≡ held.peer → resolved_now f (cookie_echoed cookie.maker held echoed) cookie.maker.tag cookie ≡ maintain_existing
 kept f cookie held echoed peer =
     let spent : Bool = is_spent f (cookie_echoed cookie.maker held echoed) cookie.maker.tag cookie in
-    ap (aged spent) (same_case (eqb cookie.maker.tag cookie.maker.tag) (eqb cookie.addressee.tag held.peer.tag) (eqb cookie.tie f.tie) (eqb cookie.tie f.secret)
+    ap (aged_resolution spent) (same_case (eqb cookie.maker.tag cookie.maker.tag) (eqb cookie.addressee.tag held.peer.tag) (eqb cookie.tie f.tie) (eqb cookie.tie f.secret)
     (same_tag cookie.maker.tag) (ap (λ (p : Pair). eqb p.tag held.peer.tag) peer ∙ same_tag held.peer.tag))
     ∙ whatever_age spent
 
@@ -57,19 +57,19 @@ opens law f a cookie held echoed turns is peer asks idle owes fitting good_a goo
     (λ e o rests. subst (λ (x : Core). BeginTurn e x false o) is rests) input in
     let word : ℕ = h.comes.0 in
     let flush : FlushKind = flush_answered h.comes.1 in
-    let reads : cookie_at bytes ≡ Ok cookie = law.cookies cookie fitting in
-    let at_core : EchoedAnswers c core cookie.maker.tag (cookie_at bytes) word h.comes.1 = subst (λ (x : Core). EchoedAnswers c x cookie.maker.tag (cookie_at bytes) word h.comes.1) is h.comes.2 in
+    let reads : cookie_of_bytes bytes ≡ Ok cookie = law.cookies cookie fitting in
+    let at_core : EchoedAnswers c core cookie.maker.tag (cookie_of_bytes bytes) word h.comes.1 = subst (λ (x : Core). EchoedAnswers c x cookie.maker.tag (cookie_of_bytes bytes) word h.comes.1) is h.comes.2 in
     let allowed : MaintainAnswers c cookie core h.comes.1 =
     subst (λ (case : Resolution). ResolvedAnswers c cookie core word case h.comes.1) (kept c cookie held echoed peer)
     (subst (λ (found : Result Cookie (List ℕ)). EchoedAnswers c core cookie.maker.tag found word h.comes.1) reads at_core) in
     let o : h.outcome ≡ opening c cookie held =
     h.comes.3
-    ∙ ap (λ (x : Core). cookie_echo_by flush c x cookie.maker.tag (cookie_at bytes) word) is
-    ∙ ap (λ (found : Result Cookie (List ℕ)). cookie_echo_by flush c core cookie.maker.tag found word) reads
-    ∙ ap (λ (case : Resolution). resolved_by flush c cookie core word case) (kept c cookie held echoed peer)
-    ∙ ap (noting (connects (identity_of cookie.maker held) ∷ []))
+    ∙ ap (λ (x : Core). cookie_echo_with_flush flush c x cookie.maker.tag (cookie_of_bytes bytes) word) is
+    ∙ ap (λ (found : Result Cookie (List ℕ)). cookie_echo_with_flush flush c core cookie.maker.tag found word) reads
+    ∙ ap (λ (case : Resolution). resolve_with_flush flush c cookie core word case) (kept c cookie held echoed peer)
+    ∙ ap (with_effects_first (connects (identity_of cookie.maker held) ∷ []))
     (flush_is_now after [] (connected ∷ []) (held.capabilities.zero_checksum_method.0 == 0) cookie.addressee.tag (cookie_ack ∷ []) h.comes.1 idle allowed)
-    ∙ ap (λ (b : Bool). noting (connects (identity_of cookie.maker held) ∷ []) (cond b (sends after [] (connected ∷ []) (cookie_ack_emission held cookie)) (quiet after [] (connected ∷ [])))) good_b.allow.burst in
+    ∙ ap (λ (b : Bool). with_effects_first (connects (identity_of cookie.maker held) ∷ []) (cond b (sends after [] (connected ∷ []) (cookie_ack_emission held cookie)) (quiet after [] (connected ∷ [])))) good_b.allow.burst in
     taken_as f cookie.maker.tag (cookie_echo bytes) turns h _ o refl owes
 
 -- ---- COOKIE ACK
@@ -95,4 +95,4 @@ ignores law e b p held theirs cookie turns is addressed checked owes good mine p
     taken law.wire e b with_checksum p.tag cookie_ack turns (ignored_is_taken e.options b p with_checksum checked good mine port)
     (last_admitted e.core p.tag (ap own_tag is) mine.tag_is_not_zero) (ap (awaits_opening e) is)
     (λ f o rests. subst (λ (core : Core). BeginTurn f core false o) is rests) here in
-    taken_as e p.tag cookie_ack turns h _ (h.comes.2 ∙ ap (λ (core : Core). cookie_ack_by (flush_answered h.comes.0) (counted_at e) core) is) refl owes
+    taken_as e p.tag cookie_ack turns h _ (h.comes.2 ∙ ap (λ (core : Core). cookie_ack_with_flush (flush_answered h.comes.0) (counted_at e) core) is) refl owes

@@ -4,20 +4,20 @@ use Rattle.std.proofs.Common.{◌≡◌, ℕ, Bool, true, false, cond, eqb, None
 use Rattle.dcsctp_spec_lemmas.specs.types.declared.association.Pair.{Pair}
 use Rattle.dcsctp_spec_lemmas.specs.types.declared.association.Held.{Held}
 use Rattle.dcsctp_spec_lemmas.specs.types.declared.options.Options.{Options}
-use Rattle.dcsctp_spec_lemmas.specs.spec.Cookie.{Cookie, cookie_bytes, cookie_at}
+use Rattle.dcsctp_spec_lemmas.specs.spec.Cookie.{Cookie, cookie_bytes, cookie_of_bytes}
 use Rattle.dcsctp_spec_lemmas.specs.spec.Packet.{cookie_echo, cookie_ack}
 use Rattle.dcsctp_spec_lemmas.specs.spec.endpoint.Endpoint.{Endpoint, Core, cookie_echoed, open_in, established}
 use Rattle.dcsctp_spec_lemmas.specs.spec.endpoint.Outcome.{Outcome, quiet, sends, still, fits}
-use Rattle.dcsctp_spec_lemmas.specs.spec.endpoint.Turn.{act_input, time_passes, clock_at, BeginTurn}
+use Rattle.dcsctp_spec_lemmas.specs.spec.endpoint.Turn.{act_input, time_passes, with_clock, BeginTurn}
 use Rattle.dcsctp_spec_lemmas.specs.spec.endpoint.OwnTimers.{acknowledgement_delay}
-use Rattle.dcsctp_spec_lemmas.specs.spec.endpoint.TimerOutcomes.{T1AgainTurn, AgainAnswers, t1_again_by, t1_goes_on}
-use Rattle.dcsctp_spec_lemmas.specs.spec.endpoint.TimeTurns.{t1_timer, own_timer, timers_in, deadline_of, delay_deadline, has_come, has_restart, expiry_input, inputs_behind, after_expiries, unless_exhausted, FirstThen, ExpiryThen, ExpiryTurns, DueTurns, TimeTurns, MomentTurns, AdvanceTurns}
+use Rattle.dcsctp_spec_lemmas.specs.spec.endpoint.TimerOutcomes.{T1AgainTurn, AgainAnswers, t1_again_with_flush, endpoint_with_t1_continued}
+use Rattle.dcsctp_spec_lemmas.specs.spec.endpoint.TimeTurns.{t1_timer, own_timer, handled_timers, deadline_of, delay_deadline, has_come, has_restart, expiry_input, inputs_behind, after_expiries, unless_exhausted, FirstThen, ExpiryThen, ExpiryTurns, DueTurns, TimeTurns, MomentTurns, AdvanceTurns}
 use Rattle.dcsctp_spec_lemmas.specs.spec.endpoint.HeartbeatOutcomes.{is_exhausted}
 use Rattle.dcsctp_spec_lemmas.specs.spec.endpoint.FlushOutcomes.{FlushKind, flush_answered, allows_packet, IsIdle}
 use Rattle.dcsctp_spec_lemmas.specs.spec.endpoint.MessageOutcomes.{awaits_opening}
 use Rattle.dcsctp_spec_lemmas.specs.spec.endpoint.HandshakeOutcomes.{echo_emission}
-use Rattle.dcsctp_spec_lemmas.specs.spec.endpoint.CookieEchoOutcomes.{is_spent, ResolvedAnswers, EchoedAnswers, MaintainAnswers, resolved_now, resolved_by, cookie_echo_by, cookie_ack_emission}
-use Rattle.dcsctp_spec_lemmas.specs.spec.association.CookieEchoChanges.{Resolution, maintain_existing, aged, case_by, held_by_cookie}
+use Rattle.dcsctp_spec_lemmas.specs.spec.endpoint.CookieEchoOutcomes.{is_spent, ResolvedAnswers, EchoedAnswers, MaintainAnswers, resolved_now, resolve_with_flush, cookie_echo_with_flush, cookie_ack_emission}
+use Rattle.dcsctp_spec_lemmas.specs.spec.association.CookieEchoChanges.{Resolution, maintain_existing, aged_resolution, case_by_answers, held_by_cookie}
 use Rattle.dcsctp_spec_lemmas.specs.spec.association.Acts.{t1_expires, abort_with}
 use Rattle.dcsctp_spec_lemmas.specs.types.declared.ends.AbortReason.TheVariants.{TooManyErrors}
 use Rattle.dcsctp_spec_lemmas.specs.spec.endpoint.CallTurns.{Transition, transition, Turns, HandleInput}
@@ -35,12 +35,12 @@ use Rattle.dcsctp_theorem_progress.proofs.Echoes.{echo_is_taken, echo_packet}
 
 -- T1 goes on, and the COOKIE ECHO is sent again.
 abbrev pub echo_again : Endpoint → Held → List ℕ → Outcome
-echo_again e held cookie = sends (t1_goes_on e) [] [] (echo_emission held.peer.tag cookie)
+echo_again e held cookie = sends (endpoint_with_t1_continued e) [] [] (echo_emission held.peer.tag cookie)
 
 abbrev pub echo_repeated : Endpoint → Held → List ℕ → ℕ → List Transition
 echo_repeated e held cookie moment =
-    transition (time_passes moment) (still (clock_at moment e))
-    ∷ transition (act_input (t1_expires true)) (echo_again (clock_at moment e) held cookie)
+    transition (time_passes moment) (still (with_clock moment e))
+    ∷ transition (act_input (t1_expires true)) (echo_again (with_clock moment e) held cookie)
     ∷ []
 
 -- Its T1 runs in this phase, and nothing else is due.
@@ -53,11 +53,11 @@ pub record Echoed (e : Endpoint) (p : Pair) (held : Held) (cookie : Cookie) : Ty
 again_sends : (e : Endpoint) (p : Pair) (held : Held) (cookie : Cookie) (o : Outcome) → Echoed e p held cookie → Good e.options → T1AgainTurn e o → o ≡ echo_again e held (cookie_bytes cookie)
 again_sends e p held cookie o at good turn =
     let bytes : List ℕ = cookie_bytes cookie in
-    let after : Endpoint = t1_goes_on e in
+    let after : Endpoint = endpoint_with_t1_continued e in
     let tag : ℕ = held.peer.tag in
     let answers : AgainAnswers after (cookie_echoed p held bytes) turn.0 = subst (λ (core : Core). AgainAnswers after core turn.0) at.core turn.1 in
     turn.2
-    ∙ ap (t1_again_by (flush_answered turn.0) e) at.core
+    ∙ ap (t1_again_with_flush (flush_answered turn.0) e) at.core
     ∙ echo_now (fits after (echo_emission tag bytes)) after [] tag bytes turn.0 at.idle answers
     ∙ ap (λ (b : Bool). cond b (cond (allows_packet e.options.max_burst) (sends after [] [] (echo_emission tag bytes)) (quiet after [] [])) (quiet after [] [])) (echo_fits after tag cookie good.allow.mtu)
     ∙ ap (λ (b : Bool). cond b (sends after [] [] (echo_emission tag bytes)) (quiet after [] [])) good.allow.burst
@@ -86,7 +86,7 @@ due : (e : Endpoint) (p : Pair) (held : Held) (cookie : Cookie) (turns : List Tr
     → has_come e.moment (deadline_of e.timers.t1) ≡ true → has_restart e.timers.t1 ≡ true → DueTurns e turns
     → turns ≡ transition (act_input (t1_expires true)) (echo_again e held (cookie_bytes cookie)) ∷ []
 due e p held cookie turns at good come again h =
-    let at_core : ExpiryTurns (own_timer acknowledgement_delay ∷ t1_timer ∷ []) false e turns = subst (λ (core : Core). ExpiryTurns (timers_in core) false e turns) at.core h in
+    let at_core : ExpiryTurns (own_timer acknowledgement_delay ∷ t1_timer ∷ []) false e turns = subst (λ (core : Core). ExpiryTurns (handled_timers core) false e turns) at.core h in
     let no_delay : has_come e.moment (delay_deadline e.queues.transfer) ≡ false = ap (has_come e.moment) at.delay in
     let at_t1 : ExpiryTurns (t1_timer ∷ []) false e turns = subst (λ (b : Bool). ExpiryThen b (ExpiryTurns (t1_timer ∷ [])) e false (own_timer acknowledgement_delay) turns) no_delay at_core in
     let at_come : FirstThen (ExpiryTurns [] true) e (expiry_input e t1_timer) turns = subst (λ (b : Bool). ExpiryThen b (ExpiryTurns []) e false t1_timer turns) come at_t1 in
@@ -96,11 +96,11 @@ moved : (e : Endpoint) (p : Pair) (held : Held) (cookie : Cookie) (moment : ℕ)
     → MomentTurns e moment turns → turns ≡ echo_repeated e held (cookie_bytes cookie) moment
 moved e p held cookie moment [] at good t1 h = absurd h
 moved e p held cookie moment (t ∷ ts) at good t1 h =
-    let first : t ≡ transition (time_passes moment) (still (clock_at moment e)) = turned_as t (time_passes moment) (still (clock_at moment e)) h.0.is h.0.comes in
-    let rest : DueTurns (clock_at moment e) ts = subst (λ (x : Transition). DueTurns x.outcome.after ts) first h.1 in
-    let there : Echoed (clock_at moment e) p held cookie = record { core = at.core; idle = at.idle; delay = at.delay; errors = at.errors } in
+    let first : t ≡ transition (time_passes moment) (still (with_clock moment e)) = turned_as t (time_passes moment) (still (with_clock moment e)) h.0.is h.0.comes in
+    let rest : DueTurns (with_clock moment e) ts = subst (λ (x : Transition). DueTurns x.outcome.after ts) first h.1 in
+    let there : Echoed (with_clock moment e) p held cookie = record { core = at.core; idle = at.idle; delay = at.delay; errors = at.errors } in
     ap (λ (x : Transition). x ∷ ts) first
-    ∙ ap (λ (xs : List Transition). transition (time_passes moment) (still (clock_at moment e)) ∷ xs) (due (clock_at moment e) p held cookie ts there good t1.come t1.again rest)
+    ∙ ap (λ (xs : List Transition). transition (time_passes moment) (still (with_clock moment e)) ∷ xs) (due (with_clock moment e) p held cookie ts there good t1.come t1.again rest)
 
 -- A socket whose COOKIE ECHO isn't answered sends it again at its next moment.
 pub t1_sends_echo : (e : Endpoint) (p : Pair) (held : Held) (cookie : Cookie) (moment : ℕ) (turns : List Transition) → Echoed e p held cookie → Good e.options → DueT1 e moment → AdvanceTurns e moment turns
@@ -113,17 +113,17 @@ t1_sends_echo e p held cookie moment turns at good t1 h = moved e p held cookie 
 abbrev pub acknowledging : Endpoint → Cookie → Outcome
 acknowledging f cookie = sends f [] [] (cookie_ack_emission (held_by_cookie f.options cookie) cookie)
 
-pub whatever_age : (old : Bool) → aged old maintain_existing ≡ maintain_existing
+pub whatever_age : (old : Bool) → aged_resolution old maintain_existing ≡ maintain_existing
 whatever_age true = refl
 whatever_age false = refl
 
-pub same_case : (mine peer tie untied : Bool) → mine ≡ true → peer ≡ true → case_by mine peer tie untied ≡ maintain_existing
-same_case mine peer tie untied one other = ap (λ (x : Bool). case_by x peer tie untied) one ∙ ap (λ (x : Bool). case_by true x tie untied) other
+pub same_case : (mine peer tie untied : Bool) → mine ≡ true → peer ≡ true → case_by_answers mine peer tie untied ≡ maintain_existing
+same_case mine peer tie untied one other = ap (λ (x : Bool). case_by_answers x peer tie untied) one ∙ ap (λ (x : Bool). case_by_answers true x tie untied) other
 
 maintained : (f : Endpoint) (cookie : Cookie) → resolved_now f (open_in established cookie.maker (held_by_cookie f.options cookie)) cookie.maker.tag cookie ≡ maintain_existing
 maintained f cookie =
     let spent : Bool = is_spent f (open_in established cookie.maker (held_by_cookie f.options cookie)) cookie.maker.tag cookie in
-    ap (aged spent) (same_case (eqb cookie.maker.tag cookie.maker.tag) (eqb cookie.addressee.tag cookie.addressee.tag) (eqb cookie.tie f.tie) (eqb cookie.tie f.secret)
+    ap (aged_resolution spent) (same_case (eqb cookie.maker.tag cookie.maker.tag) (eqb cookie.addressee.tag cookie.addressee.tag) (eqb cookie.tie f.tie) (eqb cookie.tie f.secret)
     (same_tag cookie.maker.tag) (same_tag cookie.addressee.tag))
     ∙ whatever_age spent
 
@@ -142,16 +142,16 @@ maintains law f a cookie turns is idle owes fitting good_a good_b port input =
     (λ e o rests. subst (λ (x : Core). BeginTurn e x false o) is rests) input in
     let word : ℕ = h.comes.0 in
     let flush : FlushKind = flush_answered h.comes.1 in
-    let reads : cookie_at bytes ≡ Ok cookie = law.cookies cookie fitting in
-    let at_core : EchoedAnswers c core cookie.maker.tag (cookie_at bytes) word h.comes.1 = subst (λ (x : Core). EchoedAnswers c x cookie.maker.tag (cookie_at bytes) word h.comes.1) is h.comes.2 in
+    let reads : cookie_of_bytes bytes ≡ Ok cookie = law.cookies cookie fitting in
+    let at_core : EchoedAnswers c core cookie.maker.tag (cookie_of_bytes bytes) word h.comes.1 = subst (λ (x : Core). EchoedAnswers c x cookie.maker.tag (cookie_of_bytes bytes) word h.comes.1) is h.comes.2 in
     let allowed : MaintainAnswers c cookie core h.comes.1 =
     subst (λ (case : Resolution). ResolvedAnswers c cookie core word case h.comes.1) (maintained c cookie)
     (subst (λ (found : Result Cookie (List ℕ)). EchoedAnswers c core cookie.maker.tag found word h.comes.1) reads at_core) in
     let o : h.outcome ≡ acknowledging c cookie =
     h.comes.3
-    ∙ ap (λ (x : Core). cookie_echo_by flush c x cookie.maker.tag (cookie_at bytes) word) is
-    ∙ ap (λ (found : Result Cookie (List ℕ)). cookie_echo_by flush c core cookie.maker.tag found word) reads
-    ∙ ap (λ (case : Resolution). resolved_by flush c cookie core word case) (maintained c cookie)
+    ∙ ap (λ (x : Core). cookie_echo_with_flush flush c x cookie.maker.tag (cookie_of_bytes bytes) word) is
+    ∙ ap (λ (found : Result Cookie (List ℕ)). cookie_echo_with_flush flush c core cookie.maker.tag found word) reads
+    ∙ ap (λ (case : Resolution). resolve_with_flush flush c cookie core word case) (maintained c cookie)
     ∙ flush_is_now c [] [] (held.capabilities.zero_checksum_method.0 == 0) cookie.addressee.tag (cookie_ack ∷ []) h.comes.1 idle allowed
     ∙ ap (λ (b : Bool). cond b (sends c [] [] (cookie_ack_emission held cookie)) (quiet c [] [])) good_b.allow.burst in
     taken_as f cookie.maker.tag (cookie_echo bytes) turns h _ o refl owes

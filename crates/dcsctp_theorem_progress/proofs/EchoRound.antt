@@ -10,7 +10,7 @@ use Rattle.dcsctp_spec_lemmas.specs.spec.Cookie.{Cookie, cookie_bytes}
 use Rattle.dcsctp_spec_lemmas.specs.spec.endpoint.Endpoint.{Endpoint}
 use Rattle.dcsctp_spec_lemmas.specs.spec.endpoint.CallTurns.{Transition}
 use Rattle.dcsctp_spec_lemmas.specs.spec.endpoint.TimeTurns.{TimeTurns, next_moment}
-use Rattle.dcsctp_spec_lemmas.specs.spec.endpoint.Turn.{clock_at}
+use Rattle.dcsctp_spec_lemmas.specs.spec.endpoint.Turn.{with_clock}
 use Rattle.dcsctp_spec_runs.specs.Sockets.{PerformedAct, Both, turns_after, SocketRun}
 use Rattle.dcsctp_theorem_sockets.specs.Agreement.{AreUsable}
 use Rattle.dcsctp_theorem_sockets.specs.Handshake.{AreFitting}
@@ -104,7 +104,7 @@ record Missing (v w : View) (p q : Pair) (made tie moment : ℕ) (turns : List T
   shown : length (view_then w turns).shown ≡ length w.shown
 
 missing_by : (present : Bool) (v w : View) (p q : Pair) (made tie moment : ℕ) (turns : List Transition) → AwaitsAck v.endpoint w.endpoint p q made tie moment
-    → MissedEcho v.endpoint w.endpoint p q made tie → MissedEcho v.endpoint (clock_at moment w.endpoint) p q made tie → TimeTurns present w.endpoint moment turns → Missing v w p q made tie moment turns
+    → MissedEcho v.endpoint w.endpoint p q made tie → MissedEcho v.endpoint (with_clock moment w.endpoint) p q made tie → TimeTurns present w.endpoint moment turns → Missing v w p q made tie moment turns
 missing_by true v w p q made tie moment turns h missed young time =
     subst (Missing v w p q made tie moment) (sym (closed_still w.endpoint moment turns missed.core time))
     (record {
@@ -140,8 +140,8 @@ echo_connects law side options settled earlier run v w p q made tie are fit at k
     let moved : MovedOf side options quiet.between v w moment = moves_of side options earlier quiet.between v w at keep quiet.time between in
     let at_t1 : moment ≡ next_moment v.endpoint = moment_is side v w lost.fits (never w.endpoint lost.missed.core) in
     let awaits : AwaitsAck v.endpoint w.endpoint p q made tie moment = subst (AwaitsAck v.endpoint w.endpoint p q made tie) (sym at_t1) lost.awaits in
-    let young : MissedEcho v.endpoint (clock_at moment w.endpoint) p q made tie =
-    subst (λ (n : ℕ). MissedEcho v.endpoint (clock_at n w.endpoint) p q made tie) (sym at_t1) lost.young in
+    let young : MissedEcho v.endpoint (with_clock moment w.endpoint) p q made tie =
+    subst (λ (n : ℕ). MissedEcho v.endpoint (with_clock n w.endpoint) p q made tie) (sym at_t1) lost.young in
     let still : Missing v w p q made tie moment moved.others =
     missing_by (nat_le w.endpoint.moment moment) v w p q made tie moment moved.others awaits lost.missed young moved.others_turns in
     let there : View = view_then w moved.others in

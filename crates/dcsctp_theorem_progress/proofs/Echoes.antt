@@ -7,21 +7,21 @@ use Rattle.dcsctp_spec_lemmas.specs.types.declared.word.Word.{Word}
 use Rattle.dcsctp_spec_lemmas.specs.types.declared.word.Word.TheVariants.{U64}
 use Rattle.dcsctp_spec_lemmas.specs.types.Settings.{ports_of}
 use Rattle.dcsctp_spec_lemmas.specs.types.Offer.{Offer, offer_of, agreed_method}
-use Rattle.dcsctp_spec_lemmas.specs.spec.Cookie.{Cookie, cookie_bytes, cookie_at}
+use Rattle.dcsctp_spec_lemmas.specs.spec.Cookie.{Cookie, cookie_bytes, cookie_of_bytes}
 use Rattle.dcsctp_spec_lemmas.specs.spec.Packet.{Introduction, Content, init_ack, cookie_echo, cookie_ack, Packet, Emission, emission_bytes}
 use Rattle.dcsctp_spec_lemmas.specs.spec.endpoint.Event.{connected}
 use Rattle.dcsctp_spec_lemmas.specs.spec.endpoint.Endpoint.{Endpoint, Core, closed, cookie_wait, cookie_echoed, own_tag}
-use Rattle.dcsctp_spec_lemmas.specs.spec.endpoint.Outcome.{Outcome, quiet, sends, still, noting}
+use Rattle.dcsctp_spec_lemmas.specs.spec.endpoint.Outcome.{Outcome, quiet, sends, still, with_effects_first}
 use Rattle.dcsctp_spec_lemmas.specs.spec.endpoint.FlushOutcomes.{FlushKind, flush_answered, allows_packet, IsIdle}
 use Rattle.dcsctp_spec_lemmas.specs.spec.endpoint.HandshakeOutcomes.{echo_emission, awaits_cookie_ack, init_ack_outcome, connected_after}
-use Rattle.dcsctp_spec_lemmas.specs.spec.endpoint.CookieEchoOutcomes.{is_spent, established_by, queues_kept, resolved_now, EstablishAnswers, ResolvedAnswers, EchoedAnswers, resolved_by, cookie_echo_by, establish_outcome, cookie_ack_emission}
-use Rattle.dcsctp_spec_lemmas.specs.spec.association.CookieEchoChanges.{Resolution, establish_new, aged, case_without_peer, held_by_cookie}
+use Rattle.dcsctp_spec_lemmas.specs.spec.endpoint.CookieEchoOutcomes.{is_spent, endpoint_established, queues_kept, resolved_now, EstablishAnswers, ResolvedAnswers, EchoedAnswers, resolve_with_flush, cookie_echo_with_flush, establish_outcome, cookie_ack_emission}
+use Rattle.dcsctp_spec_lemmas.specs.spec.association.CookieEchoChanges.{Resolution, establish_new, aged_resolution, case_without_peer, held_by_cookie}
 use Rattle.dcsctp_spec_lemmas.specs.spec.association.HandshakeChanges.{introduction_of, held_by_init_ack}
 use Rattle.dcsctp_spec_lemmas.specs.spec.association.Effect.{Effect, holds, connects, identity_of}
 use Rattle.dcsctp_spec_lemmas.specs.spec.endpoint.MessageOutcomes.{awaits_opening}
 use Rattle.dcsctp_spec_lemmas.specs.spec.endpoint.CallTurns.{Transition, HandleInput}
 use Rattle.dcsctp_spec_lemmas.specs.spec.endpoint.Turn.{BeginTurn}
-use Rattle.dcsctp_spec_lemmas.specs.spec.Admission.{all_chunks, admits, admitted_where, admits_by, wrong_tag_text}
+use Rattle.dcsctp_spec_lemmas.specs.spec.Admission.{all_chunks, admits, all_chunks_or_none, admission_by_answers, wrong_tag_text}
 use Rattle.dcsctp_spec_lemmas.specs.spec.CookieFits.{FitsPair, FitsCookie}
 use Rattle.dcsctp_spec_runs.proofs.FlushLemmas.{init_ack_turn_now, establish_now, cookie_ack_turn_now}
 use Rattle.dcsctp_theorem_sockets.proofs.Bytes.{length_of_cookie, in_cookie}
@@ -35,7 +35,7 @@ use Rattle.dcsctp_theorem_sockets.proofs.HandshakeTurns.{HandshakeLaws, Good, ta
 
 abbrev pub echoing : Endpoint → Pair → Introduction → Cookie → ℕ → Outcome
 echoing e p theirs cookie tie =
-    noting (holds (identity_of p (held_by_init_ack e.options p theirs)) ∷ [])
+    with_effects_first (holds (identity_of p (held_by_init_ack e.options p theirs)) ∷ [])
     (sends (awaits_cookie_ack e p theirs (cookie_bytes cookie) tie) (U64 tie ∷ []) [] (echo_emission theirs.pair.tag (cookie_bytes cookie)))
 
 pub record Echoes (e : Endpoint) (p : Pair) (theirs : Introduction) (cookie : Cookie) (turns : List Transition) : Type 0 where
@@ -49,8 +49,8 @@ echo_sends e p theirs cookie tie good =
     let emission : Emission = echo_emission theirs.pair.tag (cookie_bytes cookie) in
     let words : List Word = U64 tie ∷ [] in
     let holding : List Effect = holds (identity_of p (held_by_init_ack e.options p theirs)) ∷ [] in
-    ap (λ (x : Bool). noting holding (cond x (cond (allows_packet e.options.max_burst) (sends after words [] emission) (quiet after words [])) (quiet after words []))) (echo_fits after theirs.pair.tag cookie good.allow.mtu)
-    ∙ ap (λ (x : Bool). noting holding (cond x (sends after words [] emission) (quiet after words []))) good.allow.burst
+    ap (λ (x : Bool). with_effects_first holding (cond x (cond (allows_packet e.options.max_burst) (sends after words [] emission) (quiet after words [])) (quiet after words []))) (echo_fits after theirs.pair.tag cookie good.allow.mtu)
+    ∙ ap (λ (x : Bool). with_effects_first holding (cond x (sends after words [] emission) (quiet after words []))) good.allow.burst
 
 answer_is_taken : HandshakeLaws → (a b : Options) (p q : Pair) (cookie : Cookie) → Good b → FitsPair p → FitsPair q → b.remote_port ≡ a.local_port
     → IsTaken a b (eqb (agreed_method (offer_of b) (offer_of a)) 0) p.tag (init_ack (answer_to a b p q) (Some (cookie_bytes cookie)))
@@ -92,8 +92,8 @@ acknowledgement b cookie = cookie_ack_emission (held_by_cookie b cookie) cookie
 abbrev pub establishing : Endpoint → Cookie → ℕ → Outcome
 establishing e cookie tie =
     let held : Held = held_by_cookie e.options cookie in
-    noting (holds (identity_of cookie.maker held) ∷ connects (identity_of cookie.maker held) ∷ [])
-    (sends (established_by e cookie (queues_kept e cookie) tie) (U64 tie ∷ []) (connected ∷ []) (acknowledgement e.options cookie))
+    with_effects_first (holds (identity_of cookie.maker held) ∷ connects (identity_of cookie.maker held) ∷ [])
+    (sends (endpoint_established e cookie (queues_kept e cookie) tie) (U64 tie ∷ []) (connected ∷ []) (acknowledgement e.options cookie))
 
 pub record Establishes (e : Endpoint) (cookie : Cookie) (turns : List Transition) : Type 0 where
   pub tie : ℕ
@@ -102,13 +102,13 @@ pub record Establishes (e : Endpoint) (cookie : Cookie) (turns : List Transition
 -- A cookie that isn't spent makes an association where there is none.
 pub new_case : (e : Endpoint) (cookie : Cookie) → is_spent e closed cookie.maker.tag cookie ≡ false → resolved_now e closed cookie.maker.tag cookie ≡ establish_new
 new_case e cookie unspent =
-    ap (λ (spent : Bool). aged spent (case_without_peer (eqb cookie.maker.tag cookie.maker.tag))) unspent ∙ ap case_without_peer (same_tag cookie.maker.tag)
+    ap (λ (spent : Bool). aged_resolution spent (case_without_peer (eqb cookie.maker.tag cookie.maker.tag))) unspent ∙ ap case_without_peer (same_tag cookie.maker.tag)
 
 establish_sends : (e : Endpoint) (cookie : Cookie) (tie : ℕ) → Good e.options → establish_outcome e cookie (queues_kept e cookie) tie (connected ∷ []) ≡ establishing e cookie tie
 establish_sends e cookie tie good =
     let held : Held = held_by_cookie e.options cookie in
-    let after : Endpoint = established_by e cookie (queues_kept e cookie) tie in
-    ap (λ (x : Bool). noting (holds (identity_of cookie.maker held) ∷ connects (identity_of cookie.maker held) ∷ [])
+    let after : Endpoint = endpoint_established e cookie (queues_kept e cookie) tie in
+    ap (λ (x : Bool). with_effects_first (holds (identity_of cookie.maker held) ∷ connects (identity_of cookie.maker held) ∷ [])
     (cond x (sends after (U64 tie ∷ []) (connected ∷ []) (acknowledgement e.options cookie)) (quiet after (U64 tie ∷ []) (connected ∷ [])))) good.allow.burst
 
 pub echo_is_taken : (a b : Options) (cookie : Cookie) → Good a → FitsPair cookie.maker → a.remote_port ≡ b.local_port → IsTaken b a true cookie.maker.tag (cookie_echo (cookie_bytes cookie))
@@ -128,7 +128,7 @@ echo_packet a cookie = emission_bytes (ports_of a) (echo_emission cookie.maker.t
 -- A socket that knows no peer is established by its own cookie.
 establishes_in : HandshakeLaws → (e : Endpoint) (at : Core) (a : Options) (cookie : Cookie) (turns : List Transition) → e.core ≡ at → awaits_opening e e.core ≡ false
     → resolved_now (counted_at e) at cookie.maker.tag cookie ≡ establish_new → ((f : Endpoint) (o : Outcome) → BeginTurn f at false o → o ≡ still f) → FitsCookie cookie
-    → ((word : ℕ) → IsIdle (established_by (counted_at e) cookie (queues_kept (counted_at e) cookie) word))
+    → ((word : ℕ) → IsIdle (endpoint_established (counted_at e) cookie (queues_kept (counted_at e) cookie) word))
     → Good a → Good e.options → a.remote_port ≡ e.options.local_port
     → HandleInput e (echo_packet a cookie) turns → Establishes e cookie turns
 establishes_in law e at a cookie turns is asks case_is begins fits idle good_a good_b port input =
@@ -140,23 +140,23 @@ establishes_in law e at a cookie turns is asks case_is begins fits idle good_a g
     (λ f o rests. begins f o (subst (λ (core : Core). BeginTurn f core false o) is rests)) input in
     let word : ℕ = h.comes.0 in
     let flush : FlushKind = flush_answered h.comes.1 in
-    let reads : cookie_at bytes ≡ Ok cookie = law.cookies cookie fits in
-    let at_core : EchoedAnswers c at cookie.maker.tag (cookie_at bytes) word h.comes.1 = subst (λ (core : Core). EchoedAnswers c core cookie.maker.tag (cookie_at bytes) word h.comes.1) is h.comes.2 in
+    let reads : cookie_of_bytes bytes ≡ Ok cookie = law.cookies cookie fits in
+    let at_core : EchoedAnswers c at cookie.maker.tag (cookie_of_bytes bytes) word h.comes.1 = subst (λ (core : Core). EchoedAnswers c core cookie.maker.tag (cookie_of_bytes bytes) word h.comes.1) is h.comes.2 in
     let allowed : EstablishAnswers c cookie (queues_kept c cookie) word h.comes.1 =
     subst (λ (case : Resolution). ResolvedAnswers c cookie at word case h.comes.1) case_is
     (subst (λ (found : Result Cookie (List ℕ)). EchoedAnswers c at cookie.maker.tag found word h.comes.1) reads at_core) in
     let o : h.outcome ≡ establish_outcome c cookie (queues_kept c cookie) word (connected ∷ []) =
     h.comes.3
-    ∙ ap (λ (core : Core). cookie_echo_by flush c core cookie.maker.tag (cookie_at bytes) word) is
-    ∙ ap (λ (found : Result Cookie (List ℕ)). cookie_echo_by flush c at cookie.maker.tag found word) reads
-    ∙ ap (λ (case : Resolution). resolved_by flush c cookie at word case) case_is
+    ∙ ap (λ (core : Core). cookie_echo_with_flush flush c core cookie.maker.tag (cookie_of_bytes bytes) word) is
+    ∙ ap (λ (found : Result Cookie (List ℕ)). cookie_echo_with_flush flush c at cookie.maker.tag found word) reads
+    ∙ ap (λ (case : Resolution). resolve_with_flush flush c cookie at word case) case_is
     ∙ establish_now c cookie (queues_kept c cookie) word (connected ∷ []) h.comes.1 (idle word) allowed in
     record { tie = word; only = taken_as e cookie.maker.tag (cookie_echo bytes) turns h _ (o ∙ establish_sends c cookie word good_b) refl (refl, refl) }
 
 -- A closed socket
 pub establishes : HandshakeLaws → (e : Endpoint) (a : Options) (cookie : Cookie) (turns : List Transition) → e.core ≡ closed
     → is_spent e closed cookie.maker.tag cookie ≡ false → FitsCookie cookie
-    → ((word : ℕ) → IsIdle (established_by (counted_at e) cookie (queues_kept (counted_at e) cookie) word))
+    → ((word : ℕ) → IsIdle (endpoint_established (counted_at e) cookie (queues_kept (counted_at e) cookie) word))
     → Good a → Good e.options → a.remote_port ≡ e.options.local_port
     → HandleInput e (echo_packet a cookie) turns → Establishes e cookie turns
 establishes law e a cookie turns is unspent fits idle good_a good_b port input =
@@ -165,7 +165,7 @@ establishes law e a cookie turns is unspent fits idle good_a good_b port input =
 -- and one that itself awaits an INIT ACK
 pub establishes_waiting : HandshakeLaws → (e : Endpoint) (q : Pair) (a : Options) (cookie : Cookie) (turns : List Transition) → e.core ≡ cookie_wait q
     → is_spent e closed cookie.maker.tag cookie ≡ false → FitsCookie cookie
-    → ((word : ℕ) → IsIdle (established_by (counted_at e) cookie (queues_kept (counted_at e) cookie) word))
+    → ((word : ℕ) → IsIdle (endpoint_established (counted_at e) cookie (queues_kept (counted_at e) cookie) word))
     → Good a → Good e.options → a.remote_port ≡ e.options.local_port
     → HandleInput e (echo_packet a cookie) turns → Establishes e cookie turns
 establishes_waiting law e q a cookie turns is unspent fits idle good_a good_b port input =
@@ -174,13 +174,13 @@ establishes_waiting law e q a cookie turns is unspent fits idle good_a good_b po
 -- ---- COOKIE ACK
 
 abbrev pub connecting_last : Endpoint → Pair → Held → Outcome
-connecting_last e p held = noting (connects (identity_of p held) ∷ []) (quiet (connected_after e p held) [] (connected ∷ []))
+connecting_last e p held = with_effects_first (connects (identity_of p held) ∷ []) (quiet (connected_after e p held) [] (connected ∷ []))
 
 pub last_admitted : (core : Core) (tag : ℕ) → own_tag core ≡ tag → 1 ≤ tag → admits core (record { tag = tag; contents = cookie_ack ∷ [] }) ≡ all_chunks
 last_admitted core tag own some =
     let packet : Packet = record { tag = tag; contents = cookie_ack ∷ [] } in
-    ap (λ (zero_tag : Bool). admits_by core packet None None false false zero_tag) (not_zero tag some)
-    ∙ ap (λ (is_own : Bool). admitted_where is_own (wrong_tag_text tag (own_tag core))) (ap (eqb tag) own ∙ same_tag tag)
+    ap (λ (zero_tag : Bool). admission_by_answers core packet None None false false zero_tag) (not_zero tag some)
+    ∙ ap (λ (is_own : Bool). all_chunks_or_none is_own (wrong_tag_text tag (own_tag core))) (ap (eqb tag) own ∙ same_tag tag)
 
 ack_is_taken : (a b : Options) (p : Pair) (cookie : Cookie) → cookie.offer ≡ offer_of a → Good b → FitsPair p → b.remote_port ≡ a.local_port
     → IsTaken a b (acknowledgement b cookie).with_checksum p.tag cookie_ack

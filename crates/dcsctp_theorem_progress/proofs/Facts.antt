@@ -6,14 +6,14 @@ use Rattle.dcsctp_spec_lemmas.specs.types.declared.association.Pair.{Pair}
 use Rattle.dcsctp_spec_lemmas.specs.types.declared.association.Held.{Held}
 use Rattle.dcsctp_spec_lemmas.specs.types.declared.capabilities.Capabilities.{Capabilities}
 use Rattle.dcsctp_spec_lemmas.specs.types.declared.options.Options.{Options}
-use Rattle.dcsctp_spec_lemmas.specs.types.Offer.{offer_of, negotiated}
-use Rattle.dcsctp_spec_lemmas.specs.spec.Cookie.{Cookie, cookie_bytes, is_stale, cut}
+use Rattle.dcsctp_spec_lemmas.specs.types.Offer.{offer_of, negotiated_capabilities}
+use Rattle.dcsctp_spec_lemmas.specs.spec.Cookie.{Cookie, cookie_bytes, is_stale, cookie_moment}
 use Rattle.dcsctp_spec_lemmas.specs.spec.Packet.{Introduction, init, init_ack, cookie_echo, cookie_ack}
 use Rattle.dcsctp_spec_lemmas.specs.spec.queues.Transfer.{EndpointQueues, empty_queues}
 use Rattle.dcsctp_spec_lemmas.specs.spec.endpoint.Endpoint.{Endpoint, closed, open_in, established, number_of_pair, secret_with, with_secret}
 use Rattle.dcsctp_spec_lemmas.specs.spec.endpoint.FlushOutcomes.{IsIdle}
 use Rattle.dcsctp_spec_lemmas.specs.spec.endpoint.HandshakeOutcomes.{pair_from, cookie_for, awaits_cookie_ack}
-use Rattle.dcsctp_spec_lemmas.specs.spec.endpoint.CookieEchoOutcomes.{established_by, queues_with, queue_where, queues_kept, is_foreign}
+use Rattle.dcsctp_spec_lemmas.specs.spec.endpoint.CookieEchoOutcomes.{endpoint_established, queues_with, queue_if_kept, queues_kept, is_foreign}
 use Rattle.dcsctp_spec_lemmas.specs.spec.association.HandshakeChanges.{introduction_of, held_by_init_ack, new_held}
 use Rattle.dcsctp_spec_lemmas.specs.spec.endpoint.CallTurns.{Transition, after_all}
 use Rattle.dcsctp_spec_lemmas.specs.spec.CookieFits.{FitsPair, FitsCookie}
@@ -43,7 +43,7 @@ young_by : (lifetime n : ℕ) → not (nat_le (n - n) lifetime) ≡ false
 young_by lifetime n = grind (arith, nat_tests)
 
 pub is_young : (lifetime now : ℕ) (theirs : Introduction) (q : Pair) (tie : ℕ) → is_stale lifetime now (cookie_for now theirs q tie) ≡ false
-is_young lifetime now theirs q tie = young_by lifetime (cut now)
+is_young lifetime now theirs q tie = young_by lifetime (cookie_moment now)
 
 pub fits_cookie : (a : Options) (now : ℕ) (p q : Pair) (tie : ℕ) → Good a → FitsPair p → FitsPair q → tie < 2 ^ 64 → FitsCookie (cookie_for now (introduction_of a p) q tie)
 fits_cookie a now p q tie good mine own bears =
@@ -109,13 +109,13 @@ owes_none e empty = subst (λ (queues : EndpointQueues). OwesNothing queues.tran
 pub idle_waiting : (e : Endpoint) (p : Pair) (theirs : Introduction) (cookie : List ℕ) (word : ℕ) → e.queues ≡ empty_queues e.options → IsIdle (awaits_cookie_ack e p theirs cookie word)
 idle_waiting e p theirs cookie word empty = subst (λ (queues : EndpointQueues). IsIdle (awaits_cookie_ack (record e { queues = queues }) p theirs cookie word)) (sym empty) refl
 
-queue_idle : (follows : Bool) (e : Endpoint) (cookie : Cookie) (word : ℕ) → IsIdle (established_by e cookie (queues_with e cookie (queue_where follows (record e { queues = empty_queues e.options }) cookie)) word)
+queue_idle : (follows : Bool) (e : Endpoint) (cookie : Cookie) (word : ℕ) → IsIdle (endpoint_established e cookie (queues_with e cookie (queue_if_kept follows (record e { queues = empty_queues e.options }) cookie)) word)
 queue_idle true e cookie word = refl
 queue_idle false e cookie word = refl
 
-pub idle_established : (e : Endpoint) (cookie : Cookie) (word : ℕ) → e.queues ≡ empty_queues e.options → IsIdle (established_by e cookie (queues_kept e cookie) word)
+pub idle_established : (e : Endpoint) (cookie : Cookie) (word : ℕ) → e.queues ≡ empty_queues e.options → IsIdle (endpoint_established e cookie (queues_kept e cookie) word)
 idle_established e cookie word empty =
-    subst (λ (queues : EndpointQueues). IsIdle (established_by e cookie (queues_with e cookie (queue_where e.options.follow_rfc (record e { queues = queues }) cookie)) word)) (sym empty)
+    subst (λ (queues : EndpointQueues). IsIdle (endpoint_established e cookie (queues_with e cookie (queue_if_kept e.options.follow_rfc (record e { queues = queues }) cookie)) word)) (sym empty)
     (queue_idle e.options.follow_rfc e cookie word)
 
 -- ---- the endpoints in turn
@@ -144,5 +144,5 @@ abbrev pub connected_turns : Endpoint → Pair → Held → List Transition
 connected_turns e p held = delivered e p.tag cookie_ack (connecting_last (counted_at e) p held)
 
 pub same_capabilities : AnswerKeepsAgreement → (a b : Options) (p q : Pair)
-    → open_in established p (held_by_init_ack a p (answer_to a b p q)) ≡ open_in established p (new_held p q (negotiated (offer_of a) (offer_of b)))
+    → open_in established p (held_by_init_ack a p (answer_to a b p q)) ≡ open_in established p (new_held p q (negotiated_capabilities (offer_of a) (offer_of b)))
 same_capabilities law a b p q = ap (λ (c : Capabilities). open_in established p (new_held p q c)) (law (offer_of a) (offer_of b))

@@ -18,7 +18,7 @@ use Rattle.dcsctp_spec_runs.specs.Sockets.{PerformedAct, Both, endpoint_after, t
 use Rattle.dcsctp_theorem_sockets.specs.Handshake.{other_side, connections_of_events}
 use Rattle.dcsctp_theorem_progress.specs.LostInits.{KeepsOptions}
 use Rattle.dcsctp_theorem_progress.specs.Retries.{LeavesRestarts, RetriesInit}
-use Rattle.dcsctp_theorem_progress.specs.Connecting.{RestsAnew, TakesOwn, MayConnect, a_tries, b_tries, both_try, HaveConnected, Caller, one, both, calls_of, AllowRestarts, FreshSocketsConnect}
+use Rattle.dcsctp_theorem_progress.specs.Connecting.{RestsWithoutTag, TakesOwn, MayConnect, a_tries, b_tries, both_try, HaveConnected, Caller, one, both, calls_of, AllowRestarts, FreshSocketsConnect}
 use Rattle.dcsctp_theorem_sockets.proofs.HandshakeTurns.{HandshakeLaws, Good, Begins, begins, connecting}
 use Rattle.dcsctp_theorem_progress.proofs.Facts.{fits_drawn, secret_fits}
 use Rattle.dcsctp_theorem_progress.proofs.Runs.{good_by}
@@ -47,7 +47,7 @@ tries a word next more left =
       deadline = cut _ max_nanos;
     }
 
-rests : (b : Options) → RestsAnew (fresh_endpoint b)
+rests : (b : Options) → RestsWithoutTag (fresh_endpoint b)
 rests b = record { rests = record { core = refl; empty = refl; secret = omega arith }; anew = λ tag. never_with b.follow_rfc }
 
 own_secret : (follows : Bool) (q : Pair) → 1 ≤ q.tag → let secret = if follows && true then number_of_pair q else 0 in (follows && secret == 0) ≡ false

@@ -11,7 +11,7 @@ use Rattle.dcsctp_spec_lemmas.specs.spec.association.HandshakeChanges.{introduct
 use Rattle.dcsctp_spec_lemmas.specs.spec.endpoint.CallTurns.{Transition, after_all}
 use Rattle.dcsctp_spec_lemmas.specs.spec.endpoint.TimeTurns.{AdvanceTurns}
 use Rattle.dcsctp_spec_runs.specs.Sockets.{packets_shown, packet_at_number, DeliveryTurns}
-use Rattle.dcsctp_theorem_progress.specs.LostInits.{AwaitsInitAck, Rests, DrawsAnew, Connect}
+use Rattle.dcsctp_theorem_progress.specs.LostInits.{AwaitsInitAck, Rests, DrawsOtherTags, Connect}
 use Rattle.dcsctp_theorem_sockets.proofs.HandshakeReads.{counted_at}
 use Rattle.dcsctp_theorem_sockets.proofs.HandshakeTurns.{HandshakeLaws, answer_to}
 use Rattle.dcsctp_theorem_progress.proofs.Turns.{init_repeated, t1_sends_init, Answers, answers, init_packet}
@@ -103,7 +103,7 @@ third law e f p moment word next shown_a shown_b o3 o4 o5 at rests anew fit inpu
     (subst (λ (os : List Transition). DeliveryTurns f2 (packet_at_number (suc (suc (length shown_a))) (shown_a ++ packets_shown e.options (o1 ++ os))) o4) h.only later)
     (subst (λ (os : List Transition). DeliveryTurns (after_all e1 os) (packet_at_number (suc (suc (length shown_b))) (shown_b ++ packets_shown f.options (o2 ++ o4))) o5) h.only last))
 
-second : HandshakeLaws → (e f : Endpoint) (p : Pair) (moment : ℕ) (shown_a shown_b : List (List ℕ)) (o2 o3 o4 o5 : List Transition) → AwaitsInitAck e p moment → Rests f → DrawsAnew f o2 → Fit e.options f.options →
+second : HandshakeLaws → (e f : Endpoint) (p : Pair) (moment : ℕ) (shown_a shown_b : List (List ℕ)) (o2 o3 o4 o5 : List Transition) → AwaitsInitAck e p moment → Rests f → DrawsOtherTags f o2 → Fit e.options f.options →
     let o1 = init_repeated e p moment in
     let e1 = waiting e p moment in
     DeliveryTurns f (packet_at_number (suc (length shown_a)) (shown_a ++ packets_shown e.options o1)) o2
@@ -119,14 +119,14 @@ second law e f p moment shown_a shown_b o2 o3 o4 o5 at rests anew fit input answ
     let h : Answers f (introduction_of e.options p) o2 =
     answers law f e.options p o2 rests.core (owes_none f rests.empty) fit.good_a fit.good_b at.pair fit.to_b here in
     subst (λ (os : List Transition). Connect e f p (o1 ++ (o3 ++ o5)) (os ++ o4)) (sym h.only)
-    (third law e f p moment h.word h.next shown_a shown_b o3 o4 o5 at rests (subst (DrawsAnew f) h.only anew).0 fit
+    (third law e f p moment h.word h.next shown_a shown_b o3 o4 o5 at rests (subst (DrawsOtherTags f) h.only anew).0 fit
     (subst (λ (os : List Transition). DeliveryTurns e1 (packet_at_number (suc (length shown_b)) (shown_b ++ packets_shown f.options os)) o3) h.only answer)
     (subst (λ (os : List Transition). DeliveryTurns (after_all f os) (packet_at_number (suc (suc (length shown_a))) (shown_a ++ packets_shown e.options (o1 ++ o3))) o4) h.only later)
     (subst (λ (os : List Transition). DeliveryTurns (after_all e1 o3) (packet_at_number (suc (suc (length shown_b))) (shown_b ++ packets_shown f.options (os ++ o4))) o5) h.only last))
 
 -- The clock of the one goes to its next moment; then INIT, INIT ACK, COOKIE ECHO and COOKIE ACK are delivered in turn. Whatever
 -- each had shown before, both are connected then.
-pub connect_again : HandshakeLaws → (e f : Endpoint) (p : Pair) (moment : ℕ) (shown_a shown_b : List (List ℕ)) (o1 o2 o3 o4 o5 : List Transition) → AwaitsInitAck e p moment → Rests f → DrawsAnew f o2 → Fit e.options f.options
+pub connect_again : HandshakeLaws → (e f : Endpoint) (p : Pair) (moment : ℕ) (shown_a shown_b : List (List ℕ)) (o1 o2 o3 o4 o5 : List Transition) → AwaitsInitAck e p moment → Rests f → DrawsOtherTags f o2 → Fit e.options f.options
     → AdvanceTurns e moment o1
     → DeliveryTurns f (packet_at_number (suc (length shown_a)) (shown_a ++ packets_shown e.options o1)) o2
     → DeliveryTurns (after_all e o1) (packet_at_number (suc (length shown_b)) (shown_b ++ packets_shown f.options o2)) o3

@@ -11,10 +11,10 @@ use Rattle.dcsctp_spec_lemmas.specs.spec.endpoint.TimeTurns.{AdvanceTurns, next_
 use Rattle.dcsctp_spec_runs.specs.Sockets.{PerformedAct, Both, of_side, of_other, turns_after, SocketRun}
 use Rattle.dcsctp_theorem_sockets.specs.Agreement.{AreUsable}
 use Rattle.dcsctp_theorem_sockets.specs.Handshake.{AreFitting}
-use Rattle.dcsctp_theorem_progress.specs.Rounds.{counts_shown, TimeGoesOn, LostRounds, QuietRound}
+use Rattle.dcsctp_theorem_progress.specs.Rounds.{counts_shown, AdvancesBothClocks, LostRounds, QuietRound}
 use Rattle.dcsctp_theorem_progress.specs.LostInits.{AwaitsInitAck, AreLinked}
 use Rattle.dcsctp_theorem_progress.specs.Retries.{RetriesInit}
-use Rattle.dcsctp_theorem_progress.specs.Connecting.{RestsAnew, HaveConnected}
+use Rattle.dcsctp_theorem_progress.specs.Connecting.{RestsWithoutTag, HaveConnected}
 use Rattle.dcsctp_theorem_sockets.proofs.HandshakeTurns.{HandshakeLaws}
 use Rattle.dcsctp_theorem_progress.proofs.Turns.{init_repeated, t1_sends_init}
 use Rattle.dcsctp_theorem_progress.proofs.Facts.{Fit}
@@ -39,7 +39,7 @@ pub record MovedOf (side : Side) (options : Both Options) (run : List PerformedA
   pub others_turns : AdvanceTurns w.endpoint moment others
   pub at : AtOf side options run (view_then v mine) (view_then w others)
 
-pub moves_of : (side : Side) (options : Both Options) (earlier run : List PerformedAct) (v w : View) → AtOf side options earlier v w → KeepOf side options v w → TimeGoesOn options earlier run → SocketRun options run
+pub moves_of : (side : Side) (options : Both Options) (earlier run : List PerformedAct) (v w : View) → AtOf side options earlier v w → KeepOf side options v w → AdvancesBothClocks options earlier run → SocketRun options run
     → MovedOf side options run v w (lesser_of side v w)
 moves_of sides.A options earlier run v w at keep time runs =
     let h : Moved options run v w (lesser v w) = time_moves options earlier run v w at keep time runs in
@@ -76,12 +76,12 @@ pub record Ready (side : Side) (options : Both Options) (run : List PerformedAct
   pub at : AtOf side options run v w
   pub keep : KeepOf side options v w
   pub tries : RetriesInit v.endpoint p more
-  pub rests : RestsAnew w.endpoint
+  pub rests : RestsWithoutTag w.endpoint
   pub mine : v.told ≡ m
   pub others : w.told ≡ n
 
 lost_round : (side : Side) (options : Both Options) (earlier run : List PerformedAct) (p : Pair) (more m n : ℕ) → AreUsable options → AreFitting options → Ready side options earlier p (suc more) m n
-    → TimeGoesOn options earlier run → SocketRun options run → Ready side options run p more m n
+    → AdvancesBothClocks options earlier run → SocketRun options run → Ready side options run p more m n
 lost_round side options earlier run p more m n are fit h time runs =
     let good : Fit h.v.endpoint.options h.w.endpoint.options = fit_of side options h.v h.w are fit h.keep in
     let moved : MovedOf side options run h.v h.w (lesser_of side h.v h.w) = moves_of side options earlier run h.v h.w h.at h.keep time runs in

@@ -7,14 +7,14 @@ use Rattle.std.proofs.lemmas.Bool.Decides.{nat_tests}
 use Rattle.std.proofs.lemmas.List.{append-nil}
 use Rattle.dcsctp_spec_lemmas.specs.types.declared.association.Pair.{Pair}
 use Rattle.dcsctp_spec_lemmas.specs.spec.endpoint.Endpoint.{Endpoint, Core, closed, cookie_wait}
-use Rattle.dcsctp_spec_lemmas.specs.spec.endpoint.Timers.{RunningTimer, may_restart, next_expiries, going_on}
+use Rattle.dcsctp_spec_lemmas.specs.spec.endpoint.Timers.{RunningTimer, may_restart, next_expiries, continued_timer}
 use Rattle.dcsctp_spec_lemmas.specs.spec.endpoint.Outcome.{still}
-use Rattle.dcsctp_spec_lemmas.specs.spec.endpoint.Turn.{time_passes, clock_at}
+use Rattle.dcsctp_spec_lemmas.specs.spec.endpoint.Turn.{time_passes, with_clock}
 use Rattle.dcsctp_spec_lemmas.specs.spec.endpoint.CallTurns.{Transition, transition, Turns}
-use Rattle.dcsctp_spec_lemmas.specs.spec.endpoint.TimeTurns.{next_of, deadlines_of, with_deadline, deadline_of, has_come, has_restart, timers_counted, timers_in, t1_timer, ExpiryThen, ExpiryTurns, DueTurns, MomentTurns, TimeTurns, AdvanceTurns, next_moment}
+use Rattle.dcsctp_spec_lemmas.specs.spec.endpoint.TimeTurns.{next_of, deadlines_of, with_deadline, deadline_of, has_come, has_restart, timers_counted, handled_timers, t1_timer, ExpiryThen, ExpiryTurns, DueTurns, MomentTurns, TimeTurns, AdvanceTurns, next_moment}
 use Rattle.dcsctp_theorem_progress.specs.LostInits.{DueT1, AwaitsInitAck}
 use Rattle.dcsctp_theorem_progress.specs.Retries.{LeavesRestarts, RetriesInit}
-use Rattle.dcsctp_theorem_progress.specs.Connecting.{RestsAnew}
+use Rattle.dcsctp_theorem_progress.specs.Connecting.{RestsWithoutTag}
 use Rattle.dcsctp_theorem_sockets.proofs.HandshakeReads.{turned_as}
 use Rattle.dcsctp_theorem_progress.proofs.Turns.{init_repeated, t1_sends_init}
 use Rattle.dcsctp_theorem_progress.proofs.Views.{View, view_then}
@@ -81,7 +81,7 @@ awaits_next e p more h =
 -- ---- a moment
 
 abbrev pub clock_turn : ℕ → Endpoint → Transition
-clock_turn moment e = transition (time_passes moment) (still (clock_at moment e))
+clock_turn moment e = transition (time_passes moment) (still (with_clock moment e))
 
 -- The moment is earlier than the present one; T1 isn't due; or it expires, and INIT is sent again.
 pub data Advanced (e : Endpoint) (p : Pair) (moment : ℕ) (turns : List Transition) : Type 0 where
@@ -96,11 +96,11 @@ no_turns f (t ∷ ts) h = absurd h
 not_due : (e : Endpoint) (p : Pair) (moment : ℕ) (turns : List Transition) → e.core ≡ cookie_wait p → has_come moment (deadline_of e.timers.t1) ≡ false → MomentTurns e moment turns → turns ≡ clock_turn moment e ∷ []
 not_due e p moment [] is waits h = absurd h
 not_due e p moment (t ∷ ts) is waits h =
-    let first : t ≡ clock_turn moment e = turned_as t (time_passes moment) (still (clock_at moment e)) h.0.is h.0.comes in
-    let rest : DueTurns (clock_at moment e) ts = subst (λ (x : Transition). DueTurns x.outcome.after ts) first h.1 in
-    let at_core : ExpiryTurns (t1_timer ∷ []) false (clock_at moment e) ts = subst (λ (core : Core). ExpiryTurns (timers_in core) false (clock_at moment e) ts) is rest in
-    let none : Turns (clock_at moment e) [] ts = subst (λ (b : Bool). ExpiryThen b (ExpiryTurns []) (clock_at moment e) false t1_timer ts) waits at_core in
-    ap (λ (x : Transition). x ∷ ts) first ∙ ap (λ (xs : List Transition). clock_turn moment e ∷ xs) (no_turns (clock_at moment e) ts none)
+    let first : t ≡ clock_turn moment e = turned_as t (time_passes moment) (still (with_clock moment e)) h.0.is h.0.comes in
+    let rest : DueTurns (with_clock moment e) ts = subst (λ (x : Transition). DueTurns x.outcome.after ts) first h.1 in
+    let at_core : ExpiryTurns (t1_timer ∷ []) false (with_clock moment e) ts = subst (λ (core : Core). ExpiryTurns (handled_timers core) false (with_clock moment e) ts) is rest in
+    let none : Turns (with_clock moment e) [] ts = subst (λ (b : Bool). ExpiryThen b (ExpiryTurns []) (with_clock moment e) false t1_timer ts) waits at_core in
+    ap (λ (x : Transition). x ∷ ts) first ∙ ap (λ (xs : List Transition). clock_turn moment e ∷ xs) (no_turns (with_clock moment e) ts none)
 
 advanced_by : (present come : Bool) (e : Endpoint) (p : Pair) (more moment : ℕ) (turns : List Transition) → nat_le e.moment moment ≡ present → has_come moment (deadline_of e.timers.t1) ≡ come
     → 112 ≤ e.options.mtu → RetriesInit e p (suc more) → AdvanceTurns e moment turns → Advanced e p moment turns
@@ -170,8 +170,8 @@ onward_by v p more moment turns fits h (expires due is) =
         empty = h.empty;
         asks = h.asks;
         pair = h.pair;
-        timer = going_on moment h.timer;
-        runs = ap (λ (t : Option RunningTimer). option_map (going_on moment) t) h.runs;
+        timer = continued_timer moment h.timer;
+        runs = ap (λ (t : Option RunningTimer). option_map (continued_timer moment) t) h.runs;
         left = one_less h.timer.terms.max_restarts h.timer.expiries more h.left;
         clock = fits;
         deadline = cut _ max_nanos;
@@ -191,7 +191,7 @@ onward v p more moment turns large fits h time = onward_by v p more moment turns
 
 -- It is still closed, and has shown and told nothing.
 pub record Resting (w : View) (turns : List Transition) : Type 0 where
-  pub rests : RestsAnew (view_then w turns).endpoint
+  pub rests : RestsWithoutTag (view_then w turns).endpoint
   pub same : (view_then w turns).endpoint.options ≡ w.endpoint.options
   pub told : (view_then w turns).told ≡ w.told
   pub shown : length (view_then w turns).shown ≡ length w.shown
@@ -199,12 +199,12 @@ pub record Resting (w : View) (turns : List Transition) : Type 0 where
 pub closed_still : (f : Endpoint) (moment : ℕ) (turns : List Transition) → f.core ≡ closed → MomentTurns f moment turns → turns ≡ clock_turn moment f ∷ []
 closed_still f moment [] is h = absurd h
 closed_still f moment (t ∷ ts) is h =
-    let first : t ≡ clock_turn moment f = turned_as t (time_passes moment) (still (clock_at moment f)) h.0.is h.0.comes in
-    let rest : DueTurns (clock_at moment f) ts = subst (λ (x : Transition). DueTurns x.outcome.after ts) first h.1 in
-    let none : Turns (clock_at moment f) [] ts = subst (λ (core : Core). ExpiryTurns (timers_in core) false (clock_at moment f) ts) is rest in
-    ap (λ (x : Transition). x ∷ ts) first ∙ ap (λ (xs : List Transition). clock_turn moment f ∷ xs) (no_turns (clock_at moment f) ts none)
+    let first : t ≡ clock_turn moment f = turned_as t (time_passes moment) (still (with_clock moment f)) h.0.is h.0.comes in
+    let rest : DueTurns (with_clock moment f) ts = subst (λ (x : Transition). DueTurns x.outcome.after ts) first h.1 in
+    let none : Turns (with_clock moment f) [] ts = subst (λ (core : Core). ExpiryTurns (handled_timers core) false (with_clock moment f) ts) is rest in
+    ap (λ (x : Transition). x ∷ ts) first ∙ ap (λ (xs : List Transition). clock_turn moment f ∷ xs) (no_turns (with_clock moment f) ts none)
 
-resting_by : (b : Bool) (w : View) (moment : ℕ) (turns : List Transition) → RestsAnew w.endpoint → TimeTurns b w.endpoint moment turns → Resting w turns
+resting_by : (b : Bool) (w : View) (moment : ℕ) (turns : List Transition) → RestsWithoutTag w.endpoint → TimeTurns b w.endpoint moment turns → Resting w turns
 resting_by true w moment turns h time =
     subst (Resting w) (sym (closed_still w.endpoint moment turns h.rests.core time))
     (record {
@@ -217,5 +217,5 @@ resting_by false w moment turns h time =
     subst (Resting w) (sym time) (record { rests = h; same = refl; told = refl; shown = ap length (append-nil w.shown) })
 
 -- A closed socket stays closed while time passes.
-pub resting : (w : View) (moment : ℕ) (turns : List Transition) → RestsAnew w.endpoint → AdvanceTurns w.endpoint moment turns → Resting w turns
+pub resting : (w : View) (moment : ℕ) (turns : List Transition) → RestsWithoutTag w.endpoint → AdvanceTurns w.endpoint moment turns → Resting w turns
 resting w moment turns h time = resting_by (nat_le w.endpoint.moment moment) w moment turns h time

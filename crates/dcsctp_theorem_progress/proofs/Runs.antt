@@ -5,14 +5,14 @@ use Rattle.dcsctp_spec_lemmas.specs.types.declared.options.Options.{Options}
 use Rattle.dcsctp_spec_lemmas.specs.types.declared.schedule.Side.TheVariants as sides
 use Rattle.dcsctp_spec_lemmas.specs.types.Settings.{ports_of}
 use Rattle.dcsctp_spec_lemmas.specs.spec.Packet.{Emission, emission_bytes}
-use Rattle.dcsctp_spec_lemmas.specs.spec.endpoint.Event.{Event, event_map, packets_in}
+use Rattle.dcsctp_spec_lemmas.specs.spec.endpoint.Event.{Event, event_map, packets_of_events}
 use Rattle.dcsctp_spec_lemmas.specs.spec.endpoint.Endpoint.{Endpoint, fresh_endpoint}
 use Rattle.dcsctp_spec_lemmas.specs.spec.endpoint.CallTurns.{Transition, after_all, events_of}
 use Rattle.dcsctp_spec_lemmas.proofs.TurnLists.{after_all-append, events_of-append}
 use Rattle.dcsctp_spec_runs.specs.Sockets.{Both, endpoint_after, packets_shown, packet_at_number, turns_after, DeliveryTurns}
 use Rattle.dcsctp_theorem_sockets.specs.Agreement.{AreUsable}
 use Rattle.dcsctp_theorem_sockets.specs.Handshake.{AreFitting}
-use Rattle.dcsctp_theorem_sockets.proofs.Bursts.{packets_in-append}
+use Rattle.dcsctp_theorem_sockets.proofs.Bursts.{packets_of_events-append}
 use Rattle.dcsctp_theorem_progress.specs.LostInits.{LostInitsAreMadeGood, LostInitsOfBothAreMadeGood}
 use Rattle.dcsctp_theorem_sockets.proofs.HandshakeTurns.{HandshakeLaws, Good}
 use Rattle.dcsctp_theorem_progress.proofs.Facts.{Fit}
@@ -23,9 +23,9 @@ use Rattle.dcsctp_theorem_progress.proofs.LostInitsOfBoth.{connect_too}
 pub shown_then : (options now : Options) (xs ys : List Transition) → now ≡ options → packets_shown options (xs ++ ys) ≡ packets_shown options xs ++ packets_shown now ys
 shown_then options now xs ys same =
     let f : Event Emission → Event (List ℕ) = event_map (emission_bytes (ports_of options)) in
-    ap (λ (es : List (Event Emission)). packets_in (map f es)) (events_of-append xs ys)
-    ∙ ap packets_in (map-append f (events_of xs) (events_of ys))
-    ∙ packets_in-append (map f (events_of xs)) (map f (events_of ys))
+    ap (λ (es : List (Event Emission)). packets_of_events (map f es)) (events_of-append xs ys)
+    ∙ ap packets_of_events (map-append f (events_of xs) (events_of ys))
+    ∙ packets_of_events-append (map f (events_of xs)) (map f (events_of ys))
     ∙ ap (λ (o : Options). packets_shown options xs ++ packets_shown o ys) (sym same)
 
 shown_two : (options now : Options) (xs ys zs : List Transition) → now ≡ options → packets_shown options ((xs ++ ys) ++ zs) ≡ packets_shown options xs ++ packets_shown now (ys ++ zs)

@@ -8,9 +8,9 @@ use Rattle.dcsctp_spec_lemmas.specs.types.Settings.{ports_of}
 use Rattle.dcsctp_spec_lemmas.specs.spec.Packet.{Introduction, init, Emission, emission_bytes}
 use Rattle.dcsctp_spec_lemmas.specs.spec.endpoint.Endpoint.{Endpoint, Core, closed, cookie_wait, with_secret, secret_with}
 use Rattle.dcsctp_spec_lemmas.specs.spec.endpoint.Outcome.{Outcome, quiet, sends, still, drawing, answering as counted}
-use Rattle.dcsctp_spec_lemmas.specs.spec.endpoint.Turn.{act_input, time_passes, clock_at, BeginTurn}
-use Rattle.dcsctp_spec_lemmas.specs.spec.endpoint.TimerOutcomes.{T1AgainTurn, t1_again_by, t1_goes_on}
-use Rattle.dcsctp_spec_lemmas.specs.spec.endpoint.TimeTurns.{t1_timer, timers_in, deadline_of, has_come, has_restart, expiry_input, inputs_behind, after_expiries, FirstThen, ExpiryThen, ExpiryTurns, DueTurns, TimeTurns, MomentTurns, AdvanceTurns}
+use Rattle.dcsctp_spec_lemmas.specs.spec.endpoint.Turn.{act_input, time_passes, with_clock, BeginTurn}
+use Rattle.dcsctp_spec_lemmas.specs.spec.endpoint.TimerOutcomes.{T1AgainTurn, t1_again_with_flush, endpoint_with_t1_continued}
+use Rattle.dcsctp_spec_lemmas.specs.spec.endpoint.TimeTurns.{t1_timer, handled_timers, deadline_of, has_come, has_restart, expiry_input, inputs_behind, after_expiries, FirstThen, ExpiryThen, ExpiryTurns, DueTurns, TimeTurns, MomentTurns, AdvanceTurns}
 use Rattle.dcsctp_spec_lemmas.specs.spec.endpoint.FlushOutcomes.{flush_answered}
 use Rattle.dcsctp_spec_lemmas.specs.spec.endpoint.HandshakeOutcomes.{pair_from, init_emission, init_ack_emission, init_outcome, init_answered}
 use Rattle.dcsctp_spec_lemmas.specs.spec.endpoint.MessageOutcomes.{awaits_opening}
@@ -29,19 +29,19 @@ use Rattle.dcsctp_theorem_sockets.proofs.HandshakeSizes.{init_fits, init_ack_fit
 
 -- T1 goes on, and the INIT is sent again
 abbrev pub init_again : Endpoint → Pair → Outcome
-init_again e my = sends (t1_goes_on e) [] [] (init_emission e my)
+init_again e my = sends (endpoint_with_t1_continued e) [] [] (init_emission e my)
 
 abbrev pub init_repeated : Endpoint → Pair → ℕ → List Transition
 init_repeated e my moment =
-    transition (time_passes moment) (still (clock_at moment e))
-    ∷ transition (act_input (t1_expires true)) (init_again (clock_at moment e) my)
+    transition (time_passes moment) (still (with_clock moment e))
+    ∷ transition (act_input (t1_expires true)) (init_again (with_clock moment e) my)
     ∷ []
 
 again_sends : (e : Endpoint) (my : Pair) (o : Outcome) → e.core ≡ cookie_wait my → 112 ≤ e.options.mtu → T1AgainTurn e o → o ≡ init_again e my
 again_sends e my o is large turn =
     turn.2
-    ∙ ap (t1_again_by (flush_answered turn.0) e) is
-    ∙ ap (λ (b : Bool). cond b (sends (t1_goes_on e) [] [] (init_emission e my)) (quiet (t1_goes_on e) [] [])) (init_fits (t1_goes_on e) my large)
+    ∙ ap (t1_again_with_flush (flush_answered turn.0) e) is
+    ∙ ap (λ (b : Bool). cond b (sends (endpoint_with_t1_continued e) [] [] (init_emission e my)) (quiet (endpoint_with_t1_continued e) [] [])) (init_fits (endpoint_with_t1_continued e) my large)
 
 nothing_behind : (e : Endpoint) (my : Pair) (turns : List Transition) → e.core ≡ cookie_wait my → Turns e (after_expiries e true) turns → turns ≡ []
 nothing_behind e my [] is h = refl
@@ -59,17 +59,17 @@ due_first e my (t ∷ ts) is large h =
 due : (e : Endpoint) (my : Pair) (turns : List Transition) → e.core ≡ cookie_wait my → 112 ≤ e.options.mtu → has_come e.moment (deadline_of e.timers.t1) ≡ true → has_restart e.timers.t1 ≡ true
     → DueTurns e turns → turns ≡ transition (act_input (t1_expires true)) (init_again e my) ∷ []
 due e my turns is large come again h =
-    let at_core : ExpiryTurns (t1_timer ∷ []) false e turns = subst (λ (core : Core). ExpiryTurns (timers_in core) false e turns) is h in
+    let at_core : ExpiryTurns (t1_timer ∷ []) false e turns = subst (λ (core : Core). ExpiryTurns (handled_timers core) false e turns) is h in
     let at_come : FirstThen (ExpiryTurns [] true) e (expiry_input e t1_timer) turns = subst (λ (b : Bool). ExpiryThen b (ExpiryTurns []) e false t1_timer turns) come at_core in
     due_first e my turns is large (subst (λ (b : Bool). FirstThen (ExpiryTurns [] true) e (act_input (t1_expires b)) turns) again at_come)
 
 moved : (e : Endpoint) (my : Pair) (moment : ℕ) (turns : List Transition) → e.core ≡ cookie_wait my → 112 ≤ e.options.mtu → DueT1 e moment → MomentTurns e moment turns → turns ≡ init_repeated e my moment
 moved e my moment [] is large at h = absurd h
 moved e my moment (t ∷ ts) is large at h =
-    let first : t ≡ transition (time_passes moment) (still (clock_at moment e)) = turned_as t (time_passes moment) (still (clock_at moment e)) h.0.is h.0.comes in
-    let rest : DueTurns (clock_at moment e) ts = subst (λ (x : Transition). DueTurns x.outcome.after ts) first h.1 in
+    let first : t ≡ transition (time_passes moment) (still (with_clock moment e)) = turned_as t (time_passes moment) (still (with_clock moment e)) h.0.is h.0.comes in
+    let rest : DueTurns (with_clock moment e) ts = subst (λ (x : Transition). DueTurns x.outcome.after ts) first h.1 in
     ap (λ (x : Transition). x ∷ ts) first
-    ∙ ap (λ (xs : List Transition). transition (time_passes moment) (still (clock_at moment e)) ∷ xs) (due (clock_at moment e) my ts is large at.come at.again rest)
+    ∙ ap (λ (xs : List Transition). transition (time_passes moment) (still (with_clock moment e)) ∷ xs) (due (with_clock moment e) my ts is large at.come at.again rest)
 
 -- A socket whose INIT was lost sends it again at its next moment.
 pub t1_sends_init : (e : Endpoint) (my : Pair) (moment : ℕ) (turns : List Transition) → e.core ≡ cookie_wait my → 112 ≤ e.options.mtu → DueT1 e moment → AdvanceTurns e moment turns

@@ -8,7 +8,7 @@ use Rattle.dcsctp_spec_lemmas.specs.types.declared.association.Pair.{Pair}
 use Rattle.dcsctp_spec_lemmas.specs.types.declared.options.Options.{Options}
 use Rattle.dcsctp_spec_lemmas.specs.types.declared.schedule.Side.{Side}
 use Rattle.dcsctp_spec_lemmas.specs.types.declared.schedule.Side.TheVariants as sides
-use Rattle.dcsctp_spec_lemmas.specs.types.Offer.{offer_of, negotiated}
+use Rattle.dcsctp_spec_lemmas.specs.types.Offer.{offer_of, negotiated_capabilities}
 use Rattle.dcsctp_spec_lemmas.specs.spec.association.HandshakeChanges.{new_held}
 use Rattle.dcsctp_spec_lemmas.specs.spec.endpoint.Endpoint.{Endpoint, Core, open_in, established}
 use Rattle.dcsctp_spec_lemmas.specs.spec.endpoint.CallTurns.{Transition}
@@ -16,7 +16,7 @@ use Rattle.dcsctp_spec_lemmas.specs.spec.endpoint.TimeTurns.{next_moment}
 use Rattle.dcsctp_spec_runs.specs.Sockets.{PerformedAct, Both, turns_after, SocketRun}
 use Rattle.dcsctp_theorem_sockets.specs.Agreement.{AreUsable}
 use Rattle.dcsctp_theorem_sockets.specs.Handshake.{AreFitting}
-use Rattle.dcsctp_theorem_progress.specs.Rounds.{counts_shown, TimeGoesOn, LostRounds, QuietRound, Exchanges}
+use Rattle.dcsctp_theorem_progress.specs.Rounds.{counts_shown, AdvancesBothClocks, LostRounds, QuietRound, Exchanges}
 use Rattle.dcsctp_theorem_progress.specs.LostInits.{AwaitsInitAck, AwaitsToo}
 use Rattle.dcsctp_theorem_progress.specs.Retries.{RetriesInit}
 use Rattle.dcsctp_theorem_progress.specs.Connecting.{TakesOwn, HaveConnected}
@@ -58,7 +58,7 @@ lesser_fits : (n m limit : ℕ) → n ≤ limit → min n m ≤ limit
 lesser_fits n m limit fits = omega (arith, fits)
 
 lost_round : (options : Both Options) (before run : List PerformedAct) (p q : Pair) (more m n : ℕ) → AreUsable options → AreFitting options → BothReady options before p q (suc more) m n
-    → TimeGoesOn options before run → SocketRun options run → BothReady options run p q more m n
+    → AdvancesBothClocks options before run → SocketRun options run → BothReady options run p q more m n
 lost_round options before run p q more m n are fit h time runs =
     let good : Fit h.v.endpoint.options h.w.endpoint.options = fit_of sides.A options h.v h.w are fit h.keep in
     let moment : ℕ = lesser h.v h.w in
@@ -129,7 +129,7 @@ too : (e : Endpoint) (q : Pair) → RetriesInit e q 1 → TakesOwn e q → Await
 too e q h own = record { core = h.core; empty = h.empty; pair = h.pair; secret = own.secret; has_secret = own.has_secret; anew = own.anew }
 
 abbrev linked_core : Options → Options → Pair → Pair → Core
-linked_core a b p q = open_in established p (new_held p q (negotiated (offer_of a) (offer_of b)))
+linked_core a b p q = open_in established p (new_held p q (negotiated_capabilities (offer_of a) (offer_of b)))
 
 -- where only this side's has: the other is so after it
 alone : HandshakeLaws → (side : Side) (options : Both Options) (v w : View) (p q : Pair) (moment : ℕ) (settled settled' : Both ℕ) (between run : List PerformedAct) → Due side options v w p q moment

@@ -12,7 +12,7 @@ use Rattle.dcsctp_spec_lemmas.specs.spec.endpoint.TimeTurns.{AdvanceTurns, next_
 use Rattle.dcsctp_spec_lemmas.proofs.TurnLists.{after_all-append, events_of-append}
 use Rattle.dcsctp_spec_runs.specs.Sockets.{PerformedAct, Both, endpoint_after, packets_shown, turns_after, SocketRun, acts_of}
 use Rattle.dcsctp_theorem_sockets.specs.Handshake.{connections_of_events}
-use Rattle.dcsctp_theorem_progress.specs.Rounds.{ActsFollow, lesser_moment, TimeGoesOn, Exchanges}
+use Rattle.dcsctp_theorem_progress.specs.Rounds.{ActsFollow, lesser_moment, AdvancesBothClocks, Exchanges}
 use Rattle.dcsctp_theorem_progress.proofs.Runs.{shown_then}
 
 -- ---- views
@@ -154,7 +154,7 @@ moved_by options earlier v w moment here there at keep runs =
       at = record { a = viewed_then options.a (turns_after earlier).a here v at.a keep.a; b = viewed_then options.b (turns_after earlier).b there w at.b keep.b };
     }
 
-pub time_moves : (options : Both Options) (earlier run : List PerformedAct) (v w : View) → At options earlier v w → Keep options v w → TimeGoesOn options earlier run → SocketRun options run
+pub time_moves : (options : Both Options) (earlier run : List PerformedAct) (v w : View) → At options earlier v w → Keep options v w → AdvancesBothClocks options earlier run → SocketRun options run
     → Moved options run v w (lesser v w)
 time_moves options earlier run v w at keep time runs =
     let now : ℕ = lesser_moment options (turns_after earlier) in

@@ -10,7 +10,7 @@ use Rattle.dcsctp_spec_lemmas.specs.spec.endpoint.Endpoint.{Endpoint, closed}
 use Rattle.dcsctp_spec_lemmas.specs.spec.endpoint.CallTurns.{Transition, events_of}
 use Rattle.dcsctp_spec_lemmas.specs.spec.endpoint.CookieEchoOutcomes.{is_tag_over}
 use Rattle.dcsctp_spec_lemmas.specs.spec.endpoint.TimeTurns.{next_moment}
-use Rattle.dcsctp_spec_lemmas.specs.spec.endpoint.Turn.{clock_at}
+use Rattle.dcsctp_spec_lemmas.specs.spec.endpoint.Turn.{with_clock}
 use Rattle.dcsctp_spec_runs.specs.Sockets.{PerformedAct, Both, of_side, endpoint_after, turns_after, SocketRun, acts_of}
 use Rattle.dcsctp_theorem_sockets.specs.Agreement.{AreUsable}
 use Rattle.dcsctp_theorem_sockets.specs.Handshake.{other_side, AreFitting, AreConnected, connections_of_events}
@@ -20,7 +20,7 @@ use Rattle.dcsctp_theorem_progress.specs.Retries.{LeavesRestarts, RetriesInit}
 use Rattle.dcsctp_theorem_progress.specs.Cookies.{AwaitsAck, MissedEcho}
 
 -- It is closed, and there is no tag under which none begins again.
-pub record RestsAnew (e : Endpoint) : Type 0 where
+pub record RestsWithoutTag (e : Endpoint) : Type 0 where
   pub rests : Rests e
   pub anew : (tag : ℕ) → is_tag_over e closed tag ≡ false
 
@@ -36,14 +36,14 @@ pub record TakesOwn (e : Endpoint) (p : Pair) : Type 0 where
 pub record EchoIsLost (e f : Endpoint) (p q : Pair) (made tie : ℕ) : Type 0 where
   pub awaits : AwaitsAck e f p q made tie (next_moment e)
   pub missed : MissedEcho e f p q made tie
-  pub young : MissedEcho e (clock_at (next_moment e) f) p q made tie
+  pub young : MissedEcho e (with_clock (next_moment e) f) p q made tie
   pub fits : next_moment e ≤ max_nanos
 
 -- One of the two awaits an INIT ACK, with that many restarts of T1 left, and the other is closed; or both await one. Or one awaits a
 -- COOKIE ACK, the other is closed, and no round is lost.
 pub data MayConnect (more : ℕ) (e f : Endpoint) : Type 0 where
-  a_tries : (p : Pair) → RetriesInit e p more → RestsAnew f → MayConnect more e f
-  b_tries : (p : Pair) → RetriesInit f p more → RestsAnew e → MayConnect more e f
+  a_tries : (p : Pair) → RetriesInit e p more → RestsWithoutTag f → MayConnect more e f
+  b_tries : (p : Pair) → RetriesInit f p more → RestsWithoutTag e → MayConnect more e f
   both_try : (p q : Pair) → RetriesInit e p more → TakesOwn e p → RetriesInit f q more → TakesOwn f q → MayConnect more e f
   a_echoes : (p q : Pair) (made tie : ℕ) → more ≡ 1 → EchoIsLost e f p q made tie → MayConnect more e f
   b_echoes : (p q : Pair) (made tie : ℕ) → more ≡ 1 → EchoIsLost f e p q made tie → MayConnect more e f

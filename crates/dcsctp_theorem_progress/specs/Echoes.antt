@@ -20,8 +20,8 @@ pub record ConnectLast (e f : Endpoint) (p q : Pair) (tells : ℕ) (here there :
   pub tells_there : connections_of_events (events_of there) ≡ tells
 
 -- After the run A's clock goes to this moment, and then COOKIE ECHO and COOKIE ACK are delivered.
-abbrev pub echoed_anew : ℕ → Both ℕ → List Transition → List Transition → List Transition → List PerformedAct → List PerformedAct
-echoed_anew moment shown o1 o2 o3 earlier =
+abbrev pub run_with_echo_again : ℕ → Both ℕ → List Transition → List Transition → List Transition → List PerformedAct → List PerformedAct
+run_with_echo_again moment shown o1 o2 o3 earlier =
     record { act = step_act (delivery_step sides.A (suc shown.b)); turns = o3 }
     ∷ record { act = step_act (delivery_step sides.B (suc shown.a)); turns = o2 }
     ∷ record { act = step_act (call_step sides.A (advance_call moment)); turns = o1 }
@@ -35,7 +35,7 @@ LostEchoesAreMadeGood =
     let e = endpoint_after options.a turns.a in
     let f = endpoint_after options.b turns.b in
     KeepsOptions options.a e → KeepsOptions options.b f → AwaitsAck e f p q made tie moment → MissedEcho e f p q made tie
-    → SocketRun options (echoed_anew moment (counts_shown options turns) o1 o2 o3 earlier)
+    → SocketRun options (run_with_echo_again moment (counts_shown options turns) o1 o2 o3 earlier)
     → ConnectLast e f p q 1 (o1 ++ o3) o2
 
 abbrev pub LostAcksAreMadeGood : Type 0
@@ -46,5 +46,5 @@ LostAcksAreMadeGood =
     let e = endpoint_after options.a turns.a in
     let f = endpoint_after options.b turns.b in
     KeepsOptions options.a e → KeepsOptions options.b f → AwaitsAck e f p q made tie moment → HadEcho e f p q made tie
-    → SocketRun options (echoed_anew moment (counts_shown options turns) o1 o2 o3 earlier)
+    → SocketRun options (run_with_echo_again moment (counts_shown options turns) o1 o2 o3 earlier)
     → ConnectLast e f p q 0 (o1 ++ o3) o2

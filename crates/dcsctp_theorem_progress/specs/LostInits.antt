@@ -5,7 +5,7 @@ use Rattle.dcsctp_spec_lemmas.specs.types.declared.association.Pair.{Pair}
 use Rattle.dcsctp_spec_lemmas.specs.types.declared.options.Options.{Options}
 use Rattle.dcsctp_spec_lemmas.specs.types.declared.schedule.Side.TheVariants as sides
 use Rattle.dcsctp_spec_lemmas.specs.types.Schedule.{advance_call, call_step, delivery_step, step_act}
-use Rattle.dcsctp_spec_lemmas.specs.types.Offer.{offer_of, negotiated}
+use Rattle.dcsctp_spec_lemmas.specs.types.Offer.{offer_of, negotiated_capabilities}
 use Rattle.dcsctp_spec_lemmas.specs.spec.CookieFits.{FitsPair}
 use Rattle.dcsctp_spec_lemmas.specs.spec.queues.Transfer.{empty_queues}
 use Rattle.dcsctp_spec_lemmas.specs.spec.endpoint.Endpoint.{Endpoint, closed, cookie_wait, open_in, established}
@@ -42,8 +42,8 @@ pub record Rests (e : Endpoint) : Type 0 where
 
 -- No pair that these turns draw has the tag of the last association, which none begins under again by the RFC (RFC 9260, section
 -- 5.3.1).
-abbrev pub DrawsAnew : Endpoint → List Transition → Type 0
-DrawsAnew e turns = AllByRecursion (λ pair. is_tag_over e closed pair.tag ≡ false) (pairs_of turns)
+abbrev pub DrawsOtherTags : Endpoint → List Transition → Type 0
+DrawsOtherTags e turns = AllByRecursion (λ pair. is_tag_over e closed pair.tag ≡ false) (pairs_of turns)
 
 -- It awaits an INIT ACK too, with a secret that fits a cookie, and no message was queued.
 pub record AwaitsToo (e : Endpoint) (q : Pair) : Type 0 where
@@ -62,8 +62,8 @@ pub record KeepsOptions (options : Options) (e : Endpoint) : Type 0 where
 
 -- Both are Established and crossed, with what both offers have in common.
 pub record AreLinked (e f : Endpoint) (a b : Options) (p q : Pair) : Type 0 where
-  pub here : e.core ≡ open_in established p (new_held p q (negotiated (offer_of a) (offer_of b)))
-  pub there : f.core ≡ open_in established q (new_held q p (negotiated (offer_of b) (offer_of a)))
+  pub here : e.core ≡ open_in established p (new_held p q (negotiated_capabilities (offer_of a) (offer_of b)))
+  pub there : f.core ≡ open_in established q (new_held q p (negotiated_capabilities (offer_of b) (offer_of a)))
 
 -- After these turns of each both are linked, and each told OnConnected once.
 pub record Connect (e f : Endpoint) (p : Pair) (here there : List Transition) : Type 0 where
@@ -92,7 +92,7 @@ LostInitsAreMadeGood =
     let turns = turns_after earlier in
     let e = endpoint_after options.a turns.a in
     let f = endpoint_after options.b turns.b in
-    KeepsOptions options.a e → KeepsOptions options.b f → AwaitsInitAck e p moment → Rests f → DrawsAnew f o2
+    KeepsOptions options.a e → KeepsOptions options.b f → AwaitsInitAck e p moment → Rests f → DrawsOtherTags f o2
     → SocketRun options (made_good moment (counts_shown options turns) o1 o2 o3 o4 o5 earlier)
     → Connect e f p (o1 ++ (o3 ++ o5)) (o2 ++ o4)
 

@@ -29,14 +29,14 @@ abbrev pub clocks : ℕ → List ActContent
 clocks moment = step_act (call_step sides.A (advance_call moment)) ∷ step_act (call_step sides.B (advance_call moment)) ∷ []
 
 -- Both clocks go to the lesser next moment.
-abbrev pub TimeGoesOn : Both Options → List PerformedAct → List PerformedAct → Type 0
-TimeGoesOn options earlier run = ActsFollow earlier (clocks (lesser_moment options (turns_after earlier))) run
+abbrev pub AdvancesBothClocks : Both Options → List PerformedAct → List PerformedAct → Type 0
+AdvancesBothClocks options earlier run = ActsFollow earlier (clocks (lesser_moment options (turns_after earlier))) run
 
 -- That many rounds of which every packet is lost.
 abbrev pub LostRounds : Both Options → ℕ → List PerformedAct → List PerformedAct → Type 0
 LostRounds options zero earlier run = run ≡ earlier
 LostRounds options (suc more) earlier run =
-    (between : List PerformedAct) × TimeGoesOn options earlier between × LostRounds options more between run
+    (between : List PerformedAct) × AdvancesBothClocks options earlier between × LostRounds options more between run
 
 -- ---- packets
 
@@ -62,7 +62,7 @@ Exchanges options (suc more) settled earlier settled' run =
 -- clocks go on while a packet is under way.
 pub record QuietRound (options : Both Options) (settled : Both ℕ) (earlier : List PerformedAct) (settled' : Both ℕ) (run : List PerformedAct) : Type 0 where
   pub between : List PerformedAct
-  pub time : TimeGoesOn options earlier between
+  pub time : AdvancesBothClocks options earlier between
   pub exchanges : Exchanges options 4 settled between settled' run
 
 abbrev pub QuietRounds : Both Options → ℕ → Both ℕ → List PerformedAct → Both ℕ → List PerformedAct → Type 0

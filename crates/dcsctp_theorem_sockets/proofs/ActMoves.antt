@@ -6,7 +6,7 @@ use Rattle.dcsctp_spec_lemmas.specs.types.Settings.{SameOptions}
 use Rattle.dcsctp_spec_lemmas.specs.spec.endpoint.Endpoint.{Endpoint, Core}
 use Rattle.dcsctp_spec_lemmas.specs.spec.endpoint.Outcome.{Outcome}
 use Rattle.dcsctp_spec_lemmas.specs.spec.endpoint.CallTurns.{Transition}
-use Rattle.dcsctp_spec_lemmas.specs.spec.association.Controlled.{IsControlled, ControlledAct}
+use Rattle.dcsctp_spec_lemmas.specs.spec.association.Controlled.{IsControlled, IsControlledAct}
 use Rattle.dcsctp_spec_lemmas.specs.spec.association.Choices.{Choices}
 use Rattle.dcsctp_spec_lemmas.specs.spec.association.Effect.{Change}
 use Rattle.dcsctp_spec_lemmas.specs.spec.association.Acts.{Act, act_change}
@@ -29,7 +29,7 @@ pub record ActFollows (options : Options) (turns : List Transition) (side : Side
   pub follows : Followed options (turns ++ t ∷ []) (after_changes side (act_change side.options side.core act choices ∷ []))
 
 pub act_follows : EffectsMean → (options : Options) (turns : List Transition) (side : SideState) (act : Act) (t : Transition) → IgnoresMessageSize act → Followed options turns side
-    → ControlledAct (endpoint_after options turns) act t.outcome → TurnFits t.outcome → ActFollows options turns side act t
+    → IsControlledAct (endpoint_after options turns) act t.outcome → TurnFits t.outcome → ActFollows options turns side act t
 unfolding controlled_at
 act_follows means options turns side act t any h controlled fits =
     let e : Endpoint = endpoint_after options turns in

@@ -9,23 +9,23 @@ use Rattle.dcsctp_spec_lemmas.specs.wire.Spelling.{chunk_bytes}
 use Rattle.dcsctp_spec_lemmas.proofs.wire_lemmas.Lengths.{length-chunk_bytes}
 use Rattle.dcsctp_spec_lemmas.specs.types.declared.association.Held.{Held}
 use Rattle.dcsctp_spec_lemmas.specs.spec.Packet.{Content, re_config, chunk_out}
-use Rattle.dcsctp_spec_lemmas.specs.spec.Reconfiguration.{RequestedReset, outgoing_reset_request, reset_streams_in, number_answered, previous_number}
+use Rattle.dcsctp_spec_lemmas.specs.spec.Reconfiguration.{RequestedReset, outgoing_reset_request, streams_of_bytes, number_answered, previous_number}
 use Rattle.dcsctp_spec_lemmas.specs.spec.queues.OwnResets.{ready_streams}
 use Rattle.dcsctp_spec_lemmas.specs.spec.queues.SendQueue.{SendQueueState}
 use Rattle.dcsctp_spec_runs.specs.Deadlines.{T1Runs}
-use Rattle.dcsctp_spec_lemmas.specs.spec.endpoint.Endpoint.{Endpoint, Core, closed, cookie_wait, cookie_echoed, open_in, held_in}
+use Rattle.dcsctp_spec_lemmas.specs.spec.endpoint.Endpoint.{Endpoint, Core, closed, cookie_wait, cookie_echoed, open_in, held_by_core}
 use Rattle.dcsctp_spec_lemmas.specs.spec.endpoint.Timers.{RunningTimer}
 use Rattle.dcsctp_spec_lemmas.specs.spec.endpoint.Outcome.{contents_len}
 use Rattle.dcsctp_spec_lemmas.specs.spec.association.FlushChanges.{reset_request}
-use Rattle.dcsctp_spec_lemmas.specs.spec.endpoint.BegunResets.{BegunReset, stream_field, streams_within, begun_where, begun_in, request_contents, core_asking, after_begun}
-use Rattle.dcsctp_spec_lemmas.specs.spec.endpoint.FlushOutcomes.{may_be_asked, Ask, first_ask, later_ask, begun_at}
+use Rattle.dcsctp_spec_lemmas.specs.spec.endpoint.BegunResets.{BegunReset, stream_field, streams_within, begun_if_ready, begun_if_connected, request_contents, core_asking, after_begun}
+use Rattle.dcsctp_spec_lemmas.specs.spec.endpoint.FlushOutcomes.{may_be_asked, Ask, first_ask, later_ask, begun_by_ask}
 use Rattle.dcsctp_spec_runs.specs.Fitting.{FitsHeld, FitsCore, Sendable}
 use Rattle.dcsctp_spec_lemmas.proofs.PacketLengths.{streams_len, begun_at_len}
 use Rattle.dcsctp_theorem_sockets.proofs.Bytes.{both, in_two}
 
 -- ---- its packet
 
-streams_read : (streams : List ℕ) → reset_streams_in (flat_map (to_be_bytes w16) (map stream_field streams)) ≡ map stream_field streams
+streams_read : (streams : List ℕ) → streams_of_bytes (flat_map (to_be_bytes w16) (map stream_field streams)) ≡ map stream_field streams
 streams_read [] = refl
 streams_read (stream ∷ streams) =
     ap (λ (rest : List ℕ). from_be_bytes w16 (to_be_bytes w16 (stream_field stream)) ∷ rest) (streams_read streams)
@@ -75,14 +75,14 @@ request_sendable is_new number last_tsn streams number_fits tsn_fits short =
         );
       };
       reads =
-          ap (λ (b : Bool). re_config (outgoing_reset_request number answered (asked_for b last_tsn (reset_streams_in (flat_map (to_be_bytes w16) (map stream_field streams)))) ∷ [])) (reads_new number is_new number_fits)
+          ap (λ (b : Bool). re_config (outgoing_reset_request number answered (asked_for b last_tsn (streams_of_bytes (flat_map (to_be_bytes w16) (map stream_field streams)))) ∷ [])) (reads_new number is_new number_fits)
           ∙ ap (λ (ss : List ℕ). re_config (outgoing_reset_request number answered (asked_for is_new last_tsn ss) ∷ [])) (streams_read streams);
       said = tt;
     }
 
 where_sends : (follows : Bool) (outstanding : Option ℕ) (number last_tsn : ℕ) (streams : List ℕ) → number < 2 ^ 32 → last_tsn < 2 ^ 32
-    → contents_len (request_contents (begun_where follows outstanding number last_tsn (map stream_field streams))) < 2 ^ 16
-    → AllByRecursion Sendable (request_contents (begun_where follows outstanding number last_tsn (map stream_field streams)))
+    → contents_len (request_contents (begun_if_ready follows outstanding number last_tsn (map stream_field streams))) < 2 ^ 16
+    → AllByRecursion Sendable (request_contents (begun_if_ready follows outstanding number last_tsn (map stream_field streams)))
 where_sends follows None number last_tsn [] number_fits tsn_fits short = tt
 where_sends follows None number last_tsn (stream ∷ streams) number_fits tsn_fits short = (request_sendable follows number last_tsn (stream ∷ streams) number_fits tsn_fits short, tt)
 where_sends follows (Some other) number last_tsn [] number_fits tsn_fits short = tt
@@ -93,7 +93,7 @@ abbrev pub FitsPeer : Option Held → Type 0
 FitsPeer None = Unit {0}
 FitsPeer (Some held) = FitsHeld held
 
-pub peer_fits : (core : Core) → FitsCore core → FitsPeer (held_in core)
+pub peer_fits : (core : Core) → FitsCore core → FitsPeer (held_by_core core)
 peer_fits closed own = tt
 peer_fits (cookie_wait my) own = tt
 peer_fits (cookie_echoed my held cookie) own = own.1
@@ -107,13 +107,13 @@ asked_fits (cookie_echoed my held cookie) false own = own.1
 asked_fits (open_in phase my held) follows own = own.1
 
 in_sends : (follows : Bool) (held : Option Held) (room last_tsn : ℕ) (queue : SendQueueState) → FitsPeer held → last_tsn < 2 ^ 32
-    → contents_len (request_contents (begun_in follows held room last_tsn queue)) < 2 ^ 16 → AllByRecursion Sendable (request_contents (begun_in follows held room last_tsn queue))
+    → contents_len (request_contents (begun_if_connected follows held room last_tsn queue)) < 2 ^ 16 → AllByRecursion Sendable (request_contents (begun_if_connected follows held room last_tsn queue))
 in_sends follows None room last_tsn queue fits tsn_fits short = tt
 in_sends follows (Some held) room last_tsn queue fits tsn_fits short =
     where_sends follows held.own_outstanding held.own_next last_tsn (take (streams_within room) (ready_streams queue)) fits.own_next tsn_fits short
 
 pub begun_sends : (ask : Ask) (follows : Bool) (held : Option Held) (room last_tsn : ℕ) (queue : SendQueueState) → FitsPeer held → last_tsn < 2 ^ 32 → room < 2 ^ 16
-    → AllByRecursion Sendable (request_contents (begun_at ask follows held room last_tsn queue))
+    → AllByRecursion Sendable (request_contents (begun_by_ask ask follows held room last_tsn queue))
 begun_sends later_ask follows held room last_tsn queue fits tsn_fits small = tt
 begun_sends first_ask follows held room last_tsn queue fits tsn_fits small =
     let len = begun_at_len first_ask follows held room last_tsn queue in

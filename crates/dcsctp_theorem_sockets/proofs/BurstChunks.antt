@@ -11,18 +11,18 @@ use Rattle.dcsctp_spec_lemmas.specs.spec.endpoint.Cause.{Cause}
 use Rattle.dcsctp_spec_lemmas.specs.spec.endpoint.Event.{Event, error}
 use Rattle.dcsctp_spec_lemmas.specs.spec.Packet.{Plain, plain, unknown, heartbeat, heartbeat_ack, unworked, Content, re_config, Emission}
 use Rattle.dcsctp_spec_lemmas.specs.spec.Reconfiguration.{RequestedReset, ResetParameter, renewed_reset}
-use Rattle.dcsctp_spec_lemmas.specs.spec.queues.Arrivals.{data_arrival, i_data_arrival, skipped_in, messages_skipped_in}
-use Rattle.dcsctp_spec_lemmas.specs.spec.endpoint.Endpoint.{Endpoint, Core, closed, cookie_wait, cookie_echoed, open_in, OutstandingRequest, held_in}
+use Rattle.dcsctp_spec_lemmas.specs.spec.queues.Arrivals.{data_arrival, i_data_arrival, named_skips, skipped_messages}
+use Rattle.dcsctp_spec_lemmas.specs.spec.endpoint.Endpoint.{Endpoint, Core, closed, cookie_wait, cookie_echoed, open_in, OutstandingRequest, held_by_core}
 use Rattle.dcsctp_spec_lemmas.specs.spec.endpoint.Outcome.{Outcome, still, fits, answers_with, to_peer}
 use Rattle.dcsctp_spec_lemmas.specs.spec.association.Effect.{Effect}
 use Rattle.dcsctp_spec_lemmas.specs.spec.association.FlushChanges.{reset_request}
 use Rattle.dcsctp_spec_lemmas.specs.spec.association.ResetChanges.{HandledParameters}
 use Rattle.dcsctp_spec_lemmas.specs.spec.endpoint.FlushOutcomes.{Answer, draft_to, flush_of}
-use Rattle.dcsctp_spec_lemmas.specs.spec.endpoint.HeartbeatOutcomes.{heartbeat_outcome, info_in, counter_of, answered, heartbeat_ack_outcome, interval_expired, beating, heartbeat_emission, beat, interval_outcome, is_exhausted}
+use Rattle.dcsctp_spec_lemmas.specs.spec.endpoint.HeartbeatOutcomes.{heartbeat_outcome, first_heartbeat_info, counter_of, endpoint_answered, heartbeat_ack_outcome, interval_expired, beating, heartbeat_emission, beat, interval_outcome, is_exhausted}
 use Rattle.dcsctp_spec_lemmas.specs.spec.endpoint.OwnTimers.{OwnTimer, acknowledgement_delay, retransmission, heartbeat_interval, heartbeat_timeout, reconfiguration, TimerTurn}
-use Rattle.dcsctp_spec_lemmas.specs.spec.endpoint.PlainOutcomes.{PlainTurn, PlainTurnBy, violation_by, violation_at, is_reported, after_unknown, unknown_bytes, unknown_chunk_outcome, error_outcome}
-use Rattle.dcsctp_spec_lemmas.specs.spec.endpoint.ReconfigurationOutcomes.{reset_again, request_emitted, renewed_request_where, request_renewed, request_unless, is_renewed, request_errors, request_expired, reconfiguration_outcome}
-use Rattle.dcsctp_spec_lemmas.specs.spec.endpoint.ResetOutcomes.{request_state, renewable_left, parameters_handled_in, OwnAnswer, answered_in, reset_events, reset_events_of, reset_refusal_text, resets_handled, responses_outcome, core_with, responses_by, ResponseAnswers, WorksResets, ResetTurn}
+use Rattle.dcsctp_spec_lemmas.specs.spec.endpoint.PlainOutcomes.{PlainTurn, PlainTurnUnlessViolating, violation_of_capabilities, violation_by_core, is_reported, after_unknown, unknown_bytes, unknown_chunk_outcome, error_outcome}
+use Rattle.dcsctp_spec_lemmas.specs.spec.endpoint.ReconfigurationOutcomes.{reset_again, request_emitted, renewed_request_if_fitting, request_renewed, request_unless, is_renewed, request_errors, request_expired, reconfiguration_outcome}
+use Rattle.dcsctp_spec_lemmas.specs.spec.endpoint.ResetOutcomes.{request_state, renewable_left, handled_parameters_of, OwnAnswer, answer_to_own, reset_events, reset_events_of, reset_refusal_text, resets_handled, responses_outcome, core_with, responses_unless_refused, ResponseAnswers, HandlesResets, ResetTurn}
 use Rattle.dcsctp_spec_laws.proofs.ResetLemmas.{AreResets, nothing, acceptance, performance, renewal, completion, failure, chunk_brings}
 use Rattle.dcsctp_spec_lemmas.proofs.AbortLemmas.{by_error_outcome}
 use Rattle.dcsctp_spec_lemmas.proofs.OneAnswerLemmas.{answered_by}
@@ -55,7 +55,7 @@ heartbeat_few e (cookie_wait my) parameters = none 1
 heartbeat_few e (cookie_echoed my held cookie) parameters = answer_few e (to_peer held (plain (heartbeat_ack parameters)))
 heartbeat_few e (open_in phase my held) parameters = answer_few e (to_peer held (plain (heartbeat_ack parameters)))
 
-counted_few : (b : Bool) (e : Endpoint) → Few 0 (cond b (still (answered e)) (still e))
+counted_few : (b : Bool) (e : Endpoint) → Few 0 (cond b (still (endpoint_answered e)) (still e))
 counted_few true e = none 0
 counted_few false e = none 0
 
@@ -78,7 +78,7 @@ request_few : (e : Endpoint) (held : Held) (number : Option ℕ) (reset : Reques
 request_few e held None reset = none 1
 request_few e held (Some number) reset = emits_few e [] (to_peer held (reset_request number reset))
 
-renewed_few : (b : Bool) (e : Endpoint) (held : Held) (number : ℕ) (request : Content) → Few 1 (renewed_request_where b e held number request)
+renewed_few : (b : Bool) (e : Endpoint) (held : Held) (number : ℕ) (request : Content) → Few 1 (renewed_request_if_fitting b e held number request)
 renewed_few true e held number request = one 0
 renewed_few false e held number request = none 1
 
@@ -104,7 +104,7 @@ timer_few e acknowledgement_delay o turn = subst (Few 0) (sym turn) (delay_few e
 timer_few e retransmission o turn = loss_few e e.queues.transfer o turn
 timer_few e heartbeat_interval o turn = subst (Few 1) (sym turn) (interval_few e e.core)
 timer_few e heartbeat_timeout o turn = subst (Few 0) (sym turn) (none 0)
-timer_few e reconfiguration o turn = subst (Few 1) (sym turn) (reconfiguration_few e (held_in e.core) e.outstanding)
+timer_few e reconfiguration o turn = subst (Few 1) (sym turn) (reconfiguration_few e (held_by_core e.core) e.outstanding)
 
 -- ---- RE-CONFIG
 
@@ -128,7 +128,7 @@ response_core e held (response ∷ responses) =
     answered_by (λ (o : Outcome). o.after.core ≡ e.core) e emission refl (emits_core e [] emission)
 
 sent_behind : (refused : Bool) (e : Endpoint) (told : List (Event Emission)) (held : Held) (parameters responses : List ResetParameter) (answers : List Answer)
-    → HasPeer e.core → ResponseAnswers refused e held responses answers → count told ≤ 0 → IsBehind 1 (responses_by refused e told held parameters responses answers)
+    → HasPeer e.core → ResponseAnswers refused e held responses answers → count told ≤ 0 → IsBehind 1 (responses_unless_refused refused e told held parameters responses answers)
 sent_behind true e told held parameters responses answers peer allowed before =
     let few : count (told ++ error ProtocolViolation (reset_refusal_text parameters) ∷ []) ≤ 0 =
     none_in_front 0 told (error ProtocolViolation (reset_refusal_text parameters) ∷ []) before (none 0) in
@@ -146,11 +146,11 @@ with_peer (cookie_wait my) held peer = absurd peer
 with_peer (cookie_echoed my own cookie) held peer = tt
 with_peer (open_in phase my own) held peer = tt
 
-works_behind : (e : Endpoint) (my : Pair) (held : Held) (parameters : List ResetParameter) (o : Outcome) → HasPeer e.core → WorksResets e my held parameters o → IsBehind 1 o
+works_behind : (e : Endpoint) (my : Pair) (held : Held) (parameters : List ResetParameter) (o : Outcome) → HasPeer e.core → HandlesResets e my held parameters o → IsBehind 1 o
 works_behind e my held parameters o peer turn =
-    let w : HandledParameters = parameters_handled_in e my held parameters in
+    let w : HandledParameters = handled_parameters_of e my held parameters in
     let brought = chunk_brings my (request_state e held parameters) held parameters in
-    let answer : OwnAnswer = answered_in held w parameters in
+    let answer : OwnAnswer = answer_to_own held w parameters in
     subst (IsBehind 1) (sym turn.is)
     (sent_behind w.is_refused (resets_handled e answer w.held turn.left (renewable_left e held w parameters)) (reset_events_of e parameters w.effects) w.held parameters w.answers turn.answers (with_peer e.core w.held peer) turn.allowed
     (told_few _ _ w.effects brought.are))
@@ -164,14 +164,14 @@ reset_behind e (open_in phase my held) parameters o is turn = works_behind e my 
 -- ---- each
 
 -- A chunk that may break the protocol may be answered by a packet.
-violates_by : (capabilities : Capabilities) (chunk : Plain) (violation : Violation) (flushed : ℕ) → violation_by capabilities chunk ≡ Some violation → 1 ≤ packets_of_plain chunk flushed
+violates_by : (capabilities : Capabilities) (chunk : Plain) (violation : Violation) (flushed : ℕ) → violation_of_capabilities capabilities chunk ≡ Some violation → 1 ≤ packets_of_plain chunk flushed
 violates_by capabilities (unworked (data_chunk chunk)) violation flushed is = one 0
 violates_by capabilities (unworked (i_data_chunk chunk)) violation flushed is = one 0
 violates_by capabilities (unworked (forward_tsn_chunk tsn streams)) violation flushed is = one 0
 violates_by capabilities (unworked (i_forward_tsn_chunk tsn streams)) violation flushed is = one 0
 violates_by capabilities chunk violation flushed is = absurd (cc)
 
-violates : (core : Core) (chunk : Plain) (violation : Violation) (flushed : ℕ) → violation_at core chunk ≡ Some violation → 1 ≤ packets_of_plain chunk flushed
+violates : (core : Core) (chunk : Plain) (violation : Violation) (flushed : ℕ) → violation_by_core core chunk ≡ Some violation → 1 ≤ packets_of_plain chunk flushed
 violates closed chunk violation flushed is = absurd (cc)
 violates (cookie_wait my) chunk violation flushed is = absurd (cc)
 violates (cookie_echoed my held cookie) chunk violation flushed is = violates_by held.capabilities chunk violation flushed is
@@ -180,21 +180,21 @@ violates (open_in phase my held) chunk violation flushed is = violates_by held.c
 abbrev PlainCounts : Plain → Outcome → Type 0
 PlainCounts chunk o = count o.events ≤ packets_of_plain chunk (allowed_after o)
 
-plain_by : (e : Endpoint) (chunk : Plain) (violation : Option Violation) (o : Outcome) → violation_at e.core chunk ≡ violation → PlainTurnBy e chunk violation o → PlainCounts chunk o
+plain_by : (e : Endpoint) (chunk : Plain) (violation : Option Violation) (o : Outcome) → violation_by_core e.core chunk ≡ violation → PlainTurnUnlessViolating e chunk violation o → PlainCounts chunk o
 plain_by e chunk (Some violation) o is turn =
     let least : 1 ≤ packets_of_plain chunk (allowed_after o) = violates e.core chunk violation (allowed_after o) is in
     let few : Few 1 o = subst (Few 1) (sym turn) (aborting_few e e.core (reasons.Violation violation)) in
     omega (arith, least, few)
 plain_by e (unknown type flags value) None o is turn = subst (Few 1) (sym turn) (unknown_few e e.core type (unknown_bytes type flags value) (is_reported type))
 plain_by e (heartbeat parameters) None o is turn = subst (Few 1) (sym turn) (heartbeat_few e e.core parameters)
-plain_by e (heartbeat_ack parameters) None o is turn = subst (Few 0) (sym turn) (heartbeat_ack_few e (counter_of (info_in parameters)))
+plain_by e (heartbeat_ack parameters) None o is turn = subst (Few 0) (sym turn) (heartbeat_ack_few e (counter_of (first_heartbeat_info parameters)))
 plain_by e (unworked (data_chunk chunk)) None o is turn = data_few e (data_arrival chunk) o turn
 plain_by e (unworked (i_data_chunk chunk)) None o is turn = data_few e (i_data_arrival chunk) o turn
 plain_by e (unworked (sack_chunk chunk)) None o is turn = sack_behind e e.queues.transfer chunk o turn
-plain_by e (unworked (forward_tsn_chunk tsn streams)) None o is turn = forward_few e e.queues.transfer tsn (skipped_in streams) o turn
-plain_by e (unworked (i_forward_tsn_chunk tsn streams)) None o is turn = forward_few e e.queues.transfer tsn (messages_skipped_in streams) o turn
+plain_by e (unworked (forward_tsn_chunk tsn streams)) None o is turn = forward_few e e.queues.transfer tsn (named_skips streams) o turn
+plain_by e (unworked (i_forward_tsn_chunk tsn streams)) None o is turn = forward_few e e.queues.transfer tsn (skipped_messages streams) o turn
 plain_by e (unworked (error_chunk causes)) None o is turn = subst (Few 0) (sym turn) (error_few e e.core causes)
 plain_by e (unworked chunk) None o is turn = subst (Few 0) (sym turn) (none 0)
 
 pub plain_counts : (e : Endpoint) (chunk : Plain) (o : Outcome) → PlainTurn e chunk o → PlainCounts chunk o
-plain_counts e chunk o turn = plain_by e chunk (violation_at e.core chunk) o refl turn
+plain_counts e chunk o turn = plain_by e chunk (violation_by_core e.core chunk) o refl turn

@@ -5,12 +5,12 @@ use Rattle.dcsctp_spec_lemmas.specs.types.declared.association.Held.{Held}
 use Rattle.dcsctp_spec_lemmas.specs.spec.endpoint.Endpoint.{Endpoint, Core, closed, cookie_wait, cookie_echoed, open_in, OpenPhase, established, shutdown_pending, shutdown_sent, shutdown_received, shutdown_ack_sent}
 use Rattle.dcsctp_spec_lemmas.specs.spec.endpoint.Outcome.{Outcome}
 use Rattle.dcsctp_spec_lemmas.specs.spec.endpoint.Turn.{BeginTurn}
-use Rattle.dcsctp_spec_lemmas.specs.spec.endpoint.ShutdownOutcomes.{shut_down_echoed, phase_at, is_all_acknowledged, waits_for_abandoned, waits_for_queue, may_go_on, step_by, step_outcome, t1_stopped, shut_down_outcome, shutdown_outcome, shutdown_ack_outcome, shutdown_complete_outcome, t2_goes_on, shutdown_sent_again, t2_again_outcome}
+use Rattle.dcsctp_spec_lemmas.specs.spec.endpoint.ShutdownOutcomes.{shut_down_echoed, endpoint_in_phase, is_all_acknowledged, waits_for_abandoned, waits_for_queue, may_continue_shutdown, step_if_acknowledged, step_outcome, t1_stopped, shut_down_outcome, shutdown_outcome, shutdown_ack_outcome, shutdown_complete_outcome, endpoint_with_t2_continued, shutdown_sent_again, t2_again_outcome}
 use Rattle.dcsctp_theorem_sockets.proofs.Bursts.{Few, none, one, HasPeer}
 
 -- ---- a step of it
 
-step_by_few : (b : Bool) (e : Endpoint) (phase : OpenPhase) (my : Pair) (held : Held) → Few 1 (step_by b e phase my held)
+step_by_few : (b : Bool) (e : Endpoint) (phase : OpenPhase) (my : Pair) (held : Held) → Few 1 (step_if_acknowledged b e phase my held)
 step_by_few false e phase my held = none 1
 step_by_few true e established my held = none 1
 step_by_few true e shutdown_pending my held = one 0
@@ -22,10 +22,10 @@ pub step_few : (e : Endpoint) (core : Core) → Few 1 (step_outcome e core)
 step_few e closed = none 1
 step_few e (cookie_wait my) = none 1
 step_few e (cookie_echoed my held cookie) = none 1
-step_few e (open_in phase my held) = step_by_few (may_go_on e) e phase my held
+step_few e (open_in phase my held) = step_by_few (may_continue_shutdown e) e phase my held
 
 -- It waits until all is acknowledged.
-waits_by : (b : Bool) (e : Endpoint) (phase : OpenPhase) (my : Pair) (held : Held) → b ≡ false → Few 0 (step_by b e phase my held)
+waits_by : (b : Bool) (e : Endpoint) (phase : OpenPhase) (my : Pair) (held : Held) → b ≡ false → Few 0 (step_if_acknowledged b e phase my held)
 waits_by false e phase my held is = none 0
 waits_by true e phase my held is = absurd (cc)
 
@@ -33,10 +33,10 @@ pub step_waits : (e : Endpoint) (core : Core) → is_all_acknowledged e.queues.t
 step_waits e closed is = none 0
 step_waits e (cookie_wait my) is = none 0
 step_waits e (cookie_echoed my held cookie) is = none 0
-step_waits e (open_in phase my held) is = waits_by (may_go_on e) e phase my held (ap (λ (b : Bool). b && not (waits_for_queue e) && not (waits_for_abandoned e)) is)
+step_waits e (open_in phase my held) is = waits_by (may_continue_shutdown e) e phase my held (ap (λ (b : Bool). b && not (waits_for_queue e) && not (waits_for_abandoned e)) is)
 
 -- The peer stays known.
-step_by_peer : (b : Bool) (e : Endpoint) (phase : OpenPhase) (my : Pair) (held : Held) → HasPeer e.core → HasPeer (step_by b e phase my held).after.core
+step_by_peer : (b : Bool) (e : Endpoint) (phase : OpenPhase) (my : Pair) (held : Held) → HasPeer e.core → HasPeer (step_if_acknowledged b e phase my held).after.core
 step_by_peer false e phase my held peer = peer
 step_by_peer true e established my held peer = peer
 step_by_peer true e shutdown_pending my held peer = tt
@@ -48,11 +48,11 @@ pub step_peer : (e : Endpoint) (core : Core) → HasPeer e.core → HasPeer (ste
 step_peer e closed peer = peer
 step_peer e (cookie_wait my) peer = peer
 step_peer e (cookie_echoed my held cookie) peer = peer
-step_peer e (open_in phase my held) peer = step_by_peer (may_go_on e) e phase my held peer
+step_peer e (open_in phase my held) peer = step_by_peer (may_continue_shutdown e) e phase my held peer
 
 -- from another phase
-step_from_few : (e : Endpoint) (phase : OpenPhase) (my : Pair) (held : Held) → Few 1 (step_by (may_go_on e) (phase_at e phase my held) phase my held)
-step_from_few e phase my held = step_by_few (may_go_on e) (phase_at e phase my held) phase my held
+step_from_few : (e : Endpoint) (phase : OpenPhase) (my : Pair) (held : Held) → Few 1 (step_if_acknowledged (may_continue_shutdown e) (endpoint_in_phase e phase my held) phase my held)
+step_from_few e phase my held = step_by_few (may_continue_shutdown e) (endpoint_in_phase e phase my held) phase my held
 
 -- ---- the user's call
 
@@ -115,7 +115,7 @@ again_few e (open_in shutdown_received my held) = none 1
 again_few e (open_in shutdown_ack_sent my held) = one 0
 
 pub t2_again_few : (e : Endpoint) → Few 1 (t2_again_outcome e)
-t2_again_few e = again_few (t2_goes_on e) e.core
+t2_again_few e = again_few (endpoint_with_t2_continued e) e.core
 
 pub begin_few : (e : Endpoint) (core : Core) (has : Bool) (o : Outcome) → BeginTurn e core has o → Few 1 o
 begin_few e closed has o turn = subst (Few 1) (sym turn) (none 1)

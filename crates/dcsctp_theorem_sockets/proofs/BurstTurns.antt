@@ -3,7 +3,7 @@ use Rattle.std.proofs.Common.{◌≡◌, ◌≤◌, ℕ, Bool, true, false, Opti
 use Rattle.std.specs.Prelude.{ℤ}
 use Rattle.dcsctp_spec_lemmas.specs.types.declared.association.Held.{Held}
 use Rattle.dcsctp_spec_lemmas.specs.types.declared.options.Options.{Options}
-use Rattle.dcsctp_spec_lemmas.specs.spec.Cookie.{cookie_at}
+use Rattle.dcsctp_spec_lemmas.specs.spec.Cookie.{cookie_of_bytes}
 use Rattle.dcsctp_spec_lemmas.specs.spec.endpoint.Event.{Event, sent, connected, closed, connection_restarted, aborted, error, buffered_amount_low, total_buffered_amount_low, streams_reset_failed, streams_reset_performed, incoming_stream_reset, lifecycle_message_fully_sent, lifecycle_message_maybe_expired, lifecycle_message_expired, lifecycle_message_delivered, lifecycle_end}
 use Rattle.dcsctp_spec_lemmas.specs.types.Settings.{SameOptions}
 use Rattle.dcsctp_spec_lemmas.specs.spec.Packet.{Content, init, init_ack, cookie_echo, cookie_ack, re_config, abort, shutdown, shutdown_ack, shutdown_complete, plain, Emission}
@@ -14,8 +14,8 @@ use Rattle.dcsctp_spec_lemmas.specs.spec.endpoint.Outcome.{Outcome, still}
 use Rattle.dcsctp_spec_lemmas.specs.spec.association.Controlled.{observations_of_events, observations_of_effects}
 use Rattle.dcsctp_spec_lemmas.specs.spec.endpoint.CallTurns.{Transition, IsTurn}
 use Rattle.dcsctp_spec_lemmas.specs.spec.endpoint.Turn.{Input, arrival, refusal, packet_begins, chunk_input, packet_ends, act_input, user_sets, user_sends, user_resets, user_takes, timer_expires, time_passes, restores, has_data_chunk, ContentTurn, ActTurn}
-use Rattle.dcsctp_spec_lemmas.specs.spec.association.Acts.{Act, connect, t1_expires, shut_down, step_of_shutdown, shutdown_repeats, abort_with, hands_over, flushes, request_again, request_renewed, request_sent, request_again_change, renewed_by, request_renewed_change}
-use Rattle.dcsctp_spec_lemmas.specs.spec.endpoint.TimerOutcomes.{t1_goes_on}
+use Rattle.dcsctp_spec_lemmas.specs.spec.association.Acts.{Act, connect, t1_expires, shut_down, step_of_shutdown, shutdown_repeats, abort_with, hands_over, flushes, request_again, request_renewed, request_sent, request_again_change, renewed_if_fitting, request_renewed_change}
+use Rattle.dcsctp_spec_lemmas.specs.spec.endpoint.TimerOutcomes.{endpoint_with_t1_continued}
 use Rattle.dcsctp_spec_lemmas.proofs.OneAnswerLemmas.{init_by}
 use Rattle.dcsctp_spec_runs.proofs.RunsAlong.{run_along}
 use Rattle.dcsctp_spec_laws.proofs.ControlLemmas.{acts_are_controlled}
@@ -46,7 +46,7 @@ chunk_counts e tag (init theirs) o turn =
 chunk_counts e tag (init_ack theirs cookie) o turn =
     subst (λ (x : Outcome). count x.events ≤ packets_of_chunk e.options (init_ack theirs cookie) (allowed_after x)) (sym turn.3) (init_ack_counts e theirs cookie e.core turn.0 turn.1 turn.2)
 chunk_counts e tag (cookie_echo bytes) o turn =
-    subst (λ (x : Outcome). count x.events ≤ packets_of_chunk e.options (cookie_echo bytes) (allowed_after x)) (sym turn.3) (echo_counts e e.core tag (cookie_at bytes) turn.0 turn.1 refl turn.2)
+    subst (λ (x : Outcome). count x.events ≤ packets_of_chunk e.options (cookie_echo bytes) (allowed_after x)) (sym turn.3) (echo_counts e e.core tag (cookie_of_bytes bytes) turn.0 turn.1 refl turn.2)
 chunk_counts e tag cookie_ack o turn = subst (λ (x : Outcome). count x.events ≤ allowed_after x) (sym turn.2) (cookie_ack_is_burst e e.core turn.0 turn.1)
 chunk_counts e tag (re_config parameters) o turn =
     content_by e tag (re_config parameters) o (λ dropped. no_packets e (re_config parameters) o dropped) (λ handled. reset_behind e e.core parameters o refl handled) turn
@@ -97,7 +97,7 @@ again_few e reset o turn =
     let few = again_signs e.core reset turn.0.fits in
     omega (arith, observations, same, few)
 
-renewed_signs : (held : Held) (number : Option ℕ) (reset : RequestedReset) (fits : Bool) → length (observations_of_effects (renewed_by held number reset fits).effects) ≤ 1
+renewed_signs : (held : Held) (number : Option ℕ) (reset : RequestedReset) (fits : Bool) → length (observations_of_effects (renewed_if_fitting held number reset fits).effects) ≤ 1
 renewed_signs held None reset fits = none 1
 renewed_signs held (Some number) reset true = one 0
 renewed_signs held (Some number) reset false = none 1
@@ -120,7 +120,7 @@ anew_few e reset o turn =
 act_counts : (e : Endpoint) (act : Act) (o : Outcome) → ActTurn e act o → count o.events ≤ packets_of_act e.core act (allowed_after o)
 act_counts e connect o turn = subst (Few 1) (sym turn.2) (connect_few e e.core turn.0 turn.1)
 act_counts e (t1_expires true) o turn =
-    subst (λ (x : Outcome). count x.events ≤ packets_of_act e.core (t1_expires true) (allowed_after x)) (sym turn.2) (again_counts (t1_goes_on e) e.core turn.0 refl turn.1)
+    subst (λ (x : Outcome). count x.events ≤ packets_of_act e.core (t1_expires true) (allowed_after x)) (sym turn.2) (again_counts (endpoint_with_t1_continued e) e.core turn.0 refl turn.1)
 act_counts e (t1_expires false) o turn = subst (Few 0) (sym turn) (gives_up_few e e.core)
 act_counts e shut_down o turn = subst (Few 1) (sym turn) (shut_down_few e e.core)
 act_counts e step_of_shutdown o turn = subst (Few 1) (sym turn) (step_few e e.core)

@@ -3,12 +3,12 @@ use Rattle.std.proofs.Common.{◌≡◌, ◌≤◌, ◌+◌, ℕ, suc, ℤ, pos,
 use Rattle.dcsctp_spec_lemmas.specs.types.declared.association.Held.{Held}
 use Rattle.dcsctp_spec_lemmas.specs.types.declared.options.Options.{Options}
 use Rattle.dcsctp_spec_lemmas.specs.types.declared.word.Word.{Word}
-use Rattle.dcsctp_spec_lemmas.specs.spec.endpoint.Event.{Event, sent, packets_in}
+use Rattle.dcsctp_spec_lemmas.specs.spec.endpoint.Event.{Event, sent, packets_of_events}
 use Rattle.dcsctp_spec_lemmas.specs.spec.Packet.{Content, cookie_echo, Emission}
-use Rattle.dcsctp_spec_lemmas.specs.spec.endpoint.Endpoint.{Endpoint, Core, closed, cookie_wait, cookie_echoed, open_in, held_in}
+use Rattle.dcsctp_spec_lemmas.specs.spec.endpoint.Endpoint.{Endpoint, Core, closed, cookie_wait, cookie_echoed, open_in, held_by_core}
 use Rattle.dcsctp_spec_lemmas.specs.spec.endpoint.Outcome.{Outcome, fits, sends, quiet, emits}
 use Rattle.dcsctp_spec_lemmas.specs.spec.endpoint.BegunResets.{BegunReset, core_asking, after_begun}
-use Rattle.dcsctp_spec_lemmas.specs.spec.endpoint.FlushOutcomes.{FillingEvent, amount_is_low, total_amount_is_low, message_is_sent, message_may_have_expired, message_has_expired, message_ends, filling_event, Answer, Ask, first_ask, AreFlushAnswers, at_limit, at_empty, after_packet, answer_contents, filled, goes_out, asked, next_draft, flush_of, packets_allowed, FlushAnswers, flush_answered}
+use Rattle.dcsctp_spec_lemmas.specs.spec.endpoint.FlushOutcomes.{FillingEvent, amount_is_low, total_amount_is_low, message_is_sent, message_may_have_expired, message_has_expired, message_ends, filling_event, Answer, Ask, first_ask, AreFlushAnswers, at_limit, at_empty, after_packet, answer_contents, filled_draft, goes_out, asked_outcome, next_draft, flush_of, packets_allowed, FlushAnswers, flush_answered}
 use Rattle.dcsctp_spec_lemmas.specs.spec.endpoint.HandshakeOutcomes.{echo_emission, EchoAnswers}
 use Rattle.dcsctp_spec_lemmas.proofs.FlushKeeps.{begun_by, flush_keeps}
 use Rattle.dcsctp_theorem_sockets.specs.Bursts.{flush_limit}
@@ -17,17 +17,17 @@ use Rattle.dcsctp_theorem_sockets.specs.Bursts.{flush_limit}
 
 -- how many packets there are among events
 abbrev pub count : List (Event Emission) → ℕ
-count events = length (packets_in events)
+count events = length (packets_of_events events)
 
 -- those of two lists, one after the other
-pub packets_in-append : {P : Type 0} (xs ys : List (Event P)) → packets_in (xs ++ ys) ≡ packets_in xs ++ packets_in ys
-packets_in-append [] ys = refl
-packets_in-append (sent packet ∷ xs) ys = ap (λ l. packet ∷ l) (packets_in-append xs ys)
-packets_in-append (event ∷ xs) ys = packets_in-append xs ys
+pub packets_of_events-append : {P : Type 0} (xs ys : List (Event P)) → packets_of_events (xs ++ ys) ≡ packets_of_events xs ++ packets_of_events ys
+packets_of_events-append [] ys = refl
+packets_of_events-append (sent packet ∷ xs) ys = ap (λ l. packet ∷ l) (packets_of_events-append xs ys)
+packets_of_events-append (event ∷ xs) ys = packets_of_events-append xs ys
 
 pub append_few : (m n : ℕ) (xs ys : List (Event Emission)) → count xs ≤ m → count ys ≤ n → count (xs ++ ys) ≤ m + n
 append_few m n xs ys first second =
-    let both : count (xs ++ ys) ≡ count xs + count ys = ap length (packets_in-append xs ys) ∙ length-append (packets_in xs) (packets_in ys) in
+    let both : count (xs ++ ys) ≡ count xs + count ys = ap length (packets_of_events-append xs ys) ∙ length-append (packets_of_events xs) (packets_of_events ys) in
     omega (arith, first, second, both)
 
 -- those after events without a packet
@@ -62,7 +62,7 @@ emits_few e words emission = emits_by (fits e emission) e words emission
 -- ---- a flush
 
 -- the events in `told` are no packets
-pub told_none : (told : List FillingEvent) (rest : List (Event Emission)) → packets_in (map filling_event told ++ rest) ≡ packets_in rest
+pub told_none : (told : List FillingEvent) (rest : List (Event Emission)) → packets_of_events (map filling_event told ++ rest) ≡ packets_of_events rest
 told_none [] rest = refl
 told_none (amount_is_low stream ∷ told) rest = told_none told rest
 told_none (total_amount_is_low ∷ told) rest = told_none told rest
@@ -84,11 +84,11 @@ one_at_most e told with_checksum tag (content ∷ contents) rest n few =
 flush_counts : (ask : Ask) (n : ℕ) (e : Endpoint) (draft : Emission) (answers : List Answer) → AreFlushAnswers ask n e draft answers → count (flush_of e draft answers).events ≤ n
 flush_counts _ _ _ _ _ (at_limit ask e draft) = omega arith
 flush_counts _ _ _ _ _ (at_empty ask more e draft answer is empty) =
-    one_at_most answer.after answer.told draft.with_checksum draft.packet.tag (filled draft (answer_contents answer)).packet.contents [] more (omega arith)
+    one_at_most answer.after answer.told draft.with_checksum draft.packet.tag (filled_draft draft (answer_contents answer)).packet.contents [] more (omega arith)
 flush_counts _ _ _ _ _ (after_packet ask more e draft answer answers is some rest) =
-    one_at_most answer.after answer.told draft.with_checksum draft.packet.tag (filled draft (answer_contents answer)).packet.contents
-    (flush_of (asked e draft answer).after (next_draft e.core draft) answers).events more
-    (flush_counts _ more (asked e draft answer).after (next_draft e.core draft) answers rest)
+    one_at_most answer.after answer.told draft.with_checksum draft.packet.tag (filled_draft draft (answer_contents answer)).packet.contents
+    (flush_of (asked_outcome e draft answer).after (next_draft e.core draft) answers).events more
+    (flush_counts _ more (asked_outcome e draft answer).after (next_draft e.core draft) answers rest)
 
 -- The peer is known.
 abbrev pub HasPeer : Core → Type 0
@@ -97,7 +97,7 @@ HasPeer (cookie_wait my) = ⊥
 HasPeer (cookie_echoed my held cookie) = Unit {0}
 HasPeer (open_in phase my held) = Unit {0}
 
-pub held_is_peer : (core : Core) (held : Held) → held_in core ≡ Some held → HasPeer core
+pub held_is_peer : (core : Core) (held : Held) → held_by_core core ≡ Some held → HasPeer core
 held_is_peer closed held is = absurd (cc)
 held_is_peer (cookie_wait my) held is = absurd (cc)
 held_is_peer (cookie_echoed my own cookie) held is = tt

@@ -6,13 +6,13 @@ use Rattle.dcsctp_spec_lemmas.specs.wire.Format.{IsPacket}
 use Rattle.dcsctp_spec_lemmas.specs.wire.ReadsBack.{FitsChunk, FitsFields, BuiltPacketReadsAsItself}
 use Rattle.dcsctp_spec_lemmas.specs.types.declared.options.Options.{Options}
 use Rattle.dcsctp_spec_lemmas.specs.types.Settings.{FitsOptions, Ports, ports_of, wire_options}
-use Rattle.dcsctp_spec_lemmas.specs.spec.endpoint.Event.{Event, event_map, sent, connected, closed, connection_restarted, aborted, error, buffered_amount_low, total_buffered_amount_low, streams_reset_failed, streams_reset_performed, incoming_stream_reset, lifecycle_message_fully_sent, lifecycle_message_maybe_expired, lifecycle_message_expired, lifecycle_message_delivered, lifecycle_end, packets_in}
-use Rattle.dcsctp_spec_lemmas.specs.spec.Packet.{Content, init, init_ack, cookie_echo, cookie_ack, re_config, abort, shutdown, shutdown_ack, shutdown_complete, plain, Packet, Emission, content_in, chunk_out, packet_in, emission_bytes}
+use Rattle.dcsctp_spec_lemmas.specs.spec.endpoint.Event.{Event, event_map, sent, connected, closed, connection_restarted, aborted, error, buffered_amount_low, total_buffered_amount_low, streams_reset_failed, streams_reset_performed, incoming_stream_reset, lifecycle_message_fully_sent, lifecycle_message_maybe_expired, lifecycle_message_expired, lifecycle_message_delivered, lifecycle_end, packets_of_events}
+use Rattle.dcsctp_spec_lemmas.specs.spec.Packet.{Content, init, init_ack, cookie_echo, cookie_ack, re_config, abort, shutdown, shutdown_ack, shutdown_complete, plain, Packet, Emission, content_of_chunk, chunk_out, packet_of_content, emission_bytes}
 use Rattle.dcsctp_spec_lemmas.specs.spec.endpoint.Endpoint.{Endpoint, Core, closed, cookie_wait, cookie_echoed, open_in}
 use Rattle.dcsctp_spec_lemmas.specs.spec.endpoint.Following.{Following, next_chunk, packet_end, dropped_rest}
 use Rattle.dcsctp_spec_lemmas.specs.spec.endpoint.Turn.{Input, packet_ends}
 use Rattle.dcsctp_spec_lemmas.specs.spec.endpoint.CallTurns.{asked_again, Transition, Turns, AfterChunk, ChunkTurns}
-use Rattle.dcsctp_spec_lemmas.specs.spec.Admission.{shutdown_acks_in}
+use Rattle.dcsctp_spec_lemmas.specs.spec.Admission.{shutdown_acks_of}
 use Rattle.dcsctp_spec_runs.specs.Laws.{OfferReadsBack, FitsTurns}
 use Rattle.dcsctp_spec_laws.specs.TurnLaws.{FitsOwn, FitsContent}
 use Rattle.dcsctp_spec_runs.specs.Fitting.{AllSent, FitsCore, FitsEndpoint, Sendable, SendablePacket, TurnFits}
@@ -36,7 +36,7 @@ found_first Good f emission bytes good same = record { emission = emission; good
 
 -- the packet of a number among those of events
 pub sent_at : (Good : Emission → Type 0) (f : Emission → List ℕ) (events : List (Event Emission)) (index : ℕ) (bytes : List ℕ) → AllSent Good events
-    → slice_get (packets_in (map (event_map f) events)) index ≡ Some bytes → IsSent Good f bytes
+    → slice_get (packets_of_events (map (event_map f) events)) index ≡ Some bytes → IsSent Good f bytes
 sent_at Good f [] index bytes each found = absurd (cc)
 sent_at Good f (sent emission ∷ events) zero bytes each found = found_first Good f emission bytes each.0 found
 sent_at Good f (sent emission ∷ events) (suc index) bytes each found = sent_at Good f events index bytes each.1 found
@@ -70,19 +70,19 @@ pub fields_fit : (options : Options) (packet : Packet) → FitsOptions options �
 fields_fit options packet fits h =
     record { source_port = fits.local_port; destination_port = fits.remote_port; verification_tag = h.tag; chunks = chunks_fit packet.contents h.contents }
 
-contents_read : (contents : List Content) → AllByRecursion Sendable contents → map content_in (map chunk_out contents) ≡ contents
+contents_read : (contents : List Content) → AllByRecursion Sendable contents → map content_of_chunk (map chunk_out contents) ≡ contents
 contents_read [] each = refl
 contents_read (content ∷ contents) each =
-    ap (λ (c : Content). c ∷ map content_in (map chunk_out contents)) each.0.reads ∙ ap (λ (cs : List Content). content ∷ cs) (contents_read contents each.1)
+    ap (λ (c : Content). c ∷ map content_of_chunk (map chunk_out contents)) each.0.reads ∙ ap (λ (cs : List Content). content ∷ cs) (contents_read contents each.1)
 
-pub built_reads : (ports : Ports) (packet : Packet) → SendablePacket packet → packet_in (built ports packet) ≡ packet
+pub built_reads : (ports : Ports) (packet : Packet) → SendablePacket packet → packet_of_content (built ports packet) ≡ packet
 built_reads ports packet h = ap (λ (cs : List Content). record packet { contents = cs }) (contents_read packet.contents h.contents)
 
 -- Whatever is read of a packet that went out is that packet.
 pub reads_as_sent : BuiltPacketReadsAsItself → (mine theirs : Options) (emission : Emission) (found : PacketContent) → FitsOptions theirs → SendablePacket emission.packet
-    → IsPacket (wire_options mine) found (emission_bytes (ports_of theirs) emission) → packet_in found ≡ emission.packet
+    → IsPacket (wire_options mine) found (emission_bytes (ports_of theirs) emission) → packet_of_content found ≡ emission.packet
 reads_as_sent law mine theirs emission found fits h read =
-    ap packet_in (law (wire_options mine) emission.with_checksum (built (ports_of theirs) emission.packet) found (fields_fit theirs emission.packet fits h) read)
+    ap packet_of_content (law (wire_options mine) emission.with_checksum (built (ports_of theirs) emission.packet) found (fields_fit theirs emission.packet fits h) read)
     ∙ built_reads (ports_of theirs) emission.packet h
 
 -- ---- its chunks
@@ -167,7 +167,7 @@ tail_fits true e (t ∷ u ∷ []) taken h =
 tail_fits true e (t ∷ u ∷ v ∷ ts) taken h = absurd taken.1.1
 
 -- the SHUTDOWN ACK chunks of a packet are among its chunks
-pub acks_sendable : (contents : List Content) → AllByRecursion Sendable contents → AllByRecursion Sendable (shutdown_acks_in contents)
+pub acks_sendable : (contents : List Content) → AllByRecursion Sendable contents → AllByRecursion Sendable (shutdown_acks_of contents)
 acks_sendable [] each = tt
 acks_sendable (init theirs ∷ contents) each = acks_sendable contents each.1
 acks_sendable (init_ack theirs cookie ∷ contents) each = acks_sendable contents each.1

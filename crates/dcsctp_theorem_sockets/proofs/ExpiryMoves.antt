@@ -9,7 +9,7 @@ use Rattle.dcsctp_spec_lemmas.specs.types.declared.options.Options.{Options}
 use Rattle.dcsctp_spec_lemmas.specs.types.declared.association.Held.{Held}
 use Rattle.dcsctp_spec_lemmas.specs.types.declared.ends.AbortReason.TheVariants.{TooManyErrors}
 use Rattle.dcsctp_spec_lemmas.specs.spec.Packet.{heartbeat, plain}
-use Rattle.dcsctp_spec_lemmas.specs.spec.endpoint.Endpoint.{Endpoint, Core, closed, cookie_wait, cookie_echoed, open_in, established, held_in}
+use Rattle.dcsctp_spec_lemmas.specs.spec.endpoint.Endpoint.{Endpoint, Core, closed, cookie_wait, cookie_echoed, open_in, established, held_by_core}
 use Rattle.dcsctp_spec_lemmas.specs.spec.endpoint.Outcome.{Outcome}
 use Rattle.dcsctp_spec_lemmas.specs.spec.endpoint.Turn.{Input, ActTurn, act_input, timer_expires}
 use Rattle.dcsctp_spec_lemmas.specs.spec.endpoint.TimeTurns.{Timer, t1_timer, own_timer, t2_timer, deadline, has_come, has_restart, t2_input, expiry_input, inputs_behind, after_expiries, ExpiryThen, ExpiryTurns}
@@ -59,7 +59,7 @@ timer_fits e acknowledgement_delay o turn h = subst TurnFits (sym turn) (delay_f
 timer_fits e retransmission o turn h = loss_fits e e.queues.transfer o turn h
 timer_fits e heartbeat_interval o turn h = subst TurnFits (sym turn) (interval_fits e e.core h h.core)
 timer_fits e heartbeat_timeout o turn h = subst TurnFits (sym turn) (record { after = record { valid = h.valid; options = h.options; core = h.core; t1 = h.t1 }; sends = tt })
-timer_fits e reconfiguration o turn h = subst TurnFits (sym turn) (reconfiguration_fits e (held_in e.core) e.outstanding h (peer_fits e.core h.core))
+timer_fits e reconfiguration o turn h = subst TurnFits (sym turn) (reconfiguration_fits e (held_by_core e.core) e.outstanding h (peer_fits e.core h.core))
 
 -- ---- one expiry, and what follows it
 

@@ -8,7 +8,7 @@ use Rattle.dcsctp_spec_lemmas.specs.types.declared.association.Held.{Held}
 use Rattle.dcsctp_spec_lemmas.specs.types.declared.word.Word.{Word}
 use Rattle.dcsctp_spec_lemmas.specs.types.Settings.{IsValid, FitsOptions}
 use Rattle.dcsctp_spec_lemmas.specs.spec.endpoint.Event.{Event, sent}
-use Rattle.dcsctp_spec_lemmas.specs.spec.Packet.{Plain, unworked, plain, plain_out, Content, Emission, content_in}
+use Rattle.dcsctp_spec_lemmas.specs.spec.Packet.{Plain, unworked, plain, plain_out, Content, Emission, content_of_chunk}
 use Rattle.dcsctp_spec_lemmas.specs.spec.queues.Transfer.{Transfer, advertised_window, is_idle}
 use Rattle.dcsctp_spec_lemmas.specs.spec.queues.Tracker.{TrackerState}
 use Rattle.dcsctp_spec_runs.proofs.TrackerLemmas.{sack_fits}
@@ -16,7 +16,7 @@ use Rattle.dcsctp_spec_lemmas.specs.spec.endpoint.Endpoint.{Endpoint, Core, clos
 use Rattle.dcsctp_spec_lemmas.specs.spec.endpoint.Outcome.{Outcome, still, answering, behind}
 use Rattle.dcsctp_spec_runs.specs.Deadlines.{T1Runs}
 use Rattle.dcsctp_spec_lemmas.specs.spec.association.Choices.{plain_contents}
-use Rattle.dcsctp_spec_lemmas.specs.spec.endpoint.FlushOutcomes.{may_be_asked, may_forward, own_sack, FillingEvent, amount_is_low, total_amount_is_low, message_is_sent, message_may_have_expired, message_has_expired, message_ends, filling_event, Answer, answer_contents, filled, goes_out, asked, draft_to, next_draft, flush_of, Ask, first_ask, later_ask, where_fits, wants_sack, room_in, Acknowledges, FitsPlain, nothing_waits, Gives, GivesWhere, IsAnswerOfQueues, IsFlushAnswer, AreFlushAnswers, at_limit, at_empty, after_packet, packets_allowed, FlushAnswers, flush_answered}
+use Rattle.dcsctp_spec_lemmas.specs.spec.endpoint.FlushOutcomes.{may_be_asked, may_forward, own_sack, FillingEvent, amount_is_low, total_amount_is_low, message_is_sent, message_may_have_expired, message_has_expired, message_ends, filling_event, Answer, answer_contents, filled_draft, goes_out, asked_outcome, draft_to, next_draft, flush_of, Ask, first_ask, later_ask, where_fits, wants_sack, room_of_draft, Acknowledges, FitsPlain, nothing_waits, Gives, GivesUnlessIdle, IsAnswerOfQueues, IsFlushAnswer, AreFlushAnswers, at_limit, at_empty, after_packet, packets_allowed, FlushAnswers, flush_answered}
 use Rattle.dcsctp_spec_runs.specs.Fitting.{AllSent, FitsHeld, FitsCore, FitsEndpoint, IsSendable, Sendable, SendablePacket, TurnFits}
 use Rattle.dcsctp_spec_runs.proofs.KindLemmas.{IsData, IsForward, chunks_are_data, forwards_are_forwards}
 use Rattle.dcsctp_spec_lemmas.proofs.FlushKeeps.{Keeps, asked_keeps, begun_by, flush_keeps}
@@ -48,18 +48,18 @@ pub both_sendable : (first second : List Content) → AllByRecursion Sendable fi
 both_sendable [] second none each = each
 both_sendable (content ∷ first) second some each = (some.0, both_sendable first second some.1 each)
 
-data_reads : (interleaving : Bool) (chunk : Plain) → IsData interleaving chunk → content_in (plain_out chunk) ≡ plain chunk
+data_reads : (interleaving : Bool) (chunk : Plain) → IsData interleaving chunk → content_of_chunk (plain_out chunk) ≡ plain chunk
 data_reads false (unworked (data_chunk chunk)) is = refl
 data_reads true (unworked (i_data_chunk chunk)) is = refl
 data_reads interleaving chunk is = absurd is
 
-forward_reads : (interleaving : Bool) (chunk : Plain) → IsForward interleaving chunk → content_in (plain_out chunk) ≡ plain chunk
+forward_reads : (interleaving : Bool) (chunk : Plain) → IsForward interleaving chunk → content_of_chunk (plain_out chunk) ≡ plain chunk
 forward_reads false (unworked (forward_tsn_chunk tsn streams)) is = refl
 forward_reads true (unworked (i_forward_tsn_chunk tsn streams)) is = refl
 forward_reads interleaving chunk is = absurd is
 
 -- chunks of a kind that is read as itself
-kind_sendable : (Kind : Plain → Type 0) → ((chunk : Plain) → Kind chunk → content_in (plain_out chunk) ≡ plain chunk) → (chunks : List Plain)
+kind_sendable : (Kind : Plain → Type 0) → ((chunk : Plain) → Kind chunk → content_of_chunk (plain_out chunk) ≡ plain chunk) → (chunks : List Plain)
     → AllByRecursion Kind chunks → AllByRecursion FitsPlain chunks → AllByRecursion Sendable (plain_contents chunks)
 kind_sendable Kind reads [] kind fit = tt
 kind_sendable Kind reads (chunk ∷ chunks) kind fit =
@@ -103,11 +103,11 @@ AnswerSends answer = AllByRecursion Sendable (answer_contents answer)
 given_sends : (ask : Ask) (e : Endpoint) (draft : Emission) (transfer : Transfer) (answer : Answer) → FitsEndpoint e → Gives ask e draft transfer answer → AnswerSends answer
 given_sends ask e draft transfer answer own h =
     let sacks : AllByRecursion Sendable (plain_contents h.sacks) =
-    sacks_sendable (wants_sack ask e.queues.queue transfer) (room_in e draft) transfer h.tracker h.sacks h.acknowledges in
+    sacks_sendable (wants_sack ask e.queues.queue transfer) (room_of_draft e draft) transfer h.tracker h.sacks h.acknowledges in
     let forwards : AllByRecursion Sendable (plain_contents h.forwards) =
     forwards_sendable h.gave_up.queue.outstanding.is_interleaved h.forwards
     (forwards_are_forwards (may_forward ask e transfer.retransmission) e.moment transfer _ _ h.gave_up h.next h.forwards h.gives_up) h.forwards_fit in
-    let room : ℕ = room_in e (filled draft (plain_contents answer.acknowledgements)) in
+    let room : ℕ = room_of_draft e (filled_draft draft (plain_contents answer.acknowledgements)) in
     let small : room < 2 ^ 16 = omega (arith, own.valid.greatest_size) in
     let request : AllByRecursion Sendable (request_contents answer.begun) =
     subst (λ (b : Option BegunReset). AllByRecursion Sendable (request_contents b)) (sym h.begins)
@@ -121,7 +121,7 @@ given_sends ask e draft transfer answer own h =
 nothing_sends : (e : Endpoint) (answer : Answer) → answer ≡ nothing_waits e → AnswerSends answer
 nothing_sends e answer is = subst AnswerSends (sym is) tt
 
-where_sends : (idle : Bool) (ask : Ask) (e : Endpoint) (draft : Emission) (transfer : Transfer) (answer : Answer) → FitsEndpoint e → GivesWhere idle ask e draft transfer answer → AnswerSends answer
+where_sends : (idle : Bool) (ask : Ask) (e : Endpoint) (draft : Emission) (transfer : Transfer) (answer : Answer) → FitsEndpoint e → GivesUnlessIdle idle ask e draft transfer answer → AnswerSends answer
 where_sends true ask e draft transfer answer own h = nothing_sends e answer h
 where_sends false ask e draft transfer answer own h = given_sends ask e draft transfer answer own h
 
@@ -147,9 +147,9 @@ goes_out_sends e told with_checksum tag (content ∷ contents) before tag_fits e
     all_sent_append IsSendable told (sent (record { with_checksum = with_checksum; packet = record { tag = tag; contents = content ∷ contents } }) ∷ []) before
     (record { tag = tag_fits; contents = each }, tt)
 
-asked_sends : (ask : Ask) (e : Endpoint) (draft : Emission) (answer : Answer) → FitsEndpoint e → IsFlushAnswer ask e draft answer → IsSendable draft → AllSent IsSendable (asked e draft answer).events
+asked_sends : (ask : Ask) (e : Endpoint) (draft : Emission) (answer : Answer) → FitsEndpoint e → IsFlushAnswer ask e draft answer → IsSendable draft → AllSent IsSendable (asked_outcome e draft answer).events
 asked_sends ask e draft answer own h good =
-    goes_out_sends answer.after (map filling_event answer.told) draft.with_checksum draft.packet.tag (filled draft (answer_contents answer)).packet.contents (told_sends answer.told) good.tag
+    goes_out_sends answer.after (map filling_event answer.told) draft.with_checksum draft.packet.tag (filled_draft draft (answer_contents answer)).packet.contents (told_sends answer.told) good.tag
     (both_sendable draft.packet.contents (answer_contents answer) good.contents (below_sends ask e draft answer e.queues.transfer own h.by_transfer))
 
 pub draft_sendable : (held : Held) → FitsHeld held → IsSendable (draft_to held)
@@ -164,12 +164,12 @@ next_sendable (open_in phase my held) draft own good = draft_sendable held own.1
 flush_sends : (ask : Ask) (n : ℕ) (e : Endpoint) (draft : Emission) (answers : List Answer) → AreFlushAnswers ask n e draft answers → FitsEndpoint e → IsSendable draft
     → AllSent IsSendable (flush_of e draft answers).events
 flush_sends _ _ _ _ _ (at_limit ask e draft) h good = tt
-flush_sends _ _ _ _ _ (at_empty ask more e draft answer is empty) h good = all_sent_append IsSendable (asked e draft answer).events [] (asked_sends ask e draft answer h is good) tt
+flush_sends _ _ _ _ _ (at_empty ask more e draft answer is empty) h good = all_sent_append IsSendable (asked_outcome e draft answer).events [] (asked_sends ask e draft answer h is good) tt
 flush_sends _ _ _ _ _ (after_packet ask more e draft answer answers is some rest) h good =
-    let after : Endpoint = (asked e draft answer).after in
+    let after : Endpoint = (asked_outcome e draft answer).after in
     let next : Emission = next_draft e.core draft in
-    all_sent_append IsSendable (asked e draft answer).events (flush_of after next answers).events (asked_sends ask e draft answer h is good)
-    (flush_sends later_ask more after next answers rest (kept_fits answer.begun e (asked e draft answer) (asked_keeps ask e draft answer is) h) (next_sendable e.core draft h.core good))
+    all_sent_append IsSendable (asked_outcome e draft answer).events (flush_of after next answers).events (asked_sends ask e draft answer h is good)
+    (flush_sends later_ask more after next answers rest (kept_fits answer.begun e (asked_outcome e draft answer) (asked_keeps ask e draft answer is) h) (next_sendable e.core draft h.core good))
 
 -- ---- the flush
 

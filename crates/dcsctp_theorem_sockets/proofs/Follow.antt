@@ -11,17 +11,17 @@ use Rattle.dcsctp_spec_lemmas.specs.spec.endpoint.Outcome.{Outcome}
 use Rattle.dcsctp_spec_lemmas.specs.types.Settings.{SameOptions}
 use Rattle.dcsctp_spec_lemmas.specs.spec.endpoint.CallTurns.{Transition, after_all, effects_of, events_of, pairs_of}
 use Rattle.dcsctp_spec_lemmas.specs.spec.association.Controlled.{IsControlled}
-use Rattle.dcsctp_spec_lemmas.specs.spec.association.Effect.{AssociationIdentity, Effect, draws, sends, holds, connects, ends, begins, gives_up, completes, fails, accepts, performs, renews, resumes, drawn_in, noted, Change, unchanged, identity_in}
+use Rattle.dcsctp_spec_lemmas.specs.spec.association.Effect.{AssociationIdentity, Effect, draws, sends, holds, connects, ends, begins, gives_up, completes, fails, accepts, performs, renews, resumes, drawn_pairs, effects_without_packets, Change, no_change, identity_of_core}
 use Rattle.dcsctp_spec_runs.specs.Laws.{AllControlled}
 use Rattle.dcsctp_spec_runs.specs.Past.{HasEffect, HasFreshTags}
 use Rattle.dcsctp_spec_runs.specs.World.{SideState, after_effects, after_change, after_changes, ControlTurn, ControlTurns}
 use Rattle.dcsctp_spec_runs.specs.Sockets.{endpoint_after}
 use Rattle.dcsctp_spec_laws.proofs.TurnLemmas.{same_after}
 use Rattle.dcsctp_spec_lemmas.proofs.TurnLists.{after_all-append, effects_of-append, pairs_of-append, events_of-append}
-use Rattle.dcsctp_spec_runs.specs.Fitting.{AllSent, FitsEndpoint, IsSendable, OfSent, SendablePacket, TurnFits}
+use Rattle.dcsctp_spec_runs.specs.Fitting.{AllSent, FitsEndpoint, IsSendable, HoldsIfSent, SendablePacket, TurnFits}
 use Rattle.dcsctp_theorem_association.specs.OneSide.{IsEstablished, Means, EffectsMean}
 use Rattle.dcsctp_theorem_association.proofs.Growth.{after_within}
-use Rattle.dcsctp_theorem_sockets.specs.Agreement.{noted_past, HasDistinctTags, WasHeld, HasConnected, HoldsAssociation, EachConnected}
+use Rattle.dcsctp_theorem_sockets.specs.Agreement.{recorded_past, HasDistinctTags, WasHeld, HasConnected, HoldsAssociation, EachConnected}
 use Rattle.dcsctp_theorem_sockets.proofs.Deliver.{Fits}
 use Rattle.dcsctp_theorem_sockets.proofs.Fresh.{IsPair, in_front, at_end, drawn_pair, distinct_front, stays_fresh}
 use Rattle.dcsctp_theorem_sockets.proofs.Sent.{all_sent_append, all_sent_map}
@@ -41,7 +41,7 @@ pub record Followed (options : Options) (turns : List Transition) (side : SideSt
   pub own_options : SameOptions options (endpoint_after options turns).options
   pub side_options : side.options ≡ options
   pub core : side.core ≡ (endpoint_after options turns).core
-  pub past : noted side.past ≡ noted_past turns
+  pub past : effects_without_packets side.past ≡ recorded_past turns
   pub went : AllSent (Went side.past) (events_of turns)
   pub held : (link : AssociationIdentity) → HasEffect (holds link) side.past → WasHeld link turns
   pub connected : EachConnected (ConnectsIn side.past) turns
@@ -58,7 +58,7 @@ held_before link [] more h = absurd h
 held_before link (turn ∷ turns) more (inl is) = inl is
 held_before link (turn ∷ turns) more (inr h) = inr (held_before link turns more h)
 
-held_last : (link : AssociationIdentity) (turns : List Transition) (t : Transition) → identity_in t.outcome.after.core ≡ Some link → WasHeld link (turns ++ t ∷ [])
+held_last : (link : AssociationIdentity) (turns : List Transition) (t : Transition) → identity_of_core t.outcome.after.core ≡ Some link → WasHeld link (turns ++ t ∷ [])
 held_last link [] t is = inl is
 held_last link (turn ∷ turns) t is = inr (held_last link turns t is)
 
@@ -74,7 +74,7 @@ each_connected_more Kind (turn ∷ turns) t each last = (each.0, each_connected_
 -- ---- what the turns recorded
 
 -- what was drawn is recorded
-drawn_noted : (effects : List Effect) → drawn_in (noted effects) ≡ drawn_in effects
+drawn_noted : (effects : List Effect) → drawn_pairs (effects_without_packets effects) ≡ drawn_pairs effects
 drawn_noted [] = refl
 drawn_noted (draws pair ∷ effects) = ap (λ (ps : List Pair). pair ∷ ps) (drawn_noted effects)
 drawn_noted (sends packet ∷ effects) = drawn_noted effects
@@ -90,7 +90,7 @@ drawn_noted (performs peer number ∷ effects) = drawn_noted effects
 drawn_noted (renews peer number ∷ effects) = drawn_noted effects
 drawn_noted (resumes link own last ∷ effects) = drawn_noted effects
 
-pub noted_after : (effects past : List Effect) → noted (after_effects effects past) ≡ after_effects (noted effects) (noted past)
+pub noted_after : (effects past : List Effect) → effects_without_packets (after_effects effects past) ≡ after_effects (effects_without_packets effects) (effects_without_packets past)
 noted_after [] past = refl
 noted_after (draws pair ∷ effects) past = noted_after effects (draws pair ∷ past)
 noted_after (sends packet ∷ effects) past = noted_after effects (sends packet ∷ past)
@@ -110,7 +110,7 @@ pub after_both : (xs ys past : List Effect) → after_effects (xs ++ ys) past �
 after_both [] ys past = refl
 after_both (x ∷ xs) ys past = after_both xs ys (x ∷ past)
 
-past_more : (turns : List Transition) (t : Transition) → noted_past (turns ++ t ∷ []) ≡ after_effects t.outcome.effects (noted_past turns)
+past_more : (turns : List Transition) (t : Transition) → recorded_past (turns ++ t ∷ []) ≡ after_effects t.outcome.effects (recorded_past turns)
 past_more turns t =
     ap (λ (es : List Effect). after_effects es []) (effects_of-append turns (t ∷ []) ∙ ap (λ (es : List Effect). effects_of turns ++ es) (append-nil t.outcome.effects))
     ∙ after_both (effects_of turns) t.outcome.effects []
@@ -119,21 +119,21 @@ past_more turns t =
 
 -- what the effects of a change say of the association that it leaves
 pub record Says (change : Change) : Type 0 where
-  pub held : (link : AssociationIdentity) → HasEffect (holds link) change.effects → identity_in change.core ≡ Some link
+  pub held : (link : AssociationIdentity) → HasEffect (holds link) change.effects → identity_of_core change.core ≡ Some link
   pub connected : (link : AssociationIdentity) → HasEffect (connects link) change.effects → IsEstablished change.core link
 
 pub turn_says : EffectsMean → (options : Options) (core : Core) (change : Change) → ControlTurn options core change → Says change
 turn_says law options core change turn = let means : Means core change = law options core change turn in record { held = means.held; connected = means.connected }
 
 -- an association that is established is held
-established_is_held : (core : Core) (link : AssociationIdentity) → IsEstablished core link → identity_in core ≡ Some link
-established_is_held core link h = ap identity_in h.phase ∙ ap (λ (l : AssociationIdentity). Some l) h.linked
+established_is_held : (core : Core) (link : AssociationIdentity) → IsEstablished core link → identity_of_core core ≡ Some link
+established_is_held core link h = ap identity_of_core h.phase ∙ ap (λ (l : AssociationIdentity). Some l) h.linked
 
 went_more : (past : List Effect) (effects : List Effect) (events : List (Event Emission)) → AllSent (Went past) events → AllSent (Went (after_effects effects past)) events
 went_more past effects events each =
     all_sent_map (λ emission went. record { sendable = went.sendable; was_sent = after_within effects past _ went.was_sent }) events each
 
-went_of : (past effects : List Effect) (event : Event Emission) → OfSent IsSendable event → OfSent (WasSent effects) event → OfSent (Went (after_effects effects past)) event
+went_of : (past effects : List Effect) (event : Event Emission) → HoldsIfSent IsSendable event → HoldsIfSent (WasSent effects) event → HoldsIfSent (Went (after_effects effects past)) event
 went_of past effects (sent emission) sendable was_sent = record { sendable = sendable; was_sent = among_after _ effects past was_sent }
 went_of past effects connected sendable was_sent = tt
 went_of past effects closed sendable was_sent = tt
@@ -161,27 +161,27 @@ follow_turn options turns side t change h says controlled fits =
     let o : Outcome = t.outcome in
     let past : List Effect = after_effects change.effects side.past in
     let last : endpoint_after options (turns ++ t ∷ []) ≡ o.after = after_last _ turns t in
-    let pairs : pairs_of (turns ++ t ∷ []) ≡ pairs_of turns ++ drawn_in change.effects =
-    pairs_of-append turns (t ∷ []) ∙ ap (λ (ps : List Pair). pairs_of turns ++ ps) (ap drawn_in (append-nil o.effects ∙ controlled.effects) ∙ drawn_noted change.effects) in
+    let pairs : pairs_of (turns ++ t ∷ []) ≡ pairs_of turns ++ drawn_pairs change.effects =
+    pairs_of-append turns (t ∷ []) ∙ ap (λ (ps : List Pair). pairs_of turns ++ ps) (ap drawn_pairs (append-nil o.effects ∙ controlled.effects) ∙ drawn_noted change.effects) in
     record {
       fits = subst FitsEndpoint (sym last) fits.after;
       own_options = subst (λ (e : Endpoint). SameOptions options e.options) (sym last) (same_after options (endpoint_after options turns).options o.after.options h.own_options controlled.options);
       side_options = h.side_options;
       core = sym controlled.core ∙ ap (λ (e : Endpoint). e.core) (sym last);
-      past = noted_after change.effects side.past ∙ ap (after_effects (noted change.effects)) h.past
-          ∙ ap (λ (es : List Effect). after_effects es (noted_past turns)) (sym controlled.effects) ∙ sym (past_more turns t);
+      past = noted_after change.effects side.past ∙ ap (after_effects (effects_without_packets change.effects)) h.past
+          ∙ ap (λ (es : List Effect). after_effects es (recorded_past turns)) (sym controlled.effects) ∙ sym (past_more turns t);
       went = subst (AllSent (Went past)) (sym (events_of-append turns (t ∷ [])))
           (all_sent_append (Went past) (events_of turns) (o.events ++ []) (went_more side.past change.effects (events_of turns) h.went)
           (subst (AllSent (Went past)) (sym (append-nil o.events)) (went_now side.past change.effects o.events fits.sends (packets_are_effects o.events change.effects controlled.observations))));
-      held = λ link has. elim (in_after (holds link) change.effects side.past has) [ inl now ↦ held_last link turns t (ap identity_in controlled.core ∙ says.held link now) | inr before ↦ held_before link turns (t ∷ []) (h.held link before) ];
+      held = λ link has. elim (in_after (holds link) change.effects side.past has) [ inl now ↦ held_last link turns t (ap identity_of_core controlled.core ∙ says.held link now) | inr before ↦ held_before link turns (t ∷ []) (h.held link before) ];
       connected = each_connected_more (ConnectsIn past) turns t (each_connected_map (λ link has. after_within change.effects side.past _ has) turns h.connected)
           (λ has. let c = connected_connects o.events change.effects controlled.observations has in
-          record { link = c.0; held = ap identity_in controlled.core ∙ established_is_held change.core c.0 (says.connected c.0 c.1); kind = among_after (connects c.0) change.effects side.past c.1 });
+          record { link = c.0; held = ap identity_of_core controlled.core ∙ established_is_held change.core c.0 (says.connected c.0 c.1); kind = among_after (connects c.0) change.effects side.past c.1 });
       drawn = λ pair has. subst (IsPair pair) (sym pairs)
-          (elim (in_after (draws pair) change.effects side.past has) [ inl now ↦ at_end pair (pairs_of turns) (drawn_in change.effects) (drawn_pair pair change.effects now) | inr before ↦ in_front pair (pairs_of turns) (drawn_in change.effects) (h.drawn pair before) ]);
+          (elim (in_after (draws pair) change.effects side.past has) [ inl now ↦ at_end pair (pairs_of turns) (drawn_pairs change.effects) (drawn_pair pair change.effects now) | inr before ↦ in_front pair (pairs_of turns) (drawn_pairs change.effects) (h.drawn pair before) ]);
       fresh = λ distinct.
-          let whole : HasDistinctTags (pairs_of turns ++ drawn_in change.effects) = subst HasDistinctTags pairs distinct in
-          stays_fresh change.effects side.past (pairs_of turns) (h.fresh (distinct_front (pairs_of turns) (drawn_in change.effects) whole)) h.drawn whole;
+          let whole : HasDistinctTags (pairs_of turns ++ drawn_pairs change.effects) = subst HasDistinctTags pairs distinct in
+          stays_fresh change.effects side.past (pairs_of turns) (h.fresh (distinct_front (pairs_of turns) (drawn_pairs change.effects) whole)) h.drawn whole;
     }
 
 -- ---- several turns
@@ -200,7 +200,7 @@ follow_turns law options turns side (t ∷ more) (change ∷ changes) h moved co
 
 -- a turn that the association has no part in
 pub follow_idle : (options : Options) (turns : List Transition) (side : SideState) (t : Transition) → Followed options turns side
-    → IsControlled (endpoint_after options turns) t.outcome (unchanged (endpoint_after options turns).core) → TurnFits t.outcome → Followed options (turns ++ t ∷ []) side
+    → IsControlled (endpoint_after options turns) t.outcome (no_change (endpoint_after options turns).core) → TurnFits t.outcome → Followed options (turns ++ t ∷ []) side
 follow_idle options turns side t h controlled fits =
-    follow_turn options turns side t (unchanged side.core) h (record { held = λ link none. absurd none; connected = λ link none. absurd none })
-    (subst (λ (core : Core). IsControlled (endpoint_after options turns) t.outcome (unchanged core)) (sym h.core) controlled) fits
+    follow_turn options turns side t (no_change side.core) h (record { held = λ link none. absurd none; connected = λ link none. absurd none })
+    (subst (λ (core : Core). IsControlled (endpoint_after options turns) t.outcome (no_change core)) (sym h.core) controlled) fits

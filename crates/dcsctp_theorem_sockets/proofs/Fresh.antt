@@ -2,7 +2,7 @@
 use Rattle.std.proofs.Common.{◌≡◌, ◌≢◌, List, [], ◌∷◌, ◌++◌, ◌⊎◌, inl, inr, sym, subst, append_assoc}
 use Rattle.std.specs.List.{AllByRecursion}
 use Rattle.dcsctp_spec_lemmas.specs.types.declared.association.Pair.{Pair}
-use Rattle.dcsctp_spec_lemmas.specs.spec.association.Effect.{drawn_in, Effect, draws, sends, holds, connects, ends, begins, gives_up, completes, fails, accepts, performs, renews, resumes}
+use Rattle.dcsctp_spec_lemmas.specs.spec.association.Effect.{drawn_pairs, Effect, draws, sends, holds, connects, ends, begins, gives_up, completes, fails, accepts, performs, renews, resumes}
 use Rattle.dcsctp_spec_runs.specs.Past.{HasEffect, HasFreshTags}
 use Rattle.dcsctp_spec_runs.specs.World.{after_effects}
 use Rattle.dcsctp_theorem_sockets.specs.Agreement.{HasDistinctTags}
@@ -21,7 +21,7 @@ at_end pair [] more h = h
 at_end pair (first ∷ pairs) more h = inr (at_end pair pairs more h)
 
 -- what is drawn by effects
-pub drawn_pair : (pair : Pair) (effects : List Effect) → HasEffect (draws pair) effects → IsPair pair (drawn_in effects)
+pub drawn_pair : (pair : Pair) (effects : List Effect) → HasEffect (draws pair) effects → IsPair pair (drawn_pairs effects)
 drawn_pair pair [] h = absurd h
 drawn_pair pair (draws first ∷ effects) (inl is) = inl (cc)
 drawn_pair pair (draws first ∷ effects) (inr h) = inr (drawn_pair pair effects h)
@@ -80,13 +80,13 @@ knows_more : (known : List Pair) (pair : Pair) (past : List Effect) → Knows kn
 knows_more known pair past knows other (inl is) = at_end other known (pair ∷ []) (inl (cc))
 knows_more known pair past knows other (inr h) = in_front other known (pair ∷ []) (knows other h)
 
-pub stays_fresh : (effects past : List Effect) (known : List Pair) → HasFreshTags past → Knows known past → HasDistinctTags (known ++ drawn_in effects) → HasFreshTags (after_effects effects past)
+pub stays_fresh : (effects past : List Effect) (known : List Pair) → HasFreshTags past → Knows known past → HasDistinctTags (known ++ drawn_pairs effects) → HasFreshTags (after_effects effects past)
 stays_fresh [] past known fresh knows distinct = fresh
 stays_fresh (draws pair ∷ effects) past known fresh knows distinct =
     stays_fresh effects (draws pair ∷ past) (known ++ pair ∷ [])
-    ((λ other h same. tag_is_new other pair known (drawn_in effects) distinct (knows other h) (sym same)), fresh)
+    ((λ other h same. tag_is_new other pair known (drawn_pairs effects) distinct (knows other h) (sym same)), fresh)
     (knows_more known pair past knows)
-    (subst HasDistinctTags (sym (append_assoc known (pair ∷ []) (drawn_in effects))) distinct)
+    (subst HasDistinctTags (sym (append_assoc known (pair ∷ []) (drawn_pairs effects))) distinct)
 stays_fresh (sends packet ∷ effects) past known fresh knows distinct = stays_fresh effects (sends packet ∷ past) known (tt, fresh) (λ other h. elim h [ inl is ↦ absurd (cc) | inr before ↦ knows other before ]) distinct
 stays_fresh (holds link ∷ effects) past known fresh knows distinct = stays_fresh effects (holds link ∷ past) known (tt, fresh) (λ other h. elim h [ inl is ↦ absurd (cc) | inr before ↦ knows other before ]) distinct
 stays_fresh (connects link ∷ effects) past known fresh knows distinct = stays_fresh effects (connects link ∷ past) known (tt, fresh) (λ other h. elim h [ inl is ↦ absurd (cc) | inr before ↦ knows other before ]) distinct

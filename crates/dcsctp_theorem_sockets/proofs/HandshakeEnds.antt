@@ -7,15 +7,15 @@ use Rattle.dcsctp_spec_lemmas.specs.types.declared.capabilities.Capabilities.{Ca
 use Rattle.dcsctp_spec_lemmas.specs.types.declared.options.Options.{Options}
 use Rattle.dcsctp_spec_lemmas.specs.types.declared.word.Word.TheVariants.{U64}
 use Rattle.dcsctp_spec_lemmas.specs.types.Settings.{ports_of}
-use Rattle.dcsctp_spec_lemmas.specs.types.Offer.{offer_of, negotiated}
-use Rattle.dcsctp_spec_lemmas.specs.spec.Cookie.{Cookie, cookie_bytes, cookie_at}
+use Rattle.dcsctp_spec_lemmas.specs.types.Offer.{offer_of, negotiated_capabilities}
+use Rattle.dcsctp_spec_lemmas.specs.spec.Cookie.{Cookie, cookie_bytes, cookie_of_bytes}
 use Rattle.dcsctp_spec_lemmas.specs.spec.endpoint.Event.{connected}
 use Rattle.dcsctp_spec_lemmas.specs.spec.Packet.{init, init_ack, cookie_echo, cookie_ack, Packet, Emission, emission_bytes}
 use Rattle.dcsctp_spec_lemmas.specs.spec.endpoint.Endpoint.{Endpoint, Core, closed, cookie_echoed, open_in, established, fresh_endpoint, own_tag, number_of_pair}
-use Rattle.dcsctp_spec_lemmas.specs.spec.endpoint.Outcome.{Outcome, noting, quiet, sends, packet_counted}
+use Rattle.dcsctp_spec_lemmas.specs.spec.endpoint.Outcome.{Outcome, with_effects_first, quiet, sends, packet_counted}
 use Rattle.dcsctp_spec_lemmas.specs.spec.endpoint.Turn.{act_input}
 use Rattle.dcsctp_spec_lemmas.specs.spec.endpoint.HandshakeOutcomes.{pair_from, echo_emission, connected_after}
-use Rattle.dcsctp_spec_lemmas.specs.spec.endpoint.CookieEchoOutcomes.{established_by, interleaves, queue_where, queues_with, queues_kept, EstablishAnswers, ResolvedAnswers, EchoedAnswers, resolved_by, cookie_echo_by, establish_outcome}
+use Rattle.dcsctp_spec_lemmas.specs.spec.endpoint.CookieEchoOutcomes.{endpoint_established, interleaves, queue_if_kept, queues_with, queues_kept, EstablishAnswers, ResolvedAnswers, EchoedAnswers, resolve_with_flush, cookie_echo_with_flush, establish_outcome}
 use Rattle.dcsctp_spec_lemmas.specs.spec.endpoint.FlushOutcomes.{FlushKind, flush_answered, IsIdle}
 use Rattle.dcsctp_spec_lemmas.specs.spec.queues.Transfer.{EndpointQueues}
 use Rattle.dcsctp_spec_lemmas.specs.spec.association.CookieEchoChanges.{Resolution, held_by_cookie}
@@ -23,7 +23,7 @@ use Rattle.dcsctp_spec_lemmas.specs.spec.association.HandshakeChanges.{introduct
 use Rattle.dcsctp_spec_lemmas.specs.spec.association.Acts.{connect}
 use Rattle.dcsctp_spec_lemmas.specs.spec.association.Effect.{Effect, holds, connects, identity_of}
 use Rattle.dcsctp_spec_lemmas.specs.spec.endpoint.CallTurns.{Transition, transition, Turns, HandleInput}
-use Rattle.dcsctp_spec_lemmas.specs.spec.Admission.{all_chunks, admits, admitted_where, admits_by, wrong_tag_text}
+use Rattle.dcsctp_spec_lemmas.specs.spec.Admission.{all_chunks, admits, all_chunks_or_none, admission_by_answers, wrong_tag_text}
 use Rattle.dcsctp_spec_lemmas.specs.spec.CookieFits.{FitsPair}
 use Rattle.dcsctp_spec_runs.specs.Sockets.{endpoint_after, packets_shown, packet_at_number, DeliveryTurns}
 use Rattle.dcsctp_spec_runs.proofs.FlushLemmas.{establish_now, cookie_ack_turn_now}
@@ -59,8 +59,8 @@ queues_there a b p q =
 
 abbrev pub establishing : Options → Options → Pair → Pair → ℕ → Outcome
 establishing a b p q tie =
-    noting (established_effects a b p q)
-    (sends (established_by (echoed b q) (made_cookie a b p q) (queues_there a b p q) tie) (U64 tie ∷ []) (connected ∷ []) (acknowledgement a b p q))
+    with_effects_first (established_effects a b p q)
+    (sends (endpoint_established (echoed b q) (made_cookie a b p q) (queues_there a b p q) tie) (U64 tie ∷ []) (connected ∷ []) (acknowledgement a b p q))
 
 -- The socket is established, and answers COOKIE ACK.
 pub record Establishes (a b : Options) (p q : Pair) (turns : List Transition) : Type 0 where
@@ -71,7 +71,7 @@ secret_fits : (follows : Bool) (q : Pair) → FitsPair q → (if follows && true
 secret_fits true q fits = omega (arith, fits.tag, fits.first_tsn)
 secret_fits false q fits = omega arith
 
-pub cookie_reads : HandshakeLaws → (a b : Options) (p q : Pair) → Good a → FitsPair p → FitsPair q → cookie_at (cookie_bytes (made_cookie a b p q)) ≡ Ok (made_cookie a b p q)
+pub cookie_reads : HandshakeLaws → (a b : Options) (p q : Pair) → Good a → FitsPair p → FitsPair q → cookie_of_bytes (cookie_bytes (made_cookie a b p q)) ≡ Ok (made_cookie a b p q)
 cookie_reads law a b p q good mine own =
     law.cookies (made_cookie a b p q)
     (record {
@@ -86,23 +86,23 @@ cookie_reads law a b p q good mine own =
     })
 
 -- It is this queue whether or not its numbers start again.
-queue_there_where : (follows : Bool) (a b : Options) (p q : Pair) → queues_with (echoed b q) (made_cookie a b p q) (queue_where follows (echoed b q) (made_cookie a b p q)) ≡ queues_there a b p q
+queue_there_where : (follows : Bool) (a b : Options) (p q : Pair) → queues_with (echoed b q) (made_cookie a b p q) (queue_if_kept follows (echoed b q) (made_cookie a b p q)) ≡ queues_there a b p q
 queue_there_where true a b p q = refl
 queue_there_where false a b p q = refl
 
 queue_is : (a b : Options) (p q : Pair) → queues_kept (echoed b q) (made_cookie a b p q) ≡ queues_there a b p q
 queue_is a b p q = queue_there_where b.follow_rfc a b p q
 
-pub established_idle : (a b : Options) (p q : Pair) (tie : ℕ) → IsIdle (established_by (echoed b q) (made_cookie a b p q) (queues_kept (echoed b q) (made_cookie a b p q)) tie)
-established_idle a b p q tie = subst (λ (queues : EndpointQueues). IsIdle (established_by (echoed b q) (made_cookie a b p q) queues tie)) (sym (queue_is a b p q)) refl
+pub established_idle : (a b : Options) (p q : Pair) (tie : ℕ) → IsIdle (endpoint_established (echoed b q) (made_cookie a b p q) (queues_kept (echoed b q) (made_cookie a b p q)) tie)
+established_idle a b p q tie = subst (λ (queues : EndpointQueues). IsIdle (endpoint_established (echoed b q) (made_cookie a b p q) queues tie)) (sym (queue_is a b p q)) refl
 
 -- its COOKIE ACK is sent
 pub established_sends : (a b : Options) (p q : Pair) (tie : ℕ) → Good b
     → establish_outcome (echoed b q) (made_cookie a b p q) (queues_kept (echoed b q) (made_cookie a b p q)) tie (connected ∷ []) ≡ establishing a b p q tie
 established_sends a b p q tie good =
-    let after : Endpoint = established_by (echoed b q) (made_cookie a b p q) (queues_there a b p q) tie in
+    let after : Endpoint = endpoint_established (echoed b q) (made_cookie a b p q) (queues_there a b p q) tie in
     ap (λ (queues : EndpointQueues). establish_outcome (echoed b q) (made_cookie a b p q) queues tie (connected ∷ [])) (queue_is a b p q)
-    ∙ ap (λ (x : Bool). noting (established_effects a b p q) (cond x (sends after (U64 tie ∷ []) (connected ∷ []) (acknowledgement a b p q)) (quiet after (U64 tie ∷ []) (connected ∷ [])))) good.allow.burst
+    ∙ ap (λ (x : Bool). with_effects_first (established_effects a b p q) (cond x (sends after (U64 tie ∷ []) (connected ∷ []) (acknowledgement a b p q)) (quiet after (U64 tie ∷ []) (connected ∷ [])))) good.allow.burst
 
 establishes_by : HandshakeLaws → (a b : Options) (p q : Pair) (turns : List Transition) → Good a → Good b → FitsPair p → FitsPair q
     → Taken (answered b q) q.tag (cookie_echo (cookie_bytes (made_cookie a b p q))) turns → Establishes a b p q turns
@@ -112,14 +112,14 @@ establishes_by law a b p q turns good_a good_b mine own h =
     let bytes : List ℕ = cookie_bytes cookie in
     let word : ℕ = h.comes.0 in
     let flush : FlushKind = flush_answered h.comes.1 in
-    let reads : cookie_at bytes ≡ Ok cookie = cookie_reads law a b p q good_a mine own in
+    let reads : cookie_of_bytes bytes ≡ Ok cookie = cookie_reads law a b p q good_a mine own in
     let allowed : EstablishAnswers e cookie (queues_kept e cookie) word h.comes.1 =
     subst (λ (case : Resolution). ResolvedAnswers e cookie closed word case h.comes.1) (case_at_start e a b p q refl refl refl refl own.tag_is_not_zero)
     (subst (λ (found : Result Cookie (List ℕ)). EchoedAnswers e closed q.tag found word h.comes.1) reads h.comes.2) in
     let is : h.outcome ≡ establish_outcome e cookie (queues_kept e cookie) word (connected ∷ []) =
     h.comes.3
-    ∙ ap (λ (found : Result Cookie (List ℕ)). cookie_echo_by flush e closed q.tag found word) reads
-    ∙ ap (λ (case : Resolution). resolved_by flush e cookie closed word case) (case_at_start e a b p q refl refl refl refl own.tag_is_not_zero)
+    ∙ ap (λ (found : Result Cookie (List ℕ)). cookie_echo_with_flush flush e closed q.tag found word) reads
+    ∙ ap (λ (case : Resolution). resolve_with_flush flush e cookie closed word case) (case_at_start e a b p q refl refl refl refl own.tag_is_not_zero)
     ∙ establish_now e cookie (queues_kept e cookie) word (connected ∷ []) h.comes.1 (established_idle a b p q word) allowed in
     record { tie = word; only = taken_as (answered b q) q.tag (cookie_echo bytes) turns h _ (is ∙ established_sends a b p q word good_b) refl (refl, refl) }
 
@@ -150,7 +150,7 @@ held_here a b p q = held_by_init_ack a p (answer_to a b p q)
 
 abbrev pub connecting_last : Options → Options → Pair → Pair → ℕ → Outcome
 connecting_last a b p q tie =
-    noting (connects (identity_of p (held_here a b p q)) ∷ []) (quiet (connected_after (counted_at (awaited a b p q tie)) p (held_here a b p q)) [] (connected ∷ []))
+    with_effects_first (connects (identity_of p (held_here a b p q)) ∷ []) (quiet (connected_after (counted_at (awaited a b p q tie)) p (held_here a b p q)) [] (connected ∷ []))
 
 -- No shutdown waits, whatever the options say.
 pub none_is_asked : (follows : Bool) → (follows && false) ≡ false
@@ -160,8 +160,8 @@ none_is_asked false = refl
 pub ack_admitted : (core : Core) (tag : ℕ) → own_tag core ≡ tag → 1 ≤ tag → admits core (record { tag = tag; contents = cookie_ack ∷ [] }) ≡ all_chunks
 ack_admitted core tag own some =
     let packet : Packet = record { tag = tag; contents = cookie_ack ∷ [] } in
-    ap (λ (zero_tag : Bool). admits_by core packet None None false false zero_tag) (not_zero tag some)
-    ∙ ap (λ (is_own : Bool). admitted_where is_own (wrong_tag_text tag (own_tag core))) (ap (eqb tag) own ∙ same_tag tag)
+    ap (λ (zero_tag : Bool). admission_by_answers core packet None None false false zero_tag) (not_zero tag some)
+    ∙ ap (λ (is_own : Bool). all_chunks_or_none is_own (wrong_tag_text tag (own_tag core))) (ap (eqb tag) own ∙ same_tag tag)
 
 pub ack_is_taken : (a b : Options) (p q : Pair) → Good b → FitsPair p → b.remote_port ≡ a.local_port → IsTaken a b (acknowledgement a b p q).with_checksum p.tag cookie_ack
 ack_is_taken a b p q good mine port =
@@ -209,7 +209,7 @@ pub record Ended (a b : Options) (here there : List Transition) : Type 0 where
   pub theirs : IsConnected b a there q p
 
 same_capabilities : HandshakeLaws → (a b : Options) (p q : Pair)
-    → open_in established p (held_here a b p q) ≡ open_in established p (new_held p q (negotiated (offer_of a) (offer_of b)))
+    → open_in established p (held_here a b p q) ≡ open_in established p (new_held p q (negotiated_capabilities (offer_of a) (offer_of b)))
 same_capabilities law a b p q = ap (λ (c : Capabilities). open_in established p (new_held p q c)) (law.answers (offer_of a) (offer_of b))
 
 ended_so : HandshakeLaws → (a b : Options) (word next word' next' tie tie' : ℕ) →

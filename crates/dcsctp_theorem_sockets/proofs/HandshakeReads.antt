@@ -4,7 +4,7 @@ use Rattle.dcsctp_spec_lemmas.specs.wire.Format.{IsPacket}
 use Rattle.dcsctp_spec_lemmas.specs.wire.ReadsBack.{HasMinima, BuiltPacketReadsBack, BuiltPacketReadsAsItself}
 use Rattle.dcsctp_spec_lemmas.specs.types.declared.options.Options.{Options}
 use Rattle.dcsctp_spec_lemmas.specs.types.Settings.{FitsOptions, ports_of, wire_options}
-use Rattle.dcsctp_spec_lemmas.specs.spec.Packet.{Content, Packet, Emission, chunk_out, packet_in, emission_bytes}
+use Rattle.dcsctp_spec_lemmas.specs.spec.Packet.{Content, Packet, Emission, chunk_out, packet_of_content, emission_bytes}
 use Rattle.dcsctp_spec_lemmas.specs.spec.endpoint.Endpoint.{Endpoint, Core}
 use Rattle.dcsctp_spec_lemmas.specs.spec.endpoint.Outcome.{Outcome, still}
 use Rattle.dcsctp_spec_lemmas.specs.spec.endpoint.Following.{Following, next_chunk}
@@ -127,7 +127,7 @@ pub taken : Wire → (e : Endpoint) (theirs : Options) (with_checksum : Bool) (t
 taken law e theirs with_checksum tag content turns h admitted none_asked rests (unreadable ts none reads) = absurd (none _ (is_read law e.options theirs with_checksum tag content h))
 taken law e theirs with_checksum tag content turns h admitted none_asked rests (readable packet counted ts is_packet counting reads) =
     let sent_packet : Packet = record { tag = tag; contents = content ∷ [] } in
-    let is : packet_in packet ≡ sent_packet = reads_as_sent law.as_itself e.options theirs (alone with_checksum tag content) packet h.fits h.sendable is_packet in
+    let is : packet_of_content packet ≡ sent_packet = reads_as_sent law.as_itself e.options theirs (alone with_checksum tag content) packet h.fits h.sendable is_packet in
     let here : AdmittedTurns counted.outcome.after sent_packet (admits e.core sent_packet) ts = subst (λ (p : Packet). AdmittedTurns counted.outcome.after p (admits e.core p) ts) is reads in
     let worked : WholeTurns counted.outcome.after sent_packet ts = subst (λ (a : Admission). AdmittedTurns counted.outcome.after sent_packet a ts) admitted here in
     let counts : counted ≡ transition arrival (arrival_outcome e) = turned_as counted arrival (arrival_outcome e) counting.is counting.comes in

@@ -13,10 +13,10 @@ use Rattle.dcsctp_spec_lemmas.specs.types.Offer.{offer_of, agreed_method}
 use Rattle.dcsctp_spec_lemmas.specs.spec.Cookie.{Cookie, cookie_bytes, is_stale}
 use Rattle.dcsctp_spec_lemmas.specs.spec.Packet.{Introduction, Content, init, init_ack, Packet, Emission, emission_bytes}
 use Rattle.dcsctp_spec_lemmas.specs.spec.endpoint.Endpoint.{Endpoint, Core, closed, cookie_wait, fresh_endpoint, own_tag, may_answer, number_of_pair, with_secret, secret_with}
-use Rattle.dcsctp_spec_lemmas.specs.spec.endpoint.Outcome.{Outcome, noting, quiet, sends, packet_counted, answering as counted, drawing}
+use Rattle.dcsctp_spec_lemmas.specs.spec.endpoint.Outcome.{Outcome, with_effects_first, quiet, sends, packet_counted, answering as counted, drawing}
 use Rattle.dcsctp_spec_lemmas.specs.spec.endpoint.Turn.{act_input}
 use Rattle.dcsctp_spec_lemmas.specs.spec.endpoint.FlushOutcomes.{allows_packet}
-use Rattle.dcsctp_spec_lemmas.specs.spec.association.CookieEchoChanges.{Resolution, establish_new, aged, case_without_peer}
+use Rattle.dcsctp_spec_lemmas.specs.spec.association.CookieEchoChanges.{Resolution, establish_new, aged_resolution, case_without_peer}
 use Rattle.dcsctp_spec_lemmas.specs.spec.endpoint.CookieEchoOutcomes.{is_last_tag, resolved_now, is_foreign}
 use Rattle.dcsctp_spec_lemmas.specs.spec.endpoint.HandshakeOutcomes.{pair_from, init_emission, awaits_init_ack, init_ack_emission, cookie_for, awaits_cookie_ack, echo_emission, init_outcome, init_answered, init_ack_outcome, connect_outcome}
 use Rattle.dcsctp_spec_lemmas.specs.spec.association.HandshakeChanges.{introduction_of, answering_introduction, held_by_init_ack}
@@ -24,7 +24,7 @@ use Rattle.dcsctp_spec_lemmas.specs.spec.association.Acts.{connect}
 use Rattle.dcsctp_spec_lemmas.specs.spec.endpoint.Following.{next_chunk}
 use Rattle.dcsctp_spec_lemmas.specs.spec.association.Effect.{Effect, holds, identity_of}
 use Rattle.dcsctp_spec_lemmas.specs.spec.endpoint.CallTurns.{Transition, transition, Turns, HandleInput}
-use Rattle.dcsctp_spec_lemmas.specs.spec.Admission.{all_chunks, admits, admitted_where, admits_by, wrong_tag_text}
+use Rattle.dcsctp_spec_lemmas.specs.spec.Admission.{all_chunks, admits, all_chunks_or_none, admission_by_answers, wrong_tag_text}
 use Rattle.dcsctp_spec_lemmas.specs.spec.CookieFits.{FitsPair, CookieReadsBack}
 use Rattle.dcsctp_spec_runs.specs.Laws.{AnswerKeepsAgreement, OfferReadsBack}
 use Rattle.dcsctp_spec_runs.proofs.FlushLemmas.{init_ack_turn_now}
@@ -195,13 +195,13 @@ case_at_start e a b p q at none follows bears some =
     let cookie : Cookie = made_cookie a b p q in
     let old : Bool = is_stale lifetime e.moment cookie in
     let case : Resolution = case_without_peer (eqb q.tag q.tag) in
-    ap (λ (last : Option ℕ). aged ((e.options.follow_rfc && is_last_tag last q.tag) || (is_foreign e closed cookie.tie || old)) case) none
-    ∙ ap (λ (over : Bool). aged (over || (is_foreign e closed cookie.tie || old)) case) (and_never e.options.follow_rfc)
-    ∙ ap (λ (secret : ℕ). aged ((e.options.follow_rfc && (secret == 0 || not (cookie.tie == secret))) || old) case) bears
-    ∙ ap (λ (by_rfc : Bool). aged ((by_rfc && (seal b q == 0 || not (cookie.tie == seal b q))) || old) case) follows
-    ∙ ap (λ (foreign : Bool). aged (foreign || old) case) (own_where b.follow_rfc q some)
-    ∙ ap (λ (now : ℕ). aged (is_stale lifetime now cookie) case) at
-    ∙ ap (λ (old : Bool). aged old case) (zero_age lifetime)
+    ap (λ (last : Option ℕ). aged_resolution ((e.options.follow_rfc && is_last_tag last q.tag) || (is_foreign e closed cookie.tie || old)) case) none
+    ∙ ap (λ (over : Bool). aged_resolution (over || (is_foreign e closed cookie.tie || old)) case) (and_never e.options.follow_rfc)
+    ∙ ap (λ (secret : ℕ). aged_resolution ((e.options.follow_rfc && (secret == 0 || not (cookie.tie == secret))) || old) case) bears
+    ∙ ap (λ (by_rfc : Bool). aged_resolution ((by_rfc && (seal b q == 0 || not (cookie.tie == seal b q))) || old) case) follows
+    ∙ ap (λ (foreign : Bool). aged_resolution (foreign || old) case) (own_where b.follow_rfc q some)
+    ∙ ap (λ (now : ℕ). aged_resolution (is_stale lifetime now cookie) case) at
+    ∙ ap (λ (old : Bool). aged_resolution old case) (zero_age lifetime)
     ∙ ap case_without_peer (same_tag q.tag)
 
 abbrev pub answer_to : Options → Options → Pair → Pair → Introduction
@@ -212,7 +212,7 @@ awaiting a b p q tie = awaits_cookie_ack (counted_at (waiting a p)) p (answer_to
 
 abbrev pub echoing : Options → Options → Pair → Pair → ℕ → Outcome
 echoing a b p q tie =
-    noting (holds (identity_of p (held_by_init_ack a p (answer_to a b p q))) ∷ [])
+    with_effects_first (holds (identity_of p (held_by_init_ack a p (answer_to a b p q))) ∷ [])
     (sends (awaiting a b p q tie) (U64 tie ∷ []) [] (echo_emission q.tag (cookie_bytes (made_cookie a b p q))))
 
 -- The socket echoes the cookie.
@@ -227,8 +227,8 @@ echo_sends a b p q tie good =
     let emission : Emission = echo_emission q.tag (cookie_bytes (made_cookie a b p q)) in
     let words : List Word = U64 tie ∷ [] in
     let holding : List Effect = holds (identity_of p (held_by_init_ack a p (answer_to a b p q))) ∷ [] in
-    ap (λ (x : Bool). noting holding (cond x (cond (allows_packet a.max_burst) (sends e words [] emission) (quiet e words [])) (quiet e words []))) (echo_fits e q.tag (made_cookie a b p q) good.allow.mtu)
-    ∙ ap (λ (x : Bool). noting holding (cond x (sends e words [] emission) (quiet e words []))) good.allow.burst
+    ap (λ (x : Bool). with_effects_first holding (cond x (cond (allows_packet a.max_burst) (sends e words [] emission) (quiet e words [])) (quiet e words []))) (echo_fits e q.tag (made_cookie a b p q) good.allow.mtu)
+    ∙ ap (λ (x : Bool). with_effects_first holding (cond x (sends e words [] emission) (quiet e words []))) good.allow.burst
 
 echoes_by : (a b : Options) (p q : Pair) (turns : List Transition) → Good a
     → Taken (waiting a p) p.tag (init_ack (answer_to a b p q) (Some (cookie_bytes (made_cookie a b p q)))) turns → Echoes a b p q turns
@@ -255,8 +255,8 @@ pub ack_admitted : (core : Core) (theirs : Introduction) (cookie : List ℕ) (ta
     → admits core (record { tag = tag; contents = init_ack theirs (Some cookie) ∷ [] }) ≡ all_chunks
 ack_admitted core theirs cookie tag own some =
     let packet : Packet = record { tag = tag; contents = init_ack theirs (Some cookie) ∷ [] } in
-    ap (λ (zero_tag : Bool). admits_by core packet None None false false zero_tag) (not_zero tag some)
-    ∙ ap (λ (is_own : Bool). admitted_where is_own (wrong_tag_text tag (own_tag core))) (ap (eqb tag) own ∙ same_tag tag)
+    ap (λ (zero_tag : Bool). admission_by_answers core packet None None false false zero_tag) (not_zero tag some)
+    ∙ ap (λ (is_own : Bool). all_chunks_or_none is_own (wrong_tag_text tag (own_tag core))) (ap (eqb tag) own ∙ same_tag tag)
 
 pub echoes : HandshakeLaws → (a b : Options) (p q : Pair) (turns : List Transition) → Good a → Good b → FitsPair p → FitsPair q → b.remote_port ≡ a.local_port
     → HandleInput (waiting a p) (emission_bytes (ports_of b) (init_ack_emission (sealed b q) (introduction_of a p) q (seal b q))) turns → Echoes a b p q turns

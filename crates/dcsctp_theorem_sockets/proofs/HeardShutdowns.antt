@@ -7,7 +7,7 @@ use Rattle.dcsctp_spec_lemmas.specs.spec.Packet.{shutdown}
 use Rattle.dcsctp_spec_lemmas.specs.spec.endpoint.Endpoint.{Endpoint, open_in, shutdown_received}
 use Rattle.dcsctp_spec_lemmas.specs.spec.endpoint.Outcome.{Outcome}
 use Rattle.dcsctp_spec_lemmas.specs.spec.endpoint.HeardShutdown.{said_by_shutdown, ShutdownTurn}
-use Rattle.dcsctp_spec_lemmas.specs.spec.endpoint.ShutdownOutcomes.{phase_at}
+use Rattle.dcsctp_spec_lemmas.specs.spec.endpoint.ShutdownOutcomes.{endpoint_in_phase}
 use Rattle.dcsctp_spec_lemmas.proofs.HeardShutdowns.{Heeds, heard}
 use Rattle.dcsctp_spec_lemmas.specs.spec.CookieFits.{FitsPair}
 use Rattle.dcsctp_spec_runs.specs.Fitting.{FitsHeld, FitsCore, FitsEndpoint, TurnFits}
@@ -26,13 +26,13 @@ use Rattle.dcsctp_theorem_sockets.proofs.T1Turns.{Up, UpAfter}
 
 -- ---- numbers that fit their fields
 
-moved_fits : (e : Endpoint) (my : Pair) (held : Held) → FitsEndpoint e → FitsPair my → FitsHeld held → FitsEndpoint (phase_at e shutdown_received my held)
+moved_fits : (e : Endpoint) (my : Pair) (held : Held) → FitsEndpoint e → FitsPair my → FitsHeld held → FitsEndpoint (endpoint_in_phase e shutdown_received my held)
 moved_fits e my held h own fits = record { valid = h.valid; options = h.options; core = (own, fits); t1 = tt }
 
 heeds_fits : (e : Endpoint) (tsn : ℕ) (o : Outcome) → Heeds e e.core tsn o → FitsEndpoint e → TurnFits o
 heeds_fits e tsn o heeds h =
     let own : FitsCore (open_in heeds.phase heeds.my heeds.held) = subst FitsCore heeds.is h.core in
-    acknowledges_fits (phase_at e shutdown_received heeds.my heeds.held) heeds.held heeds.transfer (said_by_shutdown tsn heeds.transfer.retransmission) o heeds.acknowledges
+    acknowledges_fits (endpoint_in_phase e shutdown_received heeds.my heeds.held) heeds.held heeds.transfer (said_by_shutdown tsn heeds.transfer.retransmission) o heeds.acknowledges
     (moved_fits e heeds.my heeds.held h own.0 own.1) own.1
 
 pub heard_fits : (e : Endpoint) (tsn : ℕ) (o : Outcome) → ShutdownTurn e e.core tsn o → FitsEndpoint e → TurnFits o
@@ -45,7 +45,7 @@ pub heard_sizes : (limit : ℕ) (e : Endpoint) (tsn : ℕ) (o : Outcome) → Shu
 heard_sizes limit e tsn o turn h =
     elim (heard e e.core tsn o turn) [
       | inl rests ↦ subst (TurnSizes limit) (sym rests) (shutdown_sizes limit e e.core h)
-      | inr heeds ↦ acknowledges_sizes limit (phase_at e shutdown_received heeds.my heeds.held) heeds.held heeds.transfer (said_by_shutdown tsn heeds.transfer.retransmission) o heeds.acknowledges h
+      | inr heeds ↦ acknowledges_sizes limit (endpoint_in_phase e shutdown_received heeds.my heeds.held) heeds.held heeds.transfer (said_by_shutdown tsn heeds.transfer.retransmission) o heeds.acknowledges h
     ]
 
 -- ---- how many packets
@@ -58,7 +58,7 @@ one_of false flushed = omega arith
 heeds_counts : (e : Endpoint) (tsn : ℕ) (o : Outcome) → Heeds e e.core tsn o → count o.events ≤ packets_of_chunk e.options (shutdown tsn) (allowed_after o)
 heeds_counts e tsn o heeds =
     let behind : IsBehind 1 o =
-    acknowledges_behind (phase_at e shutdown_received heeds.my heeds.held) heeds.held heeds.transfer (said_by_shutdown tsn heeds.transfer.retransmission) o tt heeds.acknowledges in
+    acknowledges_behind (endpoint_in_phase e shutdown_received heeds.my heeds.held) heeds.held heeds.transfer (said_by_shutdown tsn heeds.transfer.retransmission) o tt heeds.acknowledges in
     subst (λ (follows : Bool). count o.events ≤ cond follows (1 + allowed_after o) 1) (sym heeds.follows) behind
 
 rests_counts : (e : Endpoint) (tsn : ℕ) (o : Outcome) → Few 1 o → count o.events ≤ packets_of_chunk e.options (shutdown tsn) (allowed_after o)
@@ -75,5 +75,5 @@ pub heard_up : (e : Endpoint) (tsn : ℕ) (o : Outcome) → ShutdownTurn e e.cor
 heard_up e tsn o turn h =
     elim (heard e e.core tsn o turn) [
       | inl rests ↦ subst UpAfter (sym rests) (shutdown_up e e.core h)
-      | inr heeds ↦ acknowledges_up (phase_at e shutdown_received heeds.my heeds.held) heeds.held heeds.transfer (said_by_shutdown tsn heeds.transfer.retransmission) o heeds.acknowledges tt
+      | inr heeds ↦ acknowledges_up (endpoint_in_phase e shutdown_received heeds.my heeds.held) heeds.held heeds.transfer (said_by_shutdown tsn heeds.transfer.retransmission) o heeds.acknowledges tt
     ]

@@ -10,13 +10,13 @@ use Rattle.dcsctp_spec_lemmas.specs.spec.endpoint.Outcome.{Outcome}
 use Rattle.dcsctp_spec_lemmas.specs.spec.endpoint.Turn.{ActTurn, act_input}
 use Rattle.dcsctp_spec_lemmas.specs.spec.endpoint.HandshakeOutcomes.{ConnectTurn}
 use Rattle.dcsctp_spec_lemmas.specs.spec.endpoint.CallTurns.{Transition, Turns}
-use Rattle.dcsctp_spec_lemmas.specs.spec.association.Controlled.{IsControlled, ControlledAct}
+use Rattle.dcsctp_spec_lemmas.specs.spec.association.Controlled.{IsControlled, IsControlledAct}
 use Rattle.dcsctp_spec_lemmas.specs.spec.association.Effect.{Effect, Change}
 use Rattle.dcsctp_spec_lemmas.specs.spec.association.Choices.{Choices}
 use Rattle.dcsctp_spec_lemmas.specs.spec.association.Acts.{Act, connect, act_change, flushes}
 use Rattle.dcsctp_spec_runs.specs.Laws.{OfferReadsBack, PacketsAreControlled, AdmittedPacketsMayBeHandled}
 use Rattle.dcsctp_spec_laws.specs.TurnLaws.{ActsAreControlled}
-use Rattle.dcsctp_spec_runs.specs.World.{SideState, after_changes, acted, Move, does, MoveChanges, Moved, MovesMade, after_moves}
+use Rattle.dcsctp_spec_runs.specs.World.{SideState, after_changes, acted, Move, does, MoveChanges, MoveResult, MakesMoves, after_moves}
 use Rattle.dcsctp_spec_runs.specs.Sockets.{endpoint_after}
 use Rattle.dcsctp_spec_runs.specs.Fitting.{TurnFits}
 use Rattle.dcsctp_spec_runs.proofs.DeliveryLemmas.{longest_connects}
@@ -36,8 +36,8 @@ pub record Below : Type 0 where
 
 -- A socket's turns are moves of its side, where the other side's past is this.
 pub record SideMoves (options : Options) (turns : List Transition) (side : SideState) (theirs : List Effect) (more : List Transition) : Type 0 where
-  pub moves : List Moved
-  pub made : MovesMade side theirs moves
+  pub moves : List MoveResult
+  pub made : MakesMoves side theirs moves
   pub follows : Followed options (turns ++ more) (after_moves side moves)
 
 pub rests : (options : Options) (turns : List Transition) (side : SideState) (theirs : List Effect) (more : List Transition) → Followed options (turns ++ more) side → SideMoves options turns side theirs more
@@ -110,7 +110,7 @@ connect_moves law options turns side theirs (t ∷ next ∷ more) h turn = absur
 
 -- its turn, and whatever comes after it
 pub act_then : Below → (options : Options) (turns : List Transition) (side : SideState) (theirs : List Effect) (act : Act) (t : Transition) (more : List Transition) → IgnoresMessageSize act
-    → Followed options turns side → ControlledAct (endpoint_after options turns) act t.outcome → TurnFits t.outcome
+    → Followed options turns side → IsControlledAct (endpoint_after options turns) act t.outcome → TurnFits t.outcome
     → ((choices : Choices) → let after : SideState = after_changes side (act_change side.options side.core act choices ∷ []) in
     Followed options (turns ++ t ∷ []) after → SideMoves options (turns ++ t ∷ []) after theirs more)
     → SideMoves options turns side theirs (t ∷ more)
@@ -119,7 +119,7 @@ act_then law options turns side theirs act t more any h controlled fits rest =
     moves_then options turns side theirs (t ∷ []) more (does act) (act_change side.options side.core act followed.choices ∷ []) (followed.choices, refl) (rest followed.choices followed.follows)
 
 pub act_once : Below → (options : Options) (turns : List Transition) (side : SideState) (theirs : List Effect) (act : Act) (t : Transition) → IgnoresMessageSize act
-    → Followed options turns side → ControlledAct (endpoint_after options turns) act t.outcome → TurnFits t.outcome → SideMoves options turns side theirs (t ∷ [])
+    → Followed options turns side → IsControlledAct (endpoint_after options turns) act t.outcome → TurnFits t.outcome → SideMoves options turns side theirs (t ∷ [])
 act_once law options turns side theirs act t any h controlled fits =
     let followed : ActFollows options turns side act t = act_follows law.effects_mean options turns side act t any h controlled fits in
     moves_once options turns side theirs (t ∷ []) (does act) (act_change side.options side.core act followed.choices ∷ []) (followed.choices, refl) followed.follows
@@ -135,5 +135,5 @@ act_moves law options turns side theirs act (t ∷ next ∷ more) any h fits tur
 
 -- a turn that is a flush of the association
 pub flush_moves : Below → (options : Options) (turns : List Transition) (side : SideState) (theirs : List Effect) (t : Transition) → Followed options turns side
-    → ControlledAct (endpoint_after options turns) flushes t.outcome → TurnFits t.outcome → SideMoves options turns side theirs (t ∷ [])
+    → IsControlledAct (endpoint_after options turns) flushes t.outcome → TurnFits t.outcome → SideMoves options turns side theirs (t ∷ [])
 flush_moves law options turns side theirs t h controlled fits = act_once law options turns side theirs flushes t (λ p q core choices same. refl) h controlled fits

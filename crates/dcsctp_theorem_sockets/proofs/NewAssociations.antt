@@ -4,14 +4,14 @@ use Rattle.std.proofs.lemmas.Bool.Decides.{nat_tests}
 use Rattle.dcsctp_spec_lemmas.specs.types.declared.association.Pair.{Pair}
 use Rattle.dcsctp_spec_lemmas.specs.types.declared.association.Held.{Held}
 use Rattle.dcsctp_spec_lemmas.specs.types.declared.options.Options.{Options}
-use Rattle.dcsctp_spec_lemmas.specs.spec.Cookie.{Cookie, cookie_at}
+use Rattle.dcsctp_spec_lemmas.specs.spec.Cookie.{Cookie, cookie_of_bytes}
 use Rattle.dcsctp_spec_lemmas.specs.spec.Packet.{Introduction, Content, init, init_ack, cookie_echo, cookie_ack, re_config, abort, shutdown, shutdown_ack, shutdown_complete, plain}
 use Rattle.dcsctp_spec_lemmas.specs.spec.endpoint.Endpoint.{Core, closed, cookie_wait, cookie_echoed, open_in, OpenPhase, shutdown_ack_sent}
-use Rattle.dcsctp_spec_lemmas.specs.spec.association.Effect.{AssociationIdentity, Effect, holds, ends, Change, emitted, emitted_alone, identity_of, identity_in}
+use Rattle.dcsctp_spec_lemmas.specs.spec.association.Effect.{AssociationIdentity, Effect, holds, ends, Change, emission_effects, emitted_alone, identity_of, identity_of_core}
 use Rattle.dcsctp_spec_lemmas.specs.spec.association.Choices.{Choices}
 use Rattle.dcsctp_spec_lemmas.specs.spec.association.FlushChanges.{flush}
 use Rattle.dcsctp_spec_lemmas.specs.spec.association.HandshakeChanges.{init_change, held_by_init_ack, init_ack_change, cookie_ack_change}
-use Rattle.dcsctp_spec_lemmas.specs.spec.association.CookieEchoChanges.{stale_error, stale_change, Resolution, establish_new, restart, simultaneous_init, discard, maintain_existing, invalid_tag, stale, aged, resolve, case_by, case_without_peer, held_by_cookie, new_association_change, shutting_down_error, restart_change, maintain_change, resolved_change, read_echo_change}
+use Rattle.dcsctp_spec_lemmas.specs.spec.association.CookieEchoChanges.{stale_error, stale_change, Resolution, establish_new, restart, simultaneous_init, discard, maintain_existing, invalid_tag, stale, aged_resolution, resolve, case_by_answers, case_without_peer, held_by_cookie, new_association_change, shutting_down_error, restart_change, maintain_change, resolved_change, read_echo_change}
 use Rattle.dcsctp_spec_lemmas.specs.spec.association.ResumeChanges.{resumed_held, resume_change}
 use Rattle.dcsctp_spec_lemmas.specs.spec.association.Acts.{chunk_change}
 use Rattle.dcsctp_spec_runs.specs.Past.{HasEffect}
@@ -25,7 +25,7 @@ use Rattle.dcsctp_spec_lemmas.specs.spec.association.ResetChanges.{echoed_re_con
 
 -- An association that is there from here on isn't the one that was there.
 abbrev pub Anew : Core → List Effect → Type 0
-Anew core effects = (link : AssociationIdentity) → HasEffect (holds link) effects → identity_in core ≢ Some link
+Anew core effects = (link : AssociationIdentity) → HasEffect (holds link) effects → identity_of_core core ≢ Some link
 
 -- At most the first of these effects is that an association is there.
 abbrev pub FirstAlone : List Effect → Type 0
@@ -50,13 +50,13 @@ none_anew : (core : Core) (effects : List Effect) → HoldsNone effects → New 
 none_anew core effects none = record { anew = λ link has same. not_among link effects none has; first = first_of effects none }
 
 -- There was none.
-first_anew : (core : Core) (effects : List Effect) → identity_in core ≡ None → FirstAlone effects → New core effects
+first_anew : (core : Core) (effects : List Effect) → identity_of_core core ≡ None → FirstAlone effects → New core effects
 first_anew core effects none first = record { anew = λ link has same. absurd (cc); first = first }
 
 -- ---- COOKIE ECHO
 
 -- of another peer than the one that was there
-another_anew : (options : Options) (core : Core) (my : Pair) (held : Held) (cookie : Cookie) (choices : Choices) → identity_in core ≡ Some (identity_of my held)
+another_anew : (options : Options) (core : Core) (my : Pair) (held : Held) (cookie : Cookie) (choices : Choices) → identity_of_core core ≡ Some (identity_of my held)
     → (cookie.addressee.tag == held.peer.tag) ≡ false → Anew core (new_association_change options cookie choices).effects
 another_anew options core my held cookie choices is other link (inl new) same =
     let was : identity_of my held ≡ link = cc in
@@ -72,14 +72,14 @@ another_anew options core my held cookie choices is other link (inr (inr has)) s
 new_first : (options : Options) (cookie : Cookie) (choices : Choices) → FirstAlone (new_association_change options cookie choices).effects
 new_first options cookie choices = (tt, none-flush cookie.addressee.tag (held_by_cookie options cookie) (cookie_ack ∷ []) choices.filling)
 
-new_anew : (options : Options) (core : Core) (my : Pair) (held : Held) (cookie : Cookie) (choices : Choices) → identity_in core ≡ Some (identity_of my held)
+new_anew : (options : Options) (core : Core) (my : Pair) (held : Held) (cookie : Cookie) (choices : Choices) → identity_of_core core ≡ Some (identity_of my held)
     → (cookie.addressee.tag == held.peer.tag) ≡ false → New core (new_association_change options cookie choices).effects
 new_anew options core my held cookie choices is other =
     record { anew = another_anew options core my held cookie choices is other; first = new_first options cookie choices }
 
-restart_anew : (options : Options) (core : Core) (my : Pair) (held : Held) (cookie : Cookie) (choices : Choices) → identity_in core ≡ Some (identity_of my held)
+restart_anew : (options : Options) (core : Core) (my : Pair) (held : Held) (cookie : Cookie) (choices : Choices) → identity_of_core core ≡ Some (identity_of my held)
     → (cookie.addressee.tag == held.peer.tag) ≡ false → New core (restart_change options core cookie choices).effects
-restart_anew options (open_in shutdown_ack_sent mine has) my held cookie choices is other = none_anew (open_in shutdown_ack_sent mine has) (emitted has.peer.tag (shutdown_ack ∷ shutting_down_error ∷ [])) (tt, tt)
+restart_anew options (open_in shutdown_ack_sent mine has) my held cookie choices is other = none_anew (open_in shutdown_ack_sent mine has) (emission_effects has.peer.tag (shutdown_ack ∷ shutting_down_error ∷ [])) (tt, tt)
 restart_anew options core my held cookie choices is other = new_anew options core my held cookie choices is other
 
 pub maintain_none : (core : Core) (cookie : Cookie) (choices : Choices) → HoldsNone (maintain_change core cookie choices).effects
@@ -89,8 +89,8 @@ maintain_none core cookie choices = tt
 
 -- the table of RFC 9260, section 5.2.4
 case_anew : (options : Options) (core : Core) (my : Pair) (held : Held) (cookie : Cookie) (choices : Choices) (is_own is_peer is_tie is_zero : Bool)
-    → identity_in core ≡ Some (identity_of my held) → (cookie.addressee.tag == held.peer.tag) ≡ is_peer
-    → New core (resolved_change options core cookie choices (case_by is_own is_peer is_tie is_zero)).effects
+    → identity_of_core core ≡ Some (identity_of my held) → (cookie.addressee.tag == held.peer.tag) ≡ is_peer
+    → New core (resolved_change options core cookie choices (case_by_answers is_own is_peer is_tie is_zero)).effects
 case_anew options core my held cookie choices false false true is_zero is peer = restart_anew options core my held cookie choices is peer
 case_anew options core my held cookie choices false false false is_zero is peer = none_anew core [] tt
 case_anew options core my held cookie choices true false is_tie is_zero is peer = new_anew options core my held cookie choices is peer
@@ -111,7 +111,7 @@ stale_anew options core cookie choices =
 
 -- whatever the cookie's age
 aged_anew : (options : Options) (core : Core) (cookie : Cookie) (choices : Choices) (old : Bool) (resolution : Resolution)
-    → New core (resolved_change options core cookie choices resolution).effects → New core (resolved_change options core cookie choices (aged old resolution)).effects
+    → New core (resolved_change options core cookie choices resolution).effects → New core (resolved_change options core cookie choices (aged_resolution old resolution)).effects
 aged_anew options core cookie choices true establish_new h = stale_anew options core cookie choices
 aged_anew options core cookie choices true restart h = stale_anew options core cookie choices
 aged_anew options core cookie choices true simultaneous_init h = stale_anew options core cookie choices
@@ -151,12 +151,12 @@ echoed_chunk_anew : (options : Options) (my : Pair) (held : Held) (echoed : List
 echoed_chunk_anew options my held echoed header (init theirs) choices =
     change_by (λ change. New (cookie_echoed my held echoed) change.effects) options (cookie_echoed my held echoed) theirs choices (none_anew (cookie_echoed my held echoed) [] tt) (none_anew (cookie_echoed my held echoed) _ (none-alone choices.fits _ _))
 echoed_chunk_anew options my held echoed header (init_ack theirs cookie) choices = none_anew (cookie_echoed my held echoed) [] tt
-echoed_chunk_anew options my held echoed header (cookie_echo cookie) choices = echo_anew options (cookie_echoed my held echoed) header (cookie_at cookie) choices
+echoed_chunk_anew options my held echoed header (cookie_echo cookie) choices = echo_anew options (cookie_echoed my held echoed) header (cookie_of_bytes cookie) choices
 echoed_chunk_anew options my held echoed header cookie_ack choices = none_anew (cookie_echoed my held echoed) (cookie_ack_change (cookie_echoed my held echoed) choices).effects (tt, none-flush held.peer.tag held [] choices.filling)
 echoed_chunk_anew options my held echoed header (re_config parameters) choices = reset_anew options.follow_rfc my held echoed parameters choices
 echoed_chunk_anew options my held echoed header (abort reflected causes) choices = none_anew (cookie_echoed my held echoed) (ends ∷ []) (tt, tt)
 echoed_chunk_anew options my held echoed header (shutdown tsn) choices = none_anew (cookie_echoed my held echoed) _ (none-sent held choices)
-echoed_chunk_anew options my held echoed header shutdown_ack choices = none_anew (cookie_echoed my held echoed) (emitted header (shutdown_complete true ∷ [])) (tt, tt)
+echoed_chunk_anew options my held echoed header shutdown_ack choices = none_anew (cookie_echoed my held echoed) (emission_effects header (shutdown_complete true ∷ [])) (tt, tt)
 echoed_chunk_anew options my held echoed header (shutdown_complete reflected) choices = none_anew (cookie_echoed my held echoed) [] tt
 echoed_chunk_anew options my held echoed header (plain chunk) choices = none_anew (cookie_echoed my held echoed) _ (echoed_plain_none my held echoed choices.is_violation choices)
 
@@ -165,7 +165,7 @@ open_chunk_anew : (options : Options) (phase : OpenPhase) (my : Pair) (held : He
 open_chunk_anew options phase my held header (init theirs) choices =
     change_by (λ change. New (open_in phase my held) change.effects) options (open_in phase my held) theirs choices (none_anew (open_in phase my held) [] tt) (none_anew (open_in phase my held) _ (init_none options (open_in phase my held) theirs phase held choices))
 open_chunk_anew options phase my held header (init_ack theirs cookie) choices = none_anew (open_in phase my held) [] tt
-open_chunk_anew options phase my held header (cookie_echo cookie) choices = echo_anew options (open_in phase my held) header (cookie_at cookie) choices
+open_chunk_anew options phase my held header (cookie_echo cookie) choices = echo_anew options (open_in phase my held) header (cookie_of_bytes cookie) choices
 open_chunk_anew options phase my held header cookie_ack choices = none_anew (open_in phase my held) [] tt
 open_chunk_anew options phase my held header (re_config parameters) choices = none_anew (open_in phase my held) _ (none-reset my held parameters choices)
 open_chunk_anew options phase my held header (abort reflected causes) choices = none_anew (open_in phase my held) (ends ∷ []) (tt, tt)
@@ -178,12 +178,12 @@ closed_chunk_anew : (options : Options) (header : ℕ) (content : Content) (choi
 closed_chunk_anew options header (init theirs) choices =
     change_by (λ change. New (closed) change.effects) options (closed) theirs choices (none_anew (closed) [] tt) (none_anew closed (init_change options closed theirs choices).effects (tt, none-alone choices.fits _ _))
 closed_chunk_anew options header (init_ack theirs cookie) choices = none_anew closed [] tt
-closed_chunk_anew options header (cookie_echo cookie) choices = echo_anew options closed header (cookie_at cookie) choices
+closed_chunk_anew options header (cookie_echo cookie) choices = echo_anew options closed header (cookie_of_bytes cookie) choices
 closed_chunk_anew options header cookie_ack choices = none_anew closed [] tt
 closed_chunk_anew options header (re_config parameters) choices = none_anew closed [] tt
 closed_chunk_anew options header (abort reflected causes) choices = none_anew closed [] tt
 closed_chunk_anew options header (shutdown tsn) choices = none_anew closed [] tt
-closed_chunk_anew options header shutdown_ack choices = none_anew closed (emitted header (shutdown_complete true ∷ [])) (tt, tt)
+closed_chunk_anew options header shutdown_ack choices = none_anew closed (emission_effects header (shutdown_complete true ∷ [])) (tt, tt)
 closed_chunk_anew options header (shutdown_complete reflected) choices = none_anew closed [] tt
 closed_chunk_anew options header (plain chunk) choices = none_anew closed _ (closed_plain_none choices.is_violation choices)
 
@@ -199,13 +199,13 @@ waiting_chunk_anew : (options : Options) (my : Pair) (header : ℕ) (content : C
 waiting_chunk_anew options my header (init theirs) choices =
     change_by (λ change. New (cookie_wait my) change.effects) options (cookie_wait my) theirs choices (none_anew (cookie_wait my) [] tt) (none_anew (cookie_wait my) _ (none-alone choices.fits _ _))
 waiting_chunk_anew options my header (init_ack theirs cookie) choices = init_ack_anew options my theirs cookie choices
-waiting_chunk_anew options my header (cookie_echo cookie) choices = echo_anew options (cookie_wait my) header (cookie_at cookie) choices
+waiting_chunk_anew options my header (cookie_echo cookie) choices = echo_anew options (cookie_wait my) header (cookie_of_bytes cookie) choices
 waiting_chunk_anew options my header cookie_ack choices = none_anew (cookie_wait my) [] tt
 waiting_chunk_anew options my header (re_config parameters) choices = none_anew (cookie_wait my) [] tt
 waiting_chunk_anew options my header (abort reflected causes) choices =
     by_abort (λ change. New (cookie_wait my) change.effects) options (cookie_wait my) (none_anew (cookie_wait my) _ (ended_none [] tt)) (none_anew (cookie_wait my) [] tt)
 waiting_chunk_anew options my header (shutdown tsn) choices = none_anew (cookie_wait my) [] tt
-waiting_chunk_anew options my header shutdown_ack choices = none_anew (cookie_wait my) (emitted header (shutdown_complete true ∷ [])) (tt, tt)
+waiting_chunk_anew options my header shutdown_ack choices = none_anew (cookie_wait my) (emission_effects header (shutdown_complete true ∷ [])) (tt, tt)
 waiting_chunk_anew options my header (shutdown_complete reflected) choices = none_anew (cookie_wait my) [] tt
 waiting_chunk_anew options my header (plain chunk) choices = none_anew (cookie_wait my) _ (waiting_plain_none my choices.is_violation choices)
 

@@ -7,11 +7,11 @@ use Rattle.dcsctp_spec_lemmas.specs.wire.declared.reconfiguration.Reconfiguratio
 use Rattle.dcsctp_spec_lemmas.specs.wire.declared.reconfiguration.ReconfigurationResponseResult.TheVariants.{InProgress}
 use Rattle.dcsctp_spec_lemmas.specs.spec.Reconfiguration.{RequestState, early, due, renewed, ResetParameter, RequestedReset, outgoing_reset_request, incoming_reset_request, reconfiguration_response, other_reset_parameter}
 use Rattle.dcsctp_spec_lemmas.specs.spec.Packet.{Plain, Content, re_config}
-use Rattle.dcsctp_spec_lemmas.specs.spec.association.Effect.{Effect, holds, emitted, emitted_alone}
+use Rattle.dcsctp_spec_lemmas.specs.spec.association.Effect.{Effect, holds, emission_effects, emitted_alone}
 use Rattle.dcsctp_spec_lemmas.specs.spec.association.Choices.{plain_contents, Filling, Choices}
-use Rattle.dcsctp_spec_lemmas.specs.spec.association.FlushChanges.{Flushed, reset_request, reset_to_begin, further_packets, chunks_behind, flushed_with, flush_where, flush}
-use Rattle.dcsctp_spec_lemmas.specs.spec.association.ResetChanges.{RequestPlace, again, next, astray, request_place, RequestOutcome, performed_request, repeated, next_request, is_due, outgoing_by, incoming_by, Informed, informed_where, is_outstanding, HandledParameters, work_parameters, work_chunk, answers_emitted, reset_sent, peer_part_handled}
-use Rattle.dcsctp_spec_lemmas.specs.spec.association.Acts.{sent_then_flushed, request_sent, renewed_by}
+use Rattle.dcsctp_spec_lemmas.specs.spec.association.FlushChanges.{FlushResult, reset_request, reset_to_begin, further_packets, chunks_behind, flushed_with, flush_if_allowed, flush}
+use Rattle.dcsctp_spec_lemmas.specs.spec.association.ResetChanges.{RequestPlace, again, next, astray, request_place, RequestOutcome, performed_request, repeated_request_outcome, next_request, is_due, outgoing_by_place, incoming_by_place, AnswerResult, result_if_outstanding, is_outstanding, HandledParameters, parameters_outcome, reset_chunk_outcome, answers_emitted, reset_sent, peer_part_handled}
+use Rattle.dcsctp_spec_lemmas.specs.spec.association.Acts.{sent_then_flushed, request_sent, renewed_if_fitting}
 
 -- It isn't that an association is there from here on.
 abbrev pub IsNoHolding : Effect → Type 0
@@ -27,7 +27,7 @@ none-append (x ∷ xs) ys a b = (a.0, none-append xs ys a.1 b)
 
 -- ---- packets and flushes
 
-none-emitted : (tag : ℕ) (contents : List Content) → HoldsNone (emitted tag contents)
+none-emitted : (tag : ℕ) (contents : List Content) → HoldsNone (emission_effects tag contents)
 none-emitted tag [] = tt
 none-emitted tag (content ∷ contents) = (tt, tt)
 
@@ -38,16 +38,16 @@ none-alone false tag content = tt
 none-further : (tag : ℕ) (packets : List (List Plain)) → HoldsNone (further_packets tag packets)
 none-further tag [] = tt
 none-further tag (chunks ∷ packets) =
-    none-append (emitted tag (plain_contents chunks)) (further_packets tag packets) (none-emitted tag (plain_contents chunks)) (none-further tag packets)
+    none-append (emission_effects tag (plain_contents chunks)) (further_packets tag packets) (none-emitted tag (plain_contents chunks)) (none-further tag packets)
 
-none-packets : (tag : ℕ) (contents : List Content) (packets : List (List Plain)) → HoldsNone (emitted tag contents ++ further_packets tag packets)
-none-packets tag contents packets = none-append (emitted tag contents) (further_packets tag packets) (none-emitted tag contents) (none-further tag packets)
+none-packets : (tag : ℕ) (contents : List Content) (packets : List (List Plain)) → HoldsNone (emission_effects tag contents ++ further_packets tag packets)
+none-packets tag contents packets = none-append (emission_effects tag contents) (further_packets tag packets) (none-emitted tag contents) (none-further tag packets)
 
 none-flushed : (tag : ℕ) (held : Held) (front : List Content) (filling : Filling) (reset : Option RequestedReset) → HoldsNone (flushed_with tag held front filling reset).effects
 none-flushed tag held front filling None = none-packets tag (front ++ chunks_behind held.own_next filling None) filling.further
 none-flushed tag held front filling (Some reset) = (tt, none-packets tag (front ++ chunks_behind held.own_next filling (Some reset)) filling.further)
 
-none-flush_where : (is_allowed : Bool) (tag : ℕ) (held : Held) (front : List Content) (filling : Filling) → HoldsNone (flush_where is_allowed tag held front filling).effects
+none-flush_where : (is_allowed : Bool) (tag : ℕ) (held : Held) (front : List Content) (filling : Filling) → HoldsNone (flush_if_allowed is_allowed tag held front filling).effects
 none-flush_where false tag held front filling = tt
 none-flush_where true tag held front filling = none-flushed tag held front filling (reset_to_begin held.own_outstanding filling.reset)
 
@@ -63,7 +63,7 @@ pub none-request : (held : Held) (request : Option ℕ) (reset : RequestedReset)
 none-request held None reset fits = tt
 none-request held (Some number) reset fits = none-alone fits held.peer.tag (reset_request number reset)
 
-pub none-renewed : (held : Held) (request : Option ℕ) (reset : RequestedReset) (fits : Bool) → HoldsNone (renewed_by held request reset fits).effects
+pub none-renewed : (held : Held) (request : Option ℕ) (reset : RequestedReset) (fits : Bool) → HoldsNone (renewed_if_fitting held request reset fits).effects
 none-renewed held None reset fits = tt
 none-renewed held (Some number) reset false = tt
 none-renewed held (Some number) reset true = (tt, (tt, (tt, tt)))
@@ -74,7 +74,7 @@ none-worked : (held : Held) (number : ℕ) (is_reached : Bool) → HoldsNone (pe
 none-worked held number true = (tt, tt)
 none-worked held number false = tt
 
-none-repeated : (held : Held) (result : ReconfigurationResponseResult) (is_reached : Bool) → HoldsNone (repeated held result is_reached).effects
+none-repeated : (held : Held) (result : ReconfigurationResponseResult) (is_reached : Bool) → HoldsNone (repeated_request_outcome held result is_reached).effects
 none-repeated held InProgress is_reached = none-worked held held.peer_last is_reached
 none-repeated held result is_reached = tt
 
@@ -83,39 +83,39 @@ none-next held number early = tt
 none-next held number due = (tt, tt)
 none-next held number renewed = (tt, tt)
 
-none-outgoing : (held : Held) (number : ℕ) (state : RequestState) (place : RequestPlace) → HoldsNone (outgoing_by held number state place).effects
+none-outgoing : (held : Held) (number : ℕ) (state : RequestState) (place : RequestPlace) → HoldsNone (outgoing_by_place held number state place).effects
 none-outgoing held number state again = none-repeated held held.peer_result (is_due state)
 none-outgoing held number state next = (tt, none-next held number state)
 none-outgoing held number state astray = tt
 
-none-incoming : (held : Held) (number : ℕ) (place : RequestPlace) → HoldsNone (incoming_by held number place).effects
+none-incoming : (held : Held) (number : ℕ) (place : RequestPlace) → HoldsNone (incoming_by_place held number place).effects
 none-incoming held number again = tt
 none-incoming held number next = (tt, tt)
 none-incoming held number astray = tt
 
-none-informed : (my : Pair) (held : Held) (number : ℕ) (result : ReconfigurationResponseResult) (is_it : Bool) → HoldsNone (informed_where my held number result is_it).effects
+none-informed : (my : Pair) (held : Held) (number : ℕ) (result : ReconfigurationResponseResult) (is_it : Bool) → HoldsNone (result_if_outstanding my held number result is_it).effects
 none-informed my held number result false = tt
 none-informed my held number InProgress true = tt
 none-informed my held number result true = (tt, tt)
 
-none-parameters : (my : Pair) (state : RequestState) (has_worked : Bool) (held : Held) (parameters : List ResetParameter) → HoldsNone (work_parameters my state has_worked held parameters).effects
+none-parameters : (my : Pair) (state : RequestState) (has_worked : Bool) (held : Held) (parameters : List ResetParameter) → HoldsNone (parameters_outcome my state has_worked held parameters).effects
 none-parameters my state has_worked held [] = tt
 none-parameters my state true held (outgoing_reset_request number answered reset ∷ parameters) = tt
 none-parameters my state false held (outgoing_reset_request number answered reset ∷ parameters) =
-    let first : RequestOutcome = outgoing_by held number state (request_place held.peer_last number) in
-    none-append first.effects (work_parameters my state true first.held parameters).effects
+    let first : RequestOutcome = outgoing_by_place held number state (request_place held.peer_last number) in
+    none-append first.effects (parameters_outcome my state true first.held parameters).effects
     (none-outgoing held number state (request_place held.peer_last number)) (none-parameters my state true first.held parameters)
 none-parameters my state has_worked held (incoming_reset_request number streams ∷ parameters) =
-    let first : RequestOutcome = incoming_by held number (request_place held.peer_last number) in
-    none-append first.effects (work_parameters my state has_worked first.held parameters).effects
+    let first : RequestOutcome = incoming_by_place held number (request_place held.peer_last number) in
+    none-append first.effects (parameters_outcome my state has_worked first.held parameters).effects
     (none-incoming held number (request_place held.peer_last number)) (none-parameters my state has_worked first.held parameters)
 none-parameters my state has_worked held (reconfiguration_response number result ∷ parameters) =
-    let first : Informed = informed_where my held number result (is_outstanding number held.own_outstanding) in
-    none-append first.effects (work_parameters my state has_worked first.held parameters).effects
+    let first : AnswerResult = result_if_outstanding my held number result (is_outstanding number held.own_outstanding) in
+    none-append first.effects (parameters_outcome my state has_worked first.held parameters).effects
     (none-informed my held number result (is_outstanding number held.own_outstanding)) (none-parameters my state has_worked first.held parameters)
 none-parameters my state has_worked held (other_reset_parameter parameter ∷ parameters) = none-parameters my state has_worked held parameters
 
-none-chunk : (my : Pair) (state : RequestState) (held : Held) (parameters : List ResetParameter) → HoldsNone (work_chunk my state held parameters).effects
+none-chunk : (my : Pair) (state : RequestState) (held : Held) (parameters : List ResetParameter) → HoldsNone (reset_chunk_outcome my state held parameters).effects
 none-chunk my state held [] = tt
 none-chunk my state held (parameter ∷ parameters) = none-parameters my state false held (parameter ∷ parameters)
 
@@ -131,6 +131,6 @@ none-reset_sent false held answers choices =
 
 pub none-reset : (my : Pair) (held : Held) (parameters : List ResetParameter) (choices : Choices) → HoldsNone (peer_part_handled my held parameters choices).effects
 none-reset my held parameters choices =
-    let first : HandledParameters = work_chunk my choices.state held parameters in
-    let after : Flushed = reset_sent first.is_refused first.held first.answers choices in
+    let first : HandledParameters = reset_chunk_outcome my choices.state held parameters in
+    let after : FlushResult = reset_sent first.is_refused first.held first.answers choices in
     none-append first.effects after.effects (none-chunk my choices.state held parameters) (none-reset_sent first.is_refused first.held first.answers choices)

@@ -10,14 +10,14 @@ use Rattle.dcsctp_spec_lemmas.specs.spec.endpoint.Following.{Following}
 use Rattle.dcsctp_spec_lemmas.specs.spec.association.Effect.{Effect, ends, Change, emitted_alone}
 use Rattle.dcsctp_spec_lemmas.specs.spec.association.Choices.{Filling, Choices}
 use Rattle.dcsctp_spec_lemmas.specs.spec.association.HandshakeChanges.{init_change_where_open, echo_change}
-use Rattle.dcsctp_spec_lemmas.specs.spec.association.ShutdownChanges.{shutdown_call_change_echoed, shutdown_step_change_in, shutdown_call_change_in, shutdown_again_change_in, shutdown_change_in, shutdown_ack_change_in, shutdown_complete_change_in}
-use Rattle.dcsctp_spec_lemmas.specs.spec.association.Acts.{Act, connect, t1_expires, shut_down, step_of_shutdown, shutdown_repeats, abort_with, hands_over, flushes, request_again, request_renewed, hand_over_change_in, flush_change, act_change, plain_change, shutdown_chunk_change}
+use Rattle.dcsctp_spec_lemmas.specs.spec.association.ShutdownChanges.{shutdown_call_change_echoed, shutdown_step_change_by_phase, shutdown_call_change_by_phase, shutdown_again_change_by_phase, shutdown_change_by_phase, shutdown_ack_change_by_phase, shutdown_complete_change_by_phase}
+use Rattle.dcsctp_spec_lemmas.specs.spec.association.Acts.{Act, connect, t1_expires, shut_down, step_of_shutdown, shutdown_repeats, abort_with, hands_over, flushes, request_again, request_renewed, hand_over_change_by_phase, flush_change, act_change, plain_change, shutdown_chunk_change}
 use Rattle.dcsctp_theorem_sockets.proofs.NoHolding.{HoldsNone, none-append, none-alone, none-flush, none-sent, none-request, none-renewed}
 
 pub ended_none : (effects : List Effect) → HoldsNone effects → HoldsNone (effects ++ ends ∷ [])
 ended_none effects none = none-append effects (ends ∷ []) none (tt, tt)
 
-step_none : (phase : OpenPhase) (my : Pair) (held : Held) (tsn : ℕ) (is_acknowledged : Bool) → HoldsNone (shutdown_step_change_in phase my held tsn is_acknowledged).effects
+step_none : (phase : OpenPhase) (my : Pair) (held : Held) (tsn : ℕ) (is_acknowledged : Bool) → HoldsNone (shutdown_step_change_by_phase phase my held tsn is_acknowledged).effects
 step_none shutdown_pending my held tsn true = (tt, tt)
 step_none shutdown_received my held tsn true = (tt, tt)
 step_none phase my held tsn is_acknowledged = tt
@@ -27,16 +27,16 @@ call_echoed_none : (follows : Bool) (my : Pair) (held : Held) (cookie : List ℕ
 call_echoed_none true my held cookie tsn is_acknowledged = tt
 call_echoed_none false my held cookie tsn is_acknowledged = step_none shutdown_pending my held tsn is_acknowledged
 
-call_none : (phase : OpenPhase) (my : Pair) (held : Held) (tsn : ℕ) (is_acknowledged : Bool) → HoldsNone (shutdown_call_change_in phase my held tsn is_acknowledged).effects
+call_none : (phase : OpenPhase) (my : Pair) (held : Held) (tsn : ℕ) (is_acknowledged : Bool) → HoldsNone (shutdown_call_change_by_phase phase my held tsn is_acknowledged).effects
 call_none established my held tsn is_acknowledged = step_none shutdown_pending my held tsn is_acknowledged
 call_none phase my held tsn is_acknowledged = tt
 
-again_none : (phase : OpenPhase) (my : Pair) (held : Held) (tsn : ℕ) → HoldsNone (shutdown_again_change_in phase my held tsn).effects
+again_none : (phase : OpenPhase) (my : Pair) (held : Held) (tsn : ℕ) → HoldsNone (shutdown_again_change_by_phase phase my held tsn).effects
 again_none shutdown_sent my held tsn = (tt, tt)
 again_none shutdown_ack_sent my held tsn = (tt, tt)
 again_none phase my held tsn = tt
 
-hand_over_none : (phase : OpenPhase) (my : Pair) (held : Held) → HoldsNone (hand_over_change_in phase my held).effects
+hand_over_none : (phase : OpenPhase) (my : Pair) (held : Held) → HoldsNone (hand_over_change_by_phase phase my held).effects
 hand_over_none established my held = (tt, tt)
 hand_over_none phase my held = tt
 
@@ -77,18 +77,18 @@ pub init_none : (options : Options) (core : Core) (theirs : Introduction) (phase
 init_none options core theirs shutdown_ack_sent held choices = (tt, tt)
 init_none options core theirs phase held choices = (tt, none-alone choices.fits _ _)
 
-shutdown_none : (phase : OpenPhase) (my : Pair) (held : Held) (tsn : ℕ) (is_acknowledged : Bool) → HoldsNone (shutdown_change_in phase my held tsn is_acknowledged).effects
+shutdown_none : (phase : OpenPhase) (my : Pair) (held : Held) (tsn : ℕ) (is_acknowledged : Bool) → HoldsNone (shutdown_change_by_phase phase my held tsn is_acknowledged).effects
 shutdown_none established my held tsn is_acknowledged = step_none shutdown_received my held tsn is_acknowledged
 shutdown_none shutdown_pending my held tsn is_acknowledged = step_none shutdown_received my held tsn is_acknowledged
 shutdown_none shutdown_received my held tsn is_acknowledged = step_none shutdown_received my held tsn is_acknowledged
 shutdown_none phase my held tsn is_acknowledged = (tt, tt)
 
-pub shutdown_ack_none : (phase : OpenPhase) (my : Pair) (held : Held) (header : ℕ) (following : Following) → HoldsNone (shutdown_ack_change_in phase my held header following).effects
+pub shutdown_ack_none : (phase : OpenPhase) (my : Pair) (held : Held) (header : ℕ) (following : Following) → HoldsNone (shutdown_ack_change_by_phase phase my held header following).effects
 shutdown_ack_none shutdown_sent my held header following = (tt, (tt, tt))
 shutdown_ack_none shutdown_ack_sent my held header following = (tt, (tt, tt))
 shutdown_ack_none phase my held header following = (tt, tt)
 
-pub complete_none : (phase : OpenPhase) (my : Pair) (held : Held) → HoldsNone (shutdown_complete_change_in phase my held).effects
+pub complete_none : (phase : OpenPhase) (my : Pair) (held : Held) → HoldsNone (shutdown_complete_change_by_phase phase my held).effects
 complete_none shutdown_ack_sent my held = (tt, tt)
 complete_none phase my held = tt
 
@@ -99,13 +99,13 @@ flush_none core choices = tt
 
 pub heard_none : (phase : OpenPhase) (my : Pair) (held : Held) (choices : Choices) → HoldsNone (shutdown_chunk_change (open_in phase my held) choices).effects
 heard_none phase my held choices =
-    let stepped : Change = shutdown_change_in phase my held choices.tsn choices.is_acknowledged in
+    let stepped : Change = shutdown_change_by_phase phase my held choices.tsn choices.is_acknowledged in
     none-append stepped.effects (flush_change stepped.core choices).effects (shutdown_none phase my held choices.tsn choices.is_acknowledged) (flush_none stepped.core choices)
 
 pub plain_none : (phase : OpenPhase) (my : Pair) (held : Held) (is_violation : Bool) (choices : Choices) → HoldsNone (plain_change (open_in phase my held) is_violation choices).effects
 plain_none phase my held true choices = aborts_none held choices.causes choices.fits
 plain_none phase my held false choices =
-    let stepped : Change = shutdown_step_change_in phase my held choices.tsn choices.is_acknowledged in
+    let stepped : Change = shutdown_step_change_by_phase phase my held choices.tsn choices.is_acknowledged in
     none-append stepped.effects (flush_change stepped.core choices).effects (step_none phase my held choices.tsn choices.is_acknowledged) (flush_none stepped.core choices)
 
 pub echoed_plain_none : (my : Pair) (held : Held) (cookie : List ℕ) (is_violation : Bool) (choices : Choices) → HoldsNone (plain_change (cookie_echoed my held cookie) is_violation choices).effects

@@ -12,9 +12,9 @@ use Rattle.dcsctp_spec_lemmas.specs.spec.endpoint.OwnTimers.{timer_act}
 use Rattle.dcsctp_spec_laws.proofs.HeartbeatLemmas.{timer_controlled}
 use Rattle.dcsctp_spec_lemmas.specs.spec.endpoint.Turn.{Input, arrival, refusal, packet_begins, chunk_input, packet_ends, act_input, user_sets, user_sends, user_resets, user_takes, timer_expires, time_passes, restores, has_data_chunk}
 use Rattle.dcsctp_spec_lemmas.specs.spec.endpoint.HandshakeOutcomes.{pair_from, renewed_pair, renewed_pair_outcome, init_ack_emission, init_outcome}
-use Rattle.dcsctp_spec_lemmas.specs.spec.association.Effect.{Effect, draws, sends, holds, connects, ends, begins, gives_up, completes, fails, accepts, performs, renews, resumes, noted, Change}
+use Rattle.dcsctp_spec_lemmas.specs.spec.association.Effect.{Effect, draws, sends, holds, connects, ends, begins, gives_up, completes, fails, accepts, performs, renews, resumes, effects_without_packets, Change}
 use Rattle.dcsctp_spec_lemmas.specs.spec.association.Acts.{Act, shutdown_repeats, flushes}
-use Rattle.dcsctp_spec_lemmas.specs.spec.association.Controlled.{ControlledChunk, ControlledAct}
+use Rattle.dcsctp_spec_lemmas.specs.spec.association.Controlled.{IsControlledChunk, IsControlledAct}
 use Rattle.dcsctp_spec_lemmas.specs.spec.endpoint.CallTurns.{Transition, IsTurn, AlongTurns}
 use Rattle.dcsctp_spec_laws.specs.TurnLaws.{ActsAreControlled}
 use Rattle.dcsctp_spec_runs.specs.Past.{HasEffect}
@@ -38,7 +38,7 @@ use Rattle.dcsctp_theorem_sockets.specs.OneSocket.{EndsByAnswer, SocketRequestsE
 -- ---- one turn
 
 -- what is recorded happened
-pub noted_happened : (effect : Effect) (effects : List Effect) → HasEffect effect (noted effects) → HasEffect effect effects
+pub noted_happened : (effect : Effect) (effects : List Effect) → HasEffect effect (effects_without_packets effects) → HasEffect effect effects
 noted_happened effect [] has = absurd has
 noted_happened effect (sends packet ∷ effects) has = inr (noted_happened effect effects has)
 noted_happened effect (draws pair ∷ effects) (inl is) = inl is
@@ -88,7 +88,7 @@ same_ends : (t : Transition) (o : Outcome) → t.outcome ≡ o → EndsNone o.ef
 same_ends t o is h = none_ended t (subst (λ (x : Outcome). EndsNone x.effects) (sym is) h)
 
 -- a turn that the association makes for a chunk
-by_chunk : AnswersEndRequests → (e : Endpoint) (tag : ℕ) (content : Content) (t : Transition) → t.input ≡ chunk_input tag content → ControlledChunk e tag content t.outcome → EndsByAnswer t
+by_chunk : AnswersEndRequests → (e : Endpoint) (tag : ℕ) (content : Content) (t : Transition) → t.input ≡ chunk_input tag content → IsControlledChunk e tag content t.outcome → EndsByAnswer t
 by_chunk law e tag content t is turn =
     let change : Change = turn.0 in
     subst (λ (x : Transition). EndsByAnswer x) (ap (λ (i : Input). record t { input = i }) (sym is))
@@ -101,7 +101,7 @@ by_chunk law e tag content t is turn =
           (subst (λ (c : Change). HasEffect (fails number) c.effects) turn.1.2 (noted_happened (fails number) change.effects (subst (HasEffect (fails number)) turn.2.effects has)));
     })
 
-by_act : AnswersEndRequests → (e : Endpoint) (act : Act) (t : Transition) → ControlledAct e act t.outcome → EndsByAnswer t
+by_act : AnswersEndRequests → (e : Endpoint) (act : Act) (t : Transition) → IsControlledAct e act t.outcome → EndsByAnswer t
 by_act law e act t turn =
     none_ended t (record {
       completed = λ my number has. law.none_completed e.options e.core act turn.0 my number (noted_happened (completes my number) _ (subst (HasEffect (completes my number)) turn.1.effects has));

@@ -9,13 +9,13 @@ use Rattle.dcsctp_spec_lemmas.specs.spec.endpoint.Event.{Event}
 use Rattle.dcsctp_spec_lemmas.specs.types.Snapshot.{SendPart}
 use Rattle.dcsctp_spec_lemmas.specs.types.SnapshotItems.{QueuedPart}
 use Rattle.dcsctp_spec_lemmas.specs.spec.queues.Abandoning.{GivesUpFirst}
-use Rattle.dcsctp_spec_lemmas.specs.spec.queues.Filling.{Stage, ClosesMessage, GivesUpAt, StageSteps, none, more}
+use Rattle.dcsctp_spec_lemmas.specs.spec.queues.Filling.{Stage, ClosesMessage, GivesUpItem, StageSteps, none, more}
 use Rattle.dcsctp_spec_lemmas.specs.spec.queues.Items.{Item}
 use Rattle.dcsctp_spec_lemmas.specs.spec.queues.OwnResets.{is_ready, ready_streams, with_used}
-use Rattle.dcsctp_spec_lemmas.specs.spec.queues.QueuedParts.{emptied, queue_emptied, stream_restored, streams_restored, waiting_again, is_part_continued, progress_again, with_rest, with_message_rest, message_restored, messages_restored, queue_restored}
-use Rattle.dcsctp_spec_lemmas.specs.spec.queues.SendQueue.{SendQueueState, stream_changed, with_stream, is_used, used}
+use Rattle.dcsctp_spec_lemmas.specs.spec.queues.QueuedParts.{emptied_stream, queue_emptied, stream_restored, streams_restored, waiting_again, is_part_continued, progress_again, with_rest, with_message_rest, message_restored, messages_restored, queue_restored}
+use Rattle.dcsctp_spec_lemmas.specs.spec.queues.SendQueue.{SendQueueState, stream_changed, with_stream, is_used, used_streams}
 use Rattle.dcsctp_spec_lemmas.specs.spec.queues.Sending.{without_rest, DiscardsNamed}
-use Rattle.dcsctp_spec_lemmas.specs.types.queues.SendStreams.{Waiting, Stream, stream_at, unused}
+use Rattle.dcsctp_spec_lemmas.specs.types.queues.SendStreams.{Waiting, Stream, stream_at, unused_stream}
 
 -- it isn't to be reset
 abbrev pub IsOpen : Stream → Type 0
@@ -53,12 +53,12 @@ with_stream_open stream [] is are = (is, tt)
 with_stream_open stream (first ∷ streams) is are =
     placed_open (nat_lt first.id stream.id) stream first (with_stream stream streams) streams is are.0 (with_stream_open stream streams is are.1) are.1
 
-used_open : (queue : SendQueueState) (id : ℕ) → AreOpen queue.streams → AreOpen (used queue id)
+used_open : (queue : SendQueueState) (id : ℕ) → AreOpen queue.streams → AreOpen (used_streams queue id)
 used_open queue id are = by_use (is_used id queue.streams)
   where
-    by_use : (b : Bool) → AreOpen (if b then queue.streams else with_stream (unused id queue.default_priority queue.default_threshold) queue.streams)
+    by_use : (b : Bool) → AreOpen (if b then queue.streams else with_stream (unused_stream id queue.default_priority queue.default_threshold) queue.streams)
     by_use true = are
-    by_use false = with_stream_open (unused id queue.default_priority queue.default_threshold) queue.streams refl are
+    by_use false = with_stream_open (unused_stream id queue.default_priority queue.default_threshold) queue.streams refl are
 
 at_open : (streams : List Stream) (place : ℕ) → AreOpen streams → IsOpen (stream_at streams place)
 at_open [] zero are = refl
@@ -74,19 +74,19 @@ set_open (first ∷ streams) (suc place) stream is are = (are.0, set_open stream
 
 -- ---- what a restore makes
 
-emptied_open : (streams : List Stream) → AreOpen (map emptied streams)
+emptied_open : (streams : List Stream) → AreOpen (map emptied_stream streams)
 emptied_open [] = tt
 emptied_open (stream ∷ streams) = (refl, emptied_open streams)
 
 streams_open : (named : List HandoverOutgoingStream) (queue : SendQueueState) → AreOpen queue.streams → AreOpen (streams_restored named queue).streams
 streams_open [] queue are = are
 streams_open (named ∷ rest) queue are =
-    streams_open rest (record (with_used named.id queue) { streams = stream_changed named.id (stream_restored named) (used queue named.id) })
-    (changed_open named.id (stream_restored named) (used queue named.id) (λ stream is. is) (used_open queue named.id are))
+    streams_open rest (record (with_used named.id queue) { streams = stream_changed named.id (stream_restored named) (used_streams queue named.id) })
+    (changed_open named.id (stream_restored named) (used_streams queue named.id) (λ stream is. is) (used_open queue named.id are))
 
 with_rest_open : (now : ℕ) (part : QueuedPart) (rest : ℕ) (queue : SendQueueState) → AreOpen queue.streams → AreOpen (with_message_rest now part rest queue).streams
 with_rest_open now part rest queue are =
-    changed_open part.stream_id (with_rest (waiting_again now part) rest) (used queue part.stream_id) (λ stream is. is) (used_open queue part.stream_id are)
+    changed_open part.stream_id (with_rest (waiting_again now part) rest) (used_streams queue part.stream_id) (λ stream is. is) (used_open queue part.stream_id are)
 
 either_queue : (b : Bool) (queue other : SendQueueState) → AreOpen queue.streams → AreOpen other.streams → AreOpen (if b then queue else other).streams
 either_queue true queue other are were = are
@@ -129,7 +129,7 @@ closed_open now last old new false (inl h) are =
     discarded_open old.waiting new.waiting last.fragment.stream last.fragment.message_id old.told new.told h.1.drops.is_dropped h.1.drops.drops are
 closed_open now last old new false (inr h) are = subst IsStageOpen (sym h.1) are
 
-given_up_open : (now place : ℕ) (old new : Stage) → GivesUpAt now place old new → IsStageOpen old → IsStageOpen new
+given_up_open : (now place : ℕ) (old new : Stage) → GivesUpItem now place old new → IsStageOpen old → IsStageOpen new
 given_up_open now place old new h are =
     subst IsStageOpen (sym h.is) (closed_open now h.last old h.closed h.last.fragment.is_end h.closes are)
 

@@ -5,15 +5,15 @@ use Rattle.std.specs.List.{AllByRecursion, slice_get}
 use Rattle.dcsctp_spec_lemmas.specs.wire.Format.{IsPacket}
 use Rattle.dcsctp_spec_lemmas.specs.types.declared.options.Options.{Options}
 use Rattle.dcsctp_spec_lemmas.specs.types.Settings.{SameOptions, FitsOptions, wire_options, ports_of}
-use Rattle.dcsctp_spec_lemmas.specs.spec.Packet.{Content, Packet, packet_in, emission_bytes}
+use Rattle.dcsctp_spec_lemmas.specs.spec.Packet.{Content, Packet, packet_of_content, emission_bytes}
 use Rattle.dcsctp_spec_lemmas.specs.spec.endpoint.Endpoint.{Endpoint, Core, fresh_endpoint}
 use Rattle.dcsctp_spec_lemmas.specs.spec.endpoint.Outcome.{Outcome, still}
 use Rattle.dcsctp_spec_lemmas.specs.spec.endpoint.Turn.{act_input, Input, arrival, refusal, packet_ends, has_data_chunk, unreadable_text, arrival_outcome, refusal_outcome}
 use Rattle.dcsctp_spec_lemmas.specs.spec.endpoint.MessageOutcomes.{awaits_opening}
 use Rattle.dcsctp_spec_lemmas.specs.spec.endpoint.CallTurns.{packet_tail, asked_again, Transition, Turns, ChunkTurns, WholeTurns, AdmittedTurns, HandleInput, unreadable, readable, events_of}
-use Rattle.dcsctp_spec_lemmas.specs.spec.Admission.{Admission, all_chunks, shutdown_acks_alone, refused, admits, shutdown_acks_in}
-use Rattle.dcsctp_spec_lemmas.specs.spec.association.Controlled.{IsControlled, ControlledAct}
-use Rattle.dcsctp_spec_lemmas.specs.spec.association.Effect.{Effect, sends, Change, unchanged}
+use Rattle.dcsctp_spec_lemmas.specs.spec.Admission.{Admission, all_chunks, shutdown_acks_alone, refused, admits, shutdown_acks_of}
+use Rattle.dcsctp_spec_lemmas.specs.spec.association.Controlled.{IsControlled, IsControlledAct}
+use Rattle.dcsctp_spec_lemmas.specs.spec.association.Effect.{Effect, sends, Change, no_change}
 use Rattle.dcsctp_spec_lemmas.specs.spec.association.Acts.{flushes, shut_down, shutdown_repeats, act_change}
 use Rattle.dcsctp_spec_runs.specs.Laws.{IsRest, dropped, ended, AreChunkTurns}
 use Rattle.dcsctp_spec_runs.specs.Past.{HasEffect}
@@ -35,10 +35,10 @@ use Rattle.dcsctp_theorem_sockets.proofs.Moves.{act_moves, Below, SideMoves, res
 
 -- a turn that leaves the association, and sends nothing
 follow_still : (options : Options) (turns : List Transition) (side : SideState) (t : Transition) (o : Outcome) → Followed options turns side → t.outcome ≡ o
-    → IsControlled (endpoint_after options turns) o (unchanged (endpoint_after options turns).core) → TurnFits o → Followed options (turns ++ t ∷ []) side
+    → IsControlled (endpoint_after options turns) o (no_change (endpoint_after options turns).core) → TurnFits o → Followed options (turns ++ t ∷ []) side
 follow_still options turns side t o h is controlled fits =
     follow_idle options turns side t h
-    (subst (λ (x : Outcome). IsControlled (endpoint_after options turns) x (unchanged (endpoint_after options turns).core)) (sym is) controlled) (subst TurnFits (sym is) fits)
+    (subst (λ (x : Outcome). IsControlled (endpoint_after options turns) x (no_change (endpoint_after options turns).core)) (sym is) controlled) (subst TurnFits (sym is) fits)
 
 follow_counted : (options : Options) (turns : List Transition) (side : SideState) (t : Transition) → Followed options turns side → t.outcome ≡ arrival_outcome (endpoint_after options turns)
     → Followed options (turns ++ t ∷ []) side
@@ -155,7 +155,7 @@ behind_begun law options turns side theirs packet begun more is first was_sent g
 -- A SHUTDOWN that is sent before them is a move of its own, and the association stays.
 begun_by_act : Below → (options : Options) (turns : List Transition) (side : SideState) (theirs : List Effect) (packet : Packet) (begun : Transition) (more : List Transition)
     → admits side.core packet ≡ all_chunks → Followed options turns side → HasEffect (sends packet) theirs → SendablePacket packet
-    → ControlledAct (endpoint_after options turns) shutdown_repeats begun.outcome → TurnFits begun.outcome
+    → IsControlledAct (endpoint_after options turns) shutdown_repeats begun.outcome → TurnFits begun.outcome
     → ChunkTurns begun.outcome.after packet.tag packet.contents (packet_tail begun.outcome.after) more → SideMoves options turns side theirs (begun ∷ more)
 begun_by_act law options turns side theirs packet begun more is h was_sent good repeats fits taken =
     act_then law options turns side theirs shutdown_repeats begun more (λ p q core choices same. refl) h repeats fits
@@ -180,7 +180,7 @@ admitted_moves : Below → (options : Options) (turns : List Transition) (side :
     → AdmittedTurns (endpoint_after options turns) packet admission more → SideMoves options turns side theirs more
 admitted_moves law options turns side theirs packet all_chunks more is h was_sent good taken = whole_moves law options turns side theirs packet more is h was_sent good taken
 admitted_moves law options turns side theirs packet shutdown_acks_alone more is h was_sent good taken =
-    chunks_move law options turns side theirs packet (shutdown_acks_in packet.contents) [] more h was_sent good.tag (acks_sendable packet.contents good.contents) nothing_ends none_rests
+    chunks_move law options turns side theirs packet (shutdown_acks_of packet.contents) [] more h was_sent good.tag (acks_sendable packet.contents good.contents) nothing_ends none_rests
     (λ changes moves. worked_acks moves) taken
 admitted_moves law options turns side theirs packet (refused text) more is h was_sent good refusing =
     rests options turns side theirs more (refused_rests options turns side more text h refusing)
@@ -194,7 +194,7 @@ input_moves law options other turns side theirs bytes more h fits out (readable 
     let e : Endpoint = endpoint_after options turns in
     let sent_packet : Packet = out.emission.packet in
     let first : Followed options (turns ++ counted ∷ []) side = follow_counted options turns side counted h counting.comes in
-    let is : packet_in packet ≡ sent_packet =
+    let is : packet_of_content packet ≡ sent_packet =
     reads_as_sent law.built e.options other out.emission packet fits out.good.sendable (subst (λ (bs : List ℕ). IsPacket (wire_options e.options) packet bs) out.is is_packet) in
     let here : AdmittedTurns counted.outcome.after sent_packet (admits e.core sent_packet) ts =
     subst (λ (p : Packet). AdmittedTurns counted.outcome.after p (admits e.core p) ts) is admitted in

@@ -19,12 +19,12 @@ use Rattle.dcsctp_spec_lemmas.specs.spec.endpoint.Endpoint.{Endpoint, Core, clos
 use Rattle.dcsctp_spec_lemmas.specs.spec.endpoint.Outcome.{Outcome, still, quiet, sends, emits, answers_with, to_peer}
 use Rattle.dcsctp_spec_lemmas.specs.spec.endpoint.Outcome.{fits as fits_mtu}
 use Rattle.dcsctp_spec_lemmas.specs.wire.Content.{ParameterContent, data_chunk, sack_chunk, error_chunk, i_data_chunk, forward_tsn_chunk, i_forward_tsn_chunk}
-use Rattle.dcsctp_spec_lemmas.specs.spec.endpoint.HeartbeatOutcomes.{heartbeat_outcome, info_in, counter_of, answered, heartbeat_ack_outcome}
-use Rattle.dcsctp_spec_lemmas.specs.spec.endpoint.PlainOutcomes.{PlainTurn, PlainTurnBy, violation_at, is_reported, after_unknown, unknown_text, unknown_bytes, unknown_error, unknown_report, unknown_chunk_outcome, error_outcome}
+use Rattle.dcsctp_spec_lemmas.specs.spec.endpoint.HeartbeatOutcomes.{heartbeat_outcome, first_heartbeat_info, counter_of, endpoint_answered, heartbeat_ack_outcome}
+use Rattle.dcsctp_spec_lemmas.specs.spec.endpoint.PlainOutcomes.{PlainTurn, PlainTurnUnlessViolating, violation_by_core, is_reported, after_unknown, unknown_text, unknown_bytes, unknown_error, unknown_report, unknown_chunk_outcome, error_outcome}
 use Rattle.dcsctp_spec_runs.specs.Fitting.{FitsHeld, FitsCore, FitsEndpoint, Sendable, TurnFits}
 use Rattle.dcsctp_theorem_sockets.proofs.Aborting.{aborting_fits}
 use Rattle.dcsctp_theorem_sockets.proofs.Bytes.{both, in_two}
-use Rattle.dcsctp_spec_lemmas.specs.spec.queues.Arrivals.{data_arrival, i_data_arrival, skipped_in, messages_skipped_in}
+use Rattle.dcsctp_spec_lemmas.specs.spec.queues.Arrivals.{data_arrival, i_data_arrival, named_skips, skipped_messages}
 use Rattle.dcsctp_spec_lemmas.proofs.AbortLemmas.{by_error_outcome}
 use Rattle.dcsctp_spec_lemmas.proofs.OneAnswerLemmas.{answered_by}
 use Rattle.dcsctp_theorem_sockets.proofs.DataFits.{data_fits, sack_fits, forward_fits}
@@ -102,7 +102,7 @@ heartbeat_fits e (cookie_wait my) parameters h own good = record { after = h; se
 heartbeat_fits e (cookie_echoed my held cookie) parameters h own good = answered_fits e held parameters h own.1 good
 heartbeat_fits e (open_in phase my held) parameters h own good = answered_fits e held parameters h own.1 good
 
-counted_fits : (b : Bool) (e : Endpoint) → FitsEndpoint e → TurnFits (cond b (still (answered e)) (still e))
+counted_fits : (b : Bool) (e : Endpoint) → FitsEndpoint e → TurnFits (cond b (still (endpoint_answered e)) (still e))
 counted_fits true e h = record { after = record { valid = h.valid; options = h.options; core = h.core; t1 = h.t1 }; sends = tt }
 counted_fits false e h = record { after = h; sends = tt }
 
@@ -112,21 +112,21 @@ heartbeat_ack_fits e (Some counter) h = counted_fits (counter == e.heartbeat_cou
 
 -- ---- each
 
-plain_by : (e : Endpoint) (chunk : Plain) (violation : Option Violation) (o : Outcome) → PlainTurnBy e chunk violation o → FitsEndpoint e → Sendable (plain chunk) → TurnFits o
+plain_by : (e : Endpoint) (chunk : Plain) (violation : Option Violation) (o : Outcome) → PlainTurnUnlessViolating e chunk violation o → FitsEndpoint e → Sendable (plain chunk) → TurnFits o
 plain_by e chunk (Some violation) o turn h good = subst TurnFits (sym turn) (aborting_fits e e.core (reasons.Violation violation) h h.core)
 plain_by e (unknown type flags value) None o turn h good =
     subst TurnFits (sym turn)
     (unknown_fits e e.core type (unknown_bytes type flags value) (is_reported type) h h.core
     (unknown_in_bytes type flags value good.fits.type_fits good.fits.flags_fit good.fits.value_in_bytes))
 plain_by e (heartbeat parameters) None o turn h good = subst TurnFits (sym turn) (heartbeat_fits e e.core parameters h h.core good)
-plain_by e (heartbeat_ack parameters) None o turn h good = subst TurnFits (sym turn) (heartbeat_ack_fits e (counter_of (info_in parameters)) h)
+plain_by e (heartbeat_ack parameters) None o turn h good = subst TurnFits (sym turn) (heartbeat_ack_fits e (counter_of (first_heartbeat_info parameters)) h)
 plain_by e (unworked (data_chunk chunk)) None o turn h good = data_fits e (data_arrival chunk) o turn h good.fits.tsn
 plain_by e (unworked (i_data_chunk chunk)) None o turn h good = data_fits e (i_data_arrival chunk) o turn h good.fits.tsn
 plain_by e (unworked (sack_chunk chunk)) None o turn h good = sack_fits e e.queues.transfer chunk o turn h
-plain_by e (unworked (forward_tsn_chunk tsn streams)) None o turn h good = forward_fits e e.queues.transfer tsn (skipped_in streams) o turn h
-plain_by e (unworked (i_forward_tsn_chunk tsn streams)) None o turn h good = forward_fits e e.queues.transfer tsn (messages_skipped_in streams) o turn h
+plain_by e (unworked (forward_tsn_chunk tsn streams)) None o turn h good = forward_fits e e.queues.transfer tsn (named_skips streams) o turn h
+plain_by e (unworked (i_forward_tsn_chunk tsn streams)) None o turn h good = forward_fits e e.queues.transfer tsn (skipped_messages streams) o turn h
 plain_by e (unworked (error_chunk causes)) None o turn h good = subst TurnFits (sym turn) (error_fits e e.core causes h)
 plain_by e (unworked chunk) None o turn h good = subst TurnFits (sym turn) (still_fits e h)
 
 pub plain_fits : (e : Endpoint) (chunk : Plain) (o : Outcome) → PlainTurn e chunk o → FitsEndpoint e → Sendable (plain chunk) → TurnFits o
-plain_fits e chunk o turn h good = plain_by e chunk (violation_at e.core chunk) o turn h good
+plain_fits e chunk o turn h good = plain_by e chunk (violation_by_core e.core chunk) o turn h good

@@ -9,7 +9,7 @@ use Rattle.dcsctp_spec_lemmas.specs.spec.endpoint.Outcome.{quiet, sends, content
 use Rattle.dcsctp_spec_lemmas.specs.spec.endpoint.Outcome.{fits as fits_mtu}
 use Rattle.dcsctp_spec_lemmas.specs.spec.association.FlushChanges.{reset_request}
 use Rattle.dcsctp_spec_lemmas.specs.spec.endpoint.HeartbeatOutcomes.{is_exhausted}
-use Rattle.dcsctp_spec_lemmas.specs.spec.endpoint.ReconfigurationOutcomes.{reset_again, request_emitted, renewed_request_where, request_renewed, request_unless, is_renewed, request_errors, request_expired, reconfiguration_outcome, as_renewed}
+use Rattle.dcsctp_spec_lemmas.specs.spec.endpoint.ReconfigurationOutcomes.{reset_again, request_emitted, renewed_request_if_fitting, request_renewed, request_unless, is_renewed, request_errors, request_expired, reconfiguration_outcome, as_renewed}
 use Rattle.dcsctp_spec_runs.specs.Fitting.{FitsNumber, FitsHeld, FitsEndpoint, Sendable, TurnFits}
 use Rattle.dcsctp_theorem_sockets.proofs.BegunSends.{FitsPeer, request_sendable, asking_fits, asking_runs}
 use Rattle.dcsctp_theorem_sockets.proofs.FlushFits.{still_fits}
@@ -50,7 +50,7 @@ emitted_fits e held (Some number) request h fits number_fits =
 -- under the next number, which is outstanding then
 renewed_fits : (b : Bool) (e : Endpoint) (held : Held) (number : ℕ) (request : OutstandingRequest)
     → fits_mtu e (to_peer held (reset_request held.own_next (renewed_reset (reset_again (Some request))))) ≡ b → FitsEndpoint e → FitsHeld held
-    → TurnFits (renewed_request_where b e held number (reset_request held.own_next (renewed_reset (reset_again (Some request)))))
+    → TurnFits (renewed_request_if_fitting b e held number (reset_request held.own_next (renewed_reset (reset_again (Some request)))))
 renewed_fits true e held number request is h fits =
     record {
       after = record { valid = h.valid; options = h.options; core = asking_fits e.core h.core; t1 = asking_runs e.core e.timers.t1 h.t1 };

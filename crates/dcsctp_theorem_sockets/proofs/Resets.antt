@@ -15,7 +15,7 @@ use Rattle.dcsctp_spec_lemmas.specs.types.declared.association.Held.{Held}
 use Rattle.dcsctp_spec_lemmas.specs.types.Settings.{packet_size_limit, IsValid, FitsOptions}
 use Rattle.dcsctp_spec_lemmas.specs.spec.endpoint.Event.{Event}
 use Rattle.dcsctp_spec_lemmas.specs.spec.Packet.{re_config, Emission}
-use Rattle.dcsctp_spec_lemmas.specs.spec.Reconfiguration.{NumberedReset, RequestState, early, due, renewed, ResetParameter, outgoing_reset_request, incoming_reset_request, reconfiguration_response, other_reset_parameter, reset_parameter_content, reset_parameter_in}
+use Rattle.dcsctp_spec_lemmas.specs.spec.Reconfiguration.{NumberedReset, RequestState, early, due, renewed, ResetParameter, outgoing_reset_request, incoming_reset_request, reconfiguration_response, other_reset_parameter, reset_parameter_content, reset_parameter_of}
 use Rattle.dcsctp_spec_lemmas.specs.spec.queues.Transfer.{Transfer}
 use Rattle.dcsctp_spec_runs.specs.Deadlines.{T1Runs}
 use Rattle.dcsctp_spec_lemmas.specs.spec.endpoint.Endpoint.{Endpoint, Core, closed, cookie_wait, cookie_echoed, open_in}
@@ -23,9 +23,9 @@ use Rattle.dcsctp_spec_lemmas.specs.spec.endpoint.Timers.{RunningTimer}
 use Rattle.dcsctp_spec_lemmas.specs.spec.endpoint.Outcome.{Outcome, quiet, sends, emits, to_peer}
 use Rattle.dcsctp_spec_lemmas.specs.spec.endpoint.Outcome.{fits as fits_mtu}
 use Rattle.dcsctp_spec_lemmas.specs.spec.association.Effect.{Effect}
-use Rattle.dcsctp_spec_lemmas.specs.spec.association.ResetChanges.{RequestPlace, again, next, astray, request_place, repeated, is_due, outgoing_by, incoming_by, informed_by, is_outstanding, informed_where, HandledParameters, work_parameters, work_chunk}
+use Rattle.dcsctp_spec_lemmas.specs.spec.association.ResetChanges.{RequestPlace, again, next, astray, request_place, repeated_request_outcome, is_due, outgoing_by_place, incoming_by_place, result_of_answer, is_outstanding, result_if_outstanding, HandledParameters, parameters_outcome, reset_chunk_outcome}
 use Rattle.dcsctp_spec_lemmas.specs.spec.endpoint.FlushOutcomes.{Answer, draft_to, flush_of}
-use Rattle.dcsctp_spec_lemmas.specs.spec.endpoint.ResetOutcomes.{request_state, renewable_left, parameters_handled_in, OwnAnswer, answered_in, reset_events, reset_events_of, core_with, resets_handled, responses_outcome, responses_by, ResponseAnswers, WorksResets, ResetTurn}
+use Rattle.dcsctp_spec_lemmas.specs.spec.endpoint.ResetOutcomes.{request_state, renewable_left, handled_parameters_of, OwnAnswer, answer_to_own, reset_events, reset_events_of, core_with, resets_handled, responses_outcome, responses_unless_refused, ResponseAnswers, HandlesResets, ResetTurn}
 use Rattle.dcsctp_spec_lemmas.specs.spec.CookieFits.{FitsPair}
 use Rattle.dcsctp_spec_lemmas.proofs.OneAnswerLemmas.{answered_by}
 use Rattle.dcsctp_spec_runs.specs.Fitting.{AllSent, FitsNumber, FitsHeld, FitsCore, FitsEndpoint, IsSendable, Sendable, TurnFits}
@@ -59,17 +59,17 @@ responses_up e held (response ∷ responses) h =
     answered_by UpAfter e emission h (emitted_up (fits_mtu e emission) e emission h)
 
 sent_up : (refused : Bool) (e : Endpoint) (told : List (Event Emission)) (held : Held) (parameters responses : List ResetParameter) (answers : List Answer)
-    → ResponseAnswers refused e held responses answers → Up e → UpAfter (responses_by refused e told held parameters responses answers)
+    → ResponseAnswers refused e held responses answers → Up e → UpAfter (responses_unless_refused refused e told held parameters responses answers)
 sent_up true e told held parameters responses answers allowed h = h
 sent_up false e told held parameters responses answers allowed h =
     flush_up (responses_outcome e held responses).after (draft_to held) answers allowed (responses_up e held responses h)
 
-resets_up : (e : Endpoint) (my : Pair) (held : Held) (parameters : List ResetParameter) (o : Outcome) → WorksResets e my held parameters o → Up e → UpAfter o
+resets_up : (e : Endpoint) (my : Pair) (held : Held) (parameters : List ResetParameter) (o : Outcome) → HandlesResets e my held parameters o → Up e → UpAfter o
 resets_up e my held parameters o turn h =
-    let w : HandledParameters = parameters_handled_in e my held parameters in
-    let base : Endpoint = resets_handled e (answered_in held w parameters) w.held turn.left (renewable_left e held w parameters) in
+    let w : HandledParameters = handled_parameters_of e my held parameters in
+    let base : Endpoint = resets_handled e (answer_to_own held w parameters) w.held turn.left (renewable_left e held w parameters) in
     subst UpAfter (sym turn.is)
-    (sent_up w.is_refused base (reset_events_of e parameters w.effects) w.held parameters w.answers turn.answers turn.allowed (worked_up e (answered_in held w parameters) w.held turn.left (renewable_left e held w parameters) h))
+    (sent_up w.is_refused base (reset_events_of e parameters w.effects) w.held parameters w.answers turn.answers turn.allowed (worked_up e (answer_to_own held w parameters) w.held turn.left (renewable_left e held w parameters) h))
 
 pub reset_up : (e : Endpoint) (core : Core) (parameters : List ResetParameter) (o : Outcome) → ResetTurn e core parameters o → Up e → UpAfter o
 reset_up e closed parameters o turn h = subst UpAfter (sym turn) h
@@ -88,7 +88,7 @@ record FitsWorked (w : HandledParameters) : Type 0 where
   last : w.held.peer_last < 2 ^ 32
   answers : AllByRecursion FitsResponse w.answers
 
-repeated_last : (held : Held) (result : ReconfigurationResponseResult) (reached : Bool) → held.peer_last < 2 ^ 32 → (repeated held result reached).held.peer_last < 2 ^ 32
+repeated_last : (held : Held) (result : ReconfigurationResponseResult) (reached : Bool) → held.peer_last < 2 ^ 32 → (repeated_request_outcome held result reached).held.peer_last < 2 ^ 32
 repeated_last held SuccessNothingToDo reached h = h
 repeated_last held SuccessPerformed reached h = h
 repeated_last held Denied reached h = h
@@ -98,19 +98,19 @@ repeated_last held ErrorBadSequenceNumber reached h = h
 repeated_last held InProgress true h = h
 repeated_last held InProgress false h = h
 
-outgoing_last : (held : Held) (number : ℕ) (state : RequestState) (place : RequestPlace) → held.peer_last < 2 ^ 32 → number < 2 ^ 32 → (outgoing_by held number state place).held.peer_last < 2 ^ 32
+outgoing_last : (held : Held) (number : ℕ) (state : RequestState) (place : RequestPlace) → held.peer_last < 2 ^ 32 → number < 2 ^ 32 → (outgoing_by_place held number state place).held.peer_last < 2 ^ 32
 outgoing_last held number state again h fits = repeated_last held held.peer_result (is_due state) h
 outgoing_last held number early next h fits = fits
 outgoing_last held number due next h fits = fits
 outgoing_last held number renewed next h fits = fits
 outgoing_last held number state astray h fits = h
 
-incoming_last : (held : Held) (number : ℕ) (place : RequestPlace) → held.peer_last < 2 ^ 32 → number < 2 ^ 32 → (incoming_by held number place).held.peer_last < 2 ^ 32
+incoming_last : (held : Held) (number : ℕ) (place : RequestPlace) → held.peer_last < 2 ^ 32 → number < 2 ^ 32 → (incoming_by_place held number place).held.peer_last < 2 ^ 32
 incoming_last held number again h fits = fits
 incoming_last held number next h fits = fits
 incoming_last held number astray h fits = h
 
-told_last : (my : Pair) (held : Held) (number : ℕ) (result : ReconfigurationResponseResult) → held.peer_last < 2 ^ 32 → (informed_by my held number result).held.peer_last < 2 ^ 32
+told_last : (my : Pair) (held : Held) (number : ℕ) (result : ReconfigurationResponseResult) → held.peer_last < 2 ^ 32 → (result_of_answer my held number result).held.peer_last < 2 ^ 32
 told_last my held number SuccessNothingToDo h = h
 told_last my held number SuccessPerformed h = h
 told_last my held number Denied h = h
@@ -119,7 +119,7 @@ told_last my held number ErrorRequestAlreadyInProgress h = h
 told_last my held number ErrorBadSequenceNumber h = h
 told_last my held number InProgress h = h
 
-informed_last : (b : Bool) (my : Pair) (held : Held) (number : ℕ) (result : ReconfigurationResponseResult) → held.peer_last < 2 ^ 32 → (informed_where my held number result b).held.peer_last < 2 ^ 32
+informed_last : (b : Bool) (my : Pair) (held : Held) (number : ℕ) (result : ReconfigurationResponseResult) → held.peer_last < 2 ^ 32 → (result_if_outstanding my held number result b).held.peer_last < 2 ^ 32
 informed_last true my held number result h = told_last my held number result h
 informed_last false my held number result h = h
 
@@ -128,24 +128,24 @@ abbrev FitParameters : List ResetParameter → Type 0
 FitParameters parameters = AllByRecursion FitsParameter (map reset_parameter_content parameters)
 
 parameters_fit : (my : Pair) (state : RequestState) (has_worked : Bool) (held : Held) (parameters : List ResetParameter) → held.peer_last < 2 ^ 32 → FitParameters parameters
-    → FitsWorked (work_parameters my state has_worked held parameters)
+    → FitsWorked (parameters_outcome my state has_worked held parameters)
 parameters_fit my state has_worked held [] h fit = record { last = h; answers = tt }
 parameters_fit my state true held (outgoing_reset_request number answered reset ∷ parameters) h fit = record { last = h; answers = tt }
 parameters_fit my state false held (outgoing_reset_request number answered reset ∷ parameters) h fit =
-    let rest = parameters_fit my state true (outgoing_by held number state (request_place held.peer_last number)).held parameters
+    let rest = parameters_fit my state true (outgoing_by_place held number state (request_place held.peer_last number)).held parameters
     (outgoing_last held number state (request_place held.peer_last number) h fit.0.number_fits) fit.1 in
     record { last = rest.last; answers = (fit.0.number_fits, rest.answers) }
 parameters_fit my state has_worked held (incoming_reset_request number streams ∷ parameters) h fit =
-    let rest = parameters_fit my state has_worked (incoming_by held number (request_place held.peer_last number)).held parameters
+    let rest = parameters_fit my state has_worked (incoming_by_place held number (request_place held.peer_last number)).held parameters
     (incoming_last held number (request_place held.peer_last number) h fit.0.0) fit.1 in
     record { last = rest.last; answers = (fit.0.0, rest.answers) }
 parameters_fit my state has_worked held (reconfiguration_response number result ∷ parameters) h fit =
-    let rest = parameters_fit my state has_worked (informed_where my held number result (is_outstanding number held.own_outstanding)).held parameters
+    let rest = parameters_fit my state has_worked (result_if_outstanding my held number result (is_outstanding number held.own_outstanding)).held parameters
     (informed_last (is_outstanding number held.own_outstanding) my held number result h) fit.1 in
     record { last = rest.last; answers = rest.answers }
 parameters_fit my state has_worked held (other_reset_parameter parameter ∷ parameters) h fit = parameters_fit my state has_worked held parameters h fit.1
 
-chunk_fits : (my : Pair) (state : RequestState) (held : Held) (parameters : List ResetParameter) → held.peer_last < 2 ^ 32 → FitParameters parameters → FitsWorked (work_chunk my state held parameters)
+chunk_fits : (my : Pair) (state : RequestState) (held : Held) (parameters : List ResetParameter) → held.peer_last < 2 ^ 32 → FitParameters parameters → FitsWorked (reset_chunk_outcome my state held parameters)
 chunk_fits my state held [] h fit = record { last = h; answers = tt }
 chunk_fits my state held (parameter ∷ parameters) h fit = parameters_fit my state false held (parameter ∷ parameters) h fit
 
@@ -164,7 +164,7 @@ held_fits old new keeps fits last =
 
 -- ---- the packet of the answers
 
-responses_read : (responses : List ResetParameter) → AllByRecursion FitsResponse responses → map reset_parameter_in (map reset_parameter_content responses) ≡ responses
+responses_read : (responses : List ResetParameter) → AllByRecursion FitsResponse responses → map reset_parameter_of (map reset_parameter_content responses) ≡ responses
 responses_read [] fit = refl
 responses_read (reconfiguration_response number result ∷ responses) fit = ap (λ (rest : List ResetParameter). reconfiguration_response number result ∷ rest) (responses_read responses fit.1)
 responses_read (outgoing_reset_request number answered reset ∷ responses) fit = absurd fit.0
@@ -229,7 +229,7 @@ told_sends theirs own _ (failure number es are) = (tt, told_sends theirs own es 
 
 sent_fits : (refused : Bool) (e : Endpoint) (told : List (Event Emission)) (held : Held) (parameters responses : List ResetParameter) (answers : List Answer)
     → ResponseAnswers refused e held responses answers → FitsEndpoint e → FitsHeld held → AllByRecursion FitsResponse responses → AllSent IsSendable told
-    → TurnFits (responses_by refused e told held parameters responses answers)
+    → TurnFits (responses_unless_refused refused e told held parameters responses answers)
 sent_fits true e told held parameters responses answers allowed h fits each before = record { after = h; sends = all_sent_append IsSendable told _ before (tt, tt) }
 sent_fits false e told held parameters responses answers allowed h fits each before =
     let sent : Outcome = responses_outcome e held responses in
@@ -255,16 +255,16 @@ worked_fits e answer held left renewable h fits =
           (subst (T1Runs (core_with e.core held)) (sym kept.t1) (with_runs e.core held e.timers.t1 h.t1));
     }
 
-resets_fit : (e : Endpoint) (my : Pair) (held : Held) (parameters : List ResetParameter) (o : Outcome) → WorksResets e my held parameters o → FitsEndpoint e → FitsHeld held → FitParameters parameters → TurnFits o
+resets_fit : (e : Endpoint) (my : Pair) (held : Held) (parameters : List ResetParameter) (o : Outcome) → HandlesResets e my held parameters o → FitsEndpoint e → FitsHeld held → FitParameters parameters → TurnFits o
 resets_fit e my held parameters o turn h fits fit =
     let state : RequestState = request_state e held parameters in
-    let w : HandledParameters = parameters_handled_in e my held parameters in
+    let w : HandledParameters = handled_parameters_of e my held parameters in
     let brought = chunk_brings my state held parameters in
     let numbers : FitsWorked w = chunk_fits my state held parameters fits.peer_last fit in
     let after : FitsHeld w.held = held_fits held w.held brought.keeps fits numbers.last in
-    let base : Endpoint = resets_handled e (answered_in held w parameters) w.held turn.left (renewable_left e held w parameters) in
+    let base : Endpoint = resets_handled e (answer_to_own held w parameters) w.held turn.left (renewable_left e held w parameters) in
     let sent = sent_fits w.is_refused base (reset_events_of e parameters w.effects) w.held parameters w.answers turn.answers turn.allowed
-    (worked_fits e (answered_in held w parameters) w.held turn.left (renewable_left e held w parameters) h after) after numbers.answers (told_sends _ _ w.effects brought.are) in
+    (worked_fits e (answer_to_own held w parameters) w.held turn.left (renewable_left e held w parameters) h after) after numbers.answers (told_sends _ _ w.effects brought.are) in
     subst TurnFits (sym turn.is) (record { after = sent.after; sends = sent.sends })
 
 pub reset_fits : (e : Endpoint) (core : Core) (parameters : List ResetParameter) (o : Outcome) → ResetTurn e core parameters o → FitsEndpoint e → FitsCore core → Sendable (re_config parameters) → TurnFits o

@@ -25,7 +25,7 @@ use Rattle.dcsctp_spec_lemmas.specs.spec.association.Acts.{connect}
 use Rattle.dcsctp_spec_lemmas.specs.spec.Admission.{Admission, all_chunks, admits}
 use Rattle.dcsctp_spec_runs.specs.Past.{Each, InPlace}
 use Rattle.dcsctp_spec_runs.specs.Sockets.{PerformedAct, Both, SocketRun, turns_after, endpoint_after}
-use Rattle.dcsctp_theorem_sockets.specs.Agreement.{IsUsable, AreUsable, noted_past}
+use Rattle.dcsctp_theorem_sockets.specs.Agreement.{IsUsable, AreUsable, recorded_past}
 use Rattle.dcsctp_theorem_sockets.specs.OneSocket.{EndsByAnswer}
 use Rattle.dcsctp_theorem_sockets.specs.Handshake.{AreFitting, AreConnected}
 use Rattle.dcsctp_theorem_sockets.proofs.Deliver.{built, built_reads}
@@ -58,41 +58,41 @@ connected_with link e =
     noted_by e (act_input connect) (draws mine ∷ []) ∷ noted_by e (chunk_input 7 cookie_ack) (holds link ∷ connects link ∷ begins 1 ∷ []) ∷ []
 
 -- Our numbers begin at our first TSN and go up by one, and each request ends before the next begins.
-two_requests : (e : Endpoint) (link : AssociationIdentity) → Each InPlace (noted_past (connected_with (record link { my = mine }) e
+two_requests : (e : Endpoint) (link : AssociationIdentity) → Each InPlace (recorded_past (connected_with (record link { my = mine }) e
     ++ noted_by e (answered 1) (completes mine 1 ∷ begins 2 ∷ []) ∷ noted_by e (answered 2) (completes mine 2 ∷ []) ∷ []))
 two_requests e link = ((refl, refl), ((refl, refl), ((refl, refl), ((refl, refl), (refl, (tt, (tt, tt)))))))
 
 -- A number that is left out is refused,
-left_out : (e : Endpoint) (link : AssociationIdentity) → Each InPlace (noted_past (connected_with (record link { my = mine }) e ++ noted_by e (answered 1) (completes mine 1 ∷ begins 3 ∷ []) ∷ [])) → ⊥
+left_out : (e : Endpoint) (link : AssociationIdentity) → Each InPlace (recorded_past (connected_with (record link { my = mine }) e ++ noted_by e (answered 1) (completes mine 1 ∷ begins 3 ∷ []) ∷ [])) → ⊥
 left_out e link each = let same : Some 2 ≡ Some 3 = each.0.0 in absurd (cc)
 
 -- and so is one that begins while another is outstanding.
-while_outstanding : (e : Endpoint) (link : AssociationIdentity) → Each InPlace (noted_past (connected_with (record link { my = mine }) e ++ noted_by e (act_input connect) (begins 2 ∷ []) ∷ [])) → ⊥
+while_outstanding : (e : Endpoint) (link : AssociationIdentity) → Each InPlace (recorded_past (connected_with (record link { my = mine }) e ++ noted_by e (act_input connect) (begins 2 ∷ []) ∷ [])) → ⊥
 while_outstanding e link each = let same : Some 1 ≡ None = each.0.1 in absurd (cc)
 
 -- The next number takes the place of one that is given up,
-given_up : (e : Endpoint) (link : AssociationIdentity) → Each InPlace (noted_past (connected_with (record link { my = mine }) e
+given_up : (e : Endpoint) (link : AssociationIdentity) → Each InPlace (recorded_past (connected_with (record link { my = mine }) e
     ++ noted_by e (act_input connect) (gives_up 1 ∷ begins 2 ∷ []) ∷ noted_by e (answered 2) (completes mine 2 ∷ []) ∷ []))
 given_up e link = ((refl, refl), ((refl, refl), (refl, ((refl, refl), (refl, (tt, (tt, tt)))))))
 
 -- which has no end then.
-ended_given_up : (e : Endpoint) (link : AssociationIdentity) → Each InPlace (noted_past (connected_with (record link { my = mine }) e
+ended_given_up : (e : Endpoint) (link : AssociationIdentity) → Each InPlace (recorded_past (connected_with (record link { my = mine }) e
     ++ noted_by e (act_input connect) (gives_up 1 ∷ begins 2 ∷ []) ∷ noted_by e (answered 1) (completes mine 1 ∷ []) ∷ [])) → ⊥
 ended_given_up e link each = let same : Some 2 ≡ Some 1 = each.0.0 in absurd (cc)
 
 -- One that has ended isn't given up.
-given_up_late : (e : Endpoint) (link : AssociationIdentity) → Each InPlace (noted_past (connected_with (record link { my = mine }) e
+given_up_late : (e : Endpoint) (link : AssociationIdentity) → Each InPlace (recorded_past (connected_with (record link { my = mine }) e
     ++ noted_by e (answered 1) (completes mine 1 ∷ []) ∷ noted_by e (act_input connect) (gives_up 1 ∷ begins 2 ∷ []) ∷ [])) → ⊥
 given_up_late e link each = let same : None ≡ Some 1 = each.1.0 in absurd (cc)
 
 -- The peer's request 5 is accepted and performed,
 one_performance : (e : Endpoint) (link : AssociationIdentity)
-    → Each InPlace (noted_past (connected_with (record link { my = mine; peer = theirs }) e ++ noted_by e (act_input connect) (accepts 5 ∷ performs theirs 5 ∷ []) ∷ []))
+    → Each InPlace (recorded_past (connected_with (record link { my = mine; peer = theirs }) e ++ noted_by e (act_input connect) (accepts 5 ∷ performs theirs 5 ∷ []) ∷ []))
 one_performance e link = ((refl, refl), (refl, ((refl, refl), (refl, (tt, (tt, tt))))))
 
 -- and not again.
 performed_again : (e : Endpoint) (link : AssociationIdentity)
-    → Each InPlace (noted_past (connected_with (record link { peer = theirs }) e ++ noted_by e (act_input connect) (accepts 5 ∷ performs theirs 5 ∷ performs theirs 5 ∷ []) ∷ [])) → ⊥
+    → Each InPlace (recorded_past (connected_with (record link { peer = theirs }) e ++ noted_by e (act_input connect) (accepts 5 ∷ performs theirs 5 ∷ performs theirs 5 ∷ []) ∷ [])) → ⊥
 performed_again e link each = let same : None ≡ Some 5 = each.0.0 in absurd (cc)
 
 -- A request ends in the turn of its answer,
@@ -203,7 +203,7 @@ inputs_of_a a b w = refl
 
 -- one pair was drawn, one association held, and it was connected once
 noted_by_a : (a b : Options) (w : Words) → let link = identity_of (pair_a w) (held_here a b (pair_a w) (pair_b w)) in
-    noted_past (turns_after (six_acts a b w)).a ≡ connects link ∷ holds link ∷ draws (pair_a w) ∷ []
+    recorded_past (turns_after (six_acts a b w)).a ≡ connects link ∷ holds link ∷ draws (pair_a w) ∷ []
 noted_by_a a b w = refl
 
 -- In the run of six acts, the two are connected after the first five.

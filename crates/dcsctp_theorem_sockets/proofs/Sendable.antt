@@ -12,7 +12,7 @@ use Rattle.dcsctp_spec_lemmas.specs.types.Settings.{IsValid, FitsOptions}
 use Rattle.dcsctp_spec_lemmas.specs.types.Offer.{Offer, offer_of, answering_offer, agreed_method, offer_parameters}
 use Rattle.dcsctp_spec_lemmas.specs.spec.endpoint.Cause.{missing_mandatory_parameter}
 use Rattle.dcsctp_spec_lemmas.specs.spec.Cookie.{Cookie, cookie_bytes}
-use Rattle.dcsctp_spec_lemmas.specs.spec.Packet.{Introduction, Content, init, init_ack, cookie_echo, cookie_ack, abort, cookie_in}
+use Rattle.dcsctp_spec_lemmas.specs.spec.Packet.{Introduction, Content, init, init_ack, cookie_echo, cookie_ack, abort, first_cookie}
 use Rattle.dcsctp_spec_lemmas.specs.spec.association.HandshakeChanges.{introduction_of, answering_introduction}
 use Rattle.dcsctp_spec_lemmas.specs.spec.CookieFits.{FitsPair}
 use Rattle.dcsctp_spec_runs.specs.Laws.{OfferReadsBack}
@@ -32,7 +32,7 @@ parameters_by partial interleaving no_method method =
 pub record FitParameters (parameters : List ParameterContent) (cookie : Option (List ℕ)) : Type 0 where
   pub len : 20 + parameters_len parameters < 2 ^ 16
   pub each : AllByRecursion FitsParameter parameters
-  pub found : cookie_in parameters ≡ cookie
+  pub found : first_cookie parameters ≡ cookie
 
 fit_without : (partial interleaving no_method : Bool) (method : ℕ) → method < 2 ^ 32 → FitParameters (parameters_by partial interleaving no_method method ++ []) None
 unfolding parameters_len
@@ -113,7 +113,7 @@ init_ack_sendable law options theirs mine cookie valid fits own =
       };
       reads =
           ap (λ (offer : Offer). init_ack (record (answering_introduction options theirs mine) { offer = offer })
-          (cookie_in (offer_parameters (answering_offer theirs.offer (offer_of options)) ++ state_cookie (cookie_bytes cookie) ∷ []))) (law options method (Some (cookie_bytes cookie)))
+          (first_cookie (offer_parameters (answering_offer theirs.offer (offer_of options)) ++ state_cookie (cookie_bytes cookie) ∷ []))) (law options method (Some (cookie_bytes cookie)))
           ∙ ap (λ (found : Option (List ℕ)). init_ack (answering_introduction options theirs mine) found) parameters.found;
       said = (own, record { len_fits = omega (arith, long); cookie_in_bytes = in_cookie cookie });
     }

@@ -2,13 +2,13 @@
 use Rattle.std.proofs.Common.{List, [], ◌∷◌, ◌++◌}
 use Rattle.dcsctp_spec_lemmas.specs.spec.endpoint.Event.{Event, sent, connected, closed, connection_restarted, aborted, error, buffered_amount_low, total_buffered_amount_low, streams_reset_failed, streams_reset_performed, incoming_stream_reset, lifecycle_message_fully_sent, lifecycle_message_maybe_expired, lifecycle_message_expired, lifecycle_message_delivered, lifecycle_end}
 use Rattle.dcsctp_spec_lemmas.specs.spec.Packet.{Emission}
-use Rattle.dcsctp_spec_runs.specs.Fitting.{AllSent, OfSent}
+use Rattle.dcsctp_spec_runs.specs.Fitting.{AllSent, HoldsIfSent}
 
 pub all_sent_append : (Good : Emission → Type 0) (events more : List (Event Emission)) → AllSent Good events → AllSent Good more → AllSent Good (events ++ more)
 all_sent_append Good [] more none others = others
 all_sent_append Good (event ∷ events) more each others = (each.0, all_sent_append Good events more each.1 others)
 
-of_sent_map : {Good Better : Emission → Type 0} → ((emission : Emission) → Good emission → Better emission) → (event : Event Emission) → OfSent Good event → OfSent Better event
+of_sent_map : {Good Better : Emission → Type 0} → ((emission : Emission) → Good emission → Better emission) → (event : Event Emission) → HoldsIfSent Good event → HoldsIfSent Better event
 of_sent_map f (sent emission) good = f emission good
 of_sent_map f connected good = tt
 of_sent_map f closed good = tt

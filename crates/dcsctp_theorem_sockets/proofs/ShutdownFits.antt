@@ -13,7 +13,7 @@ use Rattle.dcsctp_spec_lemmas.specs.spec.endpoint.Turn.{BeginTurn}
 use Rattle.dcsctp_spec_lemmas.specs.spec.association.CookieEchoChanges.{stale_error}
 use Rattle.dcsctp_spec_lemmas.specs.spec.endpoint.CookieEchoOutcomes.{refused_restart_outcome}
 use Rattle.dcsctp_spec_lemmas.specs.spec.endpoint.EndOutcomes.{reflected_outcome}
-use Rattle.dcsctp_spec_lemmas.specs.spec.endpoint.ShutdownOutcomes.{shut_down_echoed, received_tsn, phase_at, t2_begun, t2_goes_on, may_go_on, step_by, step_outcome, t1_stopped, shut_down_outcome, shutdown_outcome, shutdown_ack_outcome, shutdown_complete_outcome, shutdown_sent_again, t2_again_outcome, shutdown_repeated}
+use Rattle.dcsctp_spec_lemmas.specs.spec.endpoint.ShutdownOutcomes.{shut_down_echoed, received_tsn, endpoint_in_phase, t2_begun, endpoint_with_t2_continued, may_continue_shutdown, step_if_acknowledged, step_outcome, t1_stopped, shut_down_outcome, shutdown_outcome, shutdown_ack_outcome, shutdown_complete_outcome, shutdown_sent_again, t2_again_outcome, shutdown_repeated}
 use Rattle.dcsctp_spec_runs.specs.Fitting.{FitsHeld, FitsCore, FitsEndpoint, Sendable, TurnFits}
 use Rattle.dcsctp_spec_lemmas.specs.spec.CookieFits.{FitsPair}
 use Rattle.dcsctp_theorem_sockets.proofs.FlushFits.{still_fits}
@@ -58,18 +58,18 @@ to_peer_fits e held content h fits good =
 -- ---- a step of it
 
 -- the endpoint in another phase, with T2
-begun_fits : (e : Endpoint) (phase : OpenPhase) (my : Pair) (held : Held) → FitsEndpoint e → FitsPair my → FitsHeld held → FitsEndpoint (t2_begun (phase_at e phase my held))
+begun_fits : (e : Endpoint) (phase : OpenPhase) (my : Pair) (held : Held) → FitsEndpoint e → FitsPair my → FitsHeld held → FitsEndpoint (t2_begun (endpoint_in_phase e phase my held))
 begun_fits e phase my held h own fits = record { valid = h.valid; options = h.options; core = (own, fits); t1 = tt }
 
 asks_fit : (e : Endpoint) (my : Pair) (held : Held) → FitsEndpoint e → FitsPair my → FitsHeld held
-    → TurnFits (sends (t2_begun (phase_at e shutdown_sent my held)) [] [] (to_peer held (shutdown (received_tsn e.queues.transfer))))
+    → TurnFits (sends (t2_begun (endpoint_in_phase e shutdown_sent my held)) [] [] (to_peer held (shutdown (received_tsn e.queues.transfer))))
 asks_fit e my held h own fits =
-    to_peer_fits (t2_begun (phase_at e shutdown_sent my held)) held (shutdown (received_tsn e.queues.transfer)) (begun_fits e shutdown_sent my held h own fits) fits (shutdown_sendable e.queues.transfer)
+    to_peer_fits (t2_begun (endpoint_in_phase e shutdown_sent my held)) held (shutdown (received_tsn e.queues.transfer)) (begun_fits e shutdown_sent my held h own fits) fits (shutdown_sendable e.queues.transfer)
 
-answers_fit : (e : Endpoint) (my : Pair) (held : Held) → FitsEndpoint e → FitsPair my → FitsHeld held → TurnFits (sends (t2_begun (phase_at e shutdown_ack_sent my held)) [] [] (to_peer held shutdown_ack))
-answers_fit e my held h own fits = to_peer_fits (t2_begun (phase_at e shutdown_ack_sent my held)) held shutdown_ack (begun_fits e shutdown_ack_sent my held h own fits) fits shutdown_ack_sendable
+answers_fit : (e : Endpoint) (my : Pair) (held : Held) → FitsEndpoint e → FitsPair my → FitsHeld held → TurnFits (sends (t2_begun (endpoint_in_phase e shutdown_ack_sent my held)) [] [] (to_peer held shutdown_ack))
+answers_fit e my held h own fits = to_peer_fits (t2_begun (endpoint_in_phase e shutdown_ack_sent my held)) held shutdown_ack (begun_fits e shutdown_ack_sent my held h own fits) fits shutdown_ack_sendable
 
-step_by_fits : (b : Bool) (e : Endpoint) (phase : OpenPhase) (my : Pair) (held : Held) → FitsEndpoint e → FitsPair my → FitsHeld held → TurnFits (step_by b e phase my held)
+step_by_fits : (b : Bool) (e : Endpoint) (phase : OpenPhase) (my : Pair) (held : Held) → FitsEndpoint e → FitsPair my → FitsHeld held → TurnFits (step_if_acknowledged b e phase my held)
 step_by_fits false e phase my held h own fits = still_fits e h
 step_by_fits true e established my held h own fits = still_fits e h
 step_by_fits true e shutdown_pending my held h own fits = asks_fit e my held h own fits
@@ -81,20 +81,20 @@ pub step_fits : (e : Endpoint) (core : Core) → FitsEndpoint e → FitsCore cor
 step_fits e closed h own = still_fits e h
 step_fits e (cookie_wait my) h own = still_fits e h
 step_fits e (cookie_echoed my held cookie) h own = still_fits e h
-step_fits e (open_in phase my held) h own = step_by_fits (may_go_on e) e phase my held h own.0 own.1
+step_fits e (open_in phase my held) h own = step_by_fits (may_continue_shutdown e) e phase my held h own.0 own.1
 
 step_from_fits : (e : Endpoint) (phase : OpenPhase) (my : Pair) (held : Held) → FitsEndpoint e → FitsPair my → FitsHeld held
-    → TurnFits (step_by (may_go_on e) (phase_at e phase my held) phase my held)
+    → TurnFits (step_if_acknowledged (may_continue_shutdown e) (endpoint_in_phase e phase my held) phase my held)
 step_from_fits e phase my held h own fits =
-    step_by_fits (may_go_on e) (phase_at e phase my held) phase my held (record { valid = h.valid; options = h.options; core = (own, fits); t1 = tt }) own fits
+    step_by_fits (may_continue_shutdown e) (endpoint_in_phase e phase my held) phase my held (record { valid = h.valid; options = h.options; core = (own, fits); t1 = tt }) own fits
 
 -- ---- the user's call
 
 -- as above, where T1 runs no longer
 stopped_fits : (e : Endpoint) (my : Pair) (held : Held) → FitsEndpoint e → FitsPair my → FitsHeld held
-    → TurnFits (step_by (may_go_on e) (phase_at (t1_stopped e) shutdown_pending my held) shutdown_pending my held)
+    → TurnFits (step_if_acknowledged (may_continue_shutdown e) (endpoint_in_phase (t1_stopped e) shutdown_pending my held) shutdown_pending my held)
 stopped_fits e my held h own fits =
-    step_by_fits (may_go_on e) (phase_at (t1_stopped e) shutdown_pending my held) shutdown_pending my held
+    step_by_fits (may_continue_shutdown e) (endpoint_in_phase (t1_stopped e) shutdown_pending my held) shutdown_pending my held
     (record { valid = h.valid; options = h.options; core = (own, fits); t1 = tt }) own fits
 
 echoed_fits : (follows : Bool) (e : Endpoint) (my : Pair) (held : Held) → FitsEndpoint e → FitsPair my → FitsHeld held → TurnFits (shut_down_echoed follows e my held)
@@ -172,7 +172,7 @@ again_fits e (open_in shutdown_received my held) h own = still_fits e h
 again_fits e (open_in shutdown_ack_sent my held) h own = to_peer_fits e held shutdown_ack h own.1 shutdown_ack_sendable
 
 pub t2_again_fits : (e : Endpoint) → FitsEndpoint e → TurnFits (t2_again_outcome e)
-t2_again_fits e h = again_fits (t2_goes_on e) e.core (record { valid = h.valid; options = h.options; core = h.core; t1 = h.t1 }) h.core
+t2_again_fits e h = again_fits (endpoint_with_t2_continued e) e.core (record { valid = h.valid; options = h.options; core = h.core; t1 = h.t1 }) h.core
 
 repeated_fits : (e : Endpoint) (held : Held) → FitsEndpoint e → FitsHeld held → TurnFits (shutdown_repeated e held)
 repeated_fits e held h fits =

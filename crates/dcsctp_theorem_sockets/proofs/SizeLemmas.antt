@@ -5,13 +5,13 @@ use Rattle.std.proofs.lemmas.List.Folds.{flat_map-map}
 use Rattle.dcsctp_spec_lemmas.specs.wire.Spelling.{chunk_bytes, header_bytes, checksum_field, packet_bytes_of}
 use Rattle.dcsctp_spec_lemmas.specs.types.declared.options.Options.{Options}
 use Rattle.dcsctp_spec_lemmas.specs.types.Settings.{packet_size_limit, Ports, ports_of}
-use Rattle.dcsctp_spec_lemmas.specs.spec.Cookie.{cookie_at}
-use Rattle.dcsctp_spec_lemmas.specs.spec.endpoint.Event.{Event, sent, event_map, packets_in}
+use Rattle.dcsctp_spec_lemmas.specs.spec.Cookie.{cookie_of_bytes}
+use Rattle.dcsctp_spec_lemmas.specs.spec.endpoint.Event.{Event, sent, event_map, packets_of_events}
 use Rattle.dcsctp_spec_lemmas.specs.spec.Packet.{Content, init, init_ack, cookie_echo, cookie_ack, re_config, abort, shutdown, shutdown_ack, shutdown_complete, plain, chunk_out, Emission, emission_bytes}
 use Rattle.dcsctp_spec_lemmas.specs.spec.endpoint.Endpoint.{Endpoint, fresh_endpoint}
 use Rattle.dcsctp_spec_lemmas.specs.spec.endpoint.Outcome.{Outcome, contents_len}
 use Rattle.dcsctp_spec_lemmas.specs.spec.endpoint.Turn.{Input, arrival, refusal, packet_begins, chunk_input, packet_ends, act_input, user_sets, user_sends, user_resets, user_takes, timer_expires, time_passes, restores, has_data_chunk, ContentTurn, ActTurn}
-use Rattle.dcsctp_spec_lemmas.specs.spec.endpoint.TimerOutcomes.{t1_goes_on}
+use Rattle.dcsctp_spec_lemmas.specs.spec.endpoint.TimerOutcomes.{endpoint_with_t1_continued}
 use Rattle.dcsctp_spec_lemmas.specs.spec.association.Acts.{Act, connect, t1_expires, shut_down, step_of_shutdown, shutdown_repeats, abort_with, hands_over, flushes, request_again, request_renewed}
 use Rattle.dcsctp_spec_lemmas.specs.spec.endpoint.CallTurns.{Transition, IsTurn, AlongTurns, events_of}
 use Rattle.dcsctp_spec_lemmas.proofs.OneAnswerLemmas.{init_by}
@@ -35,7 +35,7 @@ chunk_sizes : (limit : ℕ) (e : Endpoint) (tag : ℕ) (content : Content) (o : 
 chunk_sizes limit e tag (init theirs) o turn h =
     subst (TurnSizes limit) (sym turn.2) (init_by (TurnSizes limit) e theirs turn.0 turn.1 (h, tt) (init_sizes limit e theirs e.core turn.0 turn.1 h))
 chunk_sizes limit e tag (init_ack theirs cookie) o turn h = subst (TurnSizes limit) (sym turn.3) (init_ack_sizes limit e theirs cookie e.core turn.0 turn.1 turn.2 h)
-chunk_sizes limit e tag (cookie_echo bytes) o turn h = subst (TurnSizes limit) (sym turn.3) (echo_sizes limit e e.core tag (cookie_at bytes) turn.0 turn.1 turn.2 h)
+chunk_sizes limit e tag (cookie_echo bytes) o turn h = subst (TurnSizes limit) (sym turn.3) (echo_sizes limit e e.core tag (cookie_of_bytes bytes) turn.0 turn.1 turn.2 h)
 chunk_sizes limit e tag cookie_ack o turn h = subst (TurnSizes limit) (sym turn.2) (cookie_ack_sizes limit e e.core turn.0 turn.1 h)
 chunk_sizes limit e tag (re_config parameters) o turn h =
     content_by e tag (re_config parameters) o (λ dropped. subst (TurnSizes limit) (sym dropped) (h, tt)) (λ handled. reset_sizes limit e e.core parameters o handled h) turn
@@ -48,7 +48,7 @@ chunk_sizes limit e tag (plain chunk) o turn h =
 
 act_sizes : (limit : ℕ) (e : Endpoint) (act : Act) (o : Outcome) → IsMade act → ActTurn e act o → AtLimit limit e → TurnSizes limit o
 act_sizes limit e connect o may turn h = subst (TurnSizes limit) (sym turn.2) (connect_sizes limit e e.core turn.0 turn.1 h)
-act_sizes limit e (t1_expires true) o may turn h = subst (TurnSizes limit) (sym turn.2) (again_sizes limit (t1_goes_on e) e.core turn.0 turn.1 h)
+act_sizes limit e (t1_expires true) o may turn h = subst (TurnSizes limit) (sym turn.2) (again_sizes limit (endpoint_with_t1_continued e) e.core turn.0 turn.1 h)
 act_sizes limit e (t1_expires false) o may turn h = subst (TurnSizes limit) (sym turn) (gives_up_sizes limit e e.core h)
 act_sizes limit e shut_down o may turn h = subst (TurnSizes limit) (sym turn) (shut_down_sizes limit e e.core h)
 act_sizes limit e step_of_shutdown o may turn h = subst (TurnSizes limit) (sym turn) (step_sizes limit e e.core h)
@@ -104,7 +104,7 @@ emission_len ports emission =
     ∙ ap (λ (bytes : List ℕ). 12 + length bytes) (flat_map-map chunk_bytes chunk_out emission.packet.contents)
 
 shown_short : (options : Options) (events : List (Event Emission)) → AllShort (packet_size_limit options) events
-    → AllByRecursion (IsWithinLimit options) (packets_in (map (event_map (emission_bytes (ports_of options))) events))
+    → AllByRecursion (IsWithinLimit options) (packets_of_events (map (event_map (emission_bytes (ports_of options))) events))
 shown_short options [] each = tt
 shown_short options (sent emission ∷ events) each =
     let len = emission_len (ports_of options) emission in

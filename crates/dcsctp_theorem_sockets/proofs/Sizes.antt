@@ -5,7 +5,7 @@ use Rattle.std.proofs.lemmas.Bool.Decides.{nat_tests}
 use Rattle.dcsctp_spec_lemmas.specs.types.declared.options.Options.{Options}
 use Rattle.dcsctp_spec_lemmas.specs.types.declared.word.Word.{Word}
 use Rattle.dcsctp_spec_lemmas.specs.types.Settings.{packet_size_limit}
-use Rattle.dcsctp_spec_lemmas.specs.spec.endpoint.Event.{Event, sent, packets_in}
+use Rattle.dcsctp_spec_lemmas.specs.spec.endpoint.Event.{Event, sent, packets_of_events}
 use Rattle.dcsctp_spec_lemmas.specs.spec.Packet.{Content, cookie_echo, Emission}
 use Rattle.dcsctp_spec_lemmas.specs.spec.endpoint.Endpoint.{Endpoint}
 use Rattle.dcsctp_spec_lemmas.specs.spec.endpoint.Outcome.{Outcome, contents_len, fits, sends, quiet, emits}
@@ -24,7 +24,7 @@ IsShort limit emission = 12 + contents_len emission.packet.contents ≤ limit
 
 -- each packet among these events
 abbrev pub AllShort : ℕ → List (Event Emission) → Type 0
-AllShort limit events = AllByRecursion (IsShort limit) (packets_in events)
+AllShort limit events = AllByRecursion (IsShort limit) (packets_of_events events)
 
 -- The turn keeps the limit, and no packet of it is longer.
 abbrev pub TurnSizes : ℕ → Outcome → Type 0
@@ -54,7 +54,7 @@ flush_sizes limit e draft answers allowed h short =
     let kept = flush_keeps first_ask (packets_allowed e.options.max_burst e.core) e draft answers allowed in
     let limits = flush_keeps_limits e draft answers allowed (omega (arith, short, h.0)) in (
       (subst (λ (o : Options). packet_size_limit o ≡ limit) (sym kept.options) h.0, h.1),
-      subst (λ (n : ℕ). AllByRecursion (IsShort n) (packets_in (flush_of e draft answers).events)) h.0 limits.sizes,
+      subst (λ (n : ℕ). AllByRecursion (IsShort n) (packets_of_events (flush_of e draft answers).events)) h.0 limits.sizes,
     )
 
 -- a flush after these events, with these chunks in its first packet

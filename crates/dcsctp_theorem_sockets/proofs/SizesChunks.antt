@@ -14,18 +14,18 @@ use Rattle.dcsctp_spec_lemmas.specs.types.Settings.{packet_size_limit}
 use Rattle.dcsctp_spec_lemmas.specs.spec.endpoint.Event.{Event}
 use Rattle.dcsctp_spec_lemmas.specs.spec.Packet.{Plain, plain, unknown, heartbeat, heartbeat_ack, unworked, error_of, chunk_out, Content, re_config, Emission}
 use Rattle.dcsctp_spec_lemmas.specs.spec.Reconfiguration.{RequestedReset, ResetParameter, renewed_reset}
-use Rattle.dcsctp_spec_lemmas.specs.spec.queues.Arrivals.{data_arrival, i_data_arrival, skipped_in, messages_skipped_in}
-use Rattle.dcsctp_spec_lemmas.specs.spec.endpoint.Endpoint.{Endpoint, Core, closed, cookie_wait, cookie_echoed, open_in, OutstandingRequest, held_in}
+use Rattle.dcsctp_spec_lemmas.specs.spec.queues.Arrivals.{data_arrival, i_data_arrival, named_skips, skipped_messages}
+use Rattle.dcsctp_spec_lemmas.specs.spec.endpoint.Endpoint.{Endpoint, Core, closed, cookie_wait, cookie_echoed, open_in, OutstandingRequest, held_by_core}
 use Rattle.dcsctp_spec_lemmas.specs.spec.endpoint.Outcome.{Outcome, contents_len, still, fits, answers_with, to_peer}
 use Rattle.dcsctp_spec_lemmas.specs.spec.association.Effect.{Effect}
 use Rattle.dcsctp_spec_lemmas.specs.spec.association.FlushChanges.{reset_request}
 use Rattle.dcsctp_spec_lemmas.specs.spec.association.ResetChanges.{HandledParameters}
 use Rattle.dcsctp_spec_lemmas.specs.spec.endpoint.FlushOutcomes.{Answer, draft_to, flush_of}
-use Rattle.dcsctp_spec_lemmas.specs.spec.endpoint.HeartbeatOutcomes.{heartbeat_outcome, info_in, counter_of, answered, heartbeat_ack_outcome, interval_expired, beating, heartbeat_emission, beat, interval_outcome, is_exhausted}
+use Rattle.dcsctp_spec_lemmas.specs.spec.endpoint.HeartbeatOutcomes.{heartbeat_outcome, first_heartbeat_info, counter_of, endpoint_answered, heartbeat_ack_outcome, interval_expired, beating, heartbeat_emission, beat, interval_outcome, is_exhausted}
 use Rattle.dcsctp_spec_lemmas.specs.spec.endpoint.OwnTimers.{OwnTimer, acknowledgement_delay, retransmission, heartbeat_interval, heartbeat_timeout, reconfiguration, TimerTurn}
-use Rattle.dcsctp_spec_lemmas.specs.spec.endpoint.PlainOutcomes.{PlainTurn, PlainTurnBy, violation_at, is_reported, after_unknown, unknown_bytes, unknown_error, unknown_chunk_outcome, error_outcome}
-use Rattle.dcsctp_spec_lemmas.specs.spec.endpoint.ReconfigurationOutcomes.{reset_again, request_emitted, renewed_request_where, request_renewed, request_unless, is_renewed, request_errors, request_expired, reconfiguration_outcome}
-use Rattle.dcsctp_spec_lemmas.specs.spec.endpoint.ResetOutcomes.{request_state, renewable_left, parameters_handled_in, OwnAnswer, answered_in, reset_events, reset_events_of, resets_handled, responses_outcome, responses_by, ResponseAnswers, WorksResets, ResetTurn}
+use Rattle.dcsctp_spec_lemmas.specs.spec.endpoint.PlainOutcomes.{PlainTurn, PlainTurnUnlessViolating, violation_by_core, is_reported, after_unknown, unknown_bytes, unknown_error, unknown_chunk_outcome, error_outcome}
+use Rattle.dcsctp_spec_lemmas.specs.spec.endpoint.ReconfigurationOutcomes.{reset_again, request_emitted, renewed_request_if_fitting, request_renewed, request_unless, is_renewed, request_errors, request_expired, reconfiguration_outcome}
+use Rattle.dcsctp_spec_lemmas.specs.spec.endpoint.ResetOutcomes.{request_state, renewable_left, handled_parameters_of, OwnAnswer, answer_to_own, reset_events, reset_events_of, resets_handled, responses_outcome, responses_unless_refused, ResponseAnswers, HandlesResets, ResetTurn}
 use Rattle.dcsctp_spec_laws.proofs.ResetLemmas.{AreResets, nothing, acceptance, performance, renewal, completion, failure, chunk_brings, worked_keeps}
 use Rattle.dcsctp_spec_lemmas.proofs.AbortLemmas.{by_error_outcome}
 use Rattle.dcsctp_spec_lemmas.proofs.OneAnswerLemmas.{answered_by}
@@ -78,7 +78,7 @@ heartbeat_sizes limit e (cookie_wait my) parameters h = (h, tt)
 heartbeat_sizes limit e (cookie_echoed my held cookie) parameters h = answer_sizes limit e (to_peer held (plain (heartbeat_ack parameters))) h
 heartbeat_sizes limit e (open_in phase my held) parameters h = answer_sizes limit e (to_peer held (plain (heartbeat_ack parameters))) h
 
-counted_sizes : (b : Bool) (limit : ℕ) (e : Endpoint) → AtLimit limit e → TurnSizes limit (cond b (still (answered e)) (still e))
+counted_sizes : (b : Bool) (limit : ℕ) (e : Endpoint) → AtLimit limit e → TurnSizes limit (cond b (still (endpoint_answered e)) (still e))
 counted_sizes true limit e h = (h, tt)
 counted_sizes false limit e h = (h, tt)
 
@@ -102,7 +102,7 @@ request_sizes limit e held None reset h = (h, tt)
 request_sizes limit e held (Some number) reset h = emits_sizes limit e [] (to_peer held (reset_request number reset)) h
 
 renewed_sizes : (b : Bool) (limit : ℕ) (e : Endpoint) (held : Held) (number : ℕ) (request : Content) → fits e (to_peer held request) ≡ b → AtLimit limit e
-    → TurnSizes limit (renewed_request_where b e held number request)
+    → TurnSizes limit (renewed_request_if_fitting b e held number request)
 renewed_sizes true limit e held number request is h = packet_sizes true limit e [] (to_peer held request) is h
 renewed_sizes false limit e held number request is h = (h, tt)
 
@@ -129,7 +129,7 @@ timer_sizes limit e acknowledgement_delay o turn h = subst (TurnSizes limit) (sy
 timer_sizes limit e retransmission o turn h = loss_sizes limit e e.queues.transfer o turn h
 timer_sizes limit e heartbeat_interval o turn h = subst (TurnSizes limit) (sym turn) (interval_sizes limit e e.core h)
 timer_sizes limit e heartbeat_timeout o turn h = subst (TurnSizes limit) (sym turn) (h, tt)
-timer_sizes limit e reconfiguration o turn h = subst (TurnSizes limit) (sym turn) (reconfiguration_sizes limit e (held_in e.core) e.outstanding h)
+timer_sizes limit e reconfiguration o turn h = subst (TurnSizes limit) (sym turn) (reconfiguration_sizes limit e (held_by_core e.core) e.outstanding h)
 
 -- ---- RE-CONFIG
 
@@ -147,7 +147,7 @@ response_sizes limit e held [] h = (h, tt)
 response_sizes limit e held (response ∷ responses) h = answer_sizes limit e (to_peer held (re_config (response ∷ responses))) h
 
 sent_sizes : (refused : Bool) (limit : ℕ) (e : Endpoint) (told : List (Event Emission)) (held : Held) (parameters responses : List ResetParameter) (answers : List Answer)
-    → ResponseAnswers refused e held responses answers → AtLimit limit e → AllShort limit told → TurnSizes limit (responses_by refused e told held parameters responses answers)
+    → ResponseAnswers refused e held responses answers → AtLimit limit e → AllShort limit told → TurnSizes limit (responses_unless_refused refused e told held parameters responses answers)
 sent_sizes true limit e told held parameters responses answers allowed h before = (h, short_append limit told _ before tt)
 sent_sizes false limit e told held parameters responses answers allowed h before =
     let first : TurnSizes limit (responses_outcome e held responses) = response_sizes limit e held responses h in
@@ -157,11 +157,11 @@ sent_sizes false limit e told held parameters responses answers allowed h before
       short_append limit (told ++ sent.events) (flush_of sent.after (draft_to held) answers).events (short_append limit told sent.events before first.1) flushed.1,
     )
 
-works_sizes : (limit : ℕ) (e : Endpoint) (my : Pair) (held : Held) (parameters : List ResetParameter) (o : Outcome) → WorksResets e my held parameters o → AtLimit limit e → TurnSizes limit o
+works_sizes : (limit : ℕ) (e : Endpoint) (my : Pair) (held : Held) (parameters : List ResetParameter) (o : Outcome) → HandlesResets e my held parameters o → AtLimit limit e → TurnSizes limit o
 works_sizes limit e my held parameters o turn h =
-    let w : HandledParameters = parameters_handled_in e my held parameters in
+    let w : HandledParameters = handled_parameters_of e my held parameters in
     let brought = chunk_brings my (request_state e held parameters) held parameters in
-    let answer : OwnAnswer = answered_in held w parameters in
+    let answer : OwnAnswer = answer_to_own held w parameters in
     let kept = worked_keeps e answer w.held turn.left (renewable_left e held w parameters) in
     subst (TurnSizes limit) (sym turn.is)
     (sent_sizes w.is_refused limit (resets_handled e answer w.held turn.left (renewable_left e held w parameters)) (reset_events_of e parameters w.effects) w.held parameters w.answers turn.answers turn.allowed
@@ -175,18 +175,18 @@ reset_sizes limit e (open_in phase my held) parameters o turn h = works_sizes li
 
 -- ---- each
 
-plain_by : (limit : ℕ) (e : Endpoint) (chunk : Plain) (violation : Option Violation) (o : Outcome) → PlainTurnBy e chunk violation o → AtLimit limit e → TurnSizes limit o
+plain_by : (limit : ℕ) (e : Endpoint) (chunk : Plain) (violation : Option Violation) (o : Outcome) → PlainTurnUnlessViolating e chunk violation o → AtLimit limit e → TurnSizes limit o
 plain_by limit e chunk (Some violation) o turn h = subst (TurnSizes limit) (sym turn) (aborting_sizes limit e e.core (reasons.Violation violation) h)
 plain_by limit e (unknown type flags value) None o turn h = subst (TurnSizes limit) (sym turn) (unknown_sizes limit e e.core type (unknown_bytes type flags value) (is_reported type) h)
 plain_by limit e (heartbeat parameters) None o turn h = subst (TurnSizes limit) (sym turn) (heartbeat_sizes limit e e.core parameters h)
-plain_by limit e (heartbeat_ack parameters) None o turn h = subst (TurnSizes limit) (sym turn) (heartbeat_ack_sizes limit e (counter_of (info_in parameters)) h)
+plain_by limit e (heartbeat_ack parameters) None o turn h = subst (TurnSizes limit) (sym turn) (heartbeat_ack_sizes limit e (counter_of (first_heartbeat_info parameters)) h)
 plain_by limit e (unworked (data_chunk chunk)) None o turn h = data_sizes limit e (data_arrival chunk) o turn h
 plain_by limit e (unworked (i_data_chunk chunk)) None o turn h = data_sizes limit e (i_data_arrival chunk) o turn h
 plain_by limit e (unworked (sack_chunk chunk)) None o turn h = sack_sizes limit e e.queues.transfer chunk o turn h
-plain_by limit e (unworked (forward_tsn_chunk tsn streams)) None o turn h = forward_sizes limit e e.queues.transfer tsn (skipped_in streams) o turn h
-plain_by limit e (unworked (i_forward_tsn_chunk tsn streams)) None o turn h = forward_sizes limit e e.queues.transfer tsn (messages_skipped_in streams) o turn h
+plain_by limit e (unworked (forward_tsn_chunk tsn streams)) None o turn h = forward_sizes limit e e.queues.transfer tsn (named_skips streams) o turn h
+plain_by limit e (unworked (i_forward_tsn_chunk tsn streams)) None o turn h = forward_sizes limit e e.queues.transfer tsn (skipped_messages streams) o turn h
 plain_by limit e (unworked (error_chunk causes)) None o turn h = subst (TurnSizes limit) (sym turn) (error_sizes limit e e.core causes h)
 plain_by limit e (unworked chunk) None o turn h = subst (TurnSizes limit) (sym turn) (h, tt)
 
 pub plain_sizes : (limit : ℕ) (e : Endpoint) (chunk : Plain) (o : Outcome) → PlainTurn e chunk o → AtLimit limit e → TurnSizes limit o
-plain_sizes limit e chunk o turn h = plain_by limit e chunk (violation_at e.core chunk) o turn h
+plain_sizes limit e chunk o turn h = plain_by limit e chunk (violation_by_core e.core chunk) o turn h

@@ -8,7 +8,7 @@ use Rattle.dcsctp_spec_lemmas.specs.spec.endpoint.Endpoint.{Endpoint, Core, clos
 use Rattle.dcsctp_spec_lemmas.specs.spec.endpoint.Outcome.{Outcome, contents_len}
 use Rattle.dcsctp_spec_lemmas.specs.spec.endpoint.Turn.{BeginTurn}
 use Rattle.dcsctp_spec_lemmas.specs.spec.endpoint.EndOutcomes.{reflected_outcome}
-use Rattle.dcsctp_spec_lemmas.specs.spec.endpoint.ShutdownOutcomes.{shut_down_echoed, received_tsn, sends_shutdown, sends_shutdown_ack, phase_at, t2_begun, may_go_on, step_by, step_outcome, t1_stopped, shut_down_outcome, shutdown_outcome, completed_outcome, shutdown_ack_outcome, shutdown_complete_outcome, t2_goes_on, shutdown_sent_again, t2_again_outcome}
+use Rattle.dcsctp_spec_lemmas.specs.spec.endpoint.ShutdownOutcomes.{shut_down_echoed, received_tsn, sends_shutdown, sends_shutdown_ack, endpoint_in_phase, t2_begun, may_continue_shutdown, step_if_acknowledged, step_outcome, t1_stopped, shut_down_outcome, shutdown_outcome, completed_outcome, shutdown_ack_outcome, shutdown_complete_outcome, endpoint_with_t2_continued, shutdown_sent_again, t2_again_outcome}
 use Rattle.dcsctp_theorem_sockets.proofs.Sizes.{AtLimit, TurnSizes}
 
 -- ---- what is sent
@@ -34,24 +34,24 @@ answers_sizes limit e held h = (h, (omega (arith, h.1, ack_len), tt))
 
 -- ---- a step of it
 
-step_by_sizes : (b : Bool) (limit : ℕ) (e : Endpoint) (phase : OpenPhase) (my : Pair) (held : Held) → AtLimit limit e → TurnSizes limit (step_by b e phase my held)
+step_by_sizes : (b : Bool) (limit : ℕ) (e : Endpoint) (phase : OpenPhase) (my : Pair) (held : Held) → AtLimit limit e → TurnSizes limit (step_if_acknowledged b e phase my held)
 step_by_sizes false limit e phase my held h = (h, tt)
 step_by_sizes true limit e established my held h = (h, tt)
-step_by_sizes true limit e shutdown_pending my held h = asks_sizes limit (t2_begun (phase_at e shutdown_sent my held)) held h
+step_by_sizes true limit e shutdown_pending my held h = asks_sizes limit (t2_begun (endpoint_in_phase e shutdown_sent my held)) held h
 step_by_sizes true limit e shutdown_sent my held h = (h, tt)
-step_by_sizes true limit e shutdown_received my held h = answers_sizes limit (t2_begun (phase_at e shutdown_ack_sent my held)) held h
+step_by_sizes true limit e shutdown_received my held h = answers_sizes limit (t2_begun (endpoint_in_phase e shutdown_ack_sent my held)) held h
 step_by_sizes true limit e shutdown_ack_sent my held h = (h, tt)
 
 pub step_sizes : (limit : ℕ) (e : Endpoint) (core : Core) → AtLimit limit e → TurnSizes limit (step_outcome e core)
 step_sizes limit e closed h = (h, tt)
 step_sizes limit e (cookie_wait my) h = (h, tt)
 step_sizes limit e (cookie_echoed my held cookie) h = (h, tt)
-step_sizes limit e (open_in phase my held) h = step_by_sizes (may_go_on e) limit e phase my held h
+step_sizes limit e (open_in phase my held) h = step_by_sizes (may_continue_shutdown e) limit e phase my held h
 
 -- from another phase
 step_from_sizes : (limit : ℕ) (e : Endpoint) (phase : OpenPhase) (my : Pair) (held : Held) → AtLimit limit e
-    → TurnSizes limit (step_by (may_go_on e) (phase_at e phase my held) phase my held)
-step_from_sizes limit e phase my held h = step_by_sizes (may_go_on e) limit (phase_at e phase my held) phase my held h
+    → TurnSizes limit (step_if_acknowledged (may_continue_shutdown e) (endpoint_in_phase e phase my held) phase my held)
+step_from_sizes limit e phase my held h = step_by_sizes (may_continue_shutdown e) limit (endpoint_in_phase e phase my held) phase my held h
 
 -- ---- the user's call
 
@@ -77,9 +77,9 @@ shutdown_sizes limit e (cookie_wait my) h = (h, tt)
 shutdown_sizes limit e (cookie_echoed my held cookie) h = (h, tt)
 shutdown_sizes limit e (open_in established my held) h = step_from_sizes limit e shutdown_received my held h
 shutdown_sizes limit e (open_in shutdown_pending my held) h = step_from_sizes limit e shutdown_received my held h
-shutdown_sizes limit e (open_in shutdown_sent my held) h = answers_sizes limit (t2_begun (phase_at e shutdown_ack_sent my held)) held h
+shutdown_sizes limit e (open_in shutdown_sent my held) h = answers_sizes limit (t2_begun (endpoint_in_phase e shutdown_ack_sent my held)) held h
 shutdown_sizes limit e (open_in shutdown_received my held) h = (h, tt)
-shutdown_sizes limit e (open_in shutdown_ack_sent my held) h = answers_sizes limit (t2_begun (phase_at e shutdown_ack_sent my held)) held h
+shutdown_sizes limit e (open_in shutdown_ack_sent my held) h = answers_sizes limit (t2_begun (endpoint_in_phase e shutdown_ack_sent my held)) held h
 
 reflected_sizes : (limit : ℕ) (e : Endpoint) (tag : ℕ) → AtLimit limit e → TurnSizes limit (reflected_outcome e tag)
 reflected_sizes limit e tag h = let len = complete_len true in (h, (omega (arith, h.1, len), tt))
@@ -120,7 +120,7 @@ again_sizes limit e (open_in shutdown_received my held) h = (h, tt)
 again_sizes limit e (open_in shutdown_ack_sent my held) h = answers_sizes limit e held h
 
 pub t2_again_sizes : (limit : ℕ) (e : Endpoint) → AtLimit limit e → TurnSizes limit (t2_again_outcome e)
-t2_again_sizes limit e h = again_sizes limit (t2_goes_on e) e.core h
+t2_again_sizes limit e h = again_sizes limit (endpoint_with_t2_continued e) e.core h
 
 pub begin_sizes : (limit : ℕ) (e : Endpoint) (core : Core) (has : Bool) (o : Outcome) → BeginTurn e core has o → AtLimit limit e → TurnSizes limit o
 begin_sizes limit e closed has o turn h = subst (TurnSizes limit) (sym turn) (h, tt)

@@ -19,9 +19,9 @@ use Rattle.dcsctp_spec_lemmas.specs.spec.endpoint.Endpoint.{Endpoint, Core, clos
 use Rattle.dcsctp_spec_lemmas.specs.spec.endpoint.Outcome.{Outcome, contents_len, emits, to_peer}
 use Rattle.dcsctp_spec_lemmas.specs.spec.endpoint.FlushOutcomes.{Answer, draft_to, FlushAnswers, flush_answered}
 use Rattle.dcsctp_spec_lemmas.specs.spec.endpoint.EndOutcomes.{ended_outcome, abort_outcome, abort_to, end_of, aborting_outcome}
-use Rattle.dcsctp_spec_lemmas.specs.spec.endpoint.HandshakeOutcomes.{pair_from, renewed_pair, init_ack_emission, init_outcome, init_emission, awaits_init_ack, connect_outcome, no_cookie_text, abort_emission, awaits_cookie_ack, InitAckAnswers, accepted_init_ack_by, init_ack_by, connected_after, CookieAckAnswers, cookie_ack_by}
-use Rattle.dcsctp_spec_lemmas.specs.spec.endpoint.TimerOutcomes.{AgainAnswers, again_by, t1_gives_up_outcome}
-use Rattle.dcsctp_spec_lemmas.specs.spec.endpoint.CookieEchoOutcomes.{resolved_now, established_by, cookie_ack_emission, EstablishAnswers, establish_by, queues_kept, queues_begun, queues_collided, restart_by, RestartAnswers, restart_by_where, MaintainAnswers, maintain_by, ResolvedAnswers, resolved_by, EchoedAnswers, cookie_echo_by}
+use Rattle.dcsctp_spec_lemmas.specs.spec.endpoint.HandshakeOutcomes.{pair_from, renewed_pair, init_ack_emission, init_outcome, init_emission, awaits_init_ack, connect_outcome, no_cookie_text, abort_emission, awaits_cookie_ack, InitAckAnswers, accept_init_ack_with_flush, init_ack_with_flush, connected_after, CookieAckAnswers, cookie_ack_with_flush}
+use Rattle.dcsctp_spec_lemmas.specs.spec.endpoint.TimerOutcomes.{AgainAnswers, send_again_with_flush, t1_gives_up_outcome}
+use Rattle.dcsctp_spec_lemmas.specs.spec.endpoint.CookieEchoOutcomes.{resolved_now, endpoint_established, cookie_ack_emission, EstablishAnswers, establish_with_flush, queues_kept, queues_begun, queues_collided, restart_with_flush, RestartAnswers, restart_with_flush_by_core, MaintainAnswers, maintain_with_flush, ResolvedAnswers, resolve_with_flush, EchoedAnswers, cookie_echo_with_flush}
 use Rattle.dcsctp_spec_lemmas.specs.spec.association.CookieEchoChanges.{held_by_cookie, shutting_down_error, stale_error, Resolution, establish_new, restart, simultaneous_init, discard, maintain_existing, invalid_tag, stale}
 use Rattle.dcsctp_spec_lemmas.proofs.AbortLemmas.{by_abort_outcome}
 use Rattle.dcsctp_theorem_sockets.proofs.Sizes.{AtLimit, AllShort, TurnSizes, short_append, emits_sizes, flushed_sizes, echoed_sizes}
@@ -49,20 +49,20 @@ ended_sizes : (limit : ℕ) (before : Outcome) (event : Event Emission) → Turn
 ended_sizes limit before event h none = (h.0, short_append limit before.events (event ∷ []) h.1 none)
 
 accepted_sizes : (limit : ℕ) (e : Endpoint) (my : Pair) (theirs : Introduction) (cookie : Option (List ℕ)) (word : ℕ) (answers : List Answer)
-    → InitAckAnswers e theirs cookie (cookie_wait my) word answers → AtLimit limit e → TurnSizes limit (accepted_init_ack_by (flush_answered answers) e my theirs cookie word)
+    → InitAckAnswers e theirs cookie (cookie_wait my) word answers → AtLimit limit e → TurnSizes limit (accept_init_ack_with_flush (flush_answered answers) e my theirs cookie word)
 accepted_sizes limit e my theirs None word answers allowed h =
     ended_sizes limit (emits e [] (abort_emission theirs.pair.tag)) (aborted ProtocolViolation no_cookie_text) (emits_sizes limit e [] (abort_emission theirs.pair.tag) h) tt
 accepted_sizes limit e my theirs (Some cookie) word answers allowed h =
     echoed_sizes limit (awaits_cookie_ack e my theirs cookie word) (U64 word ∷ []) theirs.pair.tag cookie answers allowed h
 
 pub init_ack_sizes : (limit : ℕ) (e : Endpoint) (theirs : Introduction) (cookie : Option (List ℕ)) (core : Core) (word : ℕ) (answers : List Answer) → InitAckAnswers e theirs cookie core word answers
-    → AtLimit limit e → TurnSizes limit (init_ack_by (flush_answered answers) e theirs cookie core word)
+    → AtLimit limit e → TurnSizes limit (init_ack_with_flush (flush_answered answers) e theirs cookie core word)
 init_ack_sizes limit e theirs cookie closed word answers allowed h = (h, tt)
 init_ack_sizes limit e theirs cookie (cookie_wait my) word answers allowed h = accepted_sizes limit e my theirs cookie word answers allowed h
 init_ack_sizes limit e theirs cookie (cookie_echoed my held echoed) word answers allowed h = (h, tt)
 init_ack_sizes limit e theirs cookie (open_in phase my held) word answers allowed h = (h, tt)
 
-pub cookie_ack_sizes : (limit : ℕ) (e : Endpoint) (core : Core) (answers : List Answer) → CookieAckAnswers e core answers → AtLimit limit e → TurnSizes limit (cookie_ack_by (flush_answered answers) e core)
+pub cookie_ack_sizes : (limit : ℕ) (e : Endpoint) (core : Core) (answers : List Answer) → CookieAckAnswers e core answers → AtLimit limit e → TurnSizes limit (cookie_ack_with_flush (flush_answered answers) e core)
 cookie_ack_sizes limit e closed answers allowed h = (h, tt)
 cookie_ack_sizes limit e (cookie_wait my) answers allowed h = (h, tt)
 cookie_ack_sizes limit e (cookie_echoed my held cookie) answers allowed h =
@@ -83,12 +83,12 @@ acknowledged_sizes limit e words events held cookie answers allowed h before =
     flushed_sizes limit e words events (cookie_ack_emission held cookie).with_checksum cookie.addressee.tag (cookie_ack ∷ []) answers allowed h before (omega (arith, h.1, ack_len))
 
 established_sizes : (limit : ℕ) (e : Endpoint) (cookie : Cookie) (queues : EndpointQueues) (tie : ℕ) (events : List (Event Emission)) (answers : List Answer)
-    → EstablishAnswers e cookie queues tie answers → AtLimit limit e → AllShort limit events → TurnSizes limit (establish_by (flush_answered answers) e cookie queues tie events)
+    → EstablishAnswers e cookie queues tie answers → AtLimit limit e → AllShort limit events → TurnSizes limit (establish_with_flush (flush_answered answers) e cookie queues tie events)
 established_sizes limit e cookie queues tie events answers allowed h before =
-    acknowledged_sizes limit (established_by e cookie queues tie) (U64 tie ∷ []) events (held_by_cookie e.options cookie) cookie answers allowed h before
+    acknowledged_sizes limit (endpoint_established e cookie queues tie) (U64 tie ∷ []) events (held_by_cookie e.options cookie) cookie answers allowed h before
 
 begun_sizes : (limit : ℕ) (e : Endpoint) (cookie : Cookie) (tie : ℕ) (answers : List Answer) → EstablishAnswers e cookie (queues_begun e cookie) tie answers → AtLimit limit e
-    → TurnSizes limit (restart_by (flush_answered answers) e cookie tie)
+    → TurnSizes limit (restart_with_flush (flush_answered answers) e cookie tie)
 begun_sizes limit e cookie tie answers allowed h = established_sizes limit e cookie (queues_begun e cookie) tie (connection_restarted ∷ connected ∷ []) answers allowed h tt
 
 -- SHUTDOWN ACK and ERROR
@@ -102,7 +102,7 @@ unfolding other_bytes parameter_chunk_bytes parameter_bytes
 stale_len = refl
 
 restarted_sizes : (limit : ℕ) (e : Endpoint) (cookie : Cookie) (tie : ℕ) (core : Core) (answers : List Answer) → RestartAnswers e cookie tie core answers → AtLimit limit e
-    → TurnSizes limit (restart_by_where (flush_answered answers) e cookie tie core)
+    → TurnSizes limit (restart_with_flush_by_core (flush_answered answers) e cookie tie core)
 restarted_sizes limit e cookie tie closed answers allowed h = begun_sizes limit e cookie tie answers allowed h
 restarted_sizes limit e cookie tie (cookie_wait my) answers allowed h = begun_sizes limit e cookie tie answers allowed h
 restarted_sizes limit e cookie tie (cookie_echoed my held echoed) answers allowed h = begun_sizes limit e cookie tie answers allowed h
@@ -113,14 +113,14 @@ restarted_sizes limit e cookie tie (open_in shutdown_received my held) answers a
 restarted_sizes limit e cookie tie (open_in shutdown_ack_sent my held) answers allowed h = (h, (omega (arith, h.1, refusal_len), tt))
 
 maintained_sizes : (limit : ℕ) (e : Endpoint) (cookie : Cookie) (core : Core) (answers : List Answer) → MaintainAnswers e cookie core answers → AtLimit limit e
-    → TurnSizes limit (maintain_by (flush_answered answers) e cookie core)
+    → TurnSizes limit (maintain_with_flush (flush_answered answers) e cookie core)
 maintained_sizes limit e cookie closed answers allowed h = (h, tt)
 maintained_sizes limit e cookie (cookie_wait my) answers allowed h = (h, tt)
 maintained_sizes limit e cookie (cookie_echoed my held echoed) answers allowed h = acknowledged_sizes limit (connected_after e my held) [] (connected ∷ []) held cookie answers allowed h tt
 maintained_sizes limit e cookie (open_in phase my held) answers allowed h = acknowledged_sizes limit e [] [] held cookie answers allowed h tt
 
 resolved_sizes : (limit : ℕ) (e : Endpoint) (cookie : Cookie) (core : Core) (word : ℕ) (resolution : Resolution) (answers : List Answer) → ResolvedAnswers e cookie core word resolution answers
-    → AtLimit limit e → TurnSizes limit (resolved_by (flush_answered answers) e cookie core word resolution)
+    → AtLimit limit e → TurnSizes limit (resolve_with_flush (flush_answered answers) e cookie core word resolution)
 resolved_sizes limit e cookie core word establish_new answers allowed h = established_sizes limit e cookie (queues_kept e cookie) word (connected ∷ []) answers allowed h tt
 resolved_sizes limit e cookie core word restart answers allowed h = restarted_sizes limit e cookie word core answers allowed h
 resolved_sizes limit e cookie core word simultaneous_init answers allowed h = established_sizes limit e cookie (queues_collided e core cookie) word (connected ∷ []) answers allowed h tt
@@ -130,7 +130,7 @@ resolved_sizes limit e cookie core word invalid_tag answers allowed h = (h, tt)
 resolved_sizes limit e cookie core word stale answers allowed h = by_stale_outcome (TurnSizes limit) e cookie (h, (omega (arith, h.1, stale_len), tt)) (h, tt)
 
 pub echo_sizes : (limit : ℕ) (e : Endpoint) (core : Core) (header : ℕ) (found : Result Cookie (List ℕ)) (word : ℕ) (answers : List Answer) → EchoedAnswers e core header found word answers
-    → AtLimit limit e → TurnSizes limit (cookie_echo_by (flush_answered answers) e core header found word)
+    → AtLimit limit e → TurnSizes limit (cookie_echo_with_flush (flush_answered answers) e core header found word)
 echo_sizes limit e core header (Err text) word answers allowed h = (h, tt)
 echo_sizes limit e core header (Ok cookie) word answers allowed h = resolved_sizes limit e cookie core word (resolved_now e core header cookie) answers allowed h
 
@@ -153,7 +153,7 @@ aborting_sizes limit e (cookie_echoed my held cookie) reason h =
 aborting_sizes limit e (open_in phase my held) reason h =
     ended_sizes limit (emits e [] (abort_to held reason)) (end_of reason) (emits_sizes limit e [] (abort_to held reason) h) (end_short limit reason)
 
-pub again_sizes : (limit : ℕ) (e : Endpoint) (core : Core) (answers : List Answer) → AgainAnswers e core answers → AtLimit limit e → TurnSizes limit (again_by (flush_answered answers) e core)
+pub again_sizes : (limit : ℕ) (e : Endpoint) (core : Core) (answers : List Answer) → AgainAnswers e core answers → AtLimit limit e → TurnSizes limit (send_again_with_flush (flush_answered answers) e core)
 again_sizes limit e closed answers allowed h = (h, tt)
 again_sizes limit e (cookie_wait my) answers allowed h = emits_sizes limit e [] (init_emission e my) h
 again_sizes limit e (cookie_echoed my held cookie) answers allowed h = echoed_sizes limit e [] held.peer.tag cookie answers allowed h

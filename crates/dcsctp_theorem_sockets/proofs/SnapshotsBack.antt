@@ -9,7 +9,7 @@ use Rattle.dcsctp_spec_lemmas.specs.types.declared.kinds.ZeroChecksumAlternateEr
 use Rattle.dcsctp_spec_lemmas.specs.types.declared.options.Options.{Options}
 use Rattle.dcsctp_spec_lemmas.specs.spec.endpoint.Endpoint.{Endpoint, open_in, established}
 use Rattle.dcsctp_spec_lemmas.specs.types.Snapshot.{SendPart, ReceivePart, Snapshot, empty_received_part}
-use Rattle.dcsctp_spec_lemmas.specs.spec.SocketSnapshot.{capabilities_given, with_flight, with_received, connected_snapshot, snapshot_in}
+use Rattle.dcsctp_spec_lemmas.specs.spec.SocketSnapshot.{capabilities_given, with_flight, with_received, connected_snapshot, snapshot_by_core}
 use Rattle.dcsctp_spec_lemmas.specs.spec.Soundness.{UsesOwnMethod, IsSoundCore}
 use Rattle.dcsctp_spec_lemmas.specs.spec.association.ResumeChanges.{resumed_held}
 use Rattle.dcsctp_spec_lemmas.specs.spec.queues.Transfer.{Transfer}
@@ -50,7 +50,7 @@ held_is options e my held method =
 pub snapshots_bring_back : SnapshotsBringBack
 snapshots_bring_back e my held core sound =
     let here : IsSoundCore e.options (open_in established my held) = subst (IsSoundCore e.options) core sound in
-    let own = ap (snapshot_in e) core in (
+    let own = ap (snapshot_by_core e) core in (
       ap own_pair own,
       ap (held_restored e.options) own ∙ held_is e.options e my held here.1.method,
       ap (λ (state : Snapshot). state.tie_tag) own,

@@ -5,15 +5,15 @@ use Rattle.dcsctp_spec_lemmas.specs.types.declared.options.Options.{Options}
 use Rattle.dcsctp_spec_lemmas.specs.types.declared.schedule.Side.{Side}
 use Rattle.dcsctp_spec_lemmas.specs.types.declared.schedule.Side.TheVariants as sides
 use Rattle.dcsctp_spec_lemmas.specs.types.Settings.{IsValid, FitsOptions}
-use Rattle.dcsctp_spec_lemmas.specs.types.Offer.{offer_of, negotiated}
+use Rattle.dcsctp_spec_lemmas.specs.types.Offer.{offer_of, negotiated_capabilities}
 use Rattle.dcsctp_spec_lemmas.specs.spec.endpoint.CallTurns.{Transition}
-use Rattle.dcsctp_spec_lemmas.specs.spec.association.Effect.{AssociationIdentity, Effect, noted}
+use Rattle.dcsctp_spec_lemmas.specs.spec.association.Effect.{AssociationIdentity, Effect, effects_without_packets}
 use Rattle.dcsctp_spec_runs.specs.Past.{Each}
 use Rattle.dcsctp_spec_runs.specs.World as machine
-use Rattle.dcsctp_spec_runs.specs.World.{SideState, fresh_side_state, at_a, at_b, world_after, WorldRun, Moved, MovesMade, after_moves, with_moves}
+use Rattle.dcsctp_spec_runs.specs.World.{SideState, fresh_side_state, at_a, at_b, world_after, WorldRun, MoveResult, MakesMoves, after_moves, with_moves}
 use Rattle.dcsctp_spec_runs.specs.Sockets.{PerformedAct, Both, side_of, of_side, of_other, side_turns_added, turns_after, endpoint_after, packets_shown, StepTurns, SocketRun, side_of_act, NextTurns, acts_of}
 use Rattle.dcsctp_theorem_association.specs.Agreement.{FindsCrossed, FindsPerformed, BothAgree, SidesAgree}
-use Rattle.dcsctp_theorem_sockets.specs.Agreement.{noted_past, FindsHeld, Agree, AreUsable, AreFresh, SocketsAgree}
+use Rattle.dcsctp_theorem_sockets.specs.Agreement.{recorded_past, FindsHeld, Agree, AreUsable, AreFresh, SocketsAgree}
 use Rattle.dcsctp_theorem_sockets.proofs.Follow.{Followed, each_connected_map}
 use Rattle.dcsctp_theorem_sockets.proofs.NotedLemmas.{performed-noted}
 use Rattle.dcsctp_theorem_sockets.proofs.Moves.{Below, SideMoves}
@@ -42,26 +42,26 @@ fresh options valid fits =
     }
 
 -- a run that is followed by these moves of one side
-record WithMovesA (options : Both Options) (steps : List machine.WorldStep) (moves : List Moved) : Type 0 where
+record WithMovesA (options : Both Options) (steps : List machine.WorldStep) (moves : List MoveResult) : Type 0 where
   is_run : WorldRun options.a options.b (with_moves at_a moves steps)
   a : (world_after options.a options.b (with_moves at_a moves steps)).a ≡ after_moves (world_after options.a options.b steps).a moves
   b : (world_after options.a options.b (with_moves at_a moves steps)).b ≡ (world_after options.a options.b steps).b
 
-record WithMovesB (options : Both Options) (steps : List machine.WorldStep) (moves : List Moved) : Type 0 where
+record WithMovesB (options : Both Options) (steps : List machine.WorldStep) (moves : List MoveResult) : Type 0 where
   is_run : WorldRun options.a options.b (with_moves at_b moves steps)
   b : (world_after options.a options.b (with_moves at_b moves steps)).b ≡ after_moves (world_after options.a options.b steps).b moves
   a : (world_after options.a options.b (with_moves at_b moves steps)).a ≡ (world_after options.a options.b steps).a
 
-with_moves_a : (options : Both Options) (steps : List machine.WorldStep) (moves : List Moved) → WorldRun options.a options.b steps
-    → MovesMade (world_after options.a options.b steps).a (world_after options.a options.b steps).b.past moves → WithMovesA options steps moves
+with_moves_a : (options : Both Options) (steps : List machine.WorldStep) (moves : List MoveResult) → WorldRun options.a options.b steps
+    → MakesMoves (world_after options.a options.b steps).a (world_after options.a options.b steps).b.past moves → WithMovesA options steps moves
 with_moves_a options steps [] run made = record { is_run = run; a = refl; b = refl }
 with_moves_a options steps (moved ∷ moves) run made =
     let h : WithMovesA options (record { side = at_a; move = moved.move; changes = moved.changes } ∷ steps) moves =
     with_moves_a options (record { side = at_a; move = moved.move; changes = moved.changes } ∷ steps) moves (made.0, run) made.1 in
     record { is_run = h.is_run; a = h.a; b = h.b }
 
-with_moves_b : (options : Both Options) (steps : List machine.WorldStep) (moves : List Moved) → WorldRun options.a options.b steps
-    → MovesMade (world_after options.a options.b steps).b (world_after options.a options.b steps).a.past moves → WithMovesB options steps moves
+with_moves_b : (options : Both Options) (steps : List machine.WorldStep) (moves : List MoveResult) → WorldRun options.a options.b steps
+    → MakesMoves (world_after options.a options.b steps).b (world_after options.a options.b steps).a.past moves → WithMovesB options steps moves
 with_moves_b options steps [] run made = record { is_run = run; b = refl; a = refl }
 with_moves_b options steps (moved ∷ moves) run made =
     let h : WithMovesB options (record { side = at_b; move = moved.move; changes = moved.changes } ∷ steps) moves =
@@ -114,16 +114,16 @@ finds mine theirs my_side their_side turns link is h found =
       other = found.other;
       held = h.held found.other found.held;
       crossed = found.crossed;
-      capabilities = found.capabilities ∙ ap (λ (p : Options). negotiated (offer_of p) (offer_of their_side.options)) is ∙ ap (λ (p : Options). negotiated (offer_of mine) (offer_of p)) h.side_options;
-      other_capabilities = found.other_capabilities ∙ ap (λ (p : Options). negotiated (offer_of their_side.options) (offer_of p)) is ∙ ap (λ (p : Options). negotiated (offer_of p) (offer_of mine)) h.side_options;
+      capabilities = found.capabilities ∙ ap (λ (p : Options). negotiated_capabilities (offer_of p) (offer_of their_side.options)) is ∙ ap (λ (p : Options). negotiated_capabilities (offer_of mine) (offer_of p)) h.side_options;
+      other_capabilities = found.other_capabilities ∙ ap (λ (p : Options). negotiated_capabilities (offer_of their_side.options) (offer_of p)) is ∙ ap (λ (p : Options). negotiated_capabilities (offer_of p) (offer_of mine)) h.side_options;
     }
 
 -- What a side's past says of performed requests, a socket's turns say.
 resets : (mine theirs : Options) (my_side their_side : SideState) (turns others : List Transition) → Followed mine turns my_side → Followed theirs others their_side
-    → Each (FindsPerformed their_side.past) my_side.past → Each (FindsPerformed (noted_past others)) (noted_past turns)
+    → Each (FindsPerformed their_side.past) my_side.past → Each (FindsPerformed (recorded_past others)) (recorded_past turns)
 resets mine theirs my_side their_side turns others h k each =
-    subst (λ (past : List Effect). Each (FindsPerformed (noted_past others)) past) h.past
-    (subst (λ (past : List Effect). Each (FindsPerformed past) (noted my_side.past)) k.past (performed-noted their_side.past my_side.past each))
+    subst (λ (past : List Effect). Each (FindsPerformed (recorded_past others)) past) h.past
+    (subst (λ (past : List Effect). Each (FindsPerformed past) (effects_without_packets my_side.past)) k.past (performed-noted their_side.past my_side.past each))
 
 agree_now : Below → SidesAgree → (options : Both Options) (run : List PerformedAct) → AreUsable options → SocketRun options run → AreFresh (turns_after run) → AreHonest (acts_of run)
     → Agree options (turns_after run)

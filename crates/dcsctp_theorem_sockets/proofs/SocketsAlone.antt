@@ -11,10 +11,10 @@ use Rattle.dcsctp_spec_laws.proofs.DataLemmas.{flushed_act, end_at, send_at, res
 use Rattle.dcsctp_spec_lemmas.specs.spec.endpoint.OwnTimers.{timer_act}
 use Rattle.dcsctp_spec_laws.proofs.HeartbeatLemmas.{timer_controlled}
 use Rattle.dcsctp_spec_lemmas.specs.spec.endpoint.Turn.{Input, arrival, refusal, packet_begins, chunk_input, packet_ends, act_input, user_sets, user_sends, user_resets, user_takes, timer_expires, time_passes, restores, has_data_chunk}
-use Rattle.dcsctp_spec_lemmas.specs.spec.association.Effect.{Effect, noted, Change}
+use Rattle.dcsctp_spec_lemmas.specs.spec.association.Effect.{Effect, effects_without_packets, Change}
 use Rattle.dcsctp_spec_lemmas.specs.spec.association.Choices.{Choices}
 use Rattle.dcsctp_spec_lemmas.specs.spec.association.Acts.{Act, connect, t1_expires, shut_down, step_of_shutdown, shutdown_repeats, abort_with, hands_over, flushes, request_again, request_renewed, act_change, chunk_change}
-use Rattle.dcsctp_spec_lemmas.specs.spec.association.Controlled.{IsControlled, ControlledChunk, ControlledAct}
+use Rattle.dcsctp_spec_lemmas.specs.spec.association.Controlled.{IsControlled, IsControlledChunk, IsControlledAct}
 use Rattle.dcsctp_spec_lemmas.specs.spec.endpoint.CallTurns.{Transition, IsTurn, AlongTurns, after_all, effects_of}
 use Rattle.dcsctp_spec_laws.specs.TurnLaws.{ChunksAreControlled, ActsAreControlled}
 use Rattle.dcsctp_spec_runs.specs.Past.{Each, InPlace}
@@ -50,10 +50,10 @@ rests_as : (e : Endpoint) (t : Transition) (o : Outcome) → t.outcome ≡ o →
     → observations_of_ends o.events ≡ [] → Moves e t.outcome
 rests_as e t o is core options effects told = subst (Moves e) (sym is) (it_rests core options effects told)
 
-moves_by_act : (e : Endpoint) (act : Act) (t : Transition) → ControlledAct e act t.outcome → Moves e t.outcome
+moves_by_act : (e : Endpoint) (act : Act) (t : Transition) → IsControlledAct e act t.outcome → Moves e t.outcome
 moves_by_act e act t turn = it_moves (act_change e.options e.core act turn.0) (acted act turn.0 refl) turn.1
 
-moves_by_chunk : (e : Endpoint) (tag : ℕ) (content : Content) (t : Transition) → ControlledChunk e tag content t.outcome → Moves e t.outcome
+moves_by_chunk : (e : Endpoint) (tag : ℕ) (content : Content) (t : Transition) → IsControlledChunk e tag content t.outcome → Moves e t.outcome
 moves_by_chunk e tag content t turn = it_moves turn.0 (worked tag content turn.1.0 turn.1.2) turn.2
 
 chunk_moves : ChunksAreControlled → (e : Endpoint) (tag : ℕ) (content : Content) (t : Transition) → IsTurn e (chunk_input tag content) t → IsValid e.options → Moves e t.outcome
@@ -124,7 +124,7 @@ same_turn p q core change same turn = longest_turns p q.max_message_size core ch
 pub record RunsOn (options : Options) (turns : List Transition) (e : Endpoint) (before : List Effect) : Type 0 where
   pub steps : List (List Change)
   pub is_run : SideRun options steps
-  pub past : noted (side_after options steps).past ≡ after_effects (effects_of turns) before
+  pub past : effects_without_packets (side_after options steps).past ≡ after_effects (effects_of turns) before
   pub core : (side_after options steps).core ≡ (after_all e turns).core
 
 -- the past after one more turn
@@ -139,11 +139,11 @@ still_valid p q valid same =
 abbrev GoesOn : Options → List Transition → Endpoint → Type 0
 GoesOn options turns e =
     (steps : List (List Change)) → SameOptions options e.options → (side_after options steps).core ≡ e.core → SideRun options steps
-    → RunsOn options turns e (noted (side_after options steps).past)
+    → RunsOn options turns e (effects_without_packets (side_after options steps).past)
 
 next_on : (options : Options) (turns : List Transition) (e : Endpoint) (t : Transition) → GoesOn options turns t.outcome.after → Moves e t.outcome → GoesOn options (t ∷ turns) e
 next_on options turns e t more (it_rests core same effects told) steps own is run =
-    let before : List Effect = noted (side_after options steps).past in
+    let before : List Effect = effects_without_packets (side_after options steps).past in
     let rest : RunsOn options turns t.outcome.after before = more steps (same_after options e.options t.outcome.after.options own same) (is ∙ sym core) run in
     record {
       steps = rest.steps;
@@ -155,14 +155,14 @@ next_on options turns e t more (it_moves change turn controlled) steps own is ru
     let side : SideState = side_after options steps in
     let here : ControlTurn options side.core change =
     same_turn options e.options side.core change own (subst (λ (core : Core). ControlTurn e.options core change) (sym is) turn) in
-    let rest : RunsOn options turns t.outcome.after (noted (after_effects change.effects side.past)) =
+    let rest : RunsOn options turns t.outcome.after (effects_without_packets (after_effects change.effects side.past)) =
     more ((change ∷ []) ∷ steps) (same_after options e.options t.outcome.after.options own controlled.options) (sym controlled.core) ((here, tt), run) in
     record {
       steps = rest.steps;
       is_run = rest.is_run;
       past = rest.past
-          ∙ ap (λ (past : List Effect). after_effects (effects_of turns) past) (noted_after change.effects side.past ∙ ap (λ (es : List Effect). after_effects es (noted side.past)) (sym controlled.effects))
-          ∙ behind turns t (noted side.past);
+          ∙ ap (λ (past : List Effect). after_effects (effects_of turns) past) (noted_after change.effects side.past ∙ ap (λ (es : List Effect). after_effects es (effects_without_packets side.past)) (sym controlled.effects))
+          ∙ behind turns t (effects_without_packets side.past);
       core = rest.core;
     }
 

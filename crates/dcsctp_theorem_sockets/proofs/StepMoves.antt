@@ -9,15 +9,15 @@ use Rattle.dcsctp_spec_lemmas.specs.types.Schedule.{connect_call, close_call, sh
 use Rattle.dcsctp_spec_lemmas.specs.types.Settings.{FitsOptions}
 use Rattle.dcsctp_spec_lemmas.specs.spec.endpoint.Endpoint.{Endpoint}
 use Rattle.dcsctp_spec_lemmas.specs.spec.endpoint.Turn.{Input, act_input, user_sets, user_sends, user_resets, user_takes}
-use Rattle.dcsctp_spec_lemmas.specs.spec.endpoint.TimeTurns.{timers_in, DueTurns, MomentTurns, TimeTurns}
+use Rattle.dcsctp_spec_lemmas.specs.spec.endpoint.TimeTurns.{handled_timers, DueTurns, MomentTurns, TimeTurns}
 use Rattle.dcsctp_spec_lemmas.specs.spec.endpoint.Outcome.{Outcome}
-use Rattle.dcsctp_spec_lemmas.specs.spec.association.Controlled.{IsControlled, ControlledAct}
+use Rattle.dcsctp_spec_lemmas.specs.spec.association.Controlled.{IsControlled, IsControlledAct}
 use Rattle.dcsctp_spec_lemmas.specs.types.Setting.{Setting}
 use Rattle.dcsctp_spec_lemmas.specs.spec.endpoint.SettingOutcomes.{setting_outcome}
 use Rattle.dcsctp_spec_lemmas.specs.spec.endpoint.MessageOutcomes.{Sending, sending_of}
 use Rattle.dcsctp_spec_runs.specs.Fitting.{FitsEndpoint, TurnFits}
 use Rattle.dcsctp_spec_lemmas.specs.spec.endpoint.CallTurns.{Transition, IsTurn, Turns}
-use Rattle.dcsctp_spec_lemmas.specs.spec.association.Effect.{Effect, unchanged}
+use Rattle.dcsctp_spec_lemmas.specs.spec.association.Effect.{Effect, no_change}
 use Rattle.dcsctp_spec_lemmas.specs.spec.association.Acts.{abort_with, hands_over, flushes}
 use Rattle.dcsctp_spec_runs.specs.World.{SideState}
 use Rattle.dcsctp_spec_lemmas.specs.spec.Handover.{readiness_of}
@@ -59,7 +59,7 @@ moment_moves law options turns side theirs moment [] h taken = absurd taken
 moment_moves law options turns side theirs moment (t ∷ more) h taken =
     let first : Followed options (turns ++ t ∷ []) side = clock_follows options turns side moment t h taken.0.comes in
     rests_then options turns side theirs (t ∷ []) more
-    (expiries_move law options theirs (timers_in (endpoint_after options (turns ++ t ∷ [])).core) (turns ++ t ∷ []) side false more first
+    (expiries_move law options theirs (handled_timers (endpoint_after options (turns ++ t ∷ [])).core) (turns ++ t ∷ []) side false more first
     (subst (λ (x : Endpoint). DueTurns x more) (sym (after_last _ turns t)) taken.1))
 
 advance_moves : Below → (options : Options) (turns : List Transition) (side : SideState) (theirs : List Effect) (later : Bool) (moment : ℕ) (more : List Transition) → Followed options turns side
@@ -96,8 +96,8 @@ setting_follows : (options : Options) (turns : List Transition) (side : SideStat
     → t.outcome ≡ setting_outcome (endpoint_after options turns) setting → Followed options (turns ++ t ∷ []) side
 setting_follows options turns side setting t h is =
     let e : Endpoint = endpoint_after options turns in
-    let controlled : IsControlled e (setting_outcome e setting) (unchanged e.core) = record { core = refl; options = refl; observations = refl; effects = refl; following = refl } in
-    follow_idle options turns side t h (subst (λ (o : Outcome). IsControlled e o (unchanged e.core)) (sym is) controlled) (subst TurnFits (sym is) (setting_fits e setting h.fits))
+    let controlled : IsControlled e (setting_outcome e setting) (no_change e.core) = record { core = refl; options = refl; observations = refl; effects = refl; following = refl } in
+    follow_idle options turns side t h (subst (λ (o : Outcome). IsControlled e o (no_change e.core)) (sym is) controlled) (subst TurnFits (sym is) (setting_fits e setting h.fits))
 
 setting_moves : (options : Options) (turns : List Transition) (side : SideState) (theirs : List Effect) (setting : Setting) (more : List Transition) → Followed options turns side
     → Turns (endpoint_after options turns) (user_sets setting ∷ []) more → SideMoves options turns side theirs more
@@ -109,7 +109,7 @@ setting_moves options turns side theirs setting (t ∷ next ∷ more) h turn = a
 
 -- Each turn of this input is a flush of the association.
 abbrev IsFlush : Endpoint → Input → Type 0
-IsFlush e input = (t : Transition) → IsTurn e input t → ControlledAct e flushes t.outcome × TurnFits t.outcome
+IsFlush e input = (t : Transition) → IsTurn e input t → IsControlledAct e flushes t.outcome × TurnFits t.outcome
 
 flush_once : Below → (options : Options) (turns : List Transition) (side : SideState) (theirs : List Effect) (input : Input) (more : List Transition) → Followed options turns side
     → IsFlush (endpoint_after options turns) input → Turns (endpoint_after options turns) (input ∷ []) more → SideMoves options turns side theirs more

@@ -1,12 +1,12 @@
 -- T1 runs at each socket of a run that connects, whatever bytes it is handed.
 use Rattle.std.proofs.Common.{ℕ, true, false, List, [], ◌∷◌, sym, subst}
-use Rattle.dcsctp_spec_lemmas.specs.spec.Cookie.{cookie_at}
+use Rattle.dcsctp_spec_lemmas.specs.spec.Cookie.{cookie_of_bytes}
 use Rattle.dcsctp_spec_lemmas.specs.spec.Packet.{Content, init, init_ack, cookie_echo, cookie_ack, re_config, abort, shutdown, shutdown_ack, shutdown_complete, plain}
 use Rattle.dcsctp_spec_lemmas.specs.spec.endpoint.Endpoint.{Endpoint, fresh_endpoint}
-use Rattle.dcsctp_spec_lemmas.specs.spec.endpoint.Timers.{going_on}
+use Rattle.dcsctp_spec_lemmas.specs.spec.endpoint.Timers.{continued_timer}
 use Rattle.dcsctp_spec_lemmas.specs.spec.endpoint.Outcome.{Outcome}
 use Rattle.dcsctp_spec_lemmas.specs.spec.endpoint.Turn.{Input, arrival, refusal, packet_begins, chunk_input, packet_ends, act_input, user_sets, user_sends, user_resets, user_takes, timer_expires, time_passes, restores, has_data_chunk, ContentTurn, ActTurn}
-use Rattle.dcsctp_spec_lemmas.specs.spec.endpoint.TimerOutcomes.{t1_goes_on}
+use Rattle.dcsctp_spec_lemmas.specs.spec.endpoint.TimerOutcomes.{endpoint_with_t1_continued}
 use Rattle.dcsctp_spec_lemmas.specs.spec.association.Acts.{Act, connect, t1_expires, shut_down, step_of_shutdown, shutdown_repeats, abort_with, hands_over, flushes, request_again, request_renewed}
 use Rattle.dcsctp_spec_lemmas.specs.spec.endpoint.CallTurns.{Transition, IsTurn, AlongTurns, after_all}
 use Rattle.dcsctp_spec_lemmas.proofs.OneAnswerLemmas.{init_by}
@@ -68,7 +68,7 @@ KeepsUp e t = Up e → UpAfter t.outcome
 chunk_up : (e : Endpoint) (tag : ℕ) (content : Content) (o : Outcome) → ContentTurn e tag content o → Up e → UpAfter o
 chunk_up e tag (init theirs) o turn h = subst UpAfter (sym turn.2) (init_by UpAfter e theirs turn.0 turn.1 h (init_up e theirs e.core turn.0 turn.1 h))
 chunk_up e tag (init_ack theirs cookie) o turn h = subst UpAfter (sym turn.3) (init_ack_up e theirs cookie e.core turn.0 turn.1 turn.2 h)
-chunk_up e tag (cookie_echo bytes) o turn h = subst UpAfter (sym turn.3) (echo_up e e.core tag (cookie_at bytes) turn.0 turn.1 turn.2 h)
+chunk_up e tag (cookie_echo bytes) o turn h = subst UpAfter (sym turn.3) (echo_up e e.core tag (cookie_of_bytes bytes) turn.0 turn.1 turn.2 h)
 chunk_up e tag cookie_ack o turn h = subst UpAfter (sym turn.2) (cookie_ack_up e e.core turn.0 turn.1 h)
 chunk_up e tag (re_config parameters) o turn h =
     content_by e tag (re_config parameters) o (λ dropped. subst UpAfter (sym dropped) h) (λ handled. reset_up e e.core parameters o handled h) turn
@@ -81,7 +81,7 @@ chunk_up e tag (plain chunk) o turn h = content_by e tag (plain chunk) o (λ dro
 act_up : (e : Endpoint) (act : Act) (o : Outcome) → IsMade act → ActTurn e act o → Up e → UpAfter o
 act_up e connect o may turn h = subst UpAfter (sym turn.2) (connect_up e e.core turn.0 turn.1 h)
 act_up e (t1_expires true) o may turn h =
-    subst UpAfter (sym turn.2) (again_up (t1_goes_on e) e.core turn.0 turn.1 (goes_on_runs (going_on e.moment) e.core e.timers.t1 h))
+    subst UpAfter (sym turn.2) (again_up (endpoint_with_t1_continued e) e.core turn.0 turn.1 (goes_on_runs (continued_timer e.moment) e.core e.timers.t1 h))
 act_up e (t1_expires false) o may turn h = subst UpAfter (sym turn) (gives_up_up e e.core h)
 act_up e shut_down o may turn h = subst UpAfter (sym turn) (shut_down_up e e.core h)
 act_up e step_of_shutdown o may turn h = subst UpAfter (sym turn) (step_up e e.core h)

@@ -5,12 +5,12 @@ use Rattle.dcsctp_spec_lemmas.specs.types.declared.association.Held.{Held}
 use Rattle.dcsctp_spec_lemmas.specs.spec.endpoint.Endpoint.{Endpoint, Core, closed, cookie_wait, cookie_echoed, open_in, OpenPhase, established, shutdown_pending, shutdown_sent, shutdown_received, shutdown_ack_sent}
 use Rattle.dcsctp_spec_lemmas.specs.spec.endpoint.Outcome.{Outcome}
 use Rattle.dcsctp_spec_lemmas.specs.spec.endpoint.Turn.{BeginTurn}
-use Rattle.dcsctp_spec_lemmas.specs.spec.endpoint.ShutdownOutcomes.{shut_down_echoed, phase_at, may_go_on, step_by, step_outcome, t1_stopped, shut_down_outcome, shutdown_outcome, shutdown_ack_outcome, shutdown_complete_outcome, t2_goes_on, shutdown_sent_again, t2_again_outcome}
+use Rattle.dcsctp_spec_lemmas.specs.spec.endpoint.ShutdownOutcomes.{shut_down_echoed, endpoint_in_phase, may_continue_shutdown, step_if_acknowledged, step_outcome, t1_stopped, shut_down_outcome, shutdown_outcome, shutdown_ack_outcome, shutdown_complete_outcome, endpoint_with_t2_continued, shutdown_sent_again, t2_again_outcome}
 use Rattle.dcsctp_theorem_sockets.proofs.T1Turns.{Up, UpAfter}
 
 -- ---- a step of it
 
-step_by_up : (b : Bool) (e : Endpoint) (phase : OpenPhase) (my : Pair) (held : Held) → Up e → UpAfter (step_by b e phase my held)
+step_by_up : (b : Bool) (e : Endpoint) (phase : OpenPhase) (my : Pair) (held : Held) → Up e → UpAfter (step_if_acknowledged b e phase my held)
 step_by_up false e phase my held h = h
 step_by_up true e established my held h = h
 step_by_up true e shutdown_pending my held h = tt
@@ -22,11 +22,11 @@ pub step_up : (e : Endpoint) (core : Core) → Up e → UpAfter (step_outcome e 
 step_up e closed h = h
 step_up e (cookie_wait my) h = h
 step_up e (cookie_echoed my held cookie) h = h
-step_up e (open_in phase my held) h = step_by_up (may_go_on e) e phase my held h
+step_up e (open_in phase my held) h = step_by_up (may_continue_shutdown e) e phase my held h
 
 -- from another phase, in which it isn't awaited
-step_from_up : (e : Endpoint) (phase : OpenPhase) (my : Pair) (held : Held) → UpAfter (step_by (may_go_on e) (phase_at e phase my held) phase my held)
-step_from_up e phase my held = step_by_up (may_go_on e) (phase_at e phase my held) phase my held tt
+step_from_up : (e : Endpoint) (phase : OpenPhase) (my : Pair) (held : Held) → UpAfter (step_if_acknowledged (may_continue_shutdown e) (endpoint_in_phase e phase my held) phase my held)
+step_from_up e phase my held = step_by_up (may_continue_shutdown e) (endpoint_in_phase e phase my held) phase my held tt
 
 -- ---- the user's call
 
@@ -89,7 +89,7 @@ again_up e (open_in shutdown_received my held) h = h
 again_up e (open_in shutdown_ack_sent my held) h = h
 
 pub t2_again_up : (e : Endpoint) → Up e → UpAfter (t2_again_outcome e)
-t2_again_up e h = again_up (t2_goes_on e) e.core h
+t2_again_up e h = again_up (endpoint_with_t2_continued e) e.core h
 
 pub begin_up : (e : Endpoint) (core : Core) (has : Bool) (o : Outcome) → BeginTurn e core has o → Up e → UpAfter o
 begin_up e closed has o turn h = subst UpAfter (sym turn) h

@@ -15,9 +15,9 @@ use Rattle.dcsctp_spec_lemmas.specs.spec.endpoint.Endpoint.{Endpoint, Core, clos
 use Rattle.dcsctp_spec_lemmas.specs.spec.endpoint.Outcome.{Outcome, quiet, sends, emits, fits, to_peer}
 use Rattle.dcsctp_spec_lemmas.specs.spec.endpoint.FlushOutcomes.{Answer, draft_to, flush_of, packets_allowed, first_ask, FlushAnswers, flush_answered}
 use Rattle.dcsctp_spec_lemmas.specs.spec.endpoint.EndOutcomes.{abort_outcome, aborting_outcome}
-use Rattle.dcsctp_spec_lemmas.specs.spec.endpoint.HandshakeOutcomes.{pair_from, renewed_pair, init_ack_emission, init_outcome, init_emission, awaits_init_ack, connect_outcome, awaits_cookie_ack, echo_emission, EchoAnswers, InitAckAnswers, accepted_init_ack_by, init_ack_by, connected_after, CookieAckAnswers, cookie_ack_by}
-use Rattle.dcsctp_spec_lemmas.specs.spec.endpoint.TimerOutcomes.{AgainAnswers, again_by, t1_gives_up_outcome}
-use Rattle.dcsctp_spec_lemmas.specs.spec.endpoint.CookieEchoOutcomes.{resolved_now, established_by, cookie_ack_emission, EstablishAnswers, establish_by, queues_kept, queues_begun, queues_collided, RestartAnswers, restart_by_where, MaintainAnswers, maintain_by, ResolvedAnswers, resolved_by, EchoedAnswers, cookie_echo_by}
+use Rattle.dcsctp_spec_lemmas.specs.spec.endpoint.HandshakeOutcomes.{pair_from, renewed_pair, init_ack_emission, init_outcome, init_emission, awaits_init_ack, connect_outcome, awaits_cookie_ack, echo_emission, EchoAnswers, InitAckAnswers, accept_init_ack_with_flush, init_ack_with_flush, connected_after, CookieAckAnswers, cookie_ack_with_flush}
+use Rattle.dcsctp_spec_lemmas.specs.spec.endpoint.TimerOutcomes.{AgainAnswers, send_again_with_flush, t1_gives_up_outcome}
+use Rattle.dcsctp_spec_lemmas.specs.spec.endpoint.CookieEchoOutcomes.{resolved_now, endpoint_established, cookie_ack_emission, EstablishAnswers, establish_with_flush, queues_kept, queues_begun, queues_collided, RestartAnswers, restart_with_flush_by_core, MaintainAnswers, maintain_with_flush, ResolvedAnswers, resolve_with_flush, EchoedAnswers, cookie_echo_with_flush}
 use Rattle.dcsctp_spec_lemmas.specs.spec.association.CookieEchoChanges.{held_by_cookie, Resolution, establish_new, restart, simultaneous_init, discard, maintain_existing, invalid_tag, stale}
 use Rattle.dcsctp_spec_lemmas.proofs.AbortLemmas.{by_abort_outcome}
 use Rattle.dcsctp_spec_lemmas.proofs.FlushKeeps.{Keeps, begun_by, flush_keeps}
@@ -74,20 +74,20 @@ connect_up e (cookie_echoed my held cookie) word next h = h
 connect_up e (open_in phase my held) word next h = h
 
 accepted_up : (e : Endpoint) (my : Pair) (theirs : Introduction) (cookie : Option (List ℕ)) (word : ℕ) (answers : List Answer) → InitAckAnswers e theirs cookie (cookie_wait my) word answers
-    → UpAfter (accepted_init_ack_by (flush_answered answers) e my theirs cookie word)
+    → UpAfter (accept_init_ack_with_flush (flush_answered answers) e my theirs cookie word)
 accepted_up e my theirs None word answers allowed = tt
 accepted_up e my theirs (Some cookie) word answers allowed =
     let awaiting : Endpoint = awaits_cookie_ack e my theirs cookie word in
     echoed_up (fits awaiting (echo_emission theirs.pair.tag cookie)) awaiting (U64 word ∷ []) theirs.pair.tag cookie answers allowed tt
 
 pub init_ack_up : (e : Endpoint) (theirs : Introduction) (cookie : Option (List ℕ)) (core : Core) (word : ℕ) (answers : List Answer) → InitAckAnswers e theirs cookie core word answers → Up e
-    → UpAfter (init_ack_by (flush_answered answers) e theirs cookie core word)
+    → UpAfter (init_ack_with_flush (flush_answered answers) e theirs cookie core word)
 init_ack_up e theirs cookie closed word answers allowed h = h
 init_ack_up e theirs cookie (cookie_wait my) word answers allowed h = accepted_up e my theirs cookie word answers allowed
 init_ack_up e theirs cookie (cookie_echoed my held echoed) word answers allowed h = h
 init_ack_up e theirs cookie (open_in phase my held) word answers allowed h = h
 
-pub cookie_ack_up : (e : Endpoint) (core : Core) (answers : List Answer) → CookieAckAnswers e core answers → Up e → UpAfter (cookie_ack_by (flush_answered answers) e core)
+pub cookie_ack_up : (e : Endpoint) (core : Core) (answers : List Answer) → CookieAckAnswers e core answers → Up e → UpAfter (cookie_ack_with_flush (flush_answered answers) e core)
 cookie_ack_up e closed answers allowed h = h
 cookie_ack_up e (cookie_wait my) answers allowed h = h
 cookie_ack_up e (cookie_echoed my held cookie) answers allowed h = flush_up (connected_after e my held) (draft_to held) answers allowed tt
@@ -96,11 +96,11 @@ cookie_ack_up e (open_in phase my held) answers allowed h = h
 -- ---- COOKIE ECHO
 
 established_up : (e : Endpoint) (cookie : Cookie) (queues : EndpointQueues) (tie : ℕ) (events : List (Event Emission)) (answers : List Answer) → EstablishAnswers e cookie queues tie answers
-    → UpAfter (establish_by (flush_answered answers) e cookie queues tie events)
-established_up e cookie queues tie events answers allowed = flush_up (established_by e cookie queues tie) (cookie_ack_emission (held_by_cookie e.options cookie) cookie) answers allowed tt
+    → UpAfter (establish_with_flush (flush_answered answers) e cookie queues tie events)
+established_up e cookie queues tie events answers allowed = flush_up (endpoint_established e cookie queues tie) (cookie_ack_emission (held_by_cookie e.options cookie) cookie) answers allowed tt
 
 restarted_up : (e : Endpoint) (cookie : Cookie) (tie : ℕ) (core : Core) (answers : List Answer) → RestartAnswers e cookie tie core answers → Up e
-    → UpAfter (restart_by_where (flush_answered answers) e cookie tie core)
+    → UpAfter (restart_with_flush_by_core (flush_answered answers) e cookie tie core)
 restarted_up e cookie tie closed answers allowed h = established_up e cookie (queues_begun e cookie) tie (connection_restarted ∷ connected ∷ []) answers allowed
 restarted_up e cookie tie (cookie_wait my) answers allowed h = established_up e cookie (queues_begun e cookie) tie (connection_restarted ∷ connected ∷ []) answers allowed
 restarted_up e cookie tie (cookie_echoed my held echoed) answers allowed h = established_up e cookie (queues_begun e cookie) tie (connection_restarted ∷ connected ∷ []) answers allowed
@@ -110,14 +110,14 @@ restarted_up e cookie tie (open_in shutdown_sent my held) answers allowed h = es
 restarted_up e cookie tie (open_in shutdown_received my held) answers allowed h = established_up e cookie (queues_begun e cookie) tie (connection_restarted ∷ connected ∷ []) answers allowed
 restarted_up e cookie tie (open_in shutdown_ack_sent my held) answers allowed h = h
 
-maintained_up : (e : Endpoint) (cookie : Cookie) (core : Core) (answers : List Answer) → MaintainAnswers e cookie core answers → Up e → UpAfter (maintain_by (flush_answered answers) e cookie core)
+maintained_up : (e : Endpoint) (cookie : Cookie) (core : Core) (answers : List Answer) → MaintainAnswers e cookie core answers → Up e → UpAfter (maintain_with_flush (flush_answered answers) e cookie core)
 maintained_up e cookie closed answers allowed h = h
 maintained_up e cookie (cookie_wait my) answers allowed h = h
 maintained_up e cookie (cookie_echoed my held echoed) answers allowed h = flush_up (connected_after e my held) (cookie_ack_emission held cookie) answers allowed tt
 maintained_up e cookie (open_in phase my held) answers allowed h = flush_up e (cookie_ack_emission held cookie) answers allowed h
 
 resolved_up : (e : Endpoint) (cookie : Cookie) (core : Core) (word : ℕ) (resolution : Resolution) (answers : List Answer) → ResolvedAnswers e cookie core word resolution answers → Up e
-    → UpAfter (resolved_by (flush_answered answers) e cookie core word resolution)
+    → UpAfter (resolve_with_flush (flush_answered answers) e cookie core word resolution)
 resolved_up e cookie core word establish_new answers allowed h = established_up e cookie (queues_kept e cookie) word (connected ∷ []) answers allowed
 resolved_up e cookie core word restart answers allowed h = restarted_up e cookie word core answers allowed h
 resolved_up e cookie core word simultaneous_init answers allowed h = established_up e cookie (queues_collided e core cookie) word (connected ∷ []) answers allowed
@@ -127,7 +127,7 @@ resolved_up e cookie core word invalid_tag answers allowed h = h
 resolved_up e cookie core word stale answers allowed h = by_stale_outcome UpAfter e cookie h h
 
 pub echo_up : (e : Endpoint) (core : Core) (header : ℕ) (found : Result Cookie (List ℕ)) (word : ℕ) (answers : List Answer) → EchoedAnswers e core header found word answers → Up e
-    → UpAfter (cookie_echo_by (flush_answered answers) e core header found word)
+    → UpAfter (cookie_echo_with_flush (flush_answered answers) e core header found word)
 echo_up e core header (Err text) word answers allowed h = h
 echo_up e core header (Ok cookie) word answers allowed h = resolved_up e cookie core word (resolved_now e core header cookie) answers allowed h
 
@@ -142,7 +142,7 @@ aborting_up e (cookie_wait my) reason h = tt
 aborting_up e (cookie_echoed my held cookie) reason h = tt
 aborting_up e (open_in phase my held) reason h = tt
 
-pub again_up : (e : Endpoint) (core : Core) (answers : List Answer) → AgainAnswers e core answers → Up e → UpAfter (again_by (flush_answered answers) e core)
+pub again_up : (e : Endpoint) (core : Core) (answers : List Answer) → AgainAnswers e core answers → Up e → UpAfter (send_again_with_flush (flush_answered answers) e core)
 again_up e closed answers allowed h = h
 again_up e (cookie_wait my) answers allowed h = emits_up e [] (init_emission e my) h
 again_up e (cookie_echoed my held cookie) answers allowed h = echoed_up (fits e (echo_emission held.peer.tag cookie)) e [] held.peer.tag cookie answers allowed h

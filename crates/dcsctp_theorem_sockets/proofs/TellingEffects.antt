@@ -7,13 +7,13 @@ use Rattle.dcsctp_spec_lemmas.specs.spec.endpoint.Event.{Event, sent, connected,
 use Rattle.dcsctp_spec_lemmas.specs.spec.Packet.{Emission}
 use Rattle.dcsctp_spec_lemmas.specs.spec.endpoint.Endpoint.{Endpoint, Core, cookie_wait, cookie_echoed, open_in, fresh_endpoint}
 use Rattle.dcsctp_spec_lemmas.specs.spec.endpoint.Endpoint as machine
-use Rattle.dcsctp_spec_lemmas.specs.spec.association.Effect.{Effect, draws, sends, holds, connects, ends, begins, gives_up, completes, fails, accepts, performs, renews, resumes, noted}
+use Rattle.dcsctp_spec_lemmas.specs.spec.association.Effect.{Effect, draws, sends, holds, connects, ends, begins, gives_up, completes, fails, accepts, performs, renews, resumes, effects_without_packets}
 use Rattle.dcsctp_spec_lemmas.specs.spec.association.Controlled.{Observation, packet_sent, has_connected, has_ended, own_reset_performed, own_reset_failed, peer_reset_performed, observations_of_events, observations_of_effects}
 use Rattle.dcsctp_spec_lemmas.specs.spec.endpoint.CallTurns.{Transition, after_all}
 use Rattle.dcsctp_spec_runs.specs.World.{side_after}
 use Rattle.dcsctp_spec_runs.specs.Sockets.{of_side, turns_after}
 use Rattle.dcsctp_theorem_association.specs.OneSide.{LeavesHeld, LeavesCore, PastIsState}
-use Rattle.dcsctp_theorem_sockets.specs.Telling.{observations_of_ends, TellsNoted, SocketsTellEffects, SocketsHoldNoted}
+use Rattle.dcsctp_theorem_sockets.specs.Telling.{observations_of_ends, ReportsRecorded, SocketsReportEffects, SocketsHaveRecorded}
 use Rattle.dcsctp_theorem_sockets.proofs.NotedLemmas.{current-noted, number_to_begin-noted, outstanding-noted, number_to_accept-noted}
 use Rattle.dcsctp_theorem_sockets.proofs.OneSocket.{all_along}
 use Rattle.dcsctp_theorem_sockets.proofs.SocketsAlone.{Moves, it_rests, it_moves, MoveLaws, of_moves, RunsOn, runs_alone}
@@ -49,7 +49,7 @@ told_without (lifecycle_message_expired id ∷ events) = told_without events
 told_without (lifecycle_message_delivered id ∷ events) = told_without events
 told_without (lifecycle_end id ∷ events) = told_without events
 
-noted_without : (effects : List Effect) → observations_of_effects (noted effects) ≡ without_packets (observations_of_effects effects)
+noted_without : (effects : List Effect) → observations_of_effects (effects_without_packets effects) ≡ without_packets (observations_of_effects effects)
 unfolding without_packets
 noted_without [] = refl
 noted_without (draws pair ∷ effects) = noted_without effects
@@ -68,19 +68,19 @@ noted_without (resumes link own last ∷ effects) = noted_without effects
 
 -- ---- one turn, and a run
 
-tells_noted : (e : Endpoint) (t : Transition) → Moves e t.outcome → TellsNoted t
+tells_noted : (e : Endpoint) (t : Transition) → Moves e t.outcome → ReportsRecorded t
 tells_noted e t (it_rests core options effects told) = told ∙ ap observations_of_effects (sym effects)
 tells_noted e t (it_moves change turn is) =
     told_without t.outcome.events ∙ ap without_packets is.observations ∙ sym (noted_without change.effects) ∙ ap observations_of_effects (sym is.effects)
 
-pub effects_are_told : MoveLaws → SocketsTellEffects
+pub effects_are_told : MoveLaws → SocketsReportEffects
 effects_are_told law options run are runs side =
-    all_along TellsNoted (fresh_endpoint (of_side side options)) (of_side side (turns_after run))
-    (of_moves law (λ (x : Endpoint). TellsNoted) tells_noted options run are runs side)
+    all_along ReportsRecorded (fresh_endpoint (of_side side options)) (of_side side (turns_after run))
+    (of_moves law (λ (x : Endpoint). ReportsRecorded) tells_noted options run are runs side)
 
 -- ---- the association
 
-held-noted : (past : List Effect) (my : Pair) (held : Held) → LeavesHeld past my held → LeavesHeld (noted past) my held
+held-noted : (past : List Effect) (my : Pair) (held : Held) → LeavesHeld past my held → LeavesHeld (effects_without_packets past) my held
 held-noted past my held h =
     record {
       link = current-noted past ∙ h.link;
@@ -89,17 +89,17 @@ held-noted past my held h =
       peer_next = number_to_accept-noted past ∙ h.peer_next;
     }
 
-leaves-noted : (past : List Effect) (core : Core) → LeavesCore past core → LeavesCore (noted past) core
+leaves-noted : (past : List Effect) (core : Core) → LeavesCore past core → LeavesCore (effects_without_packets past) core
 leaves-noted past machine.closed h = current-noted past ∙ h
 leaves-noted past (cookie_wait my) h = current-noted past ∙ h
 leaves-noted past (cookie_echoed my held cookie) h = held-noted past my held h
 leaves-noted past (open_in phase my held) h = held-noted past my held h
 
-pub noted_is_held : MoveLaws → PastIsState → SocketsHoldNoted
+pub noted_is_held : MoveLaws → PastIsState → SocketsHaveRecorded
 noted_is_held law leaves options run are runs side =
     let own : Options = of_side side options in
     let turns : List Transition = of_side side (turns_after run) in
     let alone : RunsOn own turns (fresh_endpoint own) [] = runs_alone law options run are runs side in
     let past : List Effect = (side_after own alone.steps).past in
-    let here : LeavesCore (noted past) (side_after own alone.steps).core = leaves-noted past (side_after own alone.steps).core (leaves own alone.steps alone.is_run) in
-    subst (λ (es : List Effect). LeavesCore es (after_all (fresh_endpoint own) turns).core) alone.past (subst (LeavesCore (noted past)) alone.core here)
+    let here : LeavesCore (effects_without_packets past) (side_after own alone.steps).core = leaves-noted past (side_after own alone.steps).core (leaves own alone.steps alone.is_run) in
+    subst (λ (es : List Effect). LeavesCore es (after_all (fresh_endpoint own) turns).core) alone.past (subst (LeavesCore (effects_without_packets past)) alone.core here)

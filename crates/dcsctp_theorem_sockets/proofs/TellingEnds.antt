@@ -14,7 +14,7 @@ use Rattle.dcsctp_spec_lemmas.specs.spec.endpoint.Turn.{Input, arrival, refusal,
 use Rattle.dcsctp_spec_lemmas.specs.spec.endpoint.HandshakeOutcomes.{pair_from, renewed_pair, init_ack_emission, init_outcome}
 use Rattle.dcsctp_spec_lemmas.specs.spec.association.Effect.{Effect, draws, sends, holds, connects, ends, begins, gives_up, completes, fails, accepts, performs, renews, resumes, Change}
 use Rattle.dcsctp_spec_lemmas.specs.spec.association.Acts.{Act, act_change, shutdown_repeats, flushes}
-use Rattle.dcsctp_spec_lemmas.specs.spec.association.Controlled.{Observation, packet_sent, has_connected, has_ended, own_reset_performed, own_reset_failed, peer_reset_performed, observations_of_events, observations_of_effects, IsControlled, ControlledChunk, ControlledAct}
+use Rattle.dcsctp_spec_lemmas.specs.spec.association.Controlled.{Observation, packet_sent, has_connected, has_ended, own_reset_performed, own_reset_failed, peer_reset_performed, observations_of_events, observations_of_effects, IsControlled, IsControlledChunk, IsControlledAct}
 use Rattle.dcsctp_spec_lemmas.specs.spec.endpoint.CallTurns.{Transition, IsTurn}
 use Rattle.dcsctp_spec_laws.specs.TurnLaws.{ActsAreControlled}
 use Rattle.dcsctp_spec_runs.specs.World.{acted, worked}
@@ -27,10 +27,10 @@ use Rattle.dcsctp_spec_lemmas.proofs.OneAnswerLemmas.{init_by}
 use Rattle.dcsctp_spec_laws.proofs.ControlLemmas.{begin_stands}
 use Rattle.dcsctp_spec_laws.proofs.PlainLemmas.{plain_controlled}
 use Rattle.dcsctp_spec_laws.proofs.ResetLemmas.{reset_controlled}
-use Rattle.dcsctp_theorem_association.specs.OneSide.{ends_in, OneEnd, it_ends, it_stays, EndsOnce}
+use Rattle.dcsctp_theorem_association.specs.OneSide.{count_of_ends, OneEnd, it_ends, it_stays, EndsOnce}
 use Rattle.dcsctp_spec_laws.proofs.ControlRestores.{resumed_by, restore_stands}
 use Rattle.dcsctp_theorem_sockets.proofs.RestoreTurns.{resumed_turn}
-use Rattle.dcsctp_theorem_sockets.specs.OneSocket.{end_event_count, TellsEnd, SocketsTellEnds}
+use Rattle.dcsctp_theorem_sockets.specs.OneSocket.{end_event_count, ReportsEnd, SocketsReportEnds}
 use Rattle.dcsctp_theorem_sockets.specs.OneSocket as told
 
 -- ---- events and effects
@@ -64,7 +64,7 @@ told_among (lifecycle_message_expired id ∷ events) = told_among events
 told_among (lifecycle_message_delivered id ∷ events) = told_among events
 told_among (lifecycle_end id ∷ events) = told_among events
 
-effects_among : (effects : List Effect) → ends_in effects ≡ ends_among (observations_of_effects effects)
+effects_among : (effects : List Effect) → count_of_ends effects ≡ ends_among (observations_of_effects effects)
 unfolding ends_among
 effects_among [] = refl
 effects_among (draws pair ∷ effects) = effects_among effects
@@ -83,17 +83,17 @@ effects_among (resumes link own last ∷ effects) = effects_among effects
 
 -- ---- one turn
 
-told_by : (e : Endpoint) (t : Transition) (change : Change) → IsControlled e t.outcome change → OneEnd e.core change → TellsEnd e t
+told_by : (e : Endpoint) (t : Transition) (change : Change) → IsControlled e t.outcome change → OneEnd e.core change → ReportsEnd e t
 told_by e t change is (it_ends was shut once) =
     told.it_ends was (is.core ∙ shut) (told_among t.outcome.events ∙ ap ends_among is.observations ∙ sym (effects_among change.effects) ∙ once)
 told_by e t change is (it_stays stays none) =
     told.it_stays (λ shut. stays (sym is.core ∙ shut)) (told_among t.outcome.events ∙ ap ends_among is.observations ∙ sym (effects_among change.effects) ∙ none)
 
-by_chunk : EndsOnce → (e : Endpoint) (tag : ℕ) (content : Content) (t : Transition) → ControlledChunk e tag content t.outcome → TellsEnd e t
+by_chunk : EndsOnce → (e : Endpoint) (tag : ℕ) (content : Content) (t : Transition) → IsControlledChunk e tag content t.outcome → ReportsEnd e t
 by_chunk law e tag content t turn =
     told_by e t turn.0 turn.2 (law e.options e.core turn.0 (worked tag content turn.1.0 turn.1.2))
 
-by_act : EndsOnce → (e : Endpoint) (act : Act) (t : Transition) → ControlledAct e act t.outcome → TellsEnd e t
+by_act : EndsOnce → (e : Endpoint) (act : Act) (t : Transition) → IsControlledAct e act t.outcome → ReportsEnd e t
 by_act law e act t turn =
     told_by e t (act_change e.options e.core act turn.0) turn.1 (law e.options e.core (act_change e.options e.core act turn.0) (acted act turn.0 refl))
 
@@ -102,7 +102,7 @@ record Rests (e : Endpoint) (o : Outcome) : Type 0 where
   core : o.after.core ≡ e.core
   none : end_event_count o.events ≡ 0
 
-rests : (e : Endpoint) (t : Transition) (o : Outcome) → t.outcome ≡ o → Rests e o → TellsEnd e t
+rests : (e : Endpoint) (t : Transition) (o : Outcome) → t.outcome ≡ o → Rests e o → ReportsEnd e t
 rests e t o is h =
     let here : Rests e t.outcome = subst (Rests e) (sym is) h in
     told.it_stays (λ shut. sym here.core ∙ shut) here.none
@@ -135,7 +135,7 @@ init_rests e theirs (open_in shutdown_sent my held) word next = with_effects e _
 init_rests e theirs (open_in shutdown_received my held) word next = with_effects e _ _ (renewed_rests e theirs word)
 init_rests e theirs (open_in shutdown_ack_sent my held) word next = emits_rest e [] (to_peer held shutdown_ack)
 
-chunk_tells : EndsOnce → (e : Endpoint) (tag : ℕ) (content : Content) (t : Transition) → IsTurn e (chunk_input tag content) t → TellsEnd e t
+chunk_tells : EndsOnce → (e : Endpoint) (tag : ℕ) (content : Content) (t : Transition) → IsTurn e (chunk_input tag content) t → ReportsEnd e t
 chunk_tells law e tag (init theirs) t h =
     let at : Rests e (init_outcome e theirs e.core h.comes.0 h.comes.1) = init_rests e theirs e.core h.comes.0 h.comes.1 in
     rests e t _ h.comes.2 (init_by (Rests e) e theirs h.comes.0 h.comes.1 (record { core = refl; none = refl }) (record { core = at.core; none = at.none }))
@@ -157,7 +157,7 @@ pub record EndLaws : Type 0 where
   pub once : EndsOnce
   pub acts : ActsAreControlled
 
-turn_tells : EndLaws → (e : Endpoint) (input : Input) (t : Transition) → IsTurn e input t → TellsEnd e t
+turn_tells : EndLaws → (e : Endpoint) (input : Input) (t : Transition) → IsTurn e input t → ReportsEnd e t
 turn_tells law e arrival t h = rests e t _ h.comes (record { core = refl; none = refl })
 turn_tells law e (refusal text) t h = rests e t _ h.comes (record { core = refl; none = refl })
 turn_tells law e (packet_begins contents) t h =
@@ -177,5 +177,5 @@ turn_tells law e (restores state) t h =
       | inr restored ↦ told_by e t (resumed_by e state) restored.controlled (law.once e.options e.core (resumed_by e state) (resumed_turn e state t.outcome restored))
     ]
 
-pub ends_are_told : EndLaws → SocketsTellEnds
-ends_are_told law options run runs side = run_along TellsEnd (turn_tells law) options run runs side
+pub ends_are_told : EndLaws → SocketsReportEnds
+ends_are_told law options run runs side = run_along ReportsEnd (turn_tells law) options run runs side

@@ -5,10 +5,10 @@ use Rattle.dcsctp_spec_lemmas.specs.types.declared.options.Options.{Options}
 use Rattle.dcsctp_spec_lemmas.specs.types.Settings.{SameOptions}
 use Rattle.dcsctp_spec_lemmas.specs.spec.endpoint.Endpoint.{Endpoint, Core, closed, cookie_wait, cookie_echoed, open_in}
 use Rattle.dcsctp_spec_lemmas.specs.spec.endpoint.Outcome.{Outcome, still}
-use Rattle.dcsctp_spec_lemmas.specs.spec.endpoint.Turn.{ActTurn, clock_at}
+use Rattle.dcsctp_spec_lemmas.specs.spec.endpoint.Turn.{ActTurn, with_clock}
 use Rattle.dcsctp_spec_lemmas.specs.spec.endpoint.CallTurns.{Transition}
 use Rattle.dcsctp_spec_lemmas.specs.spec.association.Controlled.{IsControlled}
-use Rattle.dcsctp_spec_lemmas.specs.spec.association.Effect.{Change, unchanged}
+use Rattle.dcsctp_spec_lemmas.specs.spec.association.Effect.{Change, no_change}
 use Rattle.dcsctp_spec_lemmas.specs.spec.association.Choices.{Choices}
 use Rattle.dcsctp_spec_lemmas.specs.spec.association.HandshakeChanges.{t1_again_change}
 use Rattle.dcsctp_spec_lemmas.specs.spec.association.Acts.{t1_expires, act_change}
@@ -65,9 +65,9 @@ t1_follows means acts offers options turns side again t h turn =
 -- ---- the clock
 
 pub clock_follows : (options : Options) (turns : List Transition) (side : SideState) (moment : ℕ) (t : Transition) → Followed options turns side
-    → t.outcome ≡ still (clock_at moment (endpoint_after options turns)) → Followed options (turns ++ t ∷ []) side
+    → t.outcome ≡ still (with_clock moment (endpoint_after options turns)) → Followed options (turns ++ t ∷ []) side
 clock_follows options turns side moment t h is =
     let e : Endpoint = endpoint_after options turns in
-    let controlled : IsControlled e (still (clock_at moment e)) (unchanged e.core) = record { core = refl; options = refl; observations = refl; effects = refl; following = refl } in
-    let fits : TurnFits (still (clock_at moment e)) = record { after = record { valid = h.fits.valid; options = h.fits.options; core = h.fits.core; t1 = h.fits.t1 }; sends = tt } in
-    follow_idle options turns side t h (subst (λ (o : Outcome). IsControlled e o (unchanged e.core)) (sym is) controlled) (subst TurnFits (sym is) fits)
+    let controlled : IsControlled e (still (with_clock moment e)) (no_change e.core) = record { core = refl; options = refl; observations = refl; effects = refl; following = refl } in
+    let fits : TurnFits (still (with_clock moment e)) = record { after = record { valid = h.fits.valid; options = h.fits.options; core = h.fits.core; t1 = h.fits.t1 }; sends = tt } in
+    follow_idle options turns side t h (subst (λ (o : Outcome). IsControlled e o (no_change e.core)) (sym is) controlled) (subst TurnFits (sym is) fits)

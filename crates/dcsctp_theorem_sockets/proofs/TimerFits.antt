@@ -2,13 +2,13 @@
 use Rattle.std.proofs.Common.{Bool, true, false, Option, None, Some, List, [], sym, subst, arith}
 use Rattle.std.specs.Option.{option_map}
 use Rattle.dcsctp_spec_lemmas.specs.spec.endpoint.Endpoint.{Endpoint, Core, closed, cookie_wait, cookie_echoed, open_in}
-use Rattle.dcsctp_spec_lemmas.specs.spec.endpoint.Timers.{RunningTimer, going_on}
+use Rattle.dcsctp_spec_lemmas.specs.spec.endpoint.Timers.{RunningTimer, continued_timer}
 use Rattle.dcsctp_spec_lemmas.specs.spec.endpoint.Outcome.{Outcome, fits}
 use Rattle.dcsctp_spec_lemmas.specs.spec.endpoint.Turn.{ActTurn}
 use Rattle.dcsctp_spec_lemmas.specs.spec.association.Acts.{t1_expires}
 use Rattle.dcsctp_spec_lemmas.specs.spec.endpoint.FlushOutcomes.{Answer, flush_answered}
 use Rattle.dcsctp_spec_lemmas.specs.spec.endpoint.HandshakeOutcomes.{init_emission, echo_emission}
-use Rattle.dcsctp_spec_lemmas.specs.spec.endpoint.TimerOutcomes.{t1_goes_on, again_by, AgainAnswers, t1_gives_up_outcome}
+use Rattle.dcsctp_spec_lemmas.specs.spec.endpoint.TimerOutcomes.{endpoint_with_t1_continued, send_again_with_flush, AgainAnswers, t1_gives_up_outcome}
 use Rattle.dcsctp_spec_runs.specs.Laws.{OfferReadsBack}
 use Rattle.dcsctp_spec_runs.specs.Deadlines.{T1Runs}
 use Rattle.dcsctp_spec_runs.specs.Fitting.{FitsCore, FitsEndpoint, TurnFits}
@@ -25,7 +25,7 @@ goes_on_runs f (cookie_echoed my held cookie) (Some timer) runs = tt
 goes_on_runs f (open_in phase my held) t1 runs = tt
 
 -- a packet again that went out before, which T1 doesn't change
-again_fits : OfferReadsBack → (e : Endpoint) (core : Core) (answers : List Answer) → AgainAnswers e core answers → FitsEndpoint e → FitsCore core → TurnFits (again_by (flush_answered answers) e core)
+again_fits : OfferReadsBack → (e : Endpoint) (core : Core) (answers : List Answer) → AgainAnswers e core answers → FitsEndpoint e → FitsCore core → TurnFits (send_again_with_flush (flush_answered answers) e core)
 again_fits law e closed answers allowed h own = still_fits e h
 again_fits law e (cookie_wait my) answers allowed h own = emits_fit e [] (init_emission e my) h (record { tag = omega arith; contents = (init_sendable law e.options my h.valid h.options own, tt) })
 again_fits law e (cookie_echoed my held cookie) answers allowed h own =
@@ -42,5 +42,5 @@ gives_up_fits e (open_in phase my held) h = still_fits e h
 pub t1_fits : OfferReadsBack → (again : Bool) (e : Endpoint) (o : Outcome) → ActTurn e (t1_expires again) o → FitsEndpoint e → TurnFits o
 t1_fits law true e o turn h =
     subst TurnFits (sym turn.2)
-    (again_fits law (t1_goes_on e) e.core turn.0 turn.1 (record { valid = h.valid; options = h.options; core = h.core; t1 = goes_on_runs (going_on e.moment) e.core e.timers.t1 h.t1 }) h.core)
+    (again_fits law (endpoint_with_t1_continued e) e.core turn.0 turn.1 (record { valid = h.valid; options = h.options; core = h.core; t1 = goes_on_runs (continued_timer e.moment) e.core e.timers.t1 h.t1 }) h.core)
 t1_fits law false e o turn h = subst TurnFits (sym turn) (gives_up_fits e e.core h)

@@ -7,25 +7,25 @@ use Rattle.dcsctp_spec_lemmas.specs.types.declared.association.Held.{Held}
 use Rattle.dcsctp_spec_lemmas.specs.types.declared.word.Word.{Word}
 use Rattle.dcsctp_spec_lemmas.specs.types.declared.word.Word.TheVariants.{U32, U64}
 use Rattle.dcsctp_spec_lemmas.specs.types.declared.kinds.ErrorKind.TheVariants.{ProtocolViolation}
-use Rattle.dcsctp_spec_lemmas.specs.spec.Cookie.{Cookie, cookie_at}
+use Rattle.dcsctp_spec_lemmas.specs.spec.Cookie.{Cookie, cookie_of_bytes}
 use Rattle.dcsctp_spec_lemmas.specs.spec.endpoint.Cause.{Cause}
 use Rattle.dcsctp_spec_lemmas.specs.spec.endpoint.Event.{Event, sent, connected, connection_restarted, aborted}
 use Rattle.dcsctp_spec_lemmas.specs.spec.Packet.{Introduction, Content, init, init_ack, cookie_echo, cookie_ack, re_config, abort, shutdown, shutdown_ack, shutdown_complete, plain, Emission}
 use Rattle.dcsctp_spec_lemmas.specs.spec.queues.Transfer.{EndpointQueues}
 use Rattle.dcsctp_spec_lemmas.specs.spec.endpoint.Endpoint.{Endpoint, Core, closed, cookie_wait, cookie_echoed, open_in, established, shutdown_pending, shutdown_sent, shutdown_received, shutdown_ack_sent, with_secret}
-use Rattle.dcsctp_spec_lemmas.specs.spec.endpoint.Outcome.{Outcome, noting, quiet, sends, emits, fits, to_peer, drawing}
+use Rattle.dcsctp_spec_lemmas.specs.spec.endpoint.Outcome.{Outcome, with_effects_first, quiet, sends, emits, fits, to_peer, drawing}
 use Rattle.dcsctp_spec_lemmas.specs.spec.endpoint.Turn.{ContentTurn}
 use Rattle.dcsctp_spec_lemmas.specs.spec.endpoint.FlushOutcomes.{Answer, draft_to, FlushAnswers, flush_answered}
 use Rattle.dcsctp_spec_lemmas.specs.spec.endpoint.EndOutcomes.{ended_outcome, abort_outcome}
-use Rattle.dcsctp_spec_lemmas.specs.spec.endpoint.HandshakeOutcomes.{pair_from, renewed_pair, renewed_pair_outcome, cookie_for, init_ack_emission, init_outcome, init_emission, awaits_init_ack, connect_outcome, no_cookie_text, abort_emission, awaits_cookie_ack, echo_emission, EchoAnswers, InitAckAnswers, accepted_init_ack_by, init_ack_by, connected_after, CookieAckAnswers, cookie_ack_by}
-use Rattle.dcsctp_spec_lemmas.specs.spec.endpoint.CookieEchoOutcomes.{resolved_now, established_by, cookie_ack_emission, EstablishAnswers, establish_by, queues_kept, queues_begun, queues_collided, RestartAnswers, restart_by_where, MaintainAnswers, maintain_by, ResolvedAnswers, resolved_by, EchoedAnswers, cookie_echo_by}
+use Rattle.dcsctp_spec_lemmas.specs.spec.endpoint.HandshakeOutcomes.{pair_from, renewed_pair, renewed_pair_outcome, cookie_for, init_ack_emission, init_outcome, init_emission, awaits_init_ack, connect_outcome, no_cookie_text, abort_emission, awaits_cookie_ack, echo_emission, EchoAnswers, InitAckAnswers, accept_init_ack_with_flush, init_ack_with_flush, connected_after, CookieAckAnswers, cookie_ack_with_flush}
+use Rattle.dcsctp_spec_lemmas.specs.spec.endpoint.CookieEchoOutcomes.{resolved_now, endpoint_established, cookie_ack_emission, EstablishAnswers, establish_with_flush, queues_kept, queues_begun, queues_collided, RestartAnswers, restart_with_flush_by_core, MaintainAnswers, maintain_with_flush, ResolvedAnswers, resolve_with_flush, EchoedAnswers, cookie_echo_with_flush}
 use Rattle.dcsctp_spec_lemmas.specs.spec.association.Effect.{AssociationIdentity, Effect, holds, connects, identity_of}
 use Rattle.dcsctp_spec_lemmas.specs.spec.association.HandshakeChanges.{held_by_init_ack, new_held}
 use Rattle.dcsctp_spec_lemmas.specs.spec.association.CookieEchoChanges.{held_by_cookie, Resolution, establish_new, restart, simultaneous_init, discard, maintain_existing, invalid_tag, stale}
 use Rattle.dcsctp_spec_lemmas.specs.spec.CookieFits.{FitsPair}
 use Rattle.dcsctp_spec_runs.specs.Laws.{OfferReadsBack}
 use Rattle.dcsctp_spec_lemmas.specs.types.declared.capabilities.Capabilities.{Capabilities}
-use Rattle.dcsctp_spec_lemmas.specs.types.Offer.{offer_of, negotiated}
+use Rattle.dcsctp_spec_lemmas.specs.types.Offer.{offer_of, negotiated_capabilities}
 use Rattle.dcsctp_spec_runs.specs.Fitting.{AllSent, FitsHeld, FitsCore, FitsEndpoint, IsSendable, Sendable, TurnFits}
 use Rattle.dcsctp_spec_lemmas.proofs.AbortLemmas.{by_abort_outcome}
 use Rattle.dcsctp_spec_lemmas.proofs.OneAnswerLemmas.{init_by}
@@ -50,7 +50,7 @@ packet_fits false e words events emission h before good = record { after = h; se
 pub emits_fit : (e : Endpoint) (words : List Word) (emission : Emission) → FitsEndpoint e → IsSendable emission → TurnFits (emits e words emission)
 emits_fit e words emission h good = packet_fits (fits e emission) e words [] emission h tt good
 
-noting_fits : (effects : List Effect) (o : Outcome) → TurnFits o → TurnFits (noting effects o)
+noting_fits : (effects : List Effect) (o : Outcome) → TurnFits o → TurnFits (with_effects_first effects o)
 noting_fits effects o h = record { after = h.after; sends = h.sends }
 
 drawing_fits : (pair : Pair) (o : Outcome) → TurnFits o → TurnFits (drawing pair o)
@@ -122,7 +122,7 @@ echoed_fits true e words tag cookie answers allowed h good = flushed_fits e word
 echoed_fits false e words tag cookie answers allowed h good = record { after = h; sends = tt }
 
 accepted_fits : (e : Endpoint) (my : Pair) (theirs : Introduction) (cookie : Option (List ℕ)) (word : ℕ) (answers : List Answer) → InitAckAnswers e theirs cookie (cookie_wait my) word answers
-    → FitsEndpoint e → FitsPair my → Sendable (init_ack theirs cookie) → TurnFits (accepted_init_ack_by (flush_answered answers) e my theirs cookie word)
+    → FitsEndpoint e → FitsPair my → Sendable (init_ack theirs cookie) → TurnFits (accept_init_ack_with_flush (flush_answered answers) e my theirs cookie word)
 accepted_fits e my theirs None word answers allowed h own good =
     refused_fits (fits e (abort_emission theirs.pair.tag)) e theirs.pair.tag h (record { tag = good.said.tag; contents = (abort_sendable, tt) })
 accepted_fits e my theirs (Some cookie) word answers allowed h own good =
@@ -132,12 +132,12 @@ accepted_fits e my theirs (Some cookie) word answers allowed h own good =
     (record {
       valid = h.valid;
       options = h.options;
-      core = (own, new_held_fits my theirs.pair (negotiated (offer_of e.options) theirs.offer) own good.said.0, good.said.1);
+      core = (own, new_held_fits my theirs.pair (negotiated_capabilities (offer_of e.options) theirs.offer) own good.said.0, good.said.1);
       t1 = tt;
     }) (record { tag = good.said.0.tag; contents = (echo_sendable cookie good.said.1, tt) }))
 
 init_ack_fits : (e : Endpoint) (theirs : Introduction) (cookie : Option (List ℕ)) (core : Core) (word : ℕ) (answers : List Answer) → InitAckAnswers e theirs cookie core word answers
-    → FitsEndpoint e → FitsCore core → Sendable (init_ack theirs cookie) → TurnFits (init_ack_by (flush_answered answers) e theirs cookie core word)
+    → FitsEndpoint e → FitsCore core → Sendable (init_ack theirs cookie) → TurnFits (init_ack_with_flush (flush_answered answers) e theirs cookie core word)
 init_ack_fits e theirs cookie closed word answers allowed h own good = still_fits e h
 init_ack_fits e theirs cookie (cookie_wait my) word answers allowed h own good = accepted_fits e my theirs cookie word answers allowed h own good
 init_ack_fits e theirs cookie (cookie_echoed my held echoed) word answers allowed h own good = still_fits e h
@@ -154,21 +154,21 @@ acknowledged_fits e words events held cookie answers allowed h before tag_fits =
     (record { tag = tag_fits; contents = (ack_sendable, tt) })
 
 established_fits : (e : Endpoint) (cookie : Cookie) (queues : EndpointQueues) (tie : ℕ) (events : List (Event Emission)) (answers : List Answer) → EstablishAnswers e cookie queues tie answers
-    → FitsEndpoint e → ReadPairs cookie → AllSent IsSendable events → TurnFits (establish_by (flush_answered answers) e cookie queues tie events)
+    → FitsEndpoint e → ReadPairs cookie → AllSent IsSendable events → TurnFits (establish_with_flush (flush_answered answers) e cookie queues tie events)
 established_fits e cookie queues tie events answers allowed h pairs before =
     let held : Held = held_by_cookie e.options cookie in
     let link : AssociationIdentity = identity_of cookie.maker held in
     noting_fits (holds link ∷ connects link ∷ []) _
-    (acknowledged_fits (established_by e cookie queues tie) (U64 tie ∷ []) events held cookie answers allowed
+    (acknowledged_fits (endpoint_established e cookie queues tie) (U64 tie ∷ []) events held cookie answers allowed
     (record {
       valid = h.valid;
       options = h.options;
-      core = (pairs.maker, new_held_fits cookie.maker cookie.addressee (negotiated (offer_of e.options) cookie.offer) pairs.maker pairs.addressee);
+      core = (pairs.maker, new_held_fits cookie.maker cookie.addressee (negotiated_capabilities (offer_of e.options) cookie.offer) pairs.maker pairs.addressee);
       t1 = tt;
     }) before pairs.addressee.tag)
 
 restarted_fits : (e : Endpoint) (cookie : Cookie) (tie : ℕ) (core : Core) (answers : List Answer) → RestartAnswers e cookie tie core answers → FitsEndpoint e → FitsCore core → ReadPairs cookie
-    → TurnFits (restart_by_where (flush_answered answers) e cookie tie core)
+    → TurnFits (restart_with_flush_by_core (flush_answered answers) e cookie tie core)
 restarted_fits e cookie tie closed answers allowed h own pairs = established_fits e cookie (queues_begun e cookie) tie (connection_restarted ∷ connected ∷ []) answers allowed h pairs (tt, (tt, tt))
 restarted_fits e cookie tie (cookie_wait my) answers allowed h own pairs =
     established_fits e cookie (queues_begun e cookie) tie (connection_restarted ∷ connected ∷ []) answers allowed h pairs (tt, (tt, tt))
@@ -185,7 +185,7 @@ restarted_fits e cookie tie (open_in shutdown_received my held) answers allowed 
 restarted_fits e cookie tie (open_in shutdown_ack_sent my held) answers allowed h own pairs = refused_restart_fits e held h own.1
 
 maintained_fits : (e : Endpoint) (cookie : Cookie) (core : Core) (answers : List Answer) → MaintainAnswers e cookie core answers → FitsEndpoint e → FitsCore core → ReadPairs cookie
-    → TurnFits (maintain_by (flush_answered answers) e cookie core)
+    → TurnFits (maintain_with_flush (flush_answered answers) e cookie core)
 maintained_fits e cookie closed answers allowed h own pairs = still_fits e h
 maintained_fits e cookie (cookie_wait my) answers allowed h own pairs = still_fits e h
 maintained_fits e cookie (cookie_echoed my held echoed) answers allowed h own pairs =
@@ -195,7 +195,7 @@ maintained_fits e cookie (cookie_echoed my held echoed) answers allowed h own pa
 maintained_fits e cookie (open_in phase my held) answers allowed h own pairs = acknowledged_fits e [] [] held cookie answers allowed h tt pairs.addressee.tag
 
 resolved_fits : (e : Endpoint) (cookie : Cookie) (core : Core) (word : ℕ) (resolution : Resolution) (answers : List Answer) → ResolvedAnswers e cookie core word resolution answers → FitsEndpoint e
-    → FitsCore core → ReadPairs cookie → TurnFits (resolved_by (flush_answered answers) e cookie core word resolution)
+    → FitsCore core → ReadPairs cookie → TurnFits (resolve_with_flush (flush_answered answers) e cookie core word resolution)
 resolved_fits e cookie core word establish_new answers allowed h own pairs = established_fits e cookie (queues_kept e cookie) word (connected ∷ []) answers allowed h pairs (tt, tt)
 resolved_fits e cookie core word restart answers allowed h own pairs = restarted_fits e cookie word core answers allowed h own pairs
 resolved_fits e cookie core word simultaneous_init answers allowed h own pairs = established_fits e cookie (queues_collided e core cookie) word (connected ∷ []) answers allowed h pairs (tt, tt)
@@ -211,14 +211,14 @@ resolved_fits e cookie core word stale answers allowed h own pairs =
     (record { after = h; sends = (tt, tt) })
 
 echo_fits : (e : Endpoint) (core : Core) (header : ℕ) (bytes : List ℕ) (found : Result Cookie (List ℕ)) (word : ℕ) (answers : List Answer) → EchoedAnswers e core header found word answers
-    → cookie_at bytes ≡ found → FitsEndpoint e → FitsCore core → FitsEcho bytes → TurnFits (cookie_echo_by (flush_answered answers) e core header found word)
+    → cookie_of_bytes bytes ≡ found → FitsEndpoint e → FitsCore core → FitsEcho bytes → TurnFits (cookie_echo_with_flush (flush_answered answers) e core header found word)
 echo_fits e core header bytes (Err text) word answers allowed is h own echo = record { after = h; sends = (tt, tt) }
 echo_fits e core header bytes (Ok cookie) word answers allowed is h own echo =
     resolved_fits e cookie core word (resolved_now e core header cookie) answers allowed h own (read_pairs_fit bytes cookie echo.cookie_in_bytes is)
 
 -- ---- COOKIE ACK and ABORT
 
-cookie_ack_fits : (e : Endpoint) (core : Core) (answers : List Answer) → CookieAckAnswers e core answers → FitsEndpoint e → FitsCore core → TurnFits (cookie_ack_by (flush_answered answers) e core)
+cookie_ack_fits : (e : Endpoint) (core : Core) (answers : List Answer) → CookieAckAnswers e core answers → FitsEndpoint e → FitsCore core → TurnFits (cookie_ack_with_flush (flush_answered answers) e core)
 cookie_ack_fits e closed answers allowed h own = still_fits e h
 cookie_ack_fits e (cookie_wait my) answers allowed h own = still_fits e h
 cookie_ack_fits e (cookie_echoed my held cookie) answers allowed h own =
@@ -238,7 +238,7 @@ turn_fits law e tag (init theirs) o turn h tagged good =
     let at : TurnFits (init_outcome e theirs e.core turn.0 turn.1) = init_fits law e theirs e.core turn.0 turn.1 h h.core good.said.0 in
     subst TurnFits (sym turn.2) (init_by TurnFits e theirs turn.0 turn.1 (still_fits e h) (answering_fits (init_outcome e theirs e.core turn.0 turn.1) at))
 turn_fits law e tag (init_ack theirs cookie) o turn h tagged good = subst TurnFits (sym turn.3) (init_ack_fits e theirs cookie e.core turn.0 turn.1 turn.2 h h.core good)
-turn_fits law e tag (cookie_echo bytes) o turn h tagged good = subst TurnFits (sym turn.3) (echo_fits e e.core tag bytes (cookie_at bytes) turn.0 turn.1 turn.2 refl h h.core good.fits)
+turn_fits law e tag (cookie_echo bytes) o turn h tagged good = subst TurnFits (sym turn.3) (echo_fits e e.core tag bytes (cookie_of_bytes bytes) turn.0 turn.1 turn.2 refl h h.core good.fits)
 turn_fits law e tag cookie_ack o turn h tagged good = subst TurnFits (sym turn.2) (cookie_ack_fits e e.core turn.0 turn.1 h h.core)
 turn_fits law e tag (re_config parameters) o turn h tagged good =
     content_by e tag (re_config parameters) o (λ dropped. subst TurnFits (sym dropped) (still_fits e h)) (λ handled. reset_fits e e.core parameters o handled h h.core good) turn

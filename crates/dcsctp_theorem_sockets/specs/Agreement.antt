@@ -7,11 +7,11 @@ use Rattle.dcsctp_spec_lemmas.specs.types.declared.options.Options.{Options}
 use Rattle.dcsctp_spec_lemmas.specs.types.declared.schedule.Side.{Side}
 use Rattle.dcsctp_spec_lemmas.specs.types.Schedule.{AreHonest}
 use Rattle.dcsctp_spec_lemmas.specs.types.Settings.{IsValid, FitsOptions}
-use Rattle.dcsctp_spec_lemmas.specs.types.Offer.{offer_of, negotiated}
+use Rattle.dcsctp_spec_lemmas.specs.types.Offer.{offer_of, negotiated_capabilities}
 use Rattle.dcsctp_spec_lemmas.specs.spec.endpoint.Event.{Event, connected}
 use Rattle.dcsctp_spec_lemmas.specs.spec.Packet.{Emission}
 use Rattle.dcsctp_spec_lemmas.specs.spec.endpoint.CallTurns.{Transition, effects_of, pairs_of}
-use Rattle.dcsctp_spec_lemmas.specs.spec.association.Effect.{AssociationIdentity, Effect, identity_in}
+use Rattle.dcsctp_spec_lemmas.specs.spec.association.Effect.{AssociationIdentity, Effect, identity_of_core}
 use Rattle.dcsctp_spec_runs.specs.Past.{Each}
 use Rattle.dcsctp_spec_runs.specs.World.{after_effects}
 use Rattle.dcsctp_spec_runs.specs.Sockets.{PerformedAct, Both, of_side, turns_after, SocketRun, acts_of}
@@ -25,7 +25,7 @@ HasDistinctTags (pair ∷ pairs) = AllByRecursion (λ later. pair.tag ≢ later.
 -- After one of these turns the association existed.
 abbrev pub WasHeld : AssociationIdentity → List Transition → Type 0
 WasHeld link [] = ⊥
-WasHeld link (turn ∷ turns) = (identity_in turn.outcome.after.core ≡ Some link) ⊎ WasHeld link turns
+WasHeld link (turn ∷ turns) = (identity_of_core turn.outcome.after.core ≡ Some link) ⊎ WasHeld link turns
 
 -- Among these turns of the other side there is one after which it had the matching association. Each of the two has what the two
 -- offers have in common.
@@ -33,8 +33,8 @@ pub record FindsHeld (mine theirs : Options) (turns : List Transition) (link : A
   pub other : AssociationIdentity
   pub held : WasHeld other turns
   pub crossed : IsCrossed link other
-  pub capabilities : link.capabilities ≡ negotiated (offer_of mine) (offer_of theirs)
-  pub other_capabilities : other.capabilities ≡ negotiated (offer_of theirs) (offer_of mine)
+  pub capabilities : link.capabilities ≡ negotiated_capabilities (offer_of mine) (offer_of theirs)
+  pub other_capabilities : other.capabilities ≡ negotiated_capabilities (offer_of theirs) (offer_of mine)
 
 -- OnConnected is among these events.
 abbrev pub HasConnected : List (Event Emission) → Type 0
@@ -45,7 +45,7 @@ HasConnected (event ∷ events) = HasConnected events
 -- The association after a turn is of this kind.
 pub record HoldsAssociation (Kind : AssociationIdentity → Type 0) (turn : Transition) : Type 0 where
   pub link : AssociationIdentity
-  pub held : identity_in turn.outcome.after.core ≡ Some link
+  pub held : identity_of_core turn.outcome.after.core ≡ Some link
   pub kind : Kind link
 
 -- Each turn that adds OnConnected leaves an association of this kind.
@@ -54,8 +54,8 @@ EachConnected Kind [] = Unit {0}
 EachConnected Kind (turn ∷ turns) = (HasConnected turn.outcome.events → HoldsAssociation Kind turn) × EachConnected Kind turns
 
 -- all that these turns recorded, newest first
-abbrev pub noted_past : List Transition → List Effect
-noted_past turns = after_effects (effects_of turns) []
+abbrev pub recorded_past : List Transition → List Effect
+recorded_past turns = after_effects (effects_of turns) []
 
 -- Each OnConnected of either side finds the other so. Each of its performed requests finds that the other performed a request of
 -- that number. It did so in an association whose peer pair is its own pair. That holds for the first 2^32 - 1 requests in one
@@ -63,8 +63,8 @@ noted_past turns = after_effects (effects_of turns) []
 pub record Agree (options : Both Options) (turns : Both (List Transition)) : Type 0 where
   pub a : EachConnected (FindsHeld options.a options.b turns.b) turns.a
   pub b : EachConnected (FindsHeld options.b options.a turns.a) turns.b
-  pub a_performed : Each (FindsPerformed (noted_past turns.b)) (noted_past turns.a)
-  pub b_performed : Each (FindsPerformed (noted_past turns.a)) (noted_past turns.b)
+  pub a_performed : Each (FindsPerformed (recorded_past turns.b)) (recorded_past turns.a)
+  pub b_performed : Each (FindsPerformed (recorded_past turns.a)) (recorded_past turns.b)
 
 -- options that a socket can be made with, in memory
 pub record IsUsable (options : Options) : Type 0 where

@@ -6,7 +6,7 @@ use Rattle.dcsctp_spec_lemmas.specs.types.declared.options.Options.{Options}
 use Rattle.dcsctp_spec_lemmas.specs.types.declared.schedule.Side.{Side}
 use Rattle.dcsctp_spec_lemmas.specs.types.declared.schedule.Side.TheVariants as sides
 use Rattle.dcsctp_spec_lemmas.specs.types.Schedule.{connect_call, StepContent, call_step, delivery_step, ActContent, step_act}
-use Rattle.dcsctp_spec_lemmas.specs.types.Offer.{offer_of, negotiated}
+use Rattle.dcsctp_spec_lemmas.specs.types.Offer.{offer_of, negotiated_capabilities}
 use Rattle.dcsctp_spec_lemmas.specs.spec.endpoint.Event.{Event, connected}
 use Rattle.dcsctp_spec_lemmas.specs.spec.endpoint.Endpoint.{open_in, established}
 use Rattle.dcsctp_spec_lemmas.specs.spec.endpoint.CallTurns.{Transition, events_of}
@@ -55,7 +55,7 @@ connections_of_events (event ∷ events) = connections_of_events events
 
 -- The side has connected once, and is Established with this pair and peer.
 pub record IsConnected (mine theirs : Options) (turns : List Transition) (my peer : Pair) : Type 0 where
-  pub core : (endpoint_after mine turns).core ≡ open_in established my (new_held my peer (negotiated (offer_of mine) (offer_of theirs)))
+  pub core : (endpoint_after mine turns).core ≡ open_in established my (new_held my peer (negotiated_capabilities (offer_of mine) (offer_of theirs)))
   pub once : connections_of_events (events_of turns) ≡ 1
 
 -- Both are, and crossed.

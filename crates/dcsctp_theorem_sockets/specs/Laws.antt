@@ -2,18 +2,18 @@
 use Rattle.dcsctp_theorem_sockets.specs.Agreement.{SocketsAgree}
 use Rattle.dcsctp_theorem_sockets.specs.Deadlines.{SocketsRunT1}
 use Rattle.dcsctp_theorem_sockets.specs.Handshake.{FittingSocketsConnect}
-use Rattle.dcsctp_theorem_sockets.specs.OneSocket.{SocketEffectsInPlace, SocketRequestsEndByAnswers, SocketsTellEnds, SocketsKeepSizes, SocketsKeepBursts, SocketsWaitQuietly}
-use Rattle.dcsctp_theorem_sockets.specs.Telling.{SocketsTellEffects, SocketsHoldNoted, SocketsNoteAnew}
+use Rattle.dcsctp_theorem_sockets.specs.OneSocket.{SocketEffectsInPlace, SocketRequestsEndByAnswers, SocketsReportEnds, SocketsKeepSizes, SocketsKeepBursts, SocketsWaitQuietly}
+use Rattle.dcsctp_theorem_sockets.specs.Telling.{SocketsReportEffects, SocketsHaveRecorded, SocketsRecordOnlyNew}
 
 pub record SocketLaws : Type 0 where
   pub agree : SocketsAgree
   pub connect : FittingSocketsConnect
   pub numbers : SocketEffectsInPlace
   pub answers : SocketRequestsEndByAnswers
-  pub ends : SocketsTellEnds
-  pub told : SocketsTellEffects
-  pub held : SocketsHoldNoted
-  pub anew : SocketsNoteAnew
+  pub ends : SocketsReportEnds
+  pub told : SocketsReportEffects
+  pub held : SocketsHaveRecorded
+  pub anew : SocketsRecordOnlyNew
   pub t1 : SocketsRunT1
   pub sizes : SocketsKeepSizes
   pub bursts : SocketsKeepBursts

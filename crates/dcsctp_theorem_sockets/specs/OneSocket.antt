@@ -9,7 +9,7 @@ use Rattle.dcsctp_spec_lemmas.specs.types.declared.options.Options.{Options}
 use Rattle.dcsctp_spec_lemmas.specs.types.declared.schedule.Side.{Side}
 use Rattle.dcsctp_spec_lemmas.specs.types.Settings.{packet_size_limit, IsValid}
 use Rattle.dcsctp_spec_lemmas.specs.spec.association.Effect.{completes, fails}
-use Rattle.dcsctp_spec_lemmas.specs.spec.endpoint.Event.{Event, closed, aborted, packets_in}
+use Rattle.dcsctp_spec_lemmas.specs.spec.endpoint.Event.{Event, closed, aborted, packets_of_events}
 use Rattle.dcsctp_spec_lemmas.specs.spec.Packet.{Emission}
 use Rattle.dcsctp_spec_lemmas.specs.spec.endpoint.Endpoint.{Endpoint, fresh_endpoint}
 use Rattle.dcsctp_spec_lemmas.specs.spec.endpoint.Endpoint as machine
@@ -20,8 +20,8 @@ use Rattle.dcsctp_spec_lemmas.specs.types.Schedule.{call_step, advance_call, Act
 use Rattle.dcsctp_spec_lemmas.specs.spec.endpoint.TimeTurns.{Waits, MoveClock}
 use Rattle.dcsctp_spec_runs.specs.Past.{HasEffect, Each, InPlace}
 use Rattle.dcsctp_spec_runs.specs.Sockets.{PerformedAct, Both, of_side, turns_after, endpoint_after, packets_shown, side_of_act, SocketRun}
-use Rattle.dcsctp_theorem_association.specs.OneSide.{IsSuccess, IsRefusal, HasResponse, parameters_in}
-use Rattle.dcsctp_theorem_sockets.specs.Agreement.{AreUsable, noted_past}
+use Rattle.dcsctp_theorem_association.specs.OneSide.{IsSuccess, IsRefusal, HasResponse, parameters_of_content}
+use Rattle.dcsctp_theorem_sockets.specs.Agreement.{AreUsable, recorded_past}
 use Rattle.dcsctp_theorem_sockets.specs.Bursts.{flush_limit, packets_of}
 
 -- Each effect of a socket's turns is in its order (RFC 6525, section 4.1). In one lifetime an association connects at most once,
@@ -29,11 +29,11 @@ use Rattle.dcsctp_theorem_sockets.specs.Bursts.{flush_limit, packets_of}
 abbrev pub SocketEffectsInPlace : Type 0
 SocketEffectsInPlace =
     (options : Both Options) (run : List PerformedAct) → AreUsable options → SocketRun options run → (side : Side)
-    → Each InPlace (noted_past (of_side side (turns_after run)))
+    → Each InPlace (recorded_past (of_side side (turns_after run)))
 
 -- The input is a RE-CONFIG with an answer to this number of this kind.
 abbrev pub BearsAnswer : (ReconfigurationResponseResult → Type 0) → ℕ → Input → Type 0
-BearsAnswer Kind number (chunk_input tag content) = HasResponse Kind number (parameters_in content)
+BearsAnswer Kind number (chunk_input tag content) = HasResponse Kind number (parameters_of_content content)
 BearsAnswer Kind number input = ⊥
 
 -- Its own request ends in a turn of such a chunk, and in no other (RFC 6525, section 5.2.7).
@@ -57,14 +57,14 @@ end_event_count (event ∷ events) = end_event_count events
 
 -- A turn that leads to Closed from another phase adds OnClosed or OnAborted once, and any other turn adds neither (RFC 9260,
 -- section 9).
-pub data TellsEnd (e : Endpoint) (turn : Transition) : Type 0 where
-  it_ends : e.core ≢ machine.closed → turn.outcome.after.core ≡ machine.closed → end_event_count turn.outcome.events ≡ 1 → TellsEnd e turn
-  it_stays : (turn.outcome.after.core ≡ machine.closed → e.core ≡ machine.closed) → end_event_count turn.outcome.events ≡ 0 → TellsEnd e turn
+pub data ReportsEnd (e : Endpoint) (turn : Transition) : Type 0 where
+  it_ends : e.core ≢ machine.closed → turn.outcome.after.core ≡ machine.closed → end_event_count turn.outcome.events ≡ 1 → ReportsEnd e turn
+  it_stays : (turn.outcome.after.core ≡ machine.closed → e.core ≡ machine.closed) → end_event_count turn.outcome.events ≡ 0 → ReportsEnd e turn
 
-abbrev pub SocketsTellEnds : Type 0
-SocketsTellEnds =
+abbrev pub SocketsReportEnds : Type 0
+SocketsReportEnds =
     (options : Both Options) (run : List PerformedAct) → SocketRun options run → (side : Side)
-    → AlongTurns TellsEnd (fresh_endpoint (of_side side options)) (of_side side (turns_after run))
+    → AlongTurns ReportsEnd (fresh_endpoint (of_side side options)) (of_side side (turns_after run))
 
 -- ---- sizes
 
@@ -83,7 +83,7 @@ SocketsKeepSizes =
 -- A turn sends no more packets than its input allows. How many of them a flush may send is a matter of `max_burst`, and of the
 -- association that the turn leads to.
 abbrev pub KeepsBurst : Endpoint → Input → Outcome → Type 0
-KeepsBurst e input o = length (packets_in o.events) ≤ packets_of e.options e.core input (flush_limit e.options.max_burst o.after.core)
+KeepsBurst e input o = length (packets_of_events o.events) ≤ packets_of e.options e.core input (flush_limit e.options.max_burst o.after.core)
 
 abbrev pub TurnKeepsBurst : Endpoint → Transition → Type 0
 TurnKeepsBurst e turn = KeepsBurst e turn.input turn.outcome

@@ -4,9 +4,9 @@ ghost use Rattle.dcsctp_theorem_sockets.specs.Agreement.{SocketsAgree};
 ghost use Rattle.dcsctp_theorem_sockets.specs.Deadlines.{SocketsRunT1};
 ghost use Rattle.dcsctp_theorem_sockets.specs.Handshake.{FittingSocketsConnect};
 ghost use Rattle.dcsctp_theorem_sockets.specs.Laws.{SocketLaws};
-ghost use Rattle.dcsctp_theorem_sockets.specs.OneSocket.{SocketEffectsInPlace, SocketRequestsEndByAnswers, SocketsTellEnds, SocketsKeepSizes, SocketsKeepBursts, SocketsWaitQuietly};
+ghost use Rattle.dcsctp_theorem_sockets.specs.OneSocket.{SocketEffectsInPlace, SocketRequestsEndByAnswers, SocketsReportEnds, SocketsKeepSizes, SocketsKeepBursts, SocketsWaitQuietly};
 ghost use Rattle.dcsctp_theorem_sockets.specs.Restores.{SnapshotsBringBack, RestoredSocketsBeginNothing};
-ghost use Rattle.dcsctp_theorem_sockets.specs.Telling.{SocketsTellEffects, SocketsHoldNoted, SocketsNoteAnew};
+ghost use Rattle.dcsctp_theorem_sockets.specs.Telling.{SocketsReportEffects, SocketsHaveRecorded, SocketsRecordOnlyNew};
 
 use dcsctp_spec_laws::{acts_are_controlled, chunks_are_controlled, time_passes_quietly};
 use dcsctp_spec_runs::{
@@ -69,7 +69,7 @@ pub fn socket_requests_end_by_answers()
 /// A turn of a socket that leads to the closed state from another adds one event, OnClosed or OnAborted. No
 /// other turn adds one (RFC 9260, section 9).
 pub fn sockets_tell_ends()
-    ensures { SocketsTellEnds }
+    ensures { SocketsReportEnds }
 {
     ends_once();
     acts_are_controlled();
@@ -79,7 +79,7 @@ pub fn sockets_tell_ends()
 /// its requests that was performed or failed, and each performed request of the peer. They come in the order of
 /// the records.
 pub fn sockets_tell_effects()
-    ensures { SocketsTellEffects }
+    ensures { SocketsReportEffects }
 {
     chunks_are_controlled();
     acts_are_controlled();
@@ -87,7 +87,7 @@ pub fn sockets_tell_effects()
 
 /// The association of a socket, with its numbers of requests, is the one that its turns recorded last.
 pub fn sockets_hold_noted()
-    ensures { SocketsHoldNoted }
+    ensures { SocketsHaveRecorded }
 {
     past_is_state();
     chunks_are_controlled();
@@ -96,7 +96,7 @@ pub fn sockets_hold_noted()
 
 /// When a socket records an association that a handshake made, it had none before, or a different one.
 pub fn sockets_note_anew()
-    ensures { SocketsNoteAnew }
+    ensures { SocketsRecordOnlyNew }
 {
     past_is_state();
     chunks_are_controlled();

@@ -16,7 +16,7 @@ use Rattle.dcsctp_send_retransmission.specs.spec.queues.Items.{Item, is_first_ab
 use Rattle.dcsctp_send_retransmission.specs.spec.queues.Retransmission.{RetransmissionState, outstanding_count}
 use Rattle.dcsctp_send_retransmission.specs.spec.queues.SendQueue.{SendQueueState}
 use Rattle.dcsctp_send_retransmission.specs.spec.queues.Transfer.{Transfer}
-use Rattle.dcsctp_send_retransmission.specs.spec.endpoint.FlushOutcomes.{FitsPlain, where_fits, stage_of, next_forward, may_abandon, ForwardsWhere, GivesUpWhere}
+use Rattle.dcsctp_send_retransmission.specs.spec.endpoint.FlushOutcomes.{FitsPlain, where_fits, stage_of, next_forward, may_abandon, ForwardsIfAbandoned, GivesUpThenForwards}
 use Rattle.dcsctp_send_retransmission.proofs.spec_lemmas.TellingLemmas.{tells_abandoned}
 use Rattle.dcsctp_send_retransmission.proofs.spec_lemmas.ToldLemmas.{behind_events, given_up_before}
 use Rattle.dcsctp_send_retransmission.specs.send_streams.Telling.{contents}
@@ -25,7 +25,7 @@ use Rattle.dcsctp_send_retransmission.specs.Sending.{KeepsAllFragments}
 use Rattle.dcsctp_send_retransmission.specs.States.{stage}
 use Rattle.dcsctp_send_retransmission.proofs.GivingUpLemmas.{gives_up_at}
 use Rattle.dcsctp_send_retransmission.proofs.SendingLemmas.{keeps_refl, keeps_trans, gives_up_keeps}
-use Rattle.dcsctp_transfer.specs.Forwarding.{PutsForward, MakesForwardTsn, TellsAbandoning}
+use Rattle.dcsctp_transfer.specs.Forwarding.{PutsForward, MakesForwardTsn, AddsFirstOfAbandoning}
 use Rattle.dcsctp_transfer.proofs.ForwardingLemmas.{adds_fitting}
 use Rattle.dcsctp_transfer.proofs.StoppedUpLemmas.{stops_giving_up}
 
@@ -53,7 +53,7 @@ forwards_none now transfer waiting events packet never =
     record {
       gave_up = start;
       chunks = [];
-      gives_up = subst (λ (b : Bool). GivesUpWhere b now transfer (bytes_remaining packet) start start None []) (sym never) (refl, refl, refl);
+      gives_up = subst (λ (b : Bool). GivesUpThenForwards b now transfer (bytes_remaining packet) start start None []) (sym never) (refl, refl, refl);
       fits = tt;
       adds = ap (λ (body : List ℕ). record packet { body = body }) (sym (append-nil packet.body));
       told = [];
@@ -95,7 +95,7 @@ abandons_all now old before after waiting shown left events telling old_is shown
 -- They were abandoned, and the result says whether a chunk was made.
 record Makes (now : ℕ) (old : Transfer) (room : ℕ) (state : RetransmissionState) (packet filled : Building) (next : Option ℕ) : Type 0 where
   chunks : List Plain
-  forwards : ForwardsWhere (is_first_abandoned state.outstanding.items) now old room state next chunks
+  forwards : ForwardsIfAbandoned (is_first_abandoned state.outstanding.items) now old room state next chunks
   fits : AllByRecursion FitsPlain chunks
   adds : filled ≡ record packet { body = packet.body ++ flat_map chunk_bytes (map plain_out chunks) }
 
@@ -108,8 +108,8 @@ forwards_all now old new after shown left events telling packet filled next may 
     record {
       gave_up = abandons.gave_up;
       chunks = makes.chunks;
-      gives_up = subst (λ (b : Bool). GivesUpWhere b now old (bytes_remaining packet) start abandons.gave_up next makes.chunks) (sym may)
-          (abandons.all, subst (λ (q : RetransmissionState). ForwardsWhere (is_first_abandoned q.outstanding.items) now old (bytes_remaining packet) q next makes.chunks) (sym abandons.queue) makes.forwards);
+      gives_up = subst (λ (b : Bool). GivesUpThenForwards b now old (bytes_remaining packet) start abandons.gave_up next makes.chunks) (sym may)
+          (abandons.all, subst (λ (q : RetransmissionState). ForwardsIfAbandoned (is_first_abandoned q.outstanding.items) now old (bytes_remaining packet) q next makes.chunks) (sym abandons.queue) makes.forwards);
       fits = makes.fits;
       adds = makes.adds;
       told = tells.told;
@@ -124,7 +124,7 @@ makes_none : (now : ℕ) (old : Transfer) (state : RetransmissionState) (packet 
 makes_none now old state packet not_first =
     record {
       chunks = [];
-      forwards = subst (λ (b : Bool). ForwardsWhere b now old (bytes_remaining packet) state None []) (sym not_first) (refl, refl);
+      forwards = subst (λ (b : Bool). ForwardsIfAbandoned b now old (bytes_remaining packet) state None []) (sym not_first) (refl, refl);
       fits = tt;
       adds = ap (λ (body : List ℕ). record packet { body = body }) (sym (append-nil packet.body));
     }
@@ -136,7 +136,7 @@ makes_one now old state packet filled next first next_is puts =
     let chunks : List Plain = where_fits (bytes_remaining packet) (unworked puts.chunk) in
     record {
       chunks = chunks;
-      forwards = subst (λ (b : Bool). ForwardsWhere b now old (bytes_remaining packet) state (Some next) chunks) (sym first) (ap Some next_is, (puts.chunk, puts.says, refl));
+      forwards = subst (λ (b : Bool). ForwardsIfAbandoned b now old (bytes_remaining packet) state (Some next) chunks) (sym first) (ap Some next_is, (puts.chunk, puts.says, refl));
       fits = fitting.fits;
       adds = fitting.adds;
     }
@@ -184,7 +184,7 @@ forwards_not_due now old new before after waiting shown left events telling pack
 -- ---- if an allocation fails
 
 pub tells_abandoning : {A : Type 0} (r : Result A AllocError) (now : ℕ) (old : Transfer) (before after : RetransmissionState) (waiting shown left : SendQueueState) (events telling : List SocketEvent) → before ≡ old.retransmission
-    → waiting ≡ shown → GivesUpDue now (stage before waiting events [] 0) (stage after left telling [] 0) r → TellsAbandoning now old shown (contents events) (contents telling)
+    → waiting ≡ shown → GivesUpDue now (stage before waiting events [] 0) (stage after left telling [] 0) r → AddsFirstOfAbandoning now old shown (contents events) (contents telling)
 tells_abandoning (Ok done) now old before after waiting shown left events telling old_is shown_is gives_up =
     let all = abandons_all now old before after waiting shown left events telling old_is shown_is (record { steps = gives_up.0; none_left = gives_up.1 }) in
     record { gave_up = all.gave_up; gives_up = all.all; tells = record { front = all.gave_up.told; rest = []; parts = sym (append-nil all.gave_up.told); told = all.tells } }

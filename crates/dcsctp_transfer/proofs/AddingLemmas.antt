@@ -16,7 +16,7 @@ use Rattle.dcsctp_send_retransmission.specs.spec.queues.Items.{Item, chunk_size}
 use Rattle.dcsctp_send_retransmission.specs.spec.queues.Outstanding.{OutstandingState, header_of, header, distance_to}
 use Rattle.dcsctp_send_retransmission.specs.spec.queues.Sending.{Fragment}
 use Rattle.dcsctp_send_retransmission.specs.send_outstanding.Outstanding.{FindsPlaces}
-use Rattle.dcsctp_send_retransmission.specs.Sending.{HasFragment, PackedFrom, HandsOut, none as none_packed, more as more_packed}
+use Rattle.dcsctp_send_retransmission.specs.Sending.{HasFragment, PacksOutstanding, HandsOut, none as none_packed, more as more_packed}
 use Rattle.dcsctp_transfer.specs.Adding.{HasChunk, HaveChunks, none, more, HasChunkWithin, AddsChunk, AddsChunkOf, AddsChunks, HasRoomForRest}
 
 -- ---- sizes
@@ -109,7 +109,7 @@ have_more outstanding tsns sizes tsn size (more first length_of others rest chun
     (more first length_of (others ++ tsn ∷ []) (rest + size) chunk (have_more outstanding others rest tsn size have has))
 
 -- those that were handed out
-pub have_packed : (outstanding : OutstandingState) (tsns : List ℕ) (used : ℕ) → PackedFrom outstanding tsns used → HaveChunks outstanding tsns used
+pub have_packed : (outstanding : OutstandingState) (tsns : List ℕ) (used : ℕ) → PacksOutstanding outstanding tsns used → HaveChunks outstanding tsns used
 have_packed outstanding [] zero none_packed = none
 have_packed outstanding tsns used (more_packed others rest place item tsn size packed at is size_is) =
     have_more outstanding others rest tsn size (have_packed outstanding others rest packed) (record { place = place; item = item; at = at; is = is; size_is = size_is })

@@ -17,7 +17,7 @@ use Rattle.dcsctp_send_retransmission.specs.spec.queues.Outstanding.{Outstanding
 use Rattle.dcsctp_send_retransmission.specs.spec.queues.SendQueue.{SendQueueState, has_queued_data}
 use Rattle.dcsctp_send_retransmission.specs.spec.queues.Transfer.{Transfer, may_give}
 use Rattle.dcsctp_send_retransmission.specs.spec.queues.Retransmission.{RetransmissionState, outstanding_count, can_send}
-use Rattle.dcsctp_send_retransmission.specs.spec.endpoint.FlushOutcomes.{stage_of, FillsWhere}
+use Rattle.dcsctp_send_retransmission.specs.spec.endpoint.FlushOutcomes.{stage_of, FillsIfAllowed}
 use Rattle.dcsctp_send_retransmission.proofs.spec_lemmas.TellingLemmas.{tells_filled}
 use Rattle.dcsctp_send_retransmission.proofs.spec_lemmas.ToldLemmas.{behind_events, filled_before}
 use Rattle.dcsctp_send_retransmission.specs.send_streams.Telling.{contents}
@@ -25,12 +25,12 @@ use Rattle.dcsctp_send_retransmission.specs.send_outstanding.Outstanding.{FindsP
 use Rattle.dcsctp_send_retransmission.specs.Halting.{FillsUp}
 use Rattle.dcsctp_send_retransmission.specs.States.{stage, StopsFilling, SendsPacket}
 use Rattle.dcsctp_transfer.specs.Adding.{AddsChunks}
-use Rattle.dcsctp_transfer.specs.Filling.{has_chunks, FillsDataPacket, TellsFilling}
+use Rattle.dcsctp_transfer.specs.Filling.{has_chunks, FillsDataPacket, AddsFirstOfFilling}
 use Rattle.dcsctp_transfer.proofs.RoomLemmas.{halts_there}
 use Rattle.dcsctp_transfer.proofs.StoppedLemmas.{stops_filling}
 
 -- A filling is one whether or not data may go.
-fills_where : (b : Bool) (now : ℕ) (old new : Stage) → Fills now old new → FillsWhere b now old new
+fills_where : (b : Bool) (now : ℕ) (old new : Stage) → Fills now old new → FillsIfAllowed b now old new
 fills_where true now old new fills = fills
 fills_where false now old new fills = inr fills
 
@@ -55,7 +55,7 @@ fills_none now transfer waiting events packet idle =
     let start : Stage = stage_of waiting transfer.retransmission [] (bytes_remaining packet) in
     record {
       sent = start;
-      fills = subst (λ (b : Bool). FillsWhere b now start start) (sym (may_give_none waiting transfer.retransmission both.0 (no_items transfer.retransmission.outstanding.items both.1))) (inl refl);
+      fills = subst (λ (b : Bool). FillsIfAllowed b now start start) (sym (may_give_none waiting transfer.retransmission both.0 (no_items transfer.retransmission.outstanding.items both.1))) (inl refl);
       idle = λ nothing none_out. refl;
       chunks = [];
       are = tt;
@@ -140,7 +140,7 @@ fills_some now bytes old new before after waiting shown left events telling pack
 
 pub tells_filling : (now bytes : ℕ) (old : Transfer) (before after : RetransmissionState) (waiting shown left : SendQueueState) (events telling : List SocketEvent) (room : ℕ)
     → before ≡ old.retransmission → waiting ≡ shown → bytes ≡ room → StopsFilling now (stage before waiting events [] bytes) (stage after left telling [] bytes)
-    → TellsFilling now room old shown (contents events) (contents telling)
+    → AddsFirstOfFilling now room old shown (contents events) (contents telling)
 tells_filling now bytes old before after waiting shown left events telling room old_is shown_is bytes_is stops =
     let start : Stage = stage_of shown old.retransmission [] room in
     let end : Stage = stage after left telling [] bytes in

@@ -9,7 +9,7 @@ use Rattle.dcsctp_send_retransmission.specs.spec.queues.Transfer.{Transfer, adve
 use Rattle.dcsctp_send_retransmission.specs.types.declared.tracking.AckState.{AckState}
 use Rattle.dcsctp_send_retransmission.specs.types.declared.tracking.AckState.TheVariants.{Idle, BecomingDelayed, Delayed, Immediate}
 use Rattle.dcsctp_receive_tracker.specs.declared.data_tracker.SelectiveAck.{SelectiveAck}
-use Rattle.dcsctp_send_retransmission.specs.spec.queues.Tracker.{TrackerState, is_sack_due, is_acknowledgement_due, owes_acknowledgement, all_acknowledged, acknowledgement_asked, block_bytes, most_blocks, duplicates_left, sack_of, sacked}
+use Rattle.dcsctp_send_retransmission.specs.spec.queues.Tracker.{TrackerState, is_sack_due, is_acknowledgement_due, owes_acknowledgement, all_acknowledged, acknowledgement_asked, block_bytes, most_blocks, duplicates_left, sack_of, tracker_after_sack}
 use Rattle.dcsctp_transfer.specs.Filling.{is_sack_wanted, with_chunk, FillsRequestedSack}
 use Rattle.dcsctp_transfer.specs.Adding.{sack_said}
 
@@ -67,7 +67,7 @@ gives_wanted old new tracker asked after along sack room packet filled room_is s
     let wanted : is_sack_wanted along old ≡ true =
     ap (λ (t : TrackerState). is_acknowledgement_due t || (owes_acknowledgement t && along)) (sym seen) ∙ (due_by tracker.acknowledgement along ∙ due) in
     let idle : asked ≡ all_acknowledged tracker = asked_is ∙ ap (λ (b : Bool). if b then all_acknowledged tracker else tracker) due in
-    let left : after ≡ sacked old.tracker = after_is ∙ (ap (λ (t : TrackerState). record t { duplicates = [] }) idle ∙ ap sacked seen) in
+    let left : after ≡ tracker_after_sack old.tracker = after_is ∙ (ap (λ (t : TrackerState). record t { duplicates = [] }) idle ∙ ap tracker_after_sack seen) in
     let told : told_where asked.follows_rfc old.reassembly ≡ advertised_window old =
     ap (λ (b : Bool). told_where b old.reassembly) (asking_keeps tracker asked along asked_is ∙ ap (λ (t : TrackerState). t.follows_rfc) seen) in
     let said : sack_said sack ≡ sack_of (bytes_remaining packet) old.tracker (advertised_window old) =

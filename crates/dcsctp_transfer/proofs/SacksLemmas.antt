@@ -5,8 +5,8 @@ use Rattle.dcsctp_send_retransmission.specs.spec.queues.Acknowledging.{is_sack_v
 use Rattle.dcsctp_send_retransmission.specs.spec.queues.Outstanding.{acknowledged_count}
 use Rattle.dcsctp_send_retransmission.specs.spec.queues.Retransmission.{RetransmissionState, outstanding_count, after_expiry}
 use Rattle.dcsctp_send_retransmission.specs.spec.queues.Transfer.{Transfer}
-use Rattle.dcsctp_send_retransmission.specs.spec.endpoint.TransferMoves.{timed_by}
-use Rattle.dcsctp_transfer.specs.Sacks.{lost_where}
+use Rattle.dcsctp_send_retransmission.specs.spec.endpoint.TransferMoves.{timed_transfer}
+use Rattle.dcsctp_transfer.specs.Sacks.{lost_if_due}
 
 pub is_valid : (state : RetransmissionState) (tsn : ℕ) → acknowledged_count state.outstanding tsn ≤ outstanding_count state → is_sack_valid state tsn ≡ true
 is_valid state tsn within = test (acknowledged_count state.outstanding tsn) (outstanding_count state) within
@@ -26,11 +26,11 @@ told_if_valid true is isnt = absurd (cc)
 told_if_valid false is isnt = absurd (cc)
 
 -- by whether the timer expires
-pub lost_by : (b : Bool) (now : ℕ) (transfer : Transfer) → record transfer { retransmission = if b then after_expiry now transfer.retransmission else transfer.retransmission } ≡ lost_where b now transfer
+pub lost_by : (b : Bool) (now : ℕ) (transfer : Transfer) → record transfer { retransmission = if b then after_expiry now transfer.retransmission else transfer.retransmission } ≡ lost_if_due b now transfer
 lost_by true now transfer = refl
 lost_by false now transfer = refl
 
 -- A round trip leaves what is acknowledged.
-pub timed_acknowledges : (round_trip : Option ℕ) (old : RetransmissionState) (transfer : Transfer) → has_acknowledged old (timed_by round_trip transfer).retransmission ≡ has_acknowledged old transfer.retransmission
+pub timed_acknowledges : (round_trip : Option ℕ) (old : RetransmissionState) (transfer : Transfer) → has_acknowledged old (timed_transfer round_trip transfer).retransmission ≡ has_acknowledged old transfer.retransmission
 timed_acknowledges None old transfer = refl
 timed_acknowledges (Some round_trip) old transfer = refl

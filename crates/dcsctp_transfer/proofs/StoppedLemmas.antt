@@ -12,7 +12,7 @@ use Rattle.dcsctp_send_retransmission.proofs.spec_lemmas.MarkedItemLemmas.{fewer
 use Rattle.dcsctp_send_retransmission.proofs.spec_lemmas.SendingOutcomes.{none_marked}
 use Rattle.dcsctp_send_retransmission.proofs.spec_lemmas.ToldLemmas.{behind_events, may_before, before_again, before_anew, before_steps}
 use Rattle.dcsctp_send_retransmission.specs.send_queue.Calls.{StopsTaking}
-use Rattle.dcsctp_send_retransmission.specs.States.{RefusesUp, Refused, StopsFilling}
+use Rattle.dcsctp_send_retransmission.specs.States.{RefusesUp, RefusesStep, StopsFilling}
 use Rattle.dcsctp_send_retransmission.proofs.SendingLemmas.{counted_outstanding}
 use Rattle.dcsctp_transfer.proofs.StoppedTakingLemmas.{FillsTelling, told_less, fills_same, taking_front}
 use Rattle.dcsctp_transfer.proofs.StoppedUpLemmas.{gives_up_telling}
@@ -70,7 +70,7 @@ up_front front now old mid left telling again up =
       tells = gives.tells;
     }
 
-again_refused : (front : Events) (now : ℕ) (old resent : Stage) (left : SendQueueState) (telling : Events) → StageSteps (StepAgain now) old resent → Refused now (behind_events front resent) left telling
+again_refused : (front : Events) (now : ℕ) (old resent : Stage) (left : SendQueueState) (telling : Events) → StageSteps (StepAgain now) old resent → RefusesStep now (behind_events front resent) left telling
     → FillsTelling front now old telling
 again_refused front now old resent left telling again (inl same) = fills_same front now old resent telling (filled_from_again now old resent again) same.1
 again_refused front now old resent left telling again (inr (inl up)) = up_front front now old resent left telling again up
@@ -81,7 +81,7 @@ again_refused front now old resent left telling again (inr (inr (may, stops))) =
     taking_front front now old resent (resent_packet_counted old.room resent) left telling again none (may_counted (nat_lt 0 size) size resent (may_before front resent may)) there
 
 anew_refused : (front : Events) (now : ℕ) (old resent mid : Stage) (left : SendQueueState) (telling : Events) → StageSteps (StepAgain now) old resent → StageSteps (StepNew now) (resent_packet_counted old.room resent) mid
-    → Refused now (behind_events front mid) left telling → FillsTelling front now old telling
+    → RefusesStep now (behind_events front mid) left telling → FillsTelling front now old telling
 anew_refused front now old resent mid left telling again anew (inl same) = elim (none_or_unmarked now (resent_packet_counted old.room resent) mid anew) [
   | inl is ↦ fills_same front now old resent telling (filled_from_again now old resent again) (same.1 ∙ ap (λ (s : Stage). front ++ s.told) is)
   | inr unmarked ↦ fills_same front now old mid telling (filled_from_new now old resent mid again anew unmarked) same.1
@@ -98,10 +98,10 @@ anew_refused front now old resent mid left telling again anew (inr (inr (may, st
 pub stops_filling : (front : List (Event (List ℕ))) (now : ℕ) (old new : Stage) → StopsFilling now (behind_events front old) new → FillsTelling front now old new.told
 stops_filling front now old new (inl stops) =
     let resent = before_steps (StepAgain now) front (before_again front now) old stops.at stops.steps in
-    again_refused front now old resent.stripped new.waiting new.told resent.step (subst (λ (s : Stage). Refused now s new.waiting new.told) resent.is stops.refused)
+    again_refused front now old resent.stripped new.waiting new.told resent.step (subst (λ (s : Stage). RefusesStep now s new.waiting new.told) resent.is stops.refused)
 stops_filling front now old new (inr later) =
     let resent = before_steps (StepAgain now) front (before_again front now) old later.resent later.again in
     let counted : StageSteps (StepNew now) (behind_events front (resent_packet_counted old.room resent.stripped)) later.stops.at =
     subst (λ (s : Stage). StageSteps (StepNew now) (resent_packet_counted old.room s) later.stops.at) resent.is later.stops.steps in
     let anew = before_steps (StepNew now) front (before_anew front now) (resent_packet_counted old.room resent.stripped) later.stops.at counted in
-    anew_refused front now old resent.stripped anew.stripped new.waiting new.told resent.step anew.step (subst (λ (s : Stage). Refused now s new.waiting new.told) anew.is later.stops.refused)
+    anew_refused front now old resent.stripped anew.stripped new.waiting new.told resent.step anew.step (subst (λ (s : Stage). RefusesStep now s new.waiting new.told) anew.is later.stops.refused)

@@ -6,11 +6,11 @@ use Rattle.dcsctp_send_retransmission.specs.spec.queues.Items.{Item, item_size}
 use Rattle.dcsctp_send_retransmission.specs.spec.queues.Outstanding.{header, next_tsn}
 use Rattle.dcsctp_send_retransmission.specs.types.queues.Progress.{just_sent}
 use Rattle.dcsctp_send_retransmission.specs.spec.queues.SendQueue.{SendQueueState}
-use Rattle.dcsctp_send_retransmission.specs.spec.queues.Sending.{Drops, more as one_more_dropped, fragment, size_produced, produced, produced_events}
+use Rattle.dcsctp_send_retransmission.specs.spec.queues.Sending.{Drops, more as one_more_dropped, fragment, size_produced, queue_after_producing, produced_events}
 use Rattle.dcsctp_send_retransmission.proofs.spec_lemmas.FilledOutcomes.{Filled, filled_from_new, filled_from_dropped}
 use Rattle.dcsctp_send_retransmission.proofs.spec_lemmas.SendingOutcomes.{none_marked}
 use Rattle.dcsctp_send_retransmission.proofs.spec_lemmas.TakingOutcomes.{drops_idle}
-use Rattle.dcsctp_send_retransmission.specs.send_streams.Telling.{TellsFront}
+use Rattle.dcsctp_send_retransmission.specs.send_streams.Telling.{AddsFront}
 use Rattle.dcsctp_send_retransmission.specs.send_queue.Calls.{DropsNext, PartNext, StopsTaking}
 
 abbrev Events : Type 0
@@ -37,7 +37,7 @@ pub fills_same : (front : Events) (now : ℕ) (old mid : Stage) (telling : Event
 fills_same front now old mid telling filled same = record { first = mid.told; filled = filled; tells = same }
 
 -- A further step has added the first part of its events.
-fills_front : (front : Events) (now : ℕ) (old : Stage) (before whole telling : Events) → Filled now old (before ++ whole) → TellsFront (front ++ before) whole telling → FillsTelling front now old telling
+fills_front : (front : Events) (now : ℕ) (old : Stage) (before whole telling : Events) → Filled now old (before ++ whole) → AddsFront (front ++ before) whole telling → FillsTelling front now old telling
 fills_front front now old before whole telling filled tells =
     record {
       first = before ++ tells.front;
@@ -49,7 +49,7 @@ fills_front front now old before whole telling filled tells =
 -- ---- what the send queue gives next
 
 drops_front : (front : Events) (now : ℕ) (old resent mid : Stage) (left : SendQueueState) (telling : Events) → StageSteps (StepAgain now) old resent → StageSteps (StepNew now) (resent_packet_counted old.room resent) mid → MayAdd mid
-    → (events : Events) → Drops now mid.waiting events left → (coming : Events) → DropsNext now left coming → TellsFront (front ++ (mid.told ++ events)) coming telling → FillsTelling front now old telling
+    → (events : Events) → Drops now mid.waiting events left → (coming : Events) → DropsNext now left coming → AddsFront (front ++ (mid.told ++ events)) coming telling → FillsTelling front now old telling
 drops_front front now old resent mid left telling again anew may events drops coming next tells =
     let idle = sym (drops_idle now mid.waiting left events drops) ∙ next.idle in
     let all = filled_from_dropped now old resent mid _ _ again anew may idle (one_more_dropped events left next.place next.message drops next.next next.front next.expired) in
@@ -70,7 +70,7 @@ next_item now mid left coming next =
 abbrev next_stage : (now : ℕ) → (mid : Stage) → (left : SendQueueState) → (events : Events) → (coming : Events) → PartNext now (payload_room (header mid.queue.outstanding) mid.room) mid.waiting left coming → Stage
 next_stage now mid left events coming next = record mid {
   queue = record mid.queue { outstanding = record mid.queue.outstanding { items = mid.queue.outstanding.items ++ next_item now mid left coming next ∷ [] }; reset_begun = false };
-  waiting = produced next.place (payload_room (header mid.queue.outstanding) mid.room) next.message next.under_way left;
+  waiting = queue_after_producing next.place (payload_room (header mid.queue.outstanding) mid.room) next.message next.under_way left;
   told = (mid.told ++ events) ++ produced_events next.place (payload_room (header mid.queue.outstanding) mid.room) next.message next.under_way left;
   tsns = mid.tsns ++ next_tsn mid.queue.outstanding ∷ [];
   room = mid.room - item_size (header mid.queue.outstanding) (next_item now mid left coming next);
@@ -100,7 +100,7 @@ sends_next now mid left events drops coming next =
     }
 
 sends_front : (front : Events) (now : ℕ) (old resent mid : Stage) (left : SendQueueState) (telling : Events) → StageSteps (StepAgain now) old resent → StageSteps (StepNew now) (resent_packet_counted old.room resent) mid → MayAdd mid
-    → (events : Events) → Drops now mid.waiting events left → (coming : Events) → PartNext now (payload_room (header mid.queue.outstanding) mid.room) mid.waiting left coming → TellsFront (front ++ (mid.told ++ events)) coming telling
+    → (events : Events) → Drops now mid.waiting events left → (coming : Events) → PartNext now (payload_room (header mid.queue.outstanding) mid.room) mid.waiting left coming → AddsFront (front ++ (mid.told ++ events)) coming telling
     → FillsTelling front now old telling
 sends_front front now old resent mid left telling again anew may events drops coming next tells =
     let sent : Stage = next_stage now mid left events coming next in
@@ -112,7 +112,7 @@ sends_front front now old resent mid left telling again anew may events drops co
 pub taking_front : (front : Events) (now : ℕ) (old resent mid : Stage) (left : SendQueueState) (telling : Events) → StageSteps (StepAgain now) old resent → StageSteps (StepNew now) (resent_packet_counted old.room resent) mid → MayAdd mid
     → StopsTaking now (payload_room (header mid.queue.outstanding) mid.room) mid.waiting (front ++ mid.told) left telling → FillsTelling front now old telling
 taking_front front now old resent mid left telling again anew may stops =
-    let tells = subst (λ (es : Events). TellsFront es stops.coming telling) (append_assoc front mid.told stops.events) stops.tells in
+    let tells = subst (λ (es : Events). AddsFront es stops.coming telling) (append_assoc front mid.told stops.events) stops.tells in
     elim stops.next [
       | inl next ↦ drops_front front now old resent mid left telling again anew may stops.events stops.drops stops.coming next tells
       | inr next ↦ sends_front front now old resent mid left telling again anew may stops.events stops.drops stops.coming next tells

@@ -4,16 +4,16 @@ use Rattle.std.proofs.Common.{◌≡◌, ◌∙◌, inl, inr, ℕ, ◌+◌, Bool
 use Rattle.std.specs.List.{slice_get}
 use Rattle.dcsctp_send_retransmission.specs.types.declared.progress.Change.TheVariants.{Abandon}
 use Rattle.dcsctp_send_retransmission.specs.spec.endpoint.Event.{Event}
-use Rattle.dcsctp_send_retransmission.specs.spec.queues.Abandoning.{IsDueAt, GivesUpFirst, GivesUpAll}
-use Rattle.dcsctp_send_retransmission.specs.spec.queues.Filling.{Stage, maybe_expired, ClosesMessage, GivesUpAt, more}
+use Rattle.dcsctp_send_retransmission.specs.spec.queues.Abandoning.{IsDueForAbandoning, GivesUpFirst, GivesUpAll}
+use Rattle.dcsctp_send_retransmission.specs.spec.queues.Filling.{Stage, maybe_expired, ClosesMessage, GivesUpItem, more}
 use Rattle.dcsctp_send_retransmission.specs.spec.queues.Items.{Item, changed_between}
 use Rattle.dcsctp_send_retransmission.specs.spec.queues.Retransmission.{with_items}
 use Rattle.dcsctp_send_retransmission.proofs.spec_lemmas.GivingUpOutcomes.{dropped_at, drops_named, given_up_at, given_up_from}
 use Rattle.dcsctp_send_retransmission.proofs.spec_lemmas.ItemMessageLemmas.{some_row}
 use Rattle.dcsctp_send_retransmission.proofs.spec_lemmas.ToldLemmas.{behind_events, before_first, before_steps}
-use Rattle.dcsctp_send_retransmission.specs.send_streams.Telling.{TellsFront}
+use Rattle.dcsctp_send_retransmission.specs.send_streams.Telling.{AddsFront}
 use Rattle.dcsctp_send_retransmission.specs.GivingUp.{StopsGivingUp}
-use Rattle.dcsctp_send_retransmission.specs.States.{RefusesClosing, RefusesUpAt}
+use Rattle.dcsctp_send_retransmission.specs.States.{RefusesClosing, RefusesAbandoningItem}
 
 abbrev Events : Type 0
 Events = List (Event (List ℕ))
@@ -21,7 +21,7 @@ Events = List (Event (List ℕ))
 -- The message is abandoned, and the events so far are the first part of the events then.
 pub record GivesUpTelling (front : Events) (now place : ℕ) (at : Stage) (telling : Events) : Type 0 where
   pub new : Stage
-  pub up : GivesUpAt now place at new
+  pub up : GivesUpItem now place at new
   pub first : Events
   pub rest : Events
   pub told : new.told ≡ first ++ rest
@@ -37,7 +37,7 @@ record ClosesTelling (front : Events) (now : ℕ) (last : Item) (at : Stage) (te
   tells : telling ≡ front ++ first
 
 closes_front : (front : Events) (now : ℕ) (last : Item) (at closed : Stage) (whole telling : Events) (is_end : Bool) → ClosesMessage now last at closed is_end → closed.told ≡ at.told ++ whole
-    → TellsFront (front ++ at.told) whole telling → ClosesTelling front now last at telling is_end
+    → AddsFront (front ++ at.told) whole telling → ClosesTelling front now last at telling is_end
 closes_front front now last at closed whole telling is_end closes told tells =
     record {
       closed = closed;
@@ -49,7 +49,7 @@ closes_front front now last at closed whole telling is_end closes told tells =
     }
 
 pub gives_up_telling : (front : Events) (now place : ℕ) (at : Stage) (item : Item) (telling : Events) → slice_get at.queue.outstanding.items place ≡ Some item
-    → RefusesUpAt place at.queue.outstanding.items at.waiting (front ++ at.told) telling → GivesUpTelling front now place at telling
+    → RefusesAbandoningItem place at.queue.outstanding.items at.waiting (front ++ at.told) telling → GivesUpTelling front now place at telling
 gives_up_telling front now place at item telling is refused = by_end refused.last.fragment.is_end refl refused.tells
   where
     -- no event so far
@@ -92,15 +92,15 @@ gives_up_telling front now place at item telling is refused = by_end refused.las
 -- There is a place that is due, and an allocation fails there.
 record RefusesDue (now : ℕ) (at : Stage) (telling : Events) : Type 0 where
   place : ℕ
-  is_due : IsDueAt now place at.queue
-  refused : RefusesUpAt place at.queue.outstanding.items at.waiting at.told telling
+  is_due : IsDueForAbandoning now place at.queue
+  refused : RefusesAbandoningItem place at.queue.outstanding.items at.waiting at.told telling
 
 -- the first part of some events, of which there are more
-front_of_more : (front first rest after telling whole told : Events) → whole ≡ told ++ after → told ≡ first ++ rest → telling ≡ front ++ first → TellsFront front whole telling
+front_of_more : (front first rest after telling whole told : Events) → whole ≡ told ++ after → told ≡ first ++ rest → telling ≡ front ++ first → AddsFront front whole telling
 front_of_more front first rest after telling whole told grows parts tells =
     record { front = first; rest = rest ++ after; parts = grows ∙ (ap (λ (es : Events). es ++ after) parts ∙ append_assoc first rest after); told = tells }
 
-pub stops_giving_up : (front : Events) (now : ℕ) (old new : Stage) → StopsGivingUp now (behind_events front old) new → (gave_up : Stage) × GivesUpAll now old gave_up × TellsFront front gave_up.told new.told
+pub stops_giving_up : (front : Events) (now : ℕ) (old new : Stage) → StopsGivingUp now (behind_events front old) new → (gave_up : Stage) × GivesUpAll now old gave_up × AddsFront front gave_up.told new.told
 stops_giving_up front now old new stops =
     let sooner = before_steps (GivesUpFirst now) front (before_first front now) old stops.at stops.steps in
     let due : RefusesDue now stops.at new.told = record { place = stops.place; is_due = stops.is_due; refused = stops.refuses.refused } in

@@ -11,10 +11,10 @@ use Rattle.dcsctp_send_retransmission.specs.spec.queues.Chunks.{AreChunksOfTsns}
 use Rattle.dcsctp_send_retransmission.specs.spec.queues.Filling.{Stage}
 use Rattle.dcsctp_send_retransmission.specs.spec.queues.Retransmission.{outstanding_count}
 use Rattle.dcsctp_send_retransmission.specs.spec.queues.SendQueue.{SendQueueState, has_queued_data}
-use Rattle.dcsctp_send_retransmission.specs.spec.queues.Tracker.{is_acknowledgement_due, owes_acknowledgement, sack_of, sacked}
+use Rattle.dcsctp_send_retransmission.specs.spec.queues.Tracker.{is_acknowledgement_due, owes_acknowledgement, sack_of, tracker_after_sack}
 use Rattle.dcsctp_send_retransmission.specs.spec.queues.Transfer.{Transfer, advertised_window, may_give}
-use Rattle.dcsctp_send_retransmission.specs.spec.endpoint.FlushOutcomes.{FillingEvent, filling_event_content, stage_of, FillsWhere}
-use Rattle.dcsctp_send_retransmission.specs.send_streams.Telling.{TellsFront}
+use Rattle.dcsctp_send_retransmission.specs.spec.endpoint.FlushOutcomes.{FillingEvent, filling_event_content, stage_of, FillsIfAllowed}
+use Rattle.dcsctp_send_retransmission.specs.send_streams.Telling.{AddsFront}
 
 -- is there any?
 abbrev pub has_chunks : List ChunkContent → Bool
@@ -26,7 +26,7 @@ has_chunks (chunk ∷ chunks) = true
 -- what the queues do while a packet with that much room is filled
 abbrev pub FillsRoom : ℕ → ℕ → Transfer → SendQueueState → Stage → Type 0
 FillsRoom now room transfer waiting sent =
-    FillsWhere (may_give waiting transfer.retransmission) now (stage_of waiting transfer.retransmission [] room) sent
+    FillsIfAllowed (may_give waiting transfer.retransmission) now (stage_of waiting transfer.retransmission [] room) sent
 
 -- Chunks with data were put into a packet, or none, and their events were added. Where nothing waits and nothing is outstanding,
 -- nothing has changed.
@@ -46,10 +46,10 @@ pub record FillsDataPacket (now : ℕ) (old : Transfer) (waiting : SendQueueStat
   pub is : new ≡ record old { retransmission = sent.queue }
 
 -- If an allocation failed, the first events of some such filling were added.
-pub record TellsFilling (now room : ℕ) (old : Transfer) (waiting : SendQueueState) (before after : List (Event (List ℕ))) : Type 0 where
+pub record AddsFirstOfFilling (now room : ℕ) (old : Transfer) (waiting : SendQueueState) (before after : List (Event (List ℕ))) : Type 0 where
   pub sent : Stage
   pub fills : FillsRoom now room old waiting sent
-  pub tells : TellsFront before sent.told after
+  pub tells : AddsFront before sent.told after
 
 -- ---- what acknowledges
 
@@ -64,5 +64,5 @@ with_chunk packet chunk = if nat_le (length (chunk_bytes chunk)) (bytes_remainin
 -- A SACK was made, or none was asked for.
 abbrev pub FillsRequestedSack : Bool → Transfer → Building → Transfer → Building → Type 0
 FillsRequestedSack true old packet new filled =
-    (new ≡ record old { tracker = sacked old.tracker }) × (filled ≡ with_chunk packet (sack_chunk (sack_of (bytes_remaining packet) old.tracker (advertised_window old))))
+    (new ≡ record old { tracker = tracker_after_sack old.tracker }) × (filled ≡ with_chunk packet (sack_chunk (sack_of (bytes_remaining packet) old.tracker (advertised_window old))))
 FillsRequestedSack false old packet new filled = (new ≡ old) × (filled ≡ packet)

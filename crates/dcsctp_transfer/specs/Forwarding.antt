@@ -13,8 +13,8 @@ use Rattle.dcsctp_send_retransmission.specs.spec.queues.Retransmission.{Retransm
 use Rattle.dcsctp_send_retransmission.specs.spec.queues.SendQueue.{SendQueueState}
 use Rattle.dcsctp_send_retransmission.specs.spec.queues.Skipping.{SaysForward}
 use Rattle.dcsctp_send_retransmission.specs.spec.queues.Transfer.{Transfer}
-use Rattle.dcsctp_send_retransmission.specs.spec.endpoint.FlushOutcomes.{FillingEvent, filling_event_content, FitsPlain, stage_of, may_abandon, GivesUpWhere}
-use Rattle.dcsctp_send_retransmission.specs.send_streams.Telling.{TellsFront}
+use Rattle.dcsctp_send_retransmission.specs.spec.endpoint.FlushOutcomes.{FillingEvent, filling_event_content, FitsPlain, stage_of, may_abandon, GivesUpThenForwards}
+use Rattle.dcsctp_send_retransmission.specs.send_streams.Telling.{AddsFront}
 use Rattle.dcsctp_send_retransmission.specs.declared.forward_tsn.Skipped.{Skipped}
 use Rattle.dcsctp_send_retransmission.specs.declared.forward_tsn.Skipped.TheVariants.{Streams, Messages}
 use Rattle.dcsctp_transfer.specs.Filling.{with_chunk}
@@ -34,7 +34,7 @@ pub record PutsForward (state : RetransmissionState) (packet filled : Building) 
 -- what the queues do before a FORWARD-TSN, and which chunks that brings
 abbrev pub AbandonsExpired : ℕ → ℕ → Transfer → SendQueueState → Stage → Option ℕ → List Plain → Type 0
 AbandonsExpired now room transfer waiting gave_up next chunks =
-    GivesUpWhere (may_abandon transfer.retransmission) now transfer room (stage_of waiting transfer.retransmission [] 0) gave_up next chunks
+    GivesUpThenForwards (may_abandon transfer.retransmission) now transfer room (stage_of waiting transfer.retransmission [] 0) gave_up next chunks
 
 -- Messages were abandoned, and their events were added. If a chunk was made, the result says when the next one may be made.
 pub record MakesForwardTsn (now : ℕ) (old : Transfer) (waiting : SendQueueState) (events : List (Event (List ℕ))) (packet : Building) (new : Transfer) (left : SendQueueState) (telling : List (Event (List ℕ))) (filled : Building) (next : Option ℕ) : Type 0 where
@@ -50,7 +50,7 @@ pub record MakesForwardTsn (now : ℕ) (old : Transfer) (waiting : SendQueueStat
   pub is : new ≡ record old { retransmission = gave_up.queue }
 
 -- If an allocation failed, the first of these events were added.
-pub record TellsAbandoning (now : ℕ) (old : Transfer) (waiting : SendQueueState) (before after : List (Event (List ℕ))) : Type 0 where
+pub record AddsFirstOfAbandoning (now : ℕ) (old : Transfer) (waiting : SendQueueState) (before after : List (Event (List ℕ))) : Type 0 where
   pub gave_up : Stage
   pub gives_up : GivesUpAll now (stage_of waiting old.retransmission [] 0) gave_up
-  pub tells : TellsFront before gave_up.told after
+  pub tells : AddsFront before gave_up.told after

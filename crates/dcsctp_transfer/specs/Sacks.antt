@@ -7,7 +7,7 @@ use Rattle.dcsctp_send_retransmission.specs.wire.ReadsBack.{FitsChunk}
 use Rattle.dcsctp_send_retransmission.specs.wire.Spelling.{chunk_bytes}
 use Rattle.dcsctp_wire_build.specs.Building.{Building, bytes_remaining}
 use Rattle.dcsctp_send_retransmission.specs.spec.endpoint.Event.{Event}
-use Rattle.dcsctp_send_retransmission.specs.spec.queues.Acknowledging.{is_sack_valid, has_acknowledged, delivered_by}
+use Rattle.dcsctp_send_retransmission.specs.spec.queues.Acknowledging.{is_sack_valid, has_acknowledged, delivered_up_to}
 use Rattle.dcsctp_send_retransmission.specs.spec.Packet.{unworked}
 use Rattle.dcsctp_send_retransmission.specs.spec.queues.AtOnce.{SendsAtOnce}
 use Rattle.dcsctp_send_retransmission.specs.spec.queues.Chunks.{AreChunksOfTsns}
@@ -15,7 +15,7 @@ use Rattle.dcsctp_send_retransmission.specs.spec.queues.Retransmission.{Retransm
 use Rattle.dcsctp_send_retransmission.specs.spec.queues.SendQueue.{SendQueueState}
 use Rattle.dcsctp_send_retransmission.specs.spec.queues.Transfer.{Transfer}
 use Rattle.dcsctp_send_retransmission.specs.spec.endpoint.TransferMoves.{TakesSack, lost_all}
-use Rattle.dcsctp_send_retransmission.specs.send_streams.Telling.{TellsFront}
+use Rattle.dcsctp_send_retransmission.specs.send_streams.Telling.{AddsFront}
 use Rattle.dcsctp_transfer.specs.declared.sacks.HandledSack.{HandledSack}
 use Rattle.dcsctp_transfer.specs.declared.sacks.HandledSack.TheVariants.{Invalid, Valid}
 
@@ -26,17 +26,17 @@ HandlesSack now sack old told new telling (Ok Invalid) =
 HandlesSack now sack old told new telling (Ok (Valid acknowledges)) =
     (is_sack_valid old.retransmission sack.cumulative_tsn_ack ≡ true)
     × TakesSack now sack old new
-    × (telling ≡ told ++ delivered_by sack.cumulative_tsn_ack old.retransmission)
+    × (telling ≡ told ++ delivered_up_to sack.cumulative_tsn_ack old.retransmission)
     × (acknowledges ≡ has_acknowledged old.retransmission new.retransmission)
 HandlesSack now sack old told new telling (Err error) =
     (new ≡ old)
-    × TellsFront told (delivered_by sack.cumulative_tsn_ack old.retransmission) telling
+    × AddsFront told (delivered_up_to sack.cumulative_tsn_ack old.retransmission) telling
     × (is_sack_valid old.retransmission sack.cumulative_tsn_ack ≡ false → telling ≡ told)
 
 -- All that is in flight is lost at this moment, or nothing changes.
-abbrev pub lost_where : Bool → ℕ → Transfer → Transfer
-lost_where true now transfer = lost_all now transfer
-lost_where false now transfer = transfer
+abbrev pub lost_if_due : Bool → ℕ → Transfer → Transfer
+lost_if_due true now transfer = lost_all now transfer
+lost_if_due false now transfer = transfer
 
 -- Chunks that were lost were put into a packet, or none. Nothing else of the queues moves, whatever waits.
 pub record FillsAtOnce (now : ℕ) (old : Transfer) (packet : Building) (new : Transfer) (filled : Building) : Type 0 where

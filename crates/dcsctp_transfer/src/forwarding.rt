@@ -10,7 +10,7 @@ ghost use Rattle.dcsctp_send_retransmission.specs.spec.queues.Retransmission.{ou
 ghost use Rattle.dcsctp_send_retransmission.specs.send_streams.Telling.{contents};
 ghost use Rattle.dcsctp_send_retransmission.specs.SkippedBytes.{ReadsAs};
 ghost use Rattle.dcsctp_transfer.specs.Filling.{with_chunk};
-ghost use Rattle.dcsctp_transfer.specs.Forwarding.{forward_said, PutsForward, MakesForwardTsn, TellsAbandoning};
+ghost use Rattle.dcsctp_transfer.specs.Forwarding.{forward_said, PutsForward, MakesForwardTsn, AddsFirstOfAbandoning};
 
 use crate::sending::in_bytes;
 use crate::transfer::Transfer;
@@ -45,7 +45,7 @@ impl Transfer {
             (λ next. MakesForwardTsn now self.old queue.old (contents events.old) packet.old
             self.new queue.new (contents events.new) packet.new next) }
         ensures told { OnErr result
-            (TellsAbandoning now self.old queue.old (contents events.old) (contents events.new)) }
+            (AddsFirstOfAbandoning now self.old queue.old (contents events.old) (contents events.new)) }
         ensures kept { OnErr result (packet.new ≡ packet.old) }
         ensures idle { outstanding_count self.old.retransmission ≡ 0 → IsOk result }
     {

@@ -7,9 +7,9 @@ ghost use Rattle.dcsctp_send_retransmission.specs.wire.Content.{sack_content};
 ghost use Rattle.dcsctp_send_retransmission.specs.spec.endpoint.TimeTurns.{has_come};
 ghost use Rattle.dcsctp_send_retransmission.specs.spec.queues.Acknowledging.{is_sack_valid};
 ghost use Rattle.dcsctp_send_retransmission.specs.spec.queues.Retransmission.{retransmission_deadline};
-ghost use Rattle.dcsctp_send_retransmission.specs.spec.endpoint.TransferMoves.{timed_by};
+ghost use Rattle.dcsctp_send_retransmission.specs.spec.endpoint.TransferMoves.{timed_transfer};
 ghost use Rattle.dcsctp_send_retransmission.specs.send_streams.Telling.{contents};
-ghost use Rattle.dcsctp_transfer.specs.Sacks.{HandlesSack, lost_where};
+ghost use Rattle.dcsctp_transfer.specs.Sacks.{HandlesSack, lost_if_due};
 
 use crate::transfer::Transfer;
 use dcsctp_send_retransmission::HandleSackResult;
@@ -92,7 +92,7 @@ impl Transfer {
     /// nothing changes.
     pub fn expire_retransmission(&mut self, now: SocketTime) -> bool
         ensures answer { result ≡ has_come now (retransmission_deadline self.old.retransmission) }
-        ensures left { self.new ≡ lost_where result now self.old }
+        ensures left { self.new ≡ lost_if_due result now self.old }
     {
         self.retransmission_queue.handle_timeout(now)
     }
@@ -100,7 +100,7 @@ impl Transfer {
     /// Takes a round trip into account, if one was measured.
     #[inline(always)]
     pub fn observe_round_trip(&mut self, rtt: Option<Duration>)
-        ensures { self.new ≡ timed_by (option_map as_nanos rtt) self.old }
+        ensures { self.new ≡ timed_transfer (option_map as_nanos rtt) self.old }
     {
         if let Some(rtt) = rtt {
             self.rto.observe_rto(rtt);

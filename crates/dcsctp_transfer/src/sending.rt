@@ -15,7 +15,7 @@ ghost use Rattle.dcsctp_send_retransmission.specs.send_outstanding.Outstanding.{
 ghost use Rattle.dcsctp_send_retransmission.specs.send_streams.Telling.{contents};
 ghost use Rattle.dcsctp_send_retransmission.specs.spec.queues.Items.{chunk_size, is_first_abandoned};
 ghost use Rattle.dcsctp_send_retransmission.specs.Sending.{HandsOut};
-ghost use Rattle.dcsctp_transfer.specs.Filling.{TellsFilling, FillsDataPacket, is_sack_wanted, with_chunk, FillsRequestedSack};
+ghost use Rattle.dcsctp_transfer.specs.Filling.{AddsFirstOfFilling, FillsDataPacket, is_sack_wanted, with_chunk, FillsRequestedSack};
 ghost use Rattle.dcsctp_send_retransmission.specs.spec.queues.Transfer.{may_give};
 ghost use Rattle.dcsctp_transfer.specs.Sacks.{FillsAtOnce};
 ghost use Rattle.dcsctp_transfer.specs.Adding.{HasChunkWithin, AddsChunkOf, AddsChunks, sack_said};
@@ -48,7 +48,7 @@ impl Transfer {
             (λ any. FillsDataPacket now self.old queue.old (contents events.old) packet.old
             self.new queue.new (contents events.new) packet.new any) }
         ensures told { OnErr result
-            (TellsFilling now (bytes_remaining packet.old) self.old queue.old (contents events.old)
+            (AddsFirstOfFilling now (bytes_remaining packet.old) self.old queue.old (contents events.old)
             (contents events.new)) }
         ensures kept { OnErr result (packet.new ≡ packet.old) }
         ensures idle { has_queued_data queue.old ≡ false

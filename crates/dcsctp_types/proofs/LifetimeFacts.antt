@@ -1,6 +1,6 @@
 -- Outside examples of specs/Lifetimes.
 use Rattle.std.proofs.Common.{◌≡◌, pos, negsuc, ◌-◌, ◌*◌, ◌^◌, refl}
-use Rattle.dcsctp_types.specs.Lifetimes.{millis_ahead, moment_at, millis_since, moment_before}
+use Rattle.dcsctp_types.specs.Lifetimes.{millis_ahead, moment_ahead, millis_since, moment_before}
 
 now_is_not_over : millis_ahead 5 5 ≡ pos 0
 now_is_not_over = refl
@@ -20,13 +20,13 @@ over_by_more = refl
 at_most_32_bits : millis_ahead 0 (2 ^ 31 * 1000000) ≡ pos (2 ^ 31 - 1)
 at_most_32_bits = refl
 
-two_ahead : moment_at 7 (pos 2) ≡ 2000007
+two_ahead : moment_ahead 7 (pos 2) ≡ 2000007
 two_ahead = refl
 
-two_behind : moment_at 3000000 (negsuc 1) ≡ 1000000
+two_behind : moment_ahead 3000000 (negsuc 1) ≡ 1000000
 two_behind = refl
 
-not_before_zero : moment_at 5 (negsuc 0) ≡ 0
+not_before_zero : moment_ahead 5 (negsuc 0) ≡ 0
 not_before_zero = refl
 
 now_is_none_ago : millis_since 5 5 ≡ pos 0

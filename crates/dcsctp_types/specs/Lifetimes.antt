@@ -14,9 +14,9 @@ millis_ahead now moment =
     else pos (min ((moment - now) / millisecond) (2 ^ 31 - 1))
 
 -- the moment that far after now, or before it if that is negative: not before moment zero, and not after the last one
-abbrev pub moment_at : ℕ → ℤ → ℕ
-moment_at now (pos ahead) = min (now + ahead * millisecond) max_nanos
-moment_at now (negsuc behind) = now - (behind + 1) * millisecond
+abbrev pub moment_ahead : ℕ → ℤ → ℕ
+moment_ahead now (pos ahead) = min (now + ahead * millisecond) max_nanos
+moment_ahead now (negsuc behind) = now - (behind + 1) * millisecond
 
 -- how long ago the moment was, in milliseconds, rounded down
 abbrev pub millis_since : ℕ → ℕ → ℤ

@@ -48,8 +48,8 @@ no_capabilities =
 
 -- What two ends agree on, as the first sees it: what both offer. In each direction there are no more streams than the one sends
 -- and the other receives.
-abbrev pub negotiated : Offer → Offer → Capabilities
-negotiated mine theirs =
+abbrev pub negotiated_capabilities : Offer → Offer → Capabilities
+negotiated_capabilities mine theirs =
     record {
       partial_reliability = mine.partial_reliability && theirs.partial_reliability;
       message_interleaving = mine.message_interleaving && theirs.message_interleaving;
@@ -76,8 +76,8 @@ capabilities_offered offer =
     }
 
 -- and back
-abbrev pub offer_in : Capabilities → Offer
-offer_in capabilities =
+abbrev pub offer_of_capabilities : Capabilities → Offer
+offer_of_capabilities capabilities =
     record {
       partial_reliability = capabilities.partial_reliability;
       message_interleaving = capabilities.message_interleaving;

@@ -59,8 +59,8 @@ named_reasons =
     ∷ []
 
 -- those of some reasons that a number has, in their order
-abbrev pub reasons_in : ℕ → List (ℕ × List ℕ) → List (ℕ × List ℕ)
-reasons_in bits reasons = filter (λ (reason : ℕ × List ℕ). has_reason bits reason.0) reasons
+abbrev pub reasons_of_bits : ℕ → List (ℕ × List ℕ) → List (ℕ × List ℕ)
+reasons_of_bits bits reasons = filter (λ (reason : ℕ × List ℕ). has_reason bits reason.0) reasons
 
 -- the names of reasons, joined by commas
 abbrev pub names_of : List (ℕ × List ℕ) → List ℕ
@@ -68,12 +68,12 @@ names_of reasons = join_by (λ (reason : ℕ × List ℕ). reason.1) (codes ",")
 
 -- the names of a number's reasons, by bits; `Display` and `Debug` write them
 abbrev pub readiness_text : ℕ → List ℕ
-readiness_text bits = names_of (reasons_in bits named_reasons)
+readiness_text bits = names_of (reasons_of_bits bits named_reasons)
 
 -- the reason where it holds, and no reason elsewhere
-abbrev pub reason_where : Bool → ℕ → ℕ
-reason_where true reason = reason
-reason_where false reason = 0
+abbrev pub reason_if_true : Bool → ℕ → ℕ
+reason_if_true true reason = reason
+reason_if_true false reason = 0
 
 -- a row of the code's table
 abbrev pub row_of : HandoverReadiness × Bor (List ℕ) → ℕ × List ℕ

@@ -219,10 +219,10 @@ is_valid_connected options state =
     && is_valid_send_part state.tx
     && is_valid_received_part state.rx
 
-abbrev pub is_valid_in : HandoverSocketState → Options → Snapshot → Bool
-is_valid_in Closed options state = true
-is_valid_in Connected options state = is_valid_connected options state
+abbrev pub is_valid_by_state : HandoverSocketState → Options → Snapshot → Bool
+is_valid_by_state Closed options state = true
+is_valid_by_state Connected options state = is_valid_connected options state
 
 -- A closed one is always valid, and nothing else in it counts.
 abbrev pub is_valid_snapshot : Options → Snapshot → Bool
-is_valid_snapshot options state = is_valid_in state.socket_state options state
+is_valid_snapshot options state = is_valid_by_state state.socket_state options state

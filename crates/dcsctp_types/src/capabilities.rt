@@ -54,7 +54,7 @@ impl Default for Capabilities {
 
 impl Capabilities {
     ghost use Rattle.std.specs.Prelude.{◌≢◌, ◌↔◌, IsTrue};
-    ghost use Rattle.dcsctp_types.specs.Offer.{offer_of, offer_in, negotiated, capabilities_offered, offer_announced};
+    ghost use Rattle.dcsctp_types.specs.Offer.{offer_of, offer_of_capabilities, negotiated_capabilities, capabilities_offered, offer_announced};
 
     /// What a peer announces by the stream counts and parameters of its INIT or INIT ACK. The streams that it
     /// sends on are incoming ones. The first Supported Extensions and the first Zero Checksum Acceptable
@@ -82,7 +82,7 @@ impl Capabilities {
     /// What an end with these options and a peer that announced `self` both support. That is what both offer,
     /// the method if it is the same, and the smaller count of streams each way.
     pub fn negotiate(&self, options: &Options) -> Capabilities
-        ensures { result ≡ negotiated (offer_of options.now) (offer_in self.now) }
+        ensures { result ≡ negotiated_capabilities (offer_of options.now) (offer_of_capabilities self.now) }
     {
         let mine = options.zero_checksum_alternate_error_detection_method;
         let incoming = options.announced_maximum_incoming_streams;

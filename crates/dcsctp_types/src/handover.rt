@@ -54,7 +54,7 @@ static NAMED_REASONS: [(HandoverReadiness, &str); 10] = [
 impl HandoverReadiness {
     ghost use Rattle.std.specs.Prelude.{◌≡◌, ◌==◌, map};
     ghost use Rattle.std.specs.Fmt.{WritesOnOk};
-    ghost use Rattle.dcsctp_types.specs.Readiness.{has_reason, reasons_in, names_of, row_of};
+    ghost use Rattle.dcsctp_types.specs.Readiness.{has_reason, reasons_of_bits, names_of, row_of};
 
     /// No reason: a handover may take place.
     pub const READY: HandoverReadiness = HandoverReadiness(0);
@@ -110,7 +110,7 @@ impl HandoverReadiness {
         rows: &[(HandoverReadiness, &str)],
     ) -> fmt::Result
         ensures { WritesOnOk W.write_str_gives f.old result
-            (names_of (reasons_in self.now.0 (map row_of rows.now))) f.new }
+            (names_of (reasons_of_bits self.now.0 (map row_of rows.now))) f.new }
     {
         let mut separator = "";
         for (reason, name) in rows {
@@ -139,11 +139,11 @@ impl BitOr for HandoverReadiness {
 /// The reason where it holds, and `READY` elsewhere.
 impl BitAnd<bool> for HandoverReadiness {
     ghost use Rattle.std.specs.Prelude.{◌≡◌};
-    ghost use Rattle.dcsctp_types.specs.Readiness.{reason_where};
+    ghost use Rattle.dcsctp_types.specs.Readiness.{reason_if_true};
 
     type Output = HandoverReadiness;
 
-    ghost bitand_gives = { λ reason holds kept. kept.0 ≡ reason_where holds reason.0 };
+    ghost bitand_gives = { λ reason holds kept. kept.0 ≡ reason_if_true holds reason.0 };
 
     fn bitand(self, holds: bool) -> HandoverReadiness {
         if holds {

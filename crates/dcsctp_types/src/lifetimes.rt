@@ -2,7 +2,7 @@
 //! milliseconds from the moment at which the snapshot is made.
 
 ghost use Rattle.std.specs.Prelude.{◌≡◌};
-ghost use Rattle.dcsctp_types.specs.Lifetimes.{millis_ahead, millis_since, moment_at, moment_before};
+ghost use Rattle.dcsctp_types.specs.Lifetimes.{millis_ahead, millis_since, moment_ahead, moment_before};
 
 use crate::time::SocketTime;
 use std::time::Duration;
@@ -32,7 +32,7 @@ pub fn millis_ahead(now: SocketTime, moment: SocketTime) -> i32
 /// The moment that many milliseconds after `now`, or before it if they are negative. It isn't before moment
 /// zero, and not after the last one.
 pub fn moment_at(now: SocketTime, millis: i32) -> SocketTime
-    ensures { result ≡ moment_at now millis }
+    ensures { result ≡ moment_ahead now millis }
 {
     let distance = Duration::from_millis(u64::from(millis.unsigned_abs()));
     if millis < 0 {

@@ -1,7 +1,7 @@
 //! How far an item is, and what changes that.
 
 ghost use Rattle.std.specs.Prelude.{◌≡◌};
-ghost use Rattle.dcsctp_types.specs.queues.Progress.{is_in_flight, is_marked, is_unacknowledged, is_abandoned, item_sent_again, has_come_to, tells_of, missed, missed_where, marked_lost, acknowledged, progress_changed, just_sent};
+ghost use Rattle.dcsctp_types.specs.queues.Progress.{is_in_flight, is_marked, is_unacknowledged, is_abandoned, item_sent_again, has_come_to, tells_whether_missing, missed_progress, missed_if_told, marked_lost, acknowledged_progress, progress_changed, just_sent};
 
 /// How far an item is.
 #[derive(Clone, Copy, Debug, PartialEq, Eq)]
@@ -111,7 +111,7 @@ fn has_come_to(newest: u32, tsn: u32) -> bool
 // that was sent after it. Unlike RFC 9260, section 7.2.4, such an item may be sent again fast once more
 // (docs/design/decisions.md, Lost again).
 fn tells_of(sent_before: Option<u32>, newest: Option<u32>) -> bool
-    ensures { result ≡ tells_of sent_before newest }
+    ensures { result ≡ tells_whether_missing sent_before newest }
 {
     match (sent_before, newest) {
         (None, _) => true,
@@ -149,7 +149,7 @@ impl Progress {
 
     // Reported missing.
     fn missed(self) -> Progress
-        ensures { result ≡ missed self.state self }
+        ensures { result ≡ missed_progress self.state self }
     {
         match self.state {
             ItemState::InFlight => {
@@ -179,7 +179,7 @@ impl Progress {
 
     // Reported missing by a SACK, if the SACK can show that.
     fn missed_where(self, is_told: bool) -> Progress
-        ensures { result ≡ missed_where is_told self }
+        ensures { result ≡ missed_if_told is_told self }
     {
         if is_told { self.missed() } else { self }
     }
@@ -209,7 +209,7 @@ impl Progress {
 
     // Acknowledged by a SACK. What was abandoned stays so.
     fn acknowledged(self) -> Progress
-        ensures { result ≡ acknowledged self.state self }
+        ensures { result ≡ acknowledged_progress self.state self }
     {
         let state = match self.state {
             ItemState::InFlight | ItemState::Marked => ItemState::Acknowledged,

@@ -2,15 +2,15 @@
 use Rattle.std.proofs.Common.{◌≡◌, ℕ, true, false, eqb, List, [], ◌∷◌, length, Some}
 use Rattle.std.proofs.lemmas.Bool.{eqb-true}
 use Rattle.std.proofs.lemmas.List.{nil_from_length}
-use Rattle.dcsctp_wire.specs.Format.{Frame, frame_at}
+use Rattle.dcsctp_wire.specs.Format.{Frame, leading_frame}
 
 -- an empty list of bytes has no frame
-pub frame_of_nothing : (frame : Frame) → frame_at [] ≡ Some frame → ⊥
-unfolding frame_at
+pub frame_of_nothing : (frame : Frame) → leading_frame [] ≡ Some frame → ⊥
+unfolding leading_frame
 frame_of_nothing frame e = absurd cc
 
 -- bytes begin with one frame
-pub same_frame : (bytes : List ℕ) (f g : Frame) → frame_at bytes ≡ Some f → frame_at bytes ≡ Some g → f ≡ g
+pub same_frame : (bytes : List ℕ) (f g : Frame) → leading_frame bytes ≡ Some f → leading_frame bytes ≡ Some g → f ≡ g
 same_frame bytes f g a b = cc
 
 -- bytes are left

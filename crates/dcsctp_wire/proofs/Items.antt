@@ -1,6 +1,6 @@
 -- Reading chunks, parameters or causes one after the other, as a loop does.
 use Rattle.std.proofs.Common.{◌≡◌, ℕ, List, [], ◌∷◌, Option, Some, refl, sym, ap, subst, ◌∙◌}
-use Rattle.dcsctp_wire.specs.Format.{Frame, frame_at, BeginsWith, AreItems, IsReadBy}
+use Rattle.dcsctp_wire.specs.Format.{Frame, leading_frame, BeginsWith, AreItems, IsReadAsItem}
 use Rattle.dcsctp_wire.proofs.Frames.{frame_of_nothing, same_frame}
 
 -- bytes and a value say one item
@@ -8,7 +8,7 @@ abbrev pub SaysOne : {Item : Type 0} → (Item → List ℕ → List ℕ → Typ
 SaysOne {Item} Says = (p q : Item) (bytes value : List ℕ) → Says p bytes value → Says q bytes value → p ≡ q
 
 -- a function reads one item
-pub one_is_read : {Item : Type 0} (read : ℕ → List ℕ → Option Item) → SaysOne (IsReadBy read)
+pub one_is_read : {Item : Type 0} (read : ℕ → List ℕ → Option Item) → SaysOne (IsReadAsItem read)
 one_is_read read p q bytes value a b = let same : Some p ≡ Some q = sym a ∙ b in cc same
 
 module _ {Item : Type 0} (Says : Item → List ℕ → List ℕ → Type 0) where
@@ -22,7 +22,7 @@ module _ {Item : Type 0} (Says : Item → List ℕ → List ℕ → Type 0) wher
   -- an empty list of bytes has no item
   pub nothing_begins : (p : Item) (rest bytes : List ℕ) → BeginsWith Says p rest bytes → bytes ≡ [] → ⊥
   nothing_begins p rest bytes begins e =
-      frame_of_nothing _ (subst (λ (b : List ℕ). frame_at b ≡ Some (record { value = begins.value; rest = rest })) e begins.framed)
+      frame_of_nothing _ (subst (λ (b : List ℕ). leading_frame b ≡ Some (record { value = begins.value; rest = rest })) e begins.framed)
 
   -- the other items follow the first one
   pub others : SaysOne Says → (p : Item) (after bytes : List ℕ) → BeginsWith Says p after bytes → (ps : List Item) → AreItems Says ps bytes → (qs : List Item) × AreItems Says qs after

@@ -8,7 +8,7 @@ use Rattle.dcsctp_wire.specs.declared.parameter.Parameter.{Parameter}
 use Rattle.dcsctp_wire.specs.declared.cause.ErrorCause.{ErrorCause}
 use Rattle.dcsctp_wire.specs.Content.{ParameterContent, InitContent, CauseContent, DataContent, IDataContent, SackContent, ChunkContent, cause_content, data_chunk, init_chunk, init_ack_chunk, sack_chunk, heartbeat_chunk, heartbeat_ack_chunk, abort_chunk, shutdown_chunk, shutdown_ack_chunk, error_chunk, cookie_echo_chunk, cookie_ack_chunk, shutdown_complete_chunk, i_data_chunk, re_config_chunk, forward_tsn_chunk, i_forward_tsn_chunk, unknown_chunk, parameter_content}
 use Rattle.dcsctp_wire.specs.Format.{padding_of}
-use Rattle.dcsctp_wire.specs.Spelling.{zeros, header_bytes, parameter_value, parameter_len, parameter_bytes, parameters_len, init_fields, data_fields, i_data_fields, sack_fields, as_parameter, Spelled, by_value, by_list, spelled, spelled_len, chunk_len, other_bytes, parameter_chunk_bytes, spelled_bytes, chunk_bytes}
+use Rattle.dcsctp_wire.specs.Spelling.{zeros, header_bytes, parameter_value, parameter_len, parameter_bytes, parameters_len, init_fields, data_fields, i_data_fields, sack_fields, as_parameter, WrittenChunk, by_value, by_list, written_chunk, spelled_len, chunk_len, other_bytes, parameter_chunk_bytes, spelled_bytes, chunk_bytes}
 
 pub length-parameter_bytes : (parameter : ParameterContent) → length (parameter_bytes parameter) ≡ parameter_len parameter + padding_of (parameter_len parameter)
 unfolding parameter_bytes
@@ -78,11 +78,11 @@ unfolding init_fields
 length-init_fields init = refl
 
 -- The fixed part of a chunk is a multiple of 4 bytes long.
-abbrev HasWholeFields : Spelled → Type 0
+abbrev HasWholeFields : WrittenChunk → Type 0
 HasWholeFields (by_value chunk_type flags value) = Unit {0}
 HasWholeFields (by_list chunk_type flags fields parameters) = length fields % 4 ≡ 0
 
-has_whole_fields : (chunk : ChunkContent) → HasWholeFields (spelled chunk)
+has_whole_fields : (chunk : ChunkContent) → HasWholeFields (written_chunk chunk)
 unfolding init_fields
 has_whole_fields (data_chunk chunk) = tt
 has_whole_fields (init_chunk init) = refl
@@ -103,13 +103,13 @@ has_whole_fields (forward_tsn_chunk tsn streams) = tt
 has_whole_fields (i_forward_tsn_chunk tsn streams) = tt
 has_whole_fields (unknown_chunk chunk_type flags value) = tt
 
-length-spelled : (s : Spelled) → HasWholeFields s → length (spelled_bytes s) ≡ spelled_len s + padding_of (spelled_len s)
+length-spelled : (s : WrittenChunk) → HasWholeFields s → length (spelled_bytes s) ≡ spelled_len s + padding_of (spelled_len s)
 length-spelled (by_value chunk_type flags value) whole = omega (arith, length-other_bytes chunk_type flags value)
 length-spelled (by_list chunk_type flags fields parameters) whole =
     omega (arith, whole, length-list_bytes chunk_type flags fields parameters, padded_parameters parameters)
 
 pub length-chunk_bytes : (chunk : ChunkContent) → length (chunk_bytes chunk) ≡ chunk_len chunk + padding_of (chunk_len chunk)
-length-chunk_bytes chunk = length-spelled (spelled chunk) (has_whole_fields chunk)
+length-chunk_bytes chunk = length-spelled (written_chunk chunk) (has_whole_fields chunk)
 
 pub chunk_is_padded : (chunk : ChunkContent) → length (chunk_bytes chunk) % 4 ≡ 0
 chunk_is_padded chunk = omega (arith, length-chunk_bytes chunk)

@@ -2,11 +2,11 @@
 use Rattle.std.specs.Prelude.{◌≡◌, ◌<◌, ◌≤◌, ◌+◌, ◌/◌, ℕ, Bool, ◌&&◌, ◌||◌, List, [], ◌∷◌, map, length, nat_le}
 use Rattle.std.specs.List.{list_any, filter, range_with_len}
 use Rattle.dcsctp_wire.specs.declared.chunk.sack.GapAckBlock.{GapAckBlock}
-use Rattle.dcsctp_wire.specs.Fields.{gap_ack_block_at}
+use Rattle.dcsctp_wire.specs.Fields.{numbered_gap_ack_block}
 
 -- the blocks that the bytes of a SACK name, in their order there
-abbrev pub blocks_in : List ℕ → List GapAckBlock
-blocks_in bytes = map (λ index. gap_ack_block_at index bytes) (range_with_len 0 (length bytes / 4))
+abbrev pub blocks_of_bytes : List ℕ → List GapAckBlock
+blocks_of_bytes bytes = map (λ index. numbered_gap_ack_block index bytes) (range_with_len 0 (length bytes / 4))
 
 -- Does it name a TSN, and only TSNs after the cumulative one?
 abbrev pub is_range : GapAckBlock → Bool

@@ -7,7 +7,7 @@ use Rattle.dcsctp_wire.specs.declared.packet.WireOptions.{WireOptions}
 use Rattle.dcsctp_wire.specs.Numbers.{init_type, init_ack_type, heartbeat_type, heartbeat_ack_type, abort_type, error_type, re_config_type}
 use Rattle.dcsctp_wire_checksum.specs.Crc32c.{packet_checksum_of}
 use Rattle.dcsctp_wire.specs.Content.{ParameterContent, InitContent, CauseContent, ChunkContent, init_chunk, init_ack_chunk, heartbeat_chunk, heartbeat_ack_chunk, abort_chunk, error_chunk, cookie_echo_chunk, re_config_chunk, PacketContent}
-use Rattle.dcsctp_wire.specs.Fields.{u16_at, u32_at, parameter_of, cause_of, lowest_bit, fields_in}
+use Rattle.dcsctp_wire.specs.Fields.{u16_at, u32_at, parameter_of, cause_of, lowest_bit, content_of_fields}
 
 -- how many bytes of padding follow n bytes, to a multiple of 4
 abbrev pub padding_of : ℕ → ℕ
@@ -20,8 +20,8 @@ pub record Frame : Type 0 where
 
 -- Chunks and parameters have a header of 4 bytes whose last two are the length, header included and
 -- padding not. It is at least 4 and stays inside its container. The last padding may be missing.
-unfoldable pub frame_at : List ℕ → Option Frame
-frame_at bytes =
+unfoldable pub leading_frame : List ℕ → Option Frame
+leading_frame bytes =
     if nat_lt (length bytes) 4 then None
     else (if nat_lt (u16_at 2 bytes) 4 then None
     else (if nat_lt (length bytes) (u16_at 2 bytes) then None
@@ -34,7 +34,7 @@ frame_at bytes =
 -- header, with which the bytes begin, and to its value.
 pub record BeginsWith {Item : Type 0} (Says : Item → List ℕ → List ℕ → Type 0) (item : Item) (rest bytes : List ℕ) : Type 0 where
   pub value : List ℕ
-  pub framed : frame_at bytes ≡ Some (record { value = value; rest = rest })
+  pub framed : leading_frame bytes ≡ Some (record { value = value; rest = rest })
   pub read : Says item bytes value
 
 -- the bytes are these items
@@ -43,16 +43,16 @@ AreItems Says [] bytes = bytes ≡ []
 AreItems Says (item ∷ items) bytes = (rest : List ℕ) × BeginsWith Says item rest bytes × AreItems Says items rest
 
 -- the item that a function reads from the type or code, which is the first two bytes, and the value
-abbrev pub IsReadBy : {Item : Type 0} → (ℕ → List ℕ → Option Item) → Item → List ℕ → List ℕ → Type 0
-IsReadBy read item bytes value = read (u16_at 0 bytes) value ≡ Some item
+abbrev pub IsReadAsItem : {Item : Type 0} → (ℕ → List ℕ → Option Item) → Item → List ℕ → List ℕ → Type 0
+IsReadAsItem read item bytes value = read (u16_at 0 bytes) value ≡ Some item
 
 -- the parameter is at the front of the bytes, and rest after it
 abbrev pub BeginsWithParameter : ParameterContent → List ℕ → List ℕ → Type 0
-BeginsWithParameter = BeginsWith (IsReadBy parameter_of)
+BeginsWithParameter = BeginsWith (IsReadAsItem parameter_of)
 
 -- the bytes are these parameters
 abbrev pub AreParameters : List ParameterContent → List ℕ → Type 0
-AreParameters = AreItems (IsReadBy parameter_of)
+AreParameters = AreItems (IsReadAsItem parameter_of)
 
 -- The minima of an INIT or INIT ACK (RFC 9260, sections 3.3.2 and 3.3.3): a tag other than 0, a window of 1500 bytes, and a
 -- stream in each direction.
@@ -75,11 +75,11 @@ pub record IsInitValue (init : InitContent) (value : List ℕ) : Type 0 where
 
 -- The cause is at the front of the bytes, and rest after it. Causes have the frame of parameters.
 abbrev pub BeginsWithCause : CauseContent → List ℕ → List ℕ → Type 0
-BeginsWithCause = BeginsWith (IsReadBy cause_of)
+BeginsWithCause = BeginsWith (IsReadAsItem cause_of)
 
 -- the bytes are these causes
 abbrev pub AreCauses : List CauseContent → List ℕ → Type 0
-AreCauses = AreItems (IsReadBy cause_of)
+AreCauses = AreItems (IsReadAsItem cause_of)
 
 -- How the value of a chunk is read.
 pub data Form : Type 0 where
@@ -109,7 +109,7 @@ abbrev pub HasForm : Form → ChunkContent → ℕ → ℕ → List ℕ → Type
 HasForm (introduction says) chunk chunk_type flags value = (init : InitContent) × (chunk ≡ says init) × IsInitValue init value
 HasForm (parameter_list says) chunk chunk_type flags value = (parameters : List ParameterContent) × (chunk ≡ says parameters) × AreParameters parameters value
 HasForm (cause_list says) chunk chunk_type flags value = (causes : List CauseContent) × (chunk ≡ says (lowest_bit flags) causes) × AreCauses causes value
-HasForm fields chunk chunk_type flags value = fields_in chunk_type flags value ≡ Some chunk
+HasForm fields chunk chunk_type flags value = content_of_fields chunk_type flags value ≡ Some chunk
 
 -- A chunk of this type, flags and value. Flags without a name are not looked at.
 abbrev pub IsChunkOf : ChunkContent → ℕ → ℕ → List ℕ → Type 0

@@ -5,7 +5,7 @@ use Rattle.std.specs.List.{AllByRecursion}
 use Rattle.dcsctp_wire.specs.declared.packet.WireOptions.{WireOptions}
 use Rattle.dcsctp_wire.specs.declared.reconfiguration.NextTsns.{NextTsns}
 use Rattle.dcsctp_wire.specs.Content.{ParameterContent, heartbeat_info, state_cookie, outgoing_ssn_reset_request, incoming_ssn_reset_request, reconfiguration_response, supported_extensions, zero_checksum_acceptable, forward_tsn_supported, unknown_parameter, InitContent, CauseContent, missing_mandatory_parameter, unrecognized_chunk_type, no_user_data, cookie_received_while_shutting_down, user_initiated_abort, protocol_violation, unknown_cause, DataContent, IDataContent, SackContent, ChunkContent, data_chunk, init_chunk, init_ack_chunk, sack_chunk, heartbeat_chunk, heartbeat_ack_chunk, abort_chunk, shutdown_chunk, shutdown_ack_chunk, error_chunk, cookie_echo_chunk, cookie_ack_chunk, shutdown_complete_chunk, i_data_chunk, re_config_chunk, forward_tsn_chunk, i_forward_tsn_chunk, unknown_chunk, PacketContent}
-use Rattle.dcsctp_wire.specs.Fields.{parameter_of, cause_of, fields_in}
+use Rattle.dcsctp_wire.specs.Fields.{parameter_of, cause_of, content_of_fields}
 use Rattle.dcsctp_wire.specs.Format.{fields, form_of, HasInitMinima, is_cookie_echo, IsPacket}
 use Rattle.dcsctp_wire.specs.Spelling.{as_parameter, parameters_len, packet_bytes}
 
@@ -66,7 +66,7 @@ pub record FitsInit (init : InitContent) : Type 0 where
 pub record FitsOther (chunk_type flags : ℕ) (value : List ℕ) : Type 0 where
   pub type_fits : IsByte chunk_type
   pub form : form_of chunk_type ≡ fields
-  pub read_as_unknown : fields_in chunk_type flags value ≡ Some (unknown_chunk chunk_type flags value)
+  pub read_as_unknown : content_of_fields chunk_type flags value ≡ Some (unknown_chunk chunk_type flags value)
   pub flags_fit : IsByte flags
   pub len_fits : 4 + length value < 2 ^ 16
   pub value_in_bytes : AllByRecursion IsByte value

@@ -126,39 +126,39 @@ sack_fields chunk =
     ++ to_be_bytes w16 (length chunk.duplicate_tsns / 4)
 
 -- A chunk, as it is written.
-pub data Spelled : Type 0 where
+pub data WrittenChunk : Type 0 where
   -- by its type, flags and value
-  by_value : ℕ → ℕ → List ℕ → Spelled
+  by_value : ℕ → ℕ → List ℕ → WrittenChunk
   -- by its type, flags, fixed part, and parameters, or causes as they are written
-  by_list : ℕ → ℕ → List ℕ → List ParameterContent → Spelled
+  by_list : ℕ → ℕ → List ℕ → List ParameterContent → WrittenChunk
 
-abbrev pub spelled : ChunkContent → Spelled
-spelled (data_chunk chunk) = by_value data_type (data_flags chunk.flags) (data_fields chunk ++ chunk.payload)
-spelled (init_chunk init) = by_list init_type 0 (init_fields init) init.parameters
-spelled (init_ack_chunk init) = by_list init_ack_type 0 (init_fields init) init.parameters
-spelled (sack_chunk chunk) = by_value sack_type 0 (sack_fields chunk ++ (chunk.gap_ack_blocks ++ chunk.duplicate_tsns))
-spelled (heartbeat_chunk parameters) = by_list heartbeat_type 0 [] parameters
-spelled (heartbeat_ack_chunk parameters) = by_list heartbeat_ack_type 0 [] parameters
-spelled (abort_chunk reflected causes) = by_list abort_type (t_bit reflected) [] (map as_parameter causes)
-spelled (shutdown_chunk cumulative_tsn) = by_value shutdown_type 0 (to_be_bytes w32 cumulative_tsn)
-spelled shutdown_ack_chunk = by_value shutdown_ack_type 0 []
-spelled (error_chunk causes) = by_list error_type 0 [] (map as_parameter causes)
-spelled (cookie_echo_chunk cookie) = by_value cookie_echo_type 0 cookie
-spelled cookie_ack_chunk = by_value cookie_ack_type 0 []
-spelled (shutdown_complete_chunk reflected) = by_value shutdown_complete_type (t_bit reflected) []
-spelled (i_data_chunk chunk) = by_value i_data_type (data_flags chunk.flags) (i_data_fields chunk ++ chunk.payload)
-spelled (re_config_chunk parameters) = by_list re_config_type 0 [] parameters
-spelled (forward_tsn_chunk tsn streams) = by_value forward_tsn_type 0 (to_be_bytes w32 tsn ++ streams)
-spelled (i_forward_tsn_chunk tsn streams) = by_value i_forward_tsn_type 0 (to_be_bytes w32 tsn ++ streams)
-spelled (unknown_chunk chunk_type flags value) = by_value chunk_type flags value
+abbrev pub written_chunk : ChunkContent → WrittenChunk
+written_chunk (data_chunk chunk) = by_value data_type (data_flags chunk.flags) (data_fields chunk ++ chunk.payload)
+written_chunk (init_chunk init) = by_list init_type 0 (init_fields init) init.parameters
+written_chunk (init_ack_chunk init) = by_list init_ack_type 0 (init_fields init) init.parameters
+written_chunk (sack_chunk chunk) = by_value sack_type 0 (sack_fields chunk ++ (chunk.gap_ack_blocks ++ chunk.duplicate_tsns))
+written_chunk (heartbeat_chunk parameters) = by_list heartbeat_type 0 [] parameters
+written_chunk (heartbeat_ack_chunk parameters) = by_list heartbeat_ack_type 0 [] parameters
+written_chunk (abort_chunk reflected causes) = by_list abort_type (t_bit reflected) [] (map as_parameter causes)
+written_chunk (shutdown_chunk cumulative_tsn) = by_value shutdown_type 0 (to_be_bytes w32 cumulative_tsn)
+written_chunk shutdown_ack_chunk = by_value shutdown_ack_type 0 []
+written_chunk (error_chunk causes) = by_list error_type 0 [] (map as_parameter causes)
+written_chunk (cookie_echo_chunk cookie) = by_value cookie_echo_type 0 cookie
+written_chunk cookie_ack_chunk = by_value cookie_ack_type 0 []
+written_chunk (shutdown_complete_chunk reflected) = by_value shutdown_complete_type (t_bit reflected) []
+written_chunk (i_data_chunk chunk) = by_value i_data_type (data_flags chunk.flags) (i_data_fields chunk ++ chunk.payload)
+written_chunk (re_config_chunk parameters) = by_list re_config_type 0 [] parameters
+written_chunk (forward_tsn_chunk tsn streams) = by_value forward_tsn_type 0 (to_be_bytes w32 tsn ++ streams)
+written_chunk (i_forward_tsn_chunk tsn streams) = by_value i_forward_tsn_type 0 (to_be_bytes w32 tsn ++ streams)
+written_chunk (unknown_chunk chunk_type flags value) = by_value chunk_type flags value
 
 -- The length of a chunk leaves out its padding, and that of its last parameter or cause.
-abbrev pub spelled_len : Spelled → ℕ
+abbrev pub spelled_len : WrittenChunk → ℕ
 spelled_len (by_value chunk_type flags value) = 4 + length value
 spelled_len (by_list chunk_type flags fields parameters) = 4 + length fields + parameters_len parameters
 
 abbrev pub chunk_len : ChunkContent → ℕ
-chunk_len chunk = spelled_len (spelled chunk)
+chunk_len chunk = spelled_len (written_chunk chunk)
 
 -- a chunk of this type, flags and value
 unfoldable pub other_bytes : ℕ → ℕ → List ℕ → List ℕ
@@ -170,13 +170,13 @@ unfoldable pub parameter_chunk_bytes : ℕ → ℕ → List ℕ → List Paramet
 parameter_chunk_bytes chunk_type flags fields parameters =
     chunk_type ∷ flags ∷ to_be_bytes w16 (4 + length fields + parameters_len parameters) ++ fields ++ flat_map parameter_bytes parameters
 
-abbrev pub spelled_bytes : Spelled → List ℕ
+abbrev pub spelled_bytes : WrittenChunk → List ℕ
 spelled_bytes (by_value chunk_type flags value) = other_bytes chunk_type flags value
 spelled_bytes (by_list chunk_type flags fields parameters) = parameter_chunk_bytes chunk_type flags fields parameters
 
 -- a chunk with its padding (RFC 9260, section 3.2)
 abbrev pub chunk_bytes : ChunkContent → List ℕ
-chunk_bytes chunk = spelled_bytes (spelled chunk)
+chunk_bytes chunk = spelled_bytes (written_chunk chunk)
 
 -- ---- packets
 

@@ -4,7 +4,7 @@
 ghost use Rattle.std.specs.Prelude.{◌≡◌, ◌+◌, ◌≤◌, ◌<◌, length, drop, IfSome};
 ghost use Rattle.std.specs.Option.{option_map};
 ghost use Rattle.dcsctp_wire.specs.Fields.{u16_at, u32_at, has_entries};
-ghost use Rattle.dcsctp_wire.specs.Format.{padding_of, frame_at};
+ghost use Rattle.dcsctp_wire.specs.Format.{padding_of, leading_frame};
 ghost use Rattle.dcsctp_wire.specs.Reading.{frame_content};
 
 /// The value of a chunk or a parameter, and the bytes after its padding.
@@ -64,9 +64,9 @@ fn bytes_from(bytes: &[u8], start: usize) -> &[u8]
 /// The frame in front of the bytes: a header of 4 bytes, whose last two are the length, and a value.
 ///
 /// There is none if the header is cut off, or its length is below 4 or above the number of bytes.
-#[tactic(auto, unfolding(crate::specs::Format::frame_at))]
+#[tactic(auto, unfolding(crate::specs::Format::leading_frame))]
 pub(crate) fn read_frame(bytes: &[u8]) -> Option<Frame<'_>>
-    ensures gives { option_map frame_content result ≡ frame_at bytes.now }
+    ensures gives { option_map frame_content result ≡ leading_frame bytes.now }
     ensures shorter { IfSome result (λ frame. length frame.rest.now + 4 ≤ length bytes.now) }
 {
     if bytes.len() < 4 {

@@ -3,7 +3,7 @@
 ghost use Rattle.std.specs.Prelude.{◌≡◌, ◌<◌, ℕ, List, length, map, MatchOption, IfSome, IfOk, IsErrOf};
 ghost use Rattle.std.specs.Option.{option_map};
 ghost use Rattle.dcsctp_wire.specs.Content.{CauseContent, missing_mandatory_parameter, cause_content};
-ghost use Rattle.dcsctp_wire.specs.Fields.{missing_types, no_user_data_in, cause_of};
+ghost use Rattle.dcsctp_wire.specs.Fields.{missing_types, no_user_data_of_value, cause_of};
 ghost use Rattle.dcsctp_wire.specs.Format.{BeginsWithCause, AreCauses};
 
 mod text;
@@ -70,9 +70,9 @@ fn missing_from(value: &[u8]) -> Option<ErrorCause<'_>>
 }
 
 /// A No User Data of this value, if it is long enough for a TSN.
-#[tactic(auto, unfolding(crate::specs::Fields::no_user_data_in))]
+#[tactic(auto, unfolding(crate::specs::Fields::no_user_data_of_value))]
 fn no_user_data_from(value: &[u8]) -> Option<ErrorCause<'_>>
-    ensures { option_map cause_content result ≡ no_user_data_in value.now }
+    ensures { option_map cause_content result ≡ no_user_data_of_value value.now }
 {
     if value.len() < 4 {
         return None;

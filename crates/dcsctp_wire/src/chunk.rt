@@ -3,7 +3,7 @@
 ghost use Rattle.std.specs.Prelude.{◌≡◌, ◌<◌, ℕ, List, length, map, IfOk, IsErrOf};
 ghost use Rattle.std.specs.Option.{option_map};
 ghost use Rattle.dcsctp_wire.specs.Content.{ChunkContent, chunk_content};
-ghost use Rattle.dcsctp_wire.specs.Fields.{fields_in};
+ghost use Rattle.dcsctp_wire.specs.Fields.{content_of_fields};
 ghost use Rattle.dcsctp_wire.specs.Format.{IsChunkOf, BeginsWithChunk, AreChunks};
 
 mod abort;
@@ -102,9 +102,9 @@ pub enum Chunk<'a> {
 
 /// The chunk of this type, flags and value, if it holds neither parameters nor causes. There is none if the
 /// value is too short for the fields of its type, or ends within an entry.
-#[tactic(auto, unfolding(crate::specs::Fields::fields_in))]
+#[tactic(auto, unfolding(crate::specs::Fields::content_of_fields))]
 fn chunk_of_fields(chunk_type: u8, flags: u8, value: &[u8]) -> Option<Chunk<'_>>
-    ensures { option_map chunk_content result ≡ fields_in chunk_type flags value.now }
+    ensures { option_map chunk_content result ≡ content_of_fields chunk_type flags value.now }
 {
     match chunk_type {
         chunk_type::DATA => read_data(flags, value),

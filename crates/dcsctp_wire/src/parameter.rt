@@ -3,7 +3,7 @@
 ghost use Rattle.std.specs.Prelude.{◌≡◌, ◌<◌, ℕ, List, length, map, MatchOption, IfSome, IfOk, IsErrOf};
 ghost use Rattle.std.specs.Option.{option_map};
 ghost use Rattle.dcsctp_wire.specs.Content.{ParameterContent, parameter_content};
-ghost use Rattle.dcsctp_wire.specs.Fields.{method_in, parameter_of};
+ghost use Rattle.dcsctp_wire.specs.Fields.{method_of_value, parameter_of};
 ghost use Rattle.dcsctp_wire.specs.Format.{BeginsWithParameter, AreParameters};
 
 use crate::bytes::{read_frame, u16_at, u32_at};
@@ -63,9 +63,9 @@ pub enum Parameter<'a> {
 }
 
 /// The method whose value this is. There is none if it has less than four bytes (RFC 9653, section 4).
-#[tactic(auto, unfolding(crate::specs::Fields::method_in))]
+#[tactic(auto, unfolding(crate::specs::Fields::method_of_value))]
 fn method_from(value: &[u8]) -> Option<Parameter<'_>>
-    ensures { option_map parameter_content result ≡ method_in value.now }
+    ensures { option_map parameter_content result ≡ method_of_value value.now }
 {
     if value.len() < 4 {
         return None;

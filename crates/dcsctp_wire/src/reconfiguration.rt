@@ -3,7 +3,7 @@
 ghost use Rattle.std.specs.Prelude.{◌≡◌, ◌≤◌, ◌<◌, ◌/◌, length};
 ghost use Rattle.std.specs.Option.{option_map};
 ghost use Rattle.dcsctp_wire.specs.Content.{parameter_content};
-ghost use Rattle.dcsctp_wire.specs.Fields.{u32_at, outgoing_request_in, incoming_request_in, result_of, response_with, next_tsns_in, response_in, request_stream_at};
+ghost use Rattle.dcsctp_wire.specs.Fields.{u32_at, outgoing_request_of_value, incoming_request_of_value, result_of, response_with, next_tsns_of_value, response_of_value, numbered_request_stream};
 ghost use Rattle.dcsctp_wire.specs.Spelling.{result_code};
 
 use crate::bytes::{has_entries, u16_at, u32_at};
@@ -104,7 +104,7 @@ impl<'a> OutgoingSsnResetRequestParameter<'a> {
     /// The stream at this place.
     pub fn stream(&self, index: usize) -> u16
         requires { index < length self.now.streams.now / 2 }
-        ensures { result ≡ request_stream_at index self.now.streams.now }
+        ensures { result ≡ numbered_request_stream index self.now.streams.now }
     {
         u16_at(self.streams, 2 * index)
     }
@@ -121,7 +121,7 @@ impl<'a> IncomingSsnResetRequestParameter<'a> {
     /// The stream at this place.
     pub fn stream(&self, index: usize) -> u16
         requires { index < length self.now.streams.now / 2 }
-        ensures { result ≡ request_stream_at index self.now.streams.now }
+        ensures { result ≡ numbered_request_stream index self.now.streams.now }
     {
         u16_at(self.streams, 2 * index)
     }
@@ -162,9 +162,9 @@ fn result_from(code: u32) -> Option<ReconfigurationResponseResult>
 }
 
 /// The request whose value this is, if its streams are whole.
-#[tactic(auto, unfolding(crate::specs::Fields::outgoing_request_in))]
+#[tactic(auto, unfolding(crate::specs::Fields::outgoing_request_of_value))]
 pub(crate) fn outgoing_request_from(value: &[u8]) -> Option<Parameter<'_>>
-    ensures { option_map parameter_content result ≡ outgoing_request_in value.now }
+    ensures { option_map parameter_content result ≡ outgoing_request_of_value value.now }
 {
     if !has_entries(value, 12, 2) {
         return None;
@@ -178,9 +178,9 @@ pub(crate) fn outgoing_request_from(value: &[u8]) -> Option<Parameter<'_>>
 }
 
 /// The request whose value this is, if its streams are whole.
-#[tactic(auto, unfolding(crate::specs::Fields::incoming_request_in))]
+#[tactic(auto, unfolding(crate::specs::Fields::incoming_request_of_value))]
 pub(crate) fn incoming_request_from(value: &[u8]) -> Option<Parameter<'_>>
-    ensures { option_map parameter_content result ≡ incoming_request_in value.now }
+    ensures { option_map parameter_content result ≡ incoming_request_of_value value.now }
 {
     if !has_entries(value, 4, 2) {
         return None;
@@ -212,7 +212,7 @@ fn response_with(value: &[u8], next_tsns: Option<NextTsns>) -> Parameter<'_>
 
 fn next_tsns_from(value: &[u8]) -> NextTsns
     requires { 16 ≤ length value.now }
-    ensures { result ≡ next_tsns_in value.now }
+    ensures { result ≡ next_tsns_of_value value.now }
 {
     NextTsns {
         sender: u32_at(value, 8),
@@ -222,9 +222,9 @@ fn next_tsns_from(value: &[u8]) -> NextTsns
 
 /// The response whose value this is: there is none if it is too short for its numbers, or has one next TSN
 /// and no other.
-#[tactic(auto, unfolding(crate::specs::Fields::response_in))]
+#[tactic(auto, unfolding(crate::specs::Fields::response_of_value))]
 pub(crate) fn response_from(value: &[u8]) -> Option<Parameter<'_>>
-    ensures { option_map parameter_content result ≡ response_in value.now }
+    ensures { option_map parameter_content result ≡ response_of_value value.now }
 {
     if value.len() < 8 {
         return None;

@@ -7,7 +7,7 @@ use Rattle.std.specs.Int.{w32, to_le_bytes}
 use Rattle.std.proofs.Math.Nat.{pow-suc}
 use Rattle.std.proofs.lemmas.Bool.{cases_lt}
 use Rattle.dcsctp_wire_checksum.specs.Crc32c.{bit_step, eight_bit_steps, byte_step, register_after}
-use Rattle.dcsctp_wire_checksum.specs.Folds.{taps_at}
+use Rattle.dcsctp_wire_checksum.specs.Folds.{taps_of_place}
 use Rattle.dcsctp_wire_checksum.proofs.Crc32cLemmas.{xor_pairs, eight_bit_steps_xor, byte_step_low, register_after_next, register_after_none}
 
 -- ---- the register after the first n of the bytes f, and after n zeros
@@ -213,8 +213,8 @@ shifted f d j end front behind le e =
     ∙ ap (after_bytes 0 f) all
     ∙ zeros_behind (end + 209) j f behind
 
-pub with_copies_gone : (out : List ℕ) (end : ℕ) → ((k : ℕ) → k < 209 → get_or out k 0 ≡ 0) → ((k : ℕ) → end + 209 ≤ k → get_or out k 0 ≡ 0) → ((k : ℕ) → get_or out k 0 < 256) → after_bytes 0 (λ k. bit_xor (get_or out (k + 209) 0) (taps_at out k)) (end + 224) ≡ 0
-unfolding taps_at with_copies of_six
+pub with_copies_gone : (out : List ℕ) (end : ℕ) → ((k : ℕ) → k < 209 → get_or out k 0 ≡ 0) → ((k : ℕ) → end + 209 ≤ k → get_or out k 0 ≡ 0) → ((k : ℕ) → get_or out k 0 < 256) → after_bytes 0 (λ k. bit_xor (get_or out (k + 209) 0) (taps_of_place out k)) (end + 224) ≡ 0
+unfolding taps_of_place with_copies of_six
 with_copies_gone out end front behind small =
     let n = end + 224 in
     let o : ℕ → ℕ = λ k. get_or out k 0 in
@@ -230,7 +230,7 @@ with_copies_gone out end front behind small =
     let s2 = bytes_xor n bc d ∙ ap (λ w. bit_xor w (after_bytes 0 d n)) s1 in
     let s3 = bytes_xor n bcd e ∙ ap (λ w. bit_xor w (after_bytes 0 e n)) s2 in
     let s4 = bytes_xor n bcde o ∙ ap (λ w. bit_xor w (after_bytes 0 o n)) s3 in
-    let s5 = bytes_xor n a (taps_at out) ∙ ap (bit_xor (after_bytes 0 a n)) s4 in
+    let s5 = bytes_xor n a (taps_of_place out) ∙ ap (bit_xor (after_bytes 0 a n)) s4 in
     let last : n ≡ 15 + (end + 209) = omega arith in
     let ea = shifted o 209 224 end front behind (omega arith) refl in
     let eb = shifted o 144 159 end front behind (omega arith) refl in

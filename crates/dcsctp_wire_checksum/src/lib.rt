@@ -5,7 +5,7 @@
 
 ghost use Rattle.std.specs.Prelude.{◌≡◌, ◌+◌, ◌<◌, ◌≤◌, ◌++◌, length, replicate, slice_range};
 ghost use Rattle.dcsctp_wire_checksum.specs.Crc32c.{crc32c_of, packet_checksum_of, register_after};
-ghost use Rattle.dcsctp_wire_checksum.specs.Folds.{IsFolded, IsFoldedOn, taps_at};
+ghost use Rattle.dcsctp_wire_checksum.specs.Folds.{IsFolded, IsFoldedOn, taps_of_place};
 
 mod table;
 
@@ -106,7 +106,7 @@ const FOLD_LEN: usize = 32;
 // What earlier bytes, folded, add to the byte at a place.
 fn taps(folded: &[u8; FOLDED_LEN], at: usize) -> u8
     requires { at + 144 < 1392 }
-    ensures { result ≡ taps_at folded.now at }
+    ensures { result ≡ taps_of_place folded.now at }
 {
     folded[at + 144] ^ folded[at + 54] ^ folded[at + 39] ^ folded[at + 14] ^ folded[at]
 }

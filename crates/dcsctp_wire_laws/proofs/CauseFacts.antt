@@ -4,8 +4,8 @@ use Rattle.std.proofs.Common.{◌≡◌, true, false, None, Some, [], ◌∷◌,
 use Rattle.std.specs.Prelude.{codes}
 use Rattle.std.specs.Fmt.{digits}
 use Rattle.dcsctp_wire.specs.Content.{missing_mandatory_parameter, unrecognized_chunk_type, no_user_data, cookie_received_while_shutting_down, user_initiated_abort, protocol_violation, unknown_cause, abort_chunk, error_chunk}
-use Rattle.dcsctp_wire.specs.Fields.{missing_types, no_user_data_in, cause_of}
-use Rattle.dcsctp_wire.specs.Format.{frame_at, form_of, IsChunkOf}
+use Rattle.dcsctp_wire.specs.Fields.{missing_types, no_user_data_of_value, cause_of}
+use Rattle.dcsctp_wire.specs.Format.{leading_frame, form_of, IsChunkOf}
 use Rattle.dcsctp_wire.specs.Spelling.{parameter_bytes, parameters_len, parameter_chunk_bytes, chunk_bytes}
 use Rattle.dcsctp_wire.specs.ReadsBack.{FitsChunk}
 use Rattle.dcsctp_wire.specs.Texts.{cause_text, causes_text}
@@ -42,11 +42,11 @@ unfolding cause_of
 unrecognized_chunk_is_read = refl
 
 no_user_data_is_read : cause_of 9 (0 ∷ 0 ∷ 1 ∷ 2 ∷ []) ≡ Some (no_user_data 0x0102)
-unfolding cause_of no_user_data_in
+unfolding cause_of no_user_data_of_value
 no_user_data_is_read = refl
 
 cut_tsn_is_refused : cause_of 9 (0 ∷ 1 ∷ 2 ∷ []) ≡ None
-unfolding cause_of no_user_data_in
+unfolding cause_of no_user_data_of_value
 cut_tsn_is_refused = refl
 
 value_of_cookie_received_is_not_looked_at : cause_of 10 (1 ∷ []) ≡ Some cookie_received_while_shutting_down
@@ -67,12 +67,12 @@ unfolding cause_of
 other_cause_is_read = refl
 
 abort_is_read : IsChunkOf (abort_chunk true (missing_mandatory_parameter (0 ∷ 7 ∷ []) ∷ [])) 6 1 (0 ∷ 2 ∷ 0 ∷ 10 ∷ 0 ∷ 0 ∷ 0 ∷ 1 ∷ 0 ∷ 7 ∷ [])
-unfolding form_of frame_at cause_of missing_types
+unfolding form_of leading_frame cause_of missing_types
 abort_is_read =
     (missing_mandatory_parameter (0 ∷ 7 ∷ []) ∷ [], refl, (_, record { value = 0 ∷ 0 ∷ 0 ∷ 1 ∷ 0 ∷ 7 ∷ []; framed = refl; read = refl }, refl))
 
 error_is_read : IsChunkOf (error_chunk (no_user_data 1 ∷ [])) 9 1 (0 ∷ 9 ∷ 0 ∷ 8 ∷ 0 ∷ 0 ∷ 0 ∷ 1 ∷ [])
-unfolding form_of frame_at cause_of no_user_data_in
+unfolding form_of leading_frame cause_of no_user_data_of_value
 error_is_read = (no_user_data 1 ∷ [], refl, (_, record { value = 0 ∷ 0 ∷ 0 ∷ 1 ∷ []; framed = refl; read = refl }, refl))
 
 error_is_spelled : chunk_bytes (error_chunk (no_user_data 1 ∷ cookie_received_while_shutting_down ∷ []))

@@ -2,8 +2,8 @@
 -- 3.3.12, computed by the definitions.
 use Rattle.std.proofs.Common.{◌≡◌, ℕ, List, [], ◌∷◌, refl, arith}
 use Rattle.dcsctp_wire.specs.Content.{state_cookie, supported_extensions, forward_tsn_supported, InitContent, init_chunk, init_ack_chunk, cookie_echo_chunk, cookie_ack_chunk, unknown_chunk}
-use Rattle.dcsctp_wire.specs.Fields.{parameter_of, fields_in}
-use Rattle.dcsctp_wire.specs.Format.{frame_at, form_of, IsInitValue, IsChunkOf}
+use Rattle.dcsctp_wire.specs.Fields.{parameter_of, content_of_fields}
+use Rattle.dcsctp_wire.specs.Format.{leading_frame, form_of, IsInitValue, IsChunkOf}
 use Rattle.dcsctp_wire.specs.Spelling.{parameter_bytes, parameters_len, init_fields, parameter_chunk_bytes, other_bytes, chunk_bytes}
 
 -- an INIT whose fields all differ; its last parameter has padding
@@ -38,7 +38,7 @@ unfolding parameter_chunk_bytes init_fields parameters_len parameter_bytes
 init_ack_is_spelled = refl
 
 every_field_is_read : IsInitValue every_field every_field_value
-unfolding every_field every_field_value frame_at parameter_of
+unfolding every_field every_field_value leading_frame parameter_of
 every_field_is_read =
     record {
       long_enough = omega arith;
@@ -79,19 +79,19 @@ unfolding other_bytes
 cookie_ack_alone_is_spelled = refl
 
 cookie_echo_is_read : IsChunkOf (cookie_echo_chunk (1 ∷ 2 ∷ 3 ∷ [])) 10 0xff (1 ∷ 2 ∷ 3 ∷ [])
-unfolding form_of fields_in
+unfolding form_of content_of_fields
 cookie_echo_is_read = refl
 
 value_of_cookie_ack_is_not_looked_at : IsChunkOf cookie_ack_chunk 11 0xff (1 ∷ [])
-unfolding form_of fields_in
+unfolding form_of content_of_fields
 value_of_cookie_ack_is_not_looked_at = refl
 
 cookie_echo_has_a_cookie : (flags : ℕ) (value : List ℕ) → IsChunkOf (unknown_chunk 10 flags value) 10 flags value → ⊥
-unfolding form_of fields_in
+unfolding form_of content_of_fields
 cookie_echo_has_a_cookie flags value h = absurd (cc h)
 
 cookie_ack_has_no_value : (flags : ℕ) (value : List ℕ) → IsChunkOf (unknown_chunk 11 flags value) 11 flags value → ⊥
-unfolding form_of fields_in
+unfolding form_of content_of_fields
 cookie_ack_has_no_value flags value h = absurd (cc h)
 
 init_of_15_bytes_is_refused : (init : InitContent) → IsInitValue init (1 ∷ 2 ∷ 3 ∷ 4 ∷ 5 ∷ 6 ∷ 7 ∷ 8 ∷ 9 ∷ 10 ∷ 11 ∷ 12 ∷ 13 ∷ 14 ∷ 15 ∷ []) → ⊥

@@ -7,7 +7,7 @@ use Rattle.dcsctp_wire.specs.declared.reconfiguration.NextTsns.{NextTsns}
 use Rattle.dcsctp_wire.specs.declared.chunk.user_data.DataFlags.{DataFlags}
 use Rattle.dcsctp_wire.specs.Content.{ParameterContent, heartbeat_info, state_cookie, outgoing_ssn_reset_request, incoming_ssn_reset_request, reconfiguration_response, supported_extensions, zero_checksum_acceptable, forward_tsn_supported, unknown_parameter, InitContent, CauseContent, missing_mandatory_parameter, unrecognized_chunk_type, no_user_data, cookie_received_while_shutting_down, user_initiated_abort, protocol_violation, unknown_cause, DataContent, IDataContent, SackContent, ChunkContent, data_chunk, init_chunk, init_ack_chunk, sack_chunk, heartbeat_chunk, heartbeat_ack_chunk, abort_chunk, shutdown_chunk, shutdown_ack_chunk, error_chunk, cookie_echo_chunk, cookie_ack_chunk, shutdown_complete_chunk, i_data_chunk, re_config_chunk, forward_tsn_chunk, i_forward_tsn_chunk, unknown_chunk}
 use Rattle.dcsctp_wire.specs.Format.{padding_of}
-use Rattle.dcsctp_wire.specs.Spelling.{zeros, result_code, next_tsns_bytes, parameter_type, parameter_value, parameter_len, parameter_bytes, parameters_len, init_fields, as_parameter, t_bit, data_flags, data_fields, i_data_fields, sack_fields, Spelled, by_value, by_list, spelled, other_bytes, parameter_chunk_bytes, spelled_bytes, chunk_bytes, header_bytes}
+use Rattle.dcsctp_wire.specs.Spelling.{zeros, result_code, next_tsns_bytes, parameter_type, parameter_value, parameter_len, parameter_bytes, parameters_len, init_fields, as_parameter, t_bit, data_flags, data_fields, i_data_fields, sack_fields, WrittenChunk, by_value, by_list, written_chunk, other_bytes, parameter_chunk_bytes, spelled_bytes, chunk_bytes, header_bytes}
 use Rattle.dcsctp_wire.specs.ReadsBack.{IsByte, FitsParameter, FitsCause, FitsChunk}
 
 -- ---- numbers
@@ -155,16 +155,16 @@ in_list chunk_type flags fields parameters type_fits flags_fit in_fields in_each
     let all : List ℕ = flat_map parameter_bytes parameters in
     (type_fits, (flags_fit, both (to_be_bytes w16 n) (fields ++ all) (in_two n) (both fields all in_fields (in_parameters parameters in_each))))
 
-abbrev SpelledInBytes : Spelled → Type 0
+abbrev SpelledInBytes : WrittenChunk → Type 0
 SpelledInBytes (by_value chunk_type flags value) = IsByte chunk_type × IsByte flags × AllByRecursion IsByte value
 SpelledInBytes (by_list chunk_type flags fields parameters) =
     IsByte chunk_type × IsByte flags × AllByRecursion IsByte fields × AllByRecursion ValueInBytes parameters
 
-spelled_in_bytes : (s : Spelled) → SpelledInBytes s → AllByRecursion IsByte (spelled_bytes s)
+spelled_in_bytes : (s : WrittenChunk) → SpelledInBytes s → AllByRecursion IsByte (spelled_bytes s)
 spelled_in_bytes (by_value chunk_type flags value) fits = in_other chunk_type flags value fits.0 fits.1 fits.2
 spelled_in_bytes (by_list chunk_type flags fields parameters) fits = in_list chunk_type flags fields parameters fits.0 fits.1 fits.2 fits.3
 
-in_spelled : (chunk : ChunkContent) → FitsChunk chunk → SpelledInBytes (spelled chunk)
+in_spelled : (chunk : ChunkContent) → FitsChunk chunk → SpelledInBytes (written_chunk chunk)
 in_spelled (data_chunk chunk) fits =
     (omega arith, in_data_flags chunk.flags, both (data_fields chunk) chunk.payload (in_data_fields chunk) fits.payload_in_bytes)
 in_spelled (init_chunk init) fits = (omega arith, omega arith, in_fields init, in_values init.parameters fits.parameters)
@@ -194,7 +194,7 @@ in_spelled (unknown_chunk chunk_type flags value) fits = (fits.type_fits, fits.f
 pub in_chunks : (chunks : List ChunkContent) → AllByRecursion FitsChunk chunks → AllByRecursion IsByte (flat_map chunk_bytes chunks)
 in_chunks [] fits = tt
 in_chunks (chunk ∷ chunks) fits =
-    both (chunk_bytes chunk) (flat_map chunk_bytes chunks) (spelled_in_bytes (spelled chunk) (in_spelled chunk fits.0)) (in_chunks chunks fits.1)
+    both (chunk_bytes chunk) (flat_map chunk_bytes chunks) (spelled_in_bytes (written_chunk chunk) (in_spelled chunk fits.0)) (in_chunks chunks fits.1)
 
 pub in_header : (source_port destination_port verification_tag : ℕ) → AllByRecursion IsByte (header_bytes source_port destination_port verification_tag)
 unfolding header_bytes

@@ -3,8 +3,8 @@ use Rattle.std.proofs.Common.{◌≡◌, ℕ, Bool, true, false, List, [], ◌�
 use Rattle.dcsctp_wire.specs.declared.packet.WireOptions.{WireOptions}
 use Rattle.dcsctp_wire_checksum.specs.Crc32c.{bit_step, eight_bit_steps, byte_step, register_after, crc32c_of, packet_checksum_of}
 use Rattle.dcsctp_wire.specs.Content.{cookie_echo_chunk, cookie_ack_chunk, PacketContent}
-use Rattle.dcsctp_wire.specs.Fields.{fields_in}
-use Rattle.dcsctp_wire.specs.Format.{frame_at, form_of, checksum_accepted, IsPacket}
+use Rattle.dcsctp_wire.specs.Fields.{content_of_fields}
+use Rattle.dcsctp_wire.specs.Format.{leading_frame, form_of, checksum_accepted, IsPacket}
 use Rattle.dcsctp_wire.specs.Spelling.{other_bytes, header_bytes, checksum_field, packet_bytes_of, packet_bytes}
 
 -- ---- packets (RFC 9260, section 3.1)
@@ -58,7 +58,7 @@ unfolding bit_step eight_bit_steps byte_step register_after crc32c_of packet_che
 checksum_is_not_looked_at = refl
 
 cookie_ack_is_read : IsPacket (reader 5001 false 0) cookie_ack cookie_ack_bytes
-unfolding bit_step eight_bit_steps byte_step register_after crc32c_of packet_checksum_of frame_at form_of fields_in reader cookie_ack cookie_ack_bytes
+unfolding bit_step eight_bit_steps byte_step register_after crc32c_of packet_checksum_of leading_frame form_of content_of_fields reader cookie_ack cookie_ack_bytes
 cookie_ack_is_read =
     record {
       long_enough = omega arith;
@@ -84,7 +84,7 @@ late_echo_is_refused bytes h = absurd (cc h.echo_in_front.0)
 
 echo_first_is_read : IsPacket (reader 5001 true 0) (record cookie_ack { chunks = cookie_echo_chunk [] ∷ cookie_ack_chunk ∷ [] })
     (0x13 ∷ 0x88 ∷ 0x13 ∷ 0x89 ∷ 1 ∷ 2 ∷ 3 ∷ 4 ∷ 0 ∷ 0 ∷ 0 ∷ 0 ∷ 10 ∷ 0 ∷ 0 ∷ 4 ∷ 11 ∷ 0 ∷ 0 ∷ 4 ∷ [])
-unfolding frame_at form_of fields_in reader cookie_ack
+unfolding leading_frame form_of content_of_fields reader cookie_ack
 echo_first_is_read =
     record {
       long_enough = omega arith;

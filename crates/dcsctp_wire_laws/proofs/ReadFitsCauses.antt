@@ -6,7 +6,7 @@ use Rattle.std.proofs.lemmas.List.{length-take-le}
 use Rattle.std.proofs.lemmas.Option.{MatchOption-at_some, IfSome_then}
 use Rattle.dcsctp_wire.specs.Numbers.{missing_mandatory_parameter_code, unrecognized_chunk_type_code, no_user_data_code, cookie_received_while_shutting_down_code, user_initiated_abort_code, protocol_violation_code}
 use Rattle.dcsctp_wire.specs.Content.{CauseContent, missing_mandatory_parameter}
-use Rattle.dcsctp_wire.specs.Fields.{u32_at, missing_types, no_user_data_in, cause_of}
+use Rattle.dcsctp_wire.specs.Fields.{u32_at, missing_types, no_user_data_of_value, cause_of}
 use Rattle.dcsctp_wire.specs.Format.{AreCauses}
 use Rattle.dcsctp_wire.specs.Spelling.{as_parameter}
 use Rattle.dcsctp_wire.specs.ReadsBack.{AreWholeEntries, FitsCause}
@@ -36,8 +36,8 @@ missing_fits : (value : List ℕ) (o : Option (List ℕ)) → IfSome o (λ types
 missing_fits value None fits = tt
 missing_fits value (Some types) fits = record { fits = fits.0; within = omega (arith, fits.1) }
 
-no_data_fits : (value : List ℕ) → InBytes value → IfSome (no_user_data_in value) (Within value)
-unfolding no_user_data_in
+no_data_fits : (value : List ℕ) → InBytes value → IfSome (no_user_data_of_value value) (Within value)
+unfolding no_user_data_of_value
 no_data_fits value is =
     picked (ltb (length value) 4) _ _ _ (λ _. tt) (λ four. record { fits = u32_fits 0 value is; within = ltb-false (length value) 4 four })
 
@@ -52,7 +52,7 @@ each_fits number value fits is =
     picked (eqb number missing_mandatory_parameter_code) _ _ _
     (λ _. if_read number value (option_map missing_mandatory_parameter (missing_types value)) (missing_fits value (missing_types value) (types_fit value is)))
     (λ _. picked (eqb number unrecognized_chunk_type_code) _ _ _ (λ _ _. record { fits = is; within = omega arith })
-    (λ _. picked (eqb number no_user_data_code) _ _ _ (λ _. if_read number value (no_user_data_in value) (no_data_fits value is))
+    (λ _. picked (eqb number no_user_data_code) _ _ _ (λ _. if_read number value (no_user_data_of_value value) (no_data_fits value is))
     (λ _. picked (eqb number cookie_received_while_shutting_down_code) _ _ _ (λ _ _. record { fits = tt; within = omega arith })
     (λ _. picked (eqb number user_initiated_abort_code) _ _ _ (λ _ _. record { fits = is; within = omega arith })
     (λ _. picked (eqb number protocol_violation_code) _ _ _ (λ _ _. record { fits = is; within = omega arith })

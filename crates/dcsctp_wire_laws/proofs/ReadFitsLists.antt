@@ -7,7 +7,7 @@ use Rattle.std.proofs.lemmas.Option.{MatchOption-at_some}
 use Rattle.std.proofs.lemmas.List.{length-take-le}
 use Rattle.dcsctp_wire.specs.Content.{ParameterContent}
 use Rattle.dcsctp_wire.specs.Fields.{u16_at}
-use Rattle.dcsctp_wire.specs.Format.{padding_of, Frame, frame_at, BeginsWith, AreItems, IsReadBy}
+use Rattle.dcsctp_wire.specs.Format.{padding_of, Frame, leading_frame, BeginsWith, AreItems, IsReadAsItem}
 use Rattle.dcsctp_wire.specs.Spelling.{parameter_value, parameters_len}
 use Rattle.dcsctp_wire.proofs.Lengths.{length-parameter_bytes}
 use Rattle.dcsctp_wire_laws.proofs.ReadFitsNumbers.{picked, InBytes, front_in_bytes, behind_in_bytes, u16_fits}
@@ -35,8 +35,8 @@ cut_fits bytes len is header inside fits =
       behind = λ some. omega (arith, value_len, length-drop (len + padding_of len) bytes);
     }
 
-read_frame_fits : (bytes : List ℕ) → InBytes bytes → IfSome (frame_at bytes) (λ frame. FrameFits bytes frame.value frame.rest)
-unfolding frame_at
+read_frame_fits : (bytes : List ℕ) → InBytes bytes → IfSome (leading_frame bytes) (λ frame. FrameFits bytes frame.value frame.rest)
+unfolding leading_frame
 read_frame_fits bytes is =
     let len : ℕ = u16_at 2 bytes in
     picked (ltb (length bytes) 4) _ _ _ (λ _. tt) (λ _. picked (ltb len 4) _ _ _ (λ _. tt) (λ header. picked (ltb (length bytes) len) _ _ _ (λ _. tt)
@@ -70,20 +70,20 @@ ReadsWhatFits {Item} read Fits spelled =
     (item : Item) (number : ℕ) (value : List ℕ) → number < 2 ^ 16 → InBytes value → read number value ≡ Some item → FitsWithin Fits spelled value item
 
 module _ {Item : Type 0} (read : ℕ → List ℕ → Option Item) (Fits : Item → Type 0) (spelled : Item → ParameterContent) (what : ReadsWhatFits read Fits spelled) where
-  item_fits : (item : Item) (rest bytes : List ℕ) → InBytes bytes → (begins : BeginsWith (IsReadBy read) item rest bytes) → FitsWithin Fits spelled begins.value item
+  item_fits : (item : Item) (rest bytes : List ℕ) → InBytes bytes → (begins : BeginsWith (IsReadAsItem read) item rest bytes) → FitsWithin Fits spelled begins.value item
   item_fits item rest bytes is begins =
-      what item (u16_at 0 bytes) begins.value (u16_fits 0 bytes is) (frame_fits (IsReadBy read) item rest bytes is begins).value_in_bytes begins.read
+      what item (u16_at 0 bytes) begins.value (u16_fits 0 bytes is) (frame_fits (IsReadAsItem read) item rest bytes is begins).value_in_bytes begins.read
 
-  pub items_fit : (items : List Item) (bytes : List ℕ) → InBytes bytes → AreItems (IsReadBy read) items bytes → FitAll Fits spelled bytes items
+  pub items_fit : (items : List Item) (bytes : List ℕ) → InBytes bytes → AreItems (IsReadAsItem read) items bytes → FitAll Fits spelled bytes items
   unfolding parameters_len
   items_fit [] bytes is h = record { all_fit = tt; len_within = omega arith }
   items_fit (item ∷ []) bytes is h =
-      let frame = frame_fits (IsReadBy read) item h.0 bytes is h.1 in
+      let frame = frame_fits (IsReadAsItem read) item h.0 bytes is h.1 in
       let first = item_fits item h.0 bytes is h.1 in
       record { all_fit = (first.fits, tt); len_within = omega (arith, frame.inside, first.within) }
   items_fit (item ∷ other ∷ others) bytes is h =
-      let frame = frame_fits (IsReadBy read) item h.0 bytes is h.1 in
-      let next = frame_fits (IsReadBy read) other h.2.0 h.0 frame.rest_in_bytes h.2.1 in
+      let frame = frame_fits (IsReadAsItem read) item h.0 bytes is h.1 in
+      let next = frame_fits (IsReadAsItem read) other h.2.0 h.0 frame.rest_in_bytes h.2.1 in
       let first = item_fits item h.0 bytes is h.1 in
       let behind = items_fit (other ∷ others) h.0 frame.rest_in_bytes h.2 in
       let left : 1 ≤ length h.0 = omega (arith, next.inside) in

@@ -9,7 +9,7 @@ use Rattle.dcsctp_wire.specs.declared.reconfiguration.ReconfigurationResponseRes
 use Rattle.dcsctp_wire.specs.declared.reconfiguration.NextTsns.{NextTsns}
 use Rattle.dcsctp_wire.specs.Numbers.{heartbeat_info_type, state_cookie_type, outgoing_ssn_reset_request_type, incoming_ssn_reset_request_type, reconfiguration_response_type, zero_checksum_acceptable_type, supported_extensions_type, forward_tsn_supported_type}
 use Rattle.dcsctp_wire.specs.Content.{ParameterContent, unknown_parameter}
-use Rattle.dcsctp_wire.specs.Fields.{u32_at, has_entries, outgoing_request_in, incoming_request_in, result_of, response_with, next_tsns_in, response_in, method_in, parameter_of}
+use Rattle.dcsctp_wire.specs.Fields.{u32_at, has_entries, outgoing_request_of_value, incoming_request_of_value, result_of, response_with, next_tsns_of_value, response_of_value, method_of_value, parameter_of}
 use Rattle.dcsctp_wire.specs.Format.{AreParameters}
 use Rattle.dcsctp_wire.specs.Spelling.{next_tsns_bytes, parameters_len}
 use Rattle.dcsctp_wire.specs.ReadsBack.{FitsNextTsns, FitsParameter}
@@ -29,8 +29,8 @@ FitsIfRead number value parameter = parameter_of number value ≡ Some parameter
 
 -- ---- requests to reset streams, and answers
 
-outgoing_fits : (value : List ℕ) → InBytes value → IfSome (outgoing_request_in value) (Within value)
-unfolding outgoing_request_in
+outgoing_fits : (value : List ℕ) → InBytes value → IfSome (outgoing_request_of_value value) (Within value)
+unfolding outgoing_request_of_value
 outgoing_fits value is =
     picked (has_entries 12 2 value) _ _ _ (λ has.
     let there = entries_there 12 2 value is has in
@@ -39,8 +39,8 @@ outgoing_fits value is =
       within = omega (arith, there.fields_there, length-drop 12 value);
     }) (λ _. tt)
 
-incoming_fits : (value : List ℕ) → InBytes value → IfSome (incoming_request_in value) (Within value)
-unfolding incoming_request_in
+incoming_fits : (value : List ℕ) → InBytes value → IfSome (incoming_request_of_value value) (Within value)
+unfolding incoming_request_of_value
 incoming_fits value is =
     picked (has_entries 4 2 value) _ _ _ (λ has.
     let there = entries_there 4 2 value is has in
@@ -54,17 +54,17 @@ with_result number value next None e is next_fits long read =
     record { fits = record { type_fits = omega arith; read_as_unknown = same; value_in_bytes = is }; within = omega arith }
 with_result number value next (Some result) e is next_fits long read = record { fits = (u32_fits 0 value is, next_fits); within = omega arith }
 
-response_fits : (number : ℕ) (value : List ℕ) → number ≡ reconfiguration_response_type → InBytes value → IfSome (response_in value) (FitsIfRead number value)
-unfolding response_in
+response_fits : (number : ℕ) (value : List ℕ) → number ≡ reconfiguration_response_type → InBytes value → IfSome (response_of_value value) (FitsIfRead number value)
+unfolding response_of_value
 response_fits number value e is =
     let result = result_of (u32_at 4 value) in
     let none = λ (long : 8 ≤ length value). with_result number value None result e is tt (omega arith) in
-    let some = λ (long : 16 ≤ length value). with_result number value (Some (next_tsns_in value)) result e is (u32_fits 8 value is, u32_fits 12 value is) (omega arith) in
+    let some = λ (long : 16 ≤ length value). with_result number value (Some (next_tsns_of_value value)) result e is (u32_fits 8 value is, u32_fits 12 value is) (omega arith) in
     picked (ltb (length value) 8) _ _ _ (λ _. tt) (λ eight. picked (ltb (length value) 12) _ _ _ (λ _. none (ltb-false (length value) 8 eight))
     (λ _. picked (ltb (length value) 16) _ _ _ (λ _. tt) (λ sixteen. some (ltb-false (length value) 16 sixteen))))
 
-method_fits : (value : List ℕ) → InBytes value → IfSome (method_in value) (Within value)
-unfolding method_in
+method_fits : (value : List ℕ) → InBytes value → IfSome (method_of_value value) (Within value)
+unfolding method_of_value
 method_fits value is =
     picked (ltb (length value) 4) _ _ _ (λ _. tt) (λ four. record { fits = u32_fits 0 value is; within = ltb-false (length value) 4 four })
 
@@ -78,11 +78,11 @@ unfolding parameter_of
 each_fits number value fits is =
     picked (eqb number heartbeat_info_type) _ _ _ (λ _ _. record { fits = is; within = omega arith })
     (λ _. picked (eqb number state_cookie_type) _ _ _ (λ _ _. record { fits = is; within = omega arith })
-    (λ _. picked (eqb number outgoing_ssn_reset_request_type) _ _ _ (λ _. if_read number value (outgoing_request_in value) (outgoing_fits value is))
-    (λ _. picked (eqb number incoming_ssn_reset_request_type) _ _ _ (λ _. if_read number value (incoming_request_in value) (incoming_fits value is))
+    (λ _. picked (eqb number outgoing_ssn_reset_request_type) _ _ _ (λ _. if_read number value (outgoing_request_of_value value) (outgoing_fits value is))
+    (λ _. picked (eqb number incoming_ssn_reset_request_type) _ _ _ (λ _. if_read number value (incoming_request_of_value value) (incoming_fits value is))
     (λ _. picked (eqb number reconfiguration_response_type) _ _ _ (λ e. response_fits number value (eqb-true _ _ e) is)
     (λ _. picked (eqb number supported_extensions_type) _ _ _ (λ _ _. record { fits = is; within = omega arith })
-    (λ _. picked (eqb number zero_checksum_acceptable_type) _ _ _ (λ _. if_read number value (method_in value) (method_fits value is))
+    (λ _. picked (eqb number zero_checksum_acceptable_type) _ _ _ (λ _. if_read number value (method_of_value value) (method_fits value is))
     (λ _. picked (eqb number forward_tsn_supported_type) _ _ _ (λ _ _. record { fits = tt; within = omega arith })
     (λ _ read. record { fits = record { type_fits = fits; read_as_unknown = read; value_in_bytes = is }; within = omega arith }))))))))
 

@@ -3,7 +3,7 @@ use Rattle.std.proofs.Common.{◌≡◌, ℕ, List, [], ◌∷◌, ◌++◌, Som
 use Rattle.std.specs.List.{flat_map, AllByRecursion}
 use Rattle.std.proofs.lemmas.Nat.{from_be_bytes-to_be_bytes_2, from_be_bytes-to_be_bytes_4}
 use Rattle.dcsctp_wire.specs.Content.{InitContent, ChunkContent, data_chunk, init_chunk, init_ack_chunk, sack_chunk, heartbeat_chunk, heartbeat_ack_chunk, abort_chunk, shutdown_chunk, shutdown_ack_chunk, error_chunk, cookie_echo_chunk, cookie_ack_chunk, shutdown_complete_chunk, i_data_chunk, re_config_chunk, forward_tsn_chunk, i_forward_tsn_chunk, unknown_chunk}
-use Rattle.dcsctp_wire.specs.Format.{Frame, frame_at, HasInitMinima, IsInitValue, form_of, IsReadByHeader, BeginsWithChunk, AreChunks}
+use Rattle.dcsctp_wire.specs.Format.{Frame, leading_frame, HasInitMinima, IsInitValue, form_of, IsReadByHeader, BeginsWithChunk, AreChunks}
 use Rattle.dcsctp_wire.specs.Spelling.{init_fields, parameter_chunk_bytes, chunk_bytes}
 use Rattle.dcsctp_wire.specs.ReadsBack.{FitsInit, FitsChunk, HasMinima}
 use Rattle.dcsctp_wire.proofs.Chunks.{one_chunk}
@@ -55,7 +55,7 @@ has_minima (unknown_chunk chunk_type flags value) read fits rest is = tt
 -- a chunk takes up bytes
 some_bytes : (chunk : ChunkContent) → FitsChunk chunk → (rest : List ℕ) → chunk_bytes chunk ++ rest ≡ [] → ⊥
 some_bytes chunk fits rest e =
-    frame_of_nothing _ (subst (λ (bytes : List ℕ). frame_at bytes ≡ Some (record { value = chunk_value chunk; rest = rest })) e (framed chunk fits rest))
+    frame_of_nothing _ (subst (λ (bytes : List ℕ). leading_frame bytes ≡ Some (record { value = chunk_value chunk; rest = rest })) e (framed chunk fits rest))
 
 first_reads_as_itself : (chunk read : ChunkContent) (after rest : List ℕ) → FitsChunk chunk → BeginsWithChunk read after (chunk_bytes chunk ++ rest) → (read ≡ chunk) × (after ≡ rest)
 first_reads_as_itself chunk read after rest fits is =

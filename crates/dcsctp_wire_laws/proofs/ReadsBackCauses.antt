@@ -7,7 +7,7 @@ use Rattle.std.proofs.lemmas.Bool.{le-ltb}
 use Rattle.std.proofs.lemmas.List.{take_all}
 use Rattle.std.proofs.lemmas.Nat.{from_be_bytes-to_be_bytes_4}
 use Rattle.dcsctp_wire.specs.Content.{CauseContent, missing_mandatory_parameter, unrecognized_chunk_type, no_user_data, cookie_received_while_shutting_down, user_initiated_abort, protocol_violation, unknown_cause}
-use Rattle.dcsctp_wire.specs.Fields.{u32_at, missing_types, no_user_data_in, cause_of}
+use Rattle.dcsctp_wire.specs.Fields.{u32_at, missing_types, no_user_data_of_value, cause_of}
 use Rattle.dcsctp_wire.specs.Format.{AreCauses}
 use Rattle.dcsctp_wire.specs.Spelling.{cause_code, cause_value, as_parameter, parameter_len, parameter_bytes, parameters_len}
 use Rattle.dcsctp_wire.specs.ReadsBack.{FitsCause}
@@ -22,7 +22,7 @@ types_in value types n number behind long whole =
     rw (number, header, within, behind) (ap Some (take_all (2 * n) types (omega arith)))
 
 cause_reads : (cause : CauseContent) → FitsCause cause → parameter_len (as_parameter cause) < 2 ^ 16 → cause_of (cause_code cause) (cause_value cause) ≡ Some cause
-unfolding cause_of no_user_data_in
+unfolding cause_of no_user_data_of_value
 cause_reads (missing_mandatory_parameter types) fits short =
     let n : ℕ = length types / 2 in
     ap (option_map missing_mandatory_parameter) (types_in (to_be_bytes w32 n ++ types) types n (from_be_bytes-to_be_bytes_4 n (omega arith)) refl (omega arith) (omega (arith, fits.whole)))

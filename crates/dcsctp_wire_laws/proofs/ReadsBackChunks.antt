@@ -5,9 +5,9 @@ use Rattle.std.specs.List.{flat_map, AllByRecursion}
 use Rattle.std.proofs.lemmas.List.{drop_at, take-append-drop, length-replicate, length-take-le}
 use Rattle.std.proofs.lemmas.Nat.{from_be_bytes-to_be_bytes_2, from_be_bytes-to_be_bytes_4}
 use Rattle.dcsctp_wire.specs.Content.{ParameterContent, InitContent, CauseContent, ChunkContent, data_chunk, init_chunk, init_ack_chunk, sack_chunk, heartbeat_chunk, heartbeat_ack_chunk, abort_chunk, shutdown_chunk, shutdown_ack_chunk, error_chunk, cookie_echo_chunk, cookie_ack_chunk, shutdown_complete_chunk, i_data_chunk, re_config_chunk, forward_tsn_chunk, i_forward_tsn_chunk, unknown_chunk}
-use Rattle.dcsctp_wire.specs.Fields.{fields_in}
-use Rattle.dcsctp_wire.specs.Format.{padding_of, frame_at, HasInitMinima, IsInitValue, AreParameters, AreCauses, Form, form_of, HasForm, IsChunkOf, IsReadByHeader, BeginsWithChunk, AreChunks}
-use Rattle.dcsctp_wire.specs.Spelling.{zeros, parameter_bytes, parameters_len, init_fields, as_parameter, data_fields, i_data_fields, sack_fields, Spelled, by_value, by_list, spelled, other_bytes, parameter_chunk_bytes, spelled_bytes, chunk_bytes}
+use Rattle.dcsctp_wire.specs.Fields.{content_of_fields}
+use Rattle.dcsctp_wire.specs.Format.{padding_of, leading_frame, HasInitMinima, IsInitValue, AreParameters, AreCauses, Form, form_of, HasForm, IsChunkOf, IsReadByHeader, BeginsWithChunk, AreChunks}
+use Rattle.dcsctp_wire.specs.Spelling.{zeros, parameter_bytes, parameters_len, init_fields, as_parameter, data_fields, i_data_fields, sack_fields, WrittenChunk, by_value, by_list, written_chunk, other_bytes, parameter_chunk_bytes, spelled_bytes, chunk_bytes}
 use Rattle.dcsctp_wire.specs.ReadsBack.{FitsParameters, FitsInit, FitsOther, FitsCauses, FitsChunk, HasMinima}
 use Rattle.dcsctp_wire.proofs.Lengths.{padded_parameters}
 use Rattle.dcsctp_wire_laws.proofs.ReadsBackFields.{bit_read, data_reads, i_data_reads, sack_reads, shutdown_reads, forward_reads, i_forward_reads}
@@ -36,12 +36,12 @@ length-value_with fields parameters =
 
 -- The fields are a multiple of 4 bytes long.
 framed_with : (first second len : ℕ) (fields : List ℕ) (parameters : List ParameterContent) → length fields % 4 ≡ 0 → len ≡ 4 + length fields + parameters_len parameters → len < 2 ^ 16 → (rest : List ℕ)
-    → frame_at (first ∷ second ∷ to_be_bytes w16 len ++ (fields ++ flat_map parameter_bytes parameters) ++ rest) ≡ Some (record { value = value_with fields parameters; rest = rest })
+    → leading_frame (first ∷ second ∷ to_be_bytes w16 len ++ (fields ++ flat_map parameter_bytes parameters) ++ rest) ≡ Some (record { value = value_with fields parameters; rest = rest })
 framed_with first second len fields parameters whole is fits rest =
     let all : List ℕ = flat_map parameter_bytes parameters in
     let n : ℕ = parameters_len parameters in
     let padding : length (drop n all) ≡ padding_of len = omega (arith, length-drop n all, padded_parameters parameters) in
-    ap (λ (x : List ℕ). frame_at (first ∷ second ∷ to_be_bytes w16 len ++ x)) (cut fields all rest n)
+    ap (λ (x : List ℕ). leading_frame (first ∷ second ∷ to_be_bytes w16 len ++ x)) (cut fields all rest n)
     ∙ frame_behind first second len (value_with fields parameters) (drop n all ++ rest) rest (omega (arith, length-value_with fields parameters)) fits (drop_at (drop n all) rest (padding_of len) padding)
 
 -- ---- INIT and INIT ACK
@@ -65,29 +65,29 @@ init_read init fits minima =
 
 -- ---- other chunks
 
-other_framed : (chunk_type flags : ℕ) (value : List ℕ) → 4 + length value < 2 ^ 16 → (rest : List ℕ) → frame_at (other_bytes chunk_type flags value ++ rest) ≡ Some (record { value = value; rest = rest })
+other_framed : (chunk_type flags : ℕ) (value : List ℕ) → 4 + length value < 2 ^ 16 → (rest : List ℕ) → leading_frame (other_bytes chunk_type flags value ++ rest) ≡ Some (record { value = value; rest = rest })
 unfolding other_bytes
 other_framed chunk_type flags value len_fits rest =
     let padding : List ℕ = zeros (padding_of (length value)) in
     let padding_is : length padding ≡ padding_of (4 + length value) = omega (arith, length-replicate {A = ℕ} (padding_of (length value)) 0) in
-    ap (λ (x : List ℕ). frame_at (chunk_type ∷ flags ∷ to_be_bytes w16 (4 + length value) ++ x)) (append_assoc value padding rest)
+    ap (λ (x : List ℕ). leading_frame (chunk_type ∷ flags ∷ to_be_bytes w16 (4 + length value) ++ x)) (append_assoc value padding rest)
     ∙ frame_behind chunk_type flags (4 + length value) value (padding ++ rest) rest refl len_fits (drop_at padding rest (padding_of (4 + length value)) padding_is)
 
 -- ---- frames
 
 -- the value of a chunk
-abbrev pub spelled_value : Spelled → List ℕ
+abbrev pub spelled_value : WrittenChunk → List ℕ
 spelled_value (by_value chunk_type flags value) = value
 spelled_value (by_list chunk_type flags fields parameters) = value_with fields parameters
 
 abbrev pub chunk_value : ChunkContent → List ℕ
-chunk_value chunk = spelled_value (spelled chunk)
+chunk_value chunk = spelled_value (written_chunk chunk)
 
-abbrev FitsFrame : Spelled → Type 0
+abbrev FitsFrame : WrittenChunk → Type 0
 FitsFrame (by_value chunk_type flags value) = 4 + length value < 2 ^ 16
 FitsFrame (by_list chunk_type flags fields parameters) = (length fields % 4 ≡ 0) × (4 + length fields + parameters_len parameters < 2 ^ 16)
 
-fits_frame : (chunk : ChunkContent) → FitsChunk chunk → FitsFrame (spelled chunk)
+fits_frame : (chunk : ChunkContent) → FitsChunk chunk → FitsFrame (written_chunk chunk)
 unfolding data_fields i_data_fields sack_fields init_fields
 fits_frame (data_chunk chunk) fits = omega (arith, fits.len_fits)
 fits_frame (init_chunk init) fits = (refl, omega (arith, fits.len_fits))
@@ -108,14 +108,14 @@ fits_frame (forward_tsn_chunk tsn streams) fits = omega (arith, fits.len_fits)
 fits_frame (i_forward_tsn_chunk tsn streams) fits = omega (arith, fits.len_fits)
 fits_frame (unknown_chunk chunk_type flags value) fits = fits.len_fits
 
-spelled_framed : (s : Spelled) → FitsFrame s → (rest : List ℕ) → frame_at (spelled_bytes s ++ rest) ≡ Some (record { value = spelled_value s; rest = rest })
+spelled_framed : (s : WrittenChunk) → FitsFrame s → (rest : List ℕ) → leading_frame (spelled_bytes s ++ rest) ≡ Some (record { value = spelled_value s; rest = rest })
 unfolding parameter_chunk_bytes
 spelled_framed (by_value chunk_type flags value) fits rest = other_framed chunk_type flags value fits rest
 spelled_framed (by_list chunk_type flags fields parameters) fits rest =
     framed_with chunk_type flags (4 + length fields + parameters_len parameters) fields parameters fits.0 refl fits.1 rest
 
-pub framed : (chunk : ChunkContent) → FitsChunk chunk → (rest : List ℕ) → frame_at (chunk_bytes chunk ++ rest) ≡ Some (record { value = chunk_value chunk; rest = rest })
-framed chunk fits rest = spelled_framed (spelled chunk) (fits_frame chunk fits) rest
+pub framed : (chunk : ChunkContent) → FitsChunk chunk → (rest : List ℕ) → leading_frame (chunk_bytes chunk ++ rest) ≡ Some (record { value = chunk_value chunk; rest = rest })
+framed chunk fits rest = spelled_framed (written_chunk chunk) (fits_frame chunk fits) rest
 
 -- ---- what the value says
 
@@ -131,7 +131,7 @@ unknown_read chunk_type flags value fits =
     subst (λ (form : Form). HasForm form (unknown_chunk chunk_type flags value) chunk_type flags value) (sym fits.form) fits.read_as_unknown
 
 says : (chunk : ChunkContent) → FitsChunk chunk → HasMinima chunk → (rest : List ℕ) → IsReadByHeader chunk (chunk_bytes chunk ++ rest) (chunk_value chunk)
-unfolding form_of fields_in parameter_chunk_bytes other_bytes
+unfolding form_of content_of_fields parameter_chunk_bytes other_bytes
 says (data_chunk chunk) fits minima rest = data_reads chunk fits
 says (init_chunk init) fits minima rest = (init, refl, init_read init fits minima)
 says (init_ack_chunk init) fits minima rest = (init, refl, init_read init fits minima)

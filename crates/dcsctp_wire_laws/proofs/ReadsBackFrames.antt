@@ -6,12 +6,12 @@ use Rattle.std.proofs.lemmas.Bool.{le-ltb}
 use Rattle.std.proofs.lemmas.List.{take_at}
 use Rattle.std.proofs.lemmas.Nat.{from_be_bytes-to_be_bytes_2}
 use Rattle.dcsctp_wire.specs.Fields.{u16_at}
-use Rattle.dcsctp_wire.specs.Format.{padding_of, frame_at}
+use Rattle.dcsctp_wire.specs.Format.{padding_of, leading_frame}
 
 -- a length within its container
 frame_with : (bytes : List ℕ) (len : ℕ) → u16_at 2 bytes ≡ len → 4 ≤ len → len ≤ length bytes
-    → frame_at bytes ≡ Some (record { value = take (len - 4) (drop 4 bytes); rest = drop (len + padding_of len) bytes })
-unfolding frame_at
+    → leading_frame bytes ≡ Some (record { value = take (len - 4) (drop 4 bytes); rest = drop (len + padding_of len) bytes })
+unfolding leading_frame
 frame_with bytes len is least most =
     let header : ltb (length bytes) 4 ≡ false = le-ltb (length bytes) 4 (omega arith) in
     let large : ltb len 4 ≡ false = le-ltb len 4 least in
@@ -20,7 +20,7 @@ frame_with bytes len is least most =
 
 -- what follows a value is left, once its padding is dropped
 pub frame_behind : (first second len : ℕ) (value behind rest : List ℕ) → len ≡ 4 + length value → len < 2 ^ 16 → drop (padding_of len) behind ≡ rest
-    → frame_at (first ∷ second ∷ to_be_bytes w16 len ++ value ++ behind) ≡ Some (record { value = value; rest = rest })
+    → leading_frame (first ∷ second ∷ to_be_bytes w16 len ++ value ++ behind) ≡ Some (record { value = value; rest = rest })
 frame_behind first second len value behind rest is fits left =
     let front : List ℕ = first ∷ second ∷ to_be_bytes w16 len ++ value in
     let value_is : take (len - 4) (value ++ behind) ≡ value = take_at value behind (len - 4) (omega arith) in

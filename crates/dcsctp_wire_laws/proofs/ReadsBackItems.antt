@@ -6,7 +6,7 @@ use Rattle.std.proofs.Math.Seq.{drop-nil, take-append-add}
 use Rattle.std.proofs.lemmas.List.{append-nil, take_at, drop_at, length-replicate}
 use Rattle.std.proofs.lemmas.Nat.{from_be_bytes-to_be_bytes_2}
 use Rattle.dcsctp_wire.specs.Content.{ParameterContent}
-use Rattle.dcsctp_wire.specs.Format.{padding_of, BeginsWith, AreItems, IsReadBy}
+use Rattle.dcsctp_wire.specs.Format.{padding_of, BeginsWith, AreItems, IsReadAsItem}
 use Rattle.dcsctp_wire.specs.Spelling.{zeros, parameter_type, parameter_value, parameter_len, parameter_bytes, parameters_len}
 use Rattle.dcsctp_wire.proofs.Lengths.{and_one_more, length-parameter_bytes}
 use Rattle.dcsctp_wire_laws.proofs.ReadsBackFrames.{frame_behind}
@@ -28,7 +28,7 @@ padding_behind parameter more = append_assoc (unpadded parameter) (zeros (paddin
 
 module _ {Item : Type 0} (read : ℕ → List ℕ → Option Item) (spelled : Item → ParameterContent) where
   begins : (item : Item) → IsReadBack read spelled item → parameter_len (spelled item) < 2 ^ 16 → (behind rest : List ℕ) → drop (padding_of (parameter_len (spelled item))) behind ≡ rest
-      → BeginsWith (IsReadBy read) item rest (unpadded (spelled item) ++ behind)
+      → BeginsWith (IsReadAsItem read) item rest (unpadded (spelled item) ++ behind)
   begins item fits short behind rest left =
       let parameter : ParameterContent = spelled item in
       record {
@@ -37,10 +37,10 @@ module _ {Item : Type 0} (read : ℕ → List ℕ → Option Item) (spelled : It
         read = ap (λ (n : ℕ). read n (parameter_value parameter)) (from_be_bytes-to_be_bytes_2 (parameter_type parameter) fits.type_fits) ∙ fits.reads short;
       }
 
-  begins_padded : (item : Item) → IsReadBack read spelled item → parameter_len (spelled item) < 2 ^ 16 → (rest : List ℕ) → BeginsWith (IsReadBy read) item rest (parameter_bytes (spelled item) ++ rest)
+  begins_padded : (item : Item) → IsReadBack read spelled item → parameter_len (spelled item) < 2 ^ 16 → (rest : List ℕ) → BeginsWith (IsReadAsItem read) item rest (parameter_bytes (spelled item) ++ rest)
   begins_padded item fits short rest =
       let padding : ℕ = padding_of (parameter_len (spelled item)) in
-      subst (BeginsWith (IsReadBy read) item rest) (sym (padding_behind (spelled item) rest))
+      subst (BeginsWith (IsReadAsItem read) item rest) (sym (padding_behind (spelled item) rest))
       (begins item fits short (zeros padding ++ rest) rest (drop_at (zeros padding) rest padding (length-replicate padding 0)))
 
 -- ---- the length of parameters after one another
@@ -78,15 +78,15 @@ first_whole parameter other others =
 
 module _ {Item : Type 0} (read : ℕ → List ℕ → Option Item) (spelled : Item → ParameterContent) where
   pub items_read_back : (items : List Item) → AllByRecursion (IsReadBack read spelled) items → parameters_len (map spelled items) < 2 ^ 16
-      → AreItems (IsReadBy read) items (take (parameters_len (map spelled items)) (flat_map parameter_bytes (map spelled items)))
+      → AreItems (IsReadAsItem read) items (take (parameters_len (map spelled items)) (flat_map parameter_bytes (map spelled items)))
   unfolding parameters_len
   items_read_back [] fits short = refl
   items_read_back (item ∷ []) fits short =
       let parameter : ParameterContent = spelled item in
-      ([], subst (BeginsWith (IsReadBy read) item []) (sym (last_alone parameter)) (begins read spelled item fits.0 (omega arith) [] [] (drop-nil (padding_of (parameter_len parameter)))), refl)
+      ([], subst (BeginsWith (IsReadAsItem read) item []) (sym (last_alone parameter)) (begins read spelled item fits.0 (omega arith) [] [] (drop-nil (padding_of (parameter_len parameter)))), refl)
   items_read_back (item ∷ other ∷ others) fits short =
       let parameter : ParameterContent = spelled item in
       let behind : List ParameterContent = map spelled others in
       let len : parameters_len (parameter ∷ spelled other ∷ behind) ≡ length (parameter_bytes parameter) + parameters_len (spelled other ∷ behind) = len_of_more parameter (spelled other) behind in
       let rest : List ℕ = take (parameters_len (spelled other ∷ behind)) (flat_map parameter_bytes (spelled other ∷ behind)) in
-      (rest, subst (BeginsWith (IsReadBy read) item rest) (sym (first_whole parameter (spelled other) behind)) (begins_padded read spelled item fits.0 (omega (arith, length-parameter_bytes parameter)) rest), items_read_back (other ∷ others) fits.1 (omega arith))
+      (rest, subst (BeginsWith (IsReadAsItem read) item rest) (sym (first_whole parameter (spelled other) behind)) (begins_padded read spelled item fits.0 (omega (arith, length-parameter_bytes parameter)) rest), items_read_back (other ∷ others) fits.1 (omega arith))

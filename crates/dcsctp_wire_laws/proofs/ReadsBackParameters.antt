@@ -8,7 +8,7 @@ use Rattle.dcsctp_wire.specs.declared.reconfiguration.ReconfigurationResponseRes
 use Rattle.dcsctp_wire.specs.declared.reconfiguration.ReconfigurationResponseResult.TheVariants.{SuccessNothingToDo, SuccessPerformed, Denied, ErrorWrongSSN, ErrorRequestAlreadyInProgress, ErrorBadSequenceNumber, InProgress}
 use Rattle.dcsctp_wire.specs.declared.reconfiguration.NextTsns.{NextTsns}
 use Rattle.dcsctp_wire.specs.Content.{ParameterContent, heartbeat_info, state_cookie, outgoing_ssn_reset_request, incoming_ssn_reset_request, reconfiguration_response, supported_extensions, zero_checksum_acceptable, forward_tsn_supported, unknown_parameter}
-use Rattle.dcsctp_wire.specs.Fields.{u32_at, outgoing_request_in, incoming_request_in, result_of, response_with, next_tsns_in, response_in, method_in, parameter_of}
+use Rattle.dcsctp_wire.specs.Fields.{u32_at, outgoing_request_of_value, incoming_request_of_value, result_of, response_with, next_tsns_of_value, response_of_value, method_of_value, parameter_of}
 use Rattle.dcsctp_wire.specs.Format.{AreParameters}
 use Rattle.dcsctp_wire.specs.Spelling.{result_code, parameter_type, parameter_value, parameter_bytes, parameters_len}
 use Rattle.dcsctp_wire.specs.ReadsBack.{AreWholeEntries, FitsOutgoingRequest, FitsNextTsns, FitsParameter}
@@ -18,8 +18,8 @@ use Rattle.dcsctp_wire_laws.proofs.ReadsBackItems.{IsReadBack, items_read_back}
 -- ---- requests to reset streams, and answers
 
 outgoing_reads : (number answered last_tsn : ℕ) (streams : List ℕ) → FitsOutgoingRequest number answered last_tsn streams
-    → outgoing_request_in (parameter_value (outgoing_ssn_reset_request number answered last_tsn streams)) ≡ Some (outgoing_ssn_reset_request number answered last_tsn streams)
-unfolding outgoing_request_in
+    → outgoing_request_of_value (parameter_value (outgoing_ssn_reset_request number answered last_tsn streams)) ≡ Some (outgoing_ssn_reset_request number answered last_tsn streams)
+unfolding outgoing_request_of_value
 outgoing_reads number answered last_tsn streams fits =
     let one : u32_at 0 (to_be_bytes w32 number) ≡ number = from_be_bytes-to_be_bytes_4 number fits.number_fits in
     let two : u32_at 0 (to_be_bytes w32 answered) ≡ answered = from_be_bytes-to_be_bytes_4 answered fits.answered_fits in
@@ -28,8 +28,8 @@ outgoing_reads number answered last_tsn streams fits =
     (λ i. Some (outgoing_ssn_reset_request (one i) (two i) (three i) streams))
 
 incoming_reads : (number : ℕ) (streams : List ℕ) → number < 2 ^ 32 → AreWholeEntries 2 streams
-    → incoming_request_in (parameter_value (incoming_ssn_reset_request number streams)) ≡ Some (incoming_ssn_reset_request number streams)
-unfolding incoming_request_in
+    → incoming_request_of_value (parameter_value (incoming_ssn_reset_request number streams)) ≡ Some (incoming_ssn_reset_request number streams)
+unfolding incoming_request_of_value
 incoming_reads number streams fits are =
     rw (entries_behind 4 2 (to_be_bytes w32 number) streams refl are) (ap (λ (n : ℕ). Some (incoming_ssn_reset_request n streams)) (from_be_bytes-to_be_bytes_4 number fits))
 
@@ -44,8 +44,8 @@ result_reads ErrorBadSequenceNumber = refl
 result_reads InProgress = refl
 
 response_reads : (number : ℕ) (result : ReconfigurationResponseResult) (next : Option NextTsns) → number < 2 ^ 32 → FitsNextTsns next
-    → response_in (parameter_value (reconfiguration_response number result next)) ≡ Some (reconfiguration_response number result next)
-unfolding response_in
+    → response_of_value (parameter_value (reconfiguration_response number result next)) ≡ Some (reconfiguration_response number result next)
+unfolding response_of_value
 response_reads number result None fits next_fits =
     let value : List ℕ = parameter_value (reconfiguration_response number result None) in
     ap (λ (r : Option ReconfigurationResponseResult). Some (response_with value None r)) (result_reads result)
@@ -55,13 +55,13 @@ response_reads number result (Some next) fits next_fits =
     let one : u32_at 0 (to_be_bytes w32 number) ≡ number = from_be_bytes-to_be_bytes_4 number fits in
     let sender : u32_at 0 (to_be_bytes w32 next.sender) ≡ next.sender = from_be_bytes-to_be_bytes_4 next.sender next_fits.0 in
     let receiver : u32_at 0 (to_be_bytes w32 next.receiver) ≡ next.receiver = from_be_bytes-to_be_bytes_4 next.receiver next_fits.1 in
-    ap (λ (r : Option ReconfigurationResponseResult). Some (response_with value (Some (next_tsns_in value)) r)) (result_reads result)
+    ap (λ (r : Option ReconfigurationResponseResult). Some (response_with value (Some (next_tsns_of_value value)) r)) (result_reads result)
     ∙ (λ i. Some (reconfiguration_response (one i) result (Some (record { sender = sender i; receiver = receiver i }))))
 
 -- ---- parameters
 
 reads : (parameter : ParameterContent) → FitsParameter parameter → parameter_of (parameter_type parameter) (parameter_value parameter) ≡ Some parameter
-unfolding parameter_of method_in
+unfolding parameter_of method_of_value
 reads (heartbeat_info info) fits = refl
 reads (state_cookie cookie) fits = refl
 reads (outgoing_ssn_reset_request number answered last_tsn streams) fits = outgoing_reads number answered last_tsn streams fits

@@ -3,8 +3,8 @@
 use Rattle.std.proofs.Common.{◌≡◌, None, Some, [], ◌∷◌, refl}
 use Rattle.dcsctp_wire.specs.declared.reconfiguration.ReconfigurationResponseResult.TheVariants.{SuccessPerformed, InProgress}
 use Rattle.dcsctp_wire.specs.Content.{heartbeat_info, state_cookie, outgoing_ssn_reset_request, incoming_ssn_reset_request, reconfiguration_response, supported_extensions, zero_checksum_acceptable, forward_tsn_supported, unknown_parameter}
-use Rattle.dcsctp_wire.specs.Fields.{u16_at, u32_at, request_stream_at, outgoing_request_in, incoming_request_in, result_of, response_in, method_in, parameter_of}
-use Rattle.dcsctp_wire.specs.Format.{frame_at}
+use Rattle.dcsctp_wire.specs.Fields.{u16_at, u32_at, numbered_request_stream, outgoing_request_of_value, incoming_request_of_value, result_of, response_of_value, method_of_value, parameter_of}
+use Rattle.dcsctp_wire.specs.Format.{leading_frame}
 use Rattle.dcsctp_wire.specs.Spelling.{parameter_bytes}
 
 -- ---- numbers (RFC 9260, section 3: the highest byte comes first)
@@ -18,52 +18,52 @@ four_bytes_are_read = refl
 -- ---- frames (RFC 9260, sections 3.2 and 3.2.1)
 
 -- A length of 6 leaves two bytes of padding, which are skipped, whatever they hold.
-padding_is_skipped : frame_at (0x80 ∷ 8 ∷ 0 ∷ 6 ∷ 0x82 ∷ 0xc0 ∷ 1 ∷ 2 ∷ 0xc0 ∷ 0 ∷ 0 ∷ 4 ∷ [])
+padding_is_skipped : leading_frame (0x80 ∷ 8 ∷ 0 ∷ 6 ∷ 0x82 ∷ 0xc0 ∷ 1 ∷ 2 ∷ 0xc0 ∷ 0 ∷ 0 ∷ 4 ∷ [])
     ≡ Some (record { value = 0x82 ∷ 0xc0 ∷ []; rest = 0xc0 ∷ 0 ∷ 0 ∷ 4 ∷ [] })
-unfolding frame_at
+unfolding leading_frame
 padding_is_skipped = refl
 
-three_bytes_of_padding : frame_at (9 ∷ 0 ∷ 0 ∷ 5 ∷ 0xaa ∷ 0 ∷ 0 ∷ 0 ∷ 7 ∷ [])
+three_bytes_of_padding : leading_frame (9 ∷ 0 ∷ 0 ∷ 5 ∷ 0xaa ∷ 0 ∷ 0 ∷ 0 ∷ 7 ∷ [])
     ≡ Some (record { value = 0xaa ∷ []; rest = 7 ∷ [] })
-unfolding frame_at
+unfolding leading_frame
 three_bytes_of_padding = refl
 
-one_byte_of_padding : frame_at (9 ∷ 0 ∷ 0 ∷ 7 ∷ 0xaa ∷ 0xbb ∷ 0xcc ∷ 0 ∷ 7 ∷ [])
+one_byte_of_padding : leading_frame (9 ∷ 0 ∷ 0 ∷ 7 ∷ 0xaa ∷ 0xbb ∷ 0xcc ∷ 0 ∷ 7 ∷ [])
     ≡ Some (record { value = 0xaa ∷ 0xbb ∷ 0xcc ∷ []; rest = 7 ∷ [] })
-unfolding frame_at
+unfolding leading_frame
 one_byte_of_padding = refl
 
-no_padding : frame_at (9 ∷ 0 ∷ 0 ∷ 8 ∷ 1 ∷ 2 ∷ 3 ∷ 4 ∷ 7 ∷ []) ≡ Some (record { value = 1 ∷ 2 ∷ 3 ∷ 4 ∷ []; rest = 7 ∷ [] })
-unfolding frame_at
+no_padding : leading_frame (9 ∷ 0 ∷ 0 ∷ 8 ∷ 1 ∷ 2 ∷ 3 ∷ 4 ∷ 7 ∷ []) ≡ Some (record { value = 1 ∷ 2 ∷ 3 ∷ 4 ∷ []; rest = 7 ∷ [] })
+unfolding leading_frame
 no_padding = refl
 
 -- The last padding may be missing, or be cut off.
-missing_padding_is_taken : frame_at (0x80 ∷ 8 ∷ 0 ∷ 6 ∷ 0x82 ∷ 0xc0 ∷ []) ≡ Some (record { value = 0x82 ∷ 0xc0 ∷ []; rest = [] })
-unfolding frame_at
+missing_padding_is_taken : leading_frame (0x80 ∷ 8 ∷ 0 ∷ 6 ∷ 0x82 ∷ 0xc0 ∷ []) ≡ Some (record { value = 0x82 ∷ 0xc0 ∷ []; rest = [] })
+unfolding leading_frame
 missing_padding_is_taken = refl
 
-cut_padding_is_taken : frame_at (0x80 ∷ 8 ∷ 0 ∷ 6 ∷ 0x82 ∷ 0xc0 ∷ 0 ∷ []) ≡ Some (record { value = 0x82 ∷ 0xc0 ∷ []; rest = [] })
-unfolding frame_at
+cut_padding_is_taken : leading_frame (0x80 ∷ 8 ∷ 0 ∷ 6 ∷ 0x82 ∷ 0xc0 ∷ 0 ∷ []) ≡ Some (record { value = 0x82 ∷ 0xc0 ∷ []; rest = [] })
+unfolding leading_frame
 cut_padding_is_taken = refl
 
-header_alone_is_taken : frame_at (11 ∷ 0 ∷ 0 ∷ 4 ∷ []) ≡ Some (record { value = []; rest = [] })
-unfolding frame_at
+header_alone_is_taken : leading_frame (11 ∷ 0 ∷ 0 ∷ 4 ∷ []) ≡ Some (record { value = []; rest = [] })
+unfolding leading_frame
 header_alone_is_taken = refl
 
-length_of_3_is_refused : frame_at (11 ∷ 0 ∷ 0 ∷ 3 ∷ 0 ∷ 0 ∷ 0 ∷ 0 ∷ []) ≡ None
-unfolding frame_at
+length_of_3_is_refused : leading_frame (11 ∷ 0 ∷ 0 ∷ 3 ∷ 0 ∷ 0 ∷ 0 ∷ 0 ∷ []) ≡ None
+unfolding leading_frame
 length_of_3_is_refused = refl
 
-length_of_0_is_refused : frame_at (11 ∷ 0 ∷ 0 ∷ 0 ∷ []) ≡ None
-unfolding frame_at
+length_of_0_is_refused : leading_frame (11 ∷ 0 ∷ 0 ∷ 0 ∷ []) ≡ None
+unfolding leading_frame
 length_of_0_is_refused = refl
 
-length_past_the_end_is_refused : frame_at (9 ∷ 0 ∷ 0 ∷ 6 ∷ 0xaa ∷ []) ≡ None
-unfolding frame_at
+length_past_the_end_is_refused : leading_frame (9 ∷ 0 ∷ 0 ∷ 6 ∷ 0xaa ∷ []) ≡ None
+unfolding leading_frame
 length_past_the_end_is_refused = refl
 
-cut_header_is_refused : frame_at (11 ∷ 0 ∷ 0 ∷ []) ≡ None
-unfolding frame_at
+cut_header_is_refused : leading_frame (11 ∷ 0 ∷ 0 ∷ []) ≡ None
+unfolding leading_frame
 cut_header_is_refused = refl
 
 -- ---- parameters
@@ -77,15 +77,15 @@ unfolding parameter_of
 extensions_are_read = refl
 
 method_is_read : parameter_of 0x8001 (0 ∷ 0 ∷ 0 ∷ 1 ∷ []) ≡ Some (zero_checksum_acceptable 1)
-unfolding parameter_of method_in
+unfolding parameter_of method_of_value
 method_is_read = refl
 
 method_of_3_bytes_is_refused : parameter_of 0x8001 (0 ∷ 0 ∷ 1 ∷ []) ≡ None
-unfolding parameter_of method_in
+unfolding parameter_of method_of_value
 method_of_3_bytes_is_refused = refl
 
 first_4_bytes_are_the_method : parameter_of 0x8001 (0 ∷ 0 ∷ 0 ∷ 1 ∷ 9 ∷ []) ≡ Some (zero_checksum_acceptable 1)
-unfolding parameter_of method_in
+unfolding parameter_of method_of_value
 first_4_bytes_are_the_method = refl
 
 forward_tsn_is_read : parameter_of 0xc000 [] ≡ Some forward_tsn_supported
@@ -131,10 +131,10 @@ info_is_spelled = refl
 -- request 3, in answer to request 2, with last TSN 1 and streams 4 and 5
 outgoing_is_read : parameter_of 13 (0 ∷ 0 ∷ 0 ∷ 3 ∷ 0 ∷ 0 ∷ 0 ∷ 2 ∷ 0 ∷ 0 ∷ 0 ∷ 1 ∷ 0 ∷ 4 ∷ 0 ∷ 5 ∷ [])
     ≡ Some (outgoing_ssn_reset_request 3 2 1 (0 ∷ 4 ∷ 0 ∷ 5 ∷ []))
-unfolding parameter_of outgoing_request_in
+unfolding parameter_of outgoing_request_of_value
 outgoing_is_read = refl
 
-second_stream_is_5 : request_stream_at 1 (0 ∷ 4 ∷ 0 ∷ 5 ∷ []) ≡ 5
+second_stream_is_5 : numbered_request_stream 1 (0 ∷ 4 ∷ 0 ∷ 5 ∷ []) ≡ 5
 second_stream_is_5 = refl
 
 outgoing_is_spelled : parameter_bytes (outgoing_ssn_reset_request 3 2 1 (0 ∷ 4 ∷ []))
@@ -143,11 +143,11 @@ unfolding parameter_bytes
 outgoing_is_spelled = refl
 
 half_a_stream_is_refused : parameter_of 13 (0 ∷ 0 ∷ 0 ∷ 3 ∷ 0 ∷ 0 ∷ 0 ∷ 2 ∷ 0 ∷ 0 ∷ 0 ∷ 1 ∷ 0 ∷ []) ≡ None
-unfolding parameter_of outgoing_request_in
+unfolding parameter_of outgoing_request_of_value
 half_a_stream_is_refused = refl
 
 incoming_is_read : parameter_of 14 (0 ∷ 0 ∷ 0 ∷ 3 ∷ 0 ∷ 4 ∷ []) ≡ Some (incoming_ssn_reset_request 3 (0 ∷ 4 ∷ []))
-unfolding parameter_of incoming_request_in
+unfolding parameter_of incoming_request_of_value
 incoming_is_read = refl
 
 incoming_is_spelled : parameter_bytes (incoming_ssn_reset_request 3 (0 ∷ 4 ∷ [])) ≡ 0 ∷ 14 ∷ 0 ∷ 10 ∷ 0 ∷ 0 ∷ 0 ∷ 3 ∷ 0 ∷ 4 ∷ 0 ∷ 0 ∷ []
@@ -155,25 +155,25 @@ unfolding parameter_bytes
 incoming_is_spelled = refl
 
 response_is_read : parameter_of 16 (0 ∷ 0 ∷ 0 ∷ 3 ∷ 0 ∷ 0 ∷ 0 ∷ 1 ∷ []) ≡ Some (reconfiguration_response 3 SuccessPerformed None)
-unfolding parameter_of response_in result_of
+unfolding parameter_of response_of_value result_of
 response_is_read = refl
 
 next_tsns_are_read : parameter_of 16 (0 ∷ 0 ∷ 0 ∷ 3 ∷ 0 ∷ 0 ∷ 0 ∷ 6 ∷ 0 ∷ 0 ∷ 0 ∷ 7 ∷ 0 ∷ 0 ∷ 0 ∷ 8 ∷ [])
     ≡ Some (reconfiguration_response 3 InProgress (Some (record { sender = 7; receiver = 8 })))
-unfolding parameter_of response_in result_of
+unfolding parameter_of response_of_value result_of
 next_tsns_are_read = refl
 
 one_next_tsn_is_refused : parameter_of 16 (0 ∷ 0 ∷ 0 ∷ 3 ∷ 0 ∷ 0 ∷ 0 ∷ 7 ∷ 0 ∷ 0 ∷ 0 ∷ 7 ∷ []) ≡ None
-unfolding parameter_of response_in
+unfolding parameter_of response_of_value
 one_next_tsn_is_refused = refl
 
 bytes_of_no_tsn_are_not_looked_at : parameter_of 16 (0 ∷ 0 ∷ 0 ∷ 3 ∷ 0 ∷ 0 ∷ 0 ∷ 1 ∷ 9 ∷ 9 ∷ 9 ∷ []) ≡ Some (reconfiguration_response 3 SuccessPerformed None)
-unfolding parameter_of response_in result_of
+unfolding parameter_of response_of_value result_of
 bytes_of_no_tsn_are_not_looked_at = refl
 
 -- A result above 6 has no name.
 result_of_7_is_kept : parameter_of 16 (0 ∷ 0 ∷ 0 ∷ 3 ∷ 0 ∷ 0 ∷ 0 ∷ 7 ∷ []) ≡ Some (unknown_parameter 16 (0 ∷ 0 ∷ 0 ∷ 3 ∷ 0 ∷ 0 ∷ 0 ∷ 7 ∷ []))
-unfolding parameter_of response_in result_of
+unfolding parameter_of response_of_value result_of
 result_of_7_is_kept = refl
 
 response_is_spelled : parameter_bytes (reconfiguration_response 3 InProgress (Some (record { sender = 7; receiver = 8 })))

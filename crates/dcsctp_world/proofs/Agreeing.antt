@@ -16,12 +16,12 @@ use Rattle.dcsctp_theorem_sockets.specs.Deadlines.{RunsT1}
 use Rattle.dcsctp_theorem_sockets.specs.Handshake.{ConnectThroughout, handshake_acts, connections_of_events, IsConnected, AreConnected, FittingSocketsConnect}
 use Rattle.dcsctp_theorem_sockets.specs.Laws.{SocketLaws}
 use Rattle.dcsctp_theorem_sockets.specs.OneSocket.{IsWithinLimit}
-use Rattle.dcsctp_theorem_sockets.specs.Telling.{HoldsNoted}
+use Rattle.dcsctp_theorem_sockets.specs.Telling.{HasRecordedAssociation}
 use Rattle.dcsctp_theorem_cookies.specs.Laws.{CookieLaws}
 use Rattle.dcsctp_theorem_progress.specs.Laws.{ProgressLaws}
 use Rattle.dcsctp_delivery_shown.specs.Delivery.{UsersReadWhatWasSent}
 use Rattle.dcsctp_core.specs.types.Schedule.{ActContent}
-use Rattle.dcsctp_world.specs.Shown.{SideShown, WorldView, options_of}
+use Rattle.dcsctp_world.specs.Shown.{ShownSide, WorldView, options_of}
 use Rattle.dcsctp_world.specs.Run.{SideRuns, IsRun, GoesWell}
 use Rattle.dcsctp_world.specs.Handshake.{ShowsConnected, BothConnected, ShownHandshakeConnects}
 use Rattle.dcsctp_world.specs.Promises.{KeepsPromises, Promises}
@@ -49,7 +49,7 @@ connections_shown f (lifecycle_message_expired id ∷ events) = connections_show
 connections_shown f (lifecycle_message_delivered id ∷ events) = connections_shown f events
 connections_shown f (lifecycle_end id ∷ events) = connections_shown f events
 
-shows_connected : {R : Type 0} (mine theirs : Options) (turns : List Transition) (side : SideShown R) (my peer : Pair) → SideRuns mine turns side → IsConnected mine theirs turns my peer
+shows_connected : {R : Type 0} (mine theirs : Options) (turns : List Transition) (side : ShownSide R) (my peer : Pair) → SideRuns mine turns side → IsConnected mine theirs turns my peer
     → ShowsConnected mine theirs side my peer
 shows_connected mine theirs turns side my peer h is =
     record {
@@ -85,7 +85,7 @@ keeps_promises law options world run side =
     record {
       numbers = law.numbers options run.steps run.usable run.run side;
       told = law.told options run.steps run.usable run.run side;
-      held = subst (HoldsNoted (of_side side (turns_after run.steps))) (sym (run.sides side).endpoint) (law.held options run.steps run.usable run.run side);
+      held = subst (HasRecordedAssociation (of_side side (turns_after run.steps))) (sym (run.sides side).endpoint) (law.held options run.steps run.usable run.run side);
       anew = law.anew options run.steps run.usable run.run side;
       answers = law.answers options run.steps run.run side;
       ends = law.ends options run.steps run.run side;

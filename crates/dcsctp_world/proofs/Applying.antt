@@ -5,7 +5,7 @@ use Rattle.rand_core.specs.Stream.{Stream}
 use Rattle.dcsctp_core.specs.types.declared.schedule.Side.{Side}
 use Rattle.dcsctp_core.specs.types.declared.schedule.Side.TheVariants as sides
 use Rattle.dcsctp_core.specs.types.declared.schedule.Step.{Step}
-use Rattle.dcsctp_core.specs.spec.endpoint.Event.{Event, packets_in}
+use Rattle.dcsctp_core.specs.spec.endpoint.Event.{Event, packets_of_events}
 use Rattle.dcsctp_core.specs.types.Settings.{ports_of}
 use Rattle.dcsctp_core.specs.spec.endpoint.Endpoint.{association_of}
 use Rattle.dcsctp_core.specs.spec.endpoint.CallTurns.{Transition, events_of, words_of, pairs_of}
@@ -17,7 +17,7 @@ use Rattle.dcsctp_theorem_sockets.specs.Laws.{SocketLaws}
 use Rattle.dcsctp_theorem_sockets.specs.Restores.{RestoredSocketsBeginNothing}
 use Rattle.dcsctp_delivery_shown.specs.Delivery.{UsersReadWhatWasSent}
 use Rattle.dcsctp_delivery_sockets.specs.Delivery.{FitsAct}
-use Rattle.dcsctp_delivery_sockets.specs.UserMessages.{messages_sent_in, read_of}
+use Rattle.dcsctp_delivery_sockets.specs.UserMessages.{messages_of_turns, read_of}
 use Rattle.dcsctp_core.specs.api.declared.errors.SocketFault.{SocketFault}
 use Rattle.dcsctp_core.specs.api.declared.errors.SocketFault.TheVariants.{OutOfMemory, Failed}
 use Rattle.dcsctp_core.specs.api.Calls.{user_event}
@@ -25,14 +25,14 @@ use Rattle.dcsctp_core.specs.types.declared.schedule.Act.{Act}
 use Rattle.dcsctp_core.specs.types.Schedule.{StepContent, ActContent, step_content, step_act}
 use Rattle.dcsctp_world.specs.declared.act.Reply.{Reply}
 use Rattle.dcsctp_world.specs.declared.watched_socket.WatchedSocket.{WatchedSocket}
-use Rattle.dcsctp_world.specs.Shown.{SideShown, WorldView, options_of}
+use Rattle.dcsctp_world.specs.Shown.{ShownSide, WorldView, options_of}
 use Rattle.dcsctp_world.specs.Growth.{Grows, SideExtends, with_association}
 use Rattle.dcsctp_world.specs.Drawing.{AreWhole}
 use Rattle.dcsctp_world.specs.Promises.{Promises}
 use Rattle.dcsctp_world.specs.Recording.{Recording, recorded_stream}
 use Rattle.dcsctp_world.specs.Run.{IsRun, GoesWell}
 use Rattle.dcsctp_world.specs.Continuing.{Continues}
-use Rattle.dcsctp_world.specs.Acts.{ActMoves, AppliedAll, BothExtend, with_associations, ActApplied, Applied, Applies, WorksAct, WorldExtends, ActRanOutOfMemory, Ran, RunsSteps}
+use Rattle.dcsctp_world.specs.Acts.{ActMoves, AppliesSteps, BothExtend, with_associations, AppliesAct, AppliesWithPromises, Applies, AppliesOrFails, WorldExtends, ActRanOutOfMemory, Ran, RunsSteps}
 use Rattle.dcsctp_world.specs.Parts.{both, world_of}
 use Rattle.dcsctp_world.proofs.Agreeing.{world_keeps}
 use Rattle.dcsctp_world.proofs.ComingBack.{both_sound, restores_by}
@@ -43,7 +43,7 @@ use Rattle.dcsctp_world.proofs.Stopping.{shows_nothing}
 
 -- ---- each list begins with what it held
 
-side_extends_itself : {R : Type 0} (side : SideShown R) → SideExtends side side
+side_extends_itself : {R : Type 0} (side : ShownSide R) → SideExtends side side
 side_extends_itself side =
     record {
       events = extends_itself side.events;
@@ -55,7 +55,7 @@ side_extends_itself side =
       associations = extends_itself side.associations;
     }
 
-side_extends_further : {R : Type 0} (a b c : SideShown R) → SideExtends a b → SideExtends b c → SideExtends a c
+side_extends_further : {R : Type 0} (a b c : ShownSide R) → SideExtends a b → SideExtends b c → SideExtends a c
 side_extends_further a b c first second =
     record {
       events = extends_further a.events b.events c.events first.events second.events;
@@ -67,33 +67,33 @@ side_extends_further a b c first second =
       associations = extends_further a.associations b.associations c.associations first.associations second.associations;
     }
 
-same_side_extends : {R : Type 0} (old new : SideShown R) → new ≡ old → SideExtends old new
-same_side_extends {R = R} old new same = subst (λ (s : SideShown R). SideExtends old s) (sym same) (side_extends_itself old)
+same_side_extends : {R : Type 0} (old new : ShownSide R) → new ≡ old → SideExtends old new
+same_side_extends {R = R} old new same = subst (λ (s : ShownSide R). SideExtends old s) (sym same) (side_extends_itself old)
 
-grows_extends : {R : Type 0} {stream : R → Stream} {answer : Reply} (Turns : List Transition → Type 0) (old new : SideShown R) → Grows stream Turns answer old new → SideExtends old new
+grows_extends : {R : Type 0} {stream : R → Stream} {answer : Reply} (Turns : List Transition → Type 0) (old new : ShownSide R) → Grows stream Turns answer old new → SideExtends old new
 grows_extends Turns old new grows =
     let told : List (Event (List _)) = map (user_event (ports_of old.socket.view.endpoint.options)) (events_of grows.turns) in
     record {
       events = extends_by told grows.events;
-      packets = extends_by (packets_in told) grows.packets;
+      packets = extends_by (packets_of_events told) grows.packets;
       words = extends_by (words_of grows.turns) grows.words;
       pairs = extends_by (pairs_of grows.turns) grows.pairs;
-      sent = extends_by (messages_sent_in old.socket.view.endpoint grows.turns) grows.sent;
+      sent = extends_by (messages_of_turns old.socket.view.endpoint grows.turns) grows.sent;
       read = extends_by (read_of old.socket.view.endpoint grows.turns) grows.read;
       associations = extends_by [] (grows.associations ∙ sym (append-nil old.associations));
     }
 
-moves_extend_at : {R : Type 0} {stream : R → Stream} {answer : Reply} (Turns : List Transition → Type 0) (mover : Side) (old moved : Both (SideShown R))
+moves_extend_at : {R : Type 0} {stream : R → Stream} {answer : Reply} (Turns : List Transition → Type 0) (mover : Side) (old moved : Both (ShownSide R))
     → Grows stream Turns answer (of_side mover old) (of_side mover moved) → of_other mover moved ≡ of_other mover old → BothExtend old moved
 moves_extend_at Turns sides.A old moved grows stays = record { a = grows_extends Turns old.a moved.a grows; b = same_side_extends old.b moved.b stays }
 moves_extend_at Turns sides.B old moved grows stays = record { a = same_side_extends old.a moved.a stays; b = grows_extends Turns old.b moved.b grows }
 
-moves_extend : {R : Type 0} (stream : R → Stream) (act : ActContent) (reply : Reply) (old moved : Both (SideShown R)) → ActMoves stream act reply old moved → BothExtend old moved
+moves_extend : {R : Type 0} (stream : R → Stream) (act : ActContent) (reply : Reply) (old moved : Both (ShownSide R)) → ActMoves stream act reply old moved → BothExtend old moved
 moves_extend stream act reply old moved moves =
     moves_extend_at (TurnsOfAct (of_side (side_of_act act) old).socket.view.endpoint (of_other (side_of_act act) old).packets act) (side_of_act act) old moved moves.grows moves.other_stays
 
 -- an act moved its side, and then both grew further
-moved_extend : {R : Type 0} (stream : R → Stream) (act : ActContent) (reply : Reply) (old moved new : Both (SideShown R)) → ActMoves stream act reply old moved
+moved_extend : {R : Type 0} (stream : R → Stream) (act : ActContent) (reply : Reply) (old moved new : Both (ShownSide R)) → ActMoves stream act reply old moved
     → SideExtends moved.a new.a → SideExtends moved.b new.b → BothExtend old new
 moved_extend stream act reply old moved new moves a b =
     let first : BothExtend old moved = moves_extend stream act reply old moved moves in
@@ -110,9 +110,9 @@ world_extends_further a b c first second =
     }
 
 -- the association is recorded
-noted_side_extends : {R : Type 0} (side new : SideShown R) → new ≡ with_association side → SideExtends side new
+noted_side_extends : {R : Type 0} (side new : ShownSide R) → new ≡ with_association side → SideExtends side new
 noted_side_extends {R = R} side new is =
-    subst (λ (s : SideShown R). SideExtends side s) (sym is)
+    subst (λ (s : ShownSide R). SideExtends side s) (sym is)
     (record {
       events = extends_itself side.events;
       packets = extends_itself side.packets;
@@ -123,21 +123,21 @@ noted_side_extends {R = R} side new is =
       associations = extends_by (association_of side.socket.view.endpoint.core ∷ []) refl;
     })
 
-applied_extends : {R : Type 0} (stream : R → Stream) (act : ActContent) (reply : Reply) (old new : WorldView R) → ActApplied stream act reply old new → WorldExtends old new
+applied_extends : {R : Type 0} (stream : R → Stream) (act : ActContent) (reply : Reply) (old new : WorldView R) → AppliesAct stream act reply old new → WorldExtends old new
 applied_extends {R = R} stream act reply old new applied =
     record {
       sides = moved_extend stream act reply old.sides applied.moved new.sides applied.moves
-          (noted_side_extends applied.moved.a new.sides.a (ap (λ (both : Both (SideShown R)). both.a) applied.sides))
-          (noted_side_extends applied.moved.b new.sides.b (ap (λ (both : Both (SideShown R)). both.b) applied.sides));
+          (noted_side_extends applied.moved.a new.sides.a (ap (λ (both : Both (ShownSide R)). both.a) applied.sides))
+          (noted_side_extends applied.moved.b new.sides.b (ap (λ (both : Both (ShownSide R)). both.b) applied.sides));
       acts = extends_by (act ∷ []) applied.acts;
     }
 
 -- ---- an act
 
-pub both_noted : {R : Type 0} (moved new : Both (SideShown R)) → new.a ≡ (with_associations moved).a → new.b ≡ (with_associations moved).b → new ≡ with_associations moved
+pub both_noted : {R : Type 0} (moved new : Both (ShownSide R)) → new.a ≡ (with_associations moved).a → new.b ≡ (with_associations moved).b → new ≡ with_associations moved
 both_noted {R = R} moved new a b =
-    ap (λ (s : SideShown R). let both : Both (SideShown R) = record { a = s; b = new.b } in both) a
-    ∙ ap (λ (s : SideShown R). let both : Both (SideShown R) = record { a = (with_associations moved).a; b = s } in both) b
+    ap (λ (s : ShownSide R). let both : Both (ShownSide R) = record { a = s; b = new.b } in both) a
+    ∙ ap (λ (s : ShownSide R). let both : Both (ShownSide R) = record { a = (with_associations moved).a; b = s } in both) b
 
 -- the laws that hold of every run
 pub record KnownLaws : Type 0 where
@@ -149,7 +149,7 @@ pub record KnownLaws : Type 0 where
   pub restores : RestoredSocketsBeginNothing
 
 applied_next : {R : Type 0} (stream : R → Stream) → KnownLaws → (act : ActContent) (reply : Reply) (old new : WorldView (Recording R)) → FitsAct act → GoesWell old
-    → ActApplied (recorded_stream stream) act reply old new → AreWhole new.sides → Applied stream act reply old new
+    → AppliesAct (recorded_stream stream) act reply old new → AreWhole new.sides → AppliesWithPromises stream act reply old new
 applied_next stream laws act reply old new fits well applied whole =
     let run : IsRun (options_of old) new = is_run_next (recorded_stream stream) (options_of old) act reply old new fits well.is_run applied in
     record {
@@ -164,8 +164,8 @@ applied_next stream laws act reply old new fits well applied whole =
 -- the world's own flag doesn't matter where it is not set
 pub act_applied : {R : Type 0} (stream : R → Stream) → KnownLaws → (act : ActContent) (reply : Reply) (a b new_a new_b : WatchedSocket (Recording R)) (made new_made : List Act)
     (failed : Bool) → failed ≡ false → FitsAct act → (failed ≡ false → GoesWell (world_of a b made failed))
-    → ActApplied (recorded_stream stream) act reply (world_of a b made false) (world_of new_a new_b new_made false) → AreWhole (both new_a new_b)
-    → Applied stream act reply (world_of a b made failed) (world_of new_a new_b new_made failed)
+    → AppliesAct (recorded_stream stream) act reply (world_of a b made false) (world_of new_a new_b new_made false) → AreWhole (both new_a new_b)
+    → AppliesWithPromises stream act reply (world_of a b made failed) (world_of new_a new_b new_made failed)
 act_applied stream laws act reply a b new_a new_b made new_made true is fits invariant applied whole = absurd (cc)
 act_applied stream laws act reply a b new_a new_b made new_made false is fits invariant applied whole =
     applied_next stream laws act reply (world_of a b made false) (world_of new_a new_b new_made false) fits (invariant refl) applied whole
@@ -173,7 +173,7 @@ act_applied stream laws act reply a b new_a new_b made new_made false is fits in
 -- an act that failed: no socket of the world had failed before, so an allocation failed
 pub ran_out_in : {R : Type 0} (stream : R → Stream) (act : ActContent) (fault : SocketFault) (a b new_a new_b : WatchedSocket R) (made new_made : List Act) (failed : Bool)
     → failed ≡ false → (failed ≡ false → IsRun (options_of (world_of a b made failed)) (world_of a b made failed))
-    → WorksAct stream act (world_of a b made false) (Err fault) (world_of new_a new_b new_made false)
+    → AppliesOrFails stream act (world_of a b made false) (Err fault) (world_of new_a new_b new_made false)
     → ActRanOutOfMemory act (world_of a b made failed) (world_of new_a new_b new_made true)
 ran_out_in stream act OutOfMemory a b new_a new_b made new_made failed is invariant stops = record { runs = is; fails = refl; stops = stops.0; acts = stops.1 }
 ran_out_in stream act Failed a b new_a new_b made new_made failed is invariant had_failed =
@@ -185,7 +185,7 @@ ran_out_in stream act Failed a b new_a new_b made new_made failed is invariant h
 
 -- no step yet
 pub ran_none : {R : Type 0} (stream : R → Stream) (old : WorldView (Recording R)) → old.failed ≡ false → Promises old → Ran stream [] old old
-unfolding AppliedAll
+unfolding AppliesSteps
 ran_none stream old runs keeps =
     record {
       runs = runs;
@@ -200,11 +200,11 @@ ran_none stream old runs keeps =
     }
 
 -- one step more
-applied_after : {R : Type 0} (stream : R → Stream) (steps : List StepContent) (step : StepContent) (reply : Reply) (old now new : WorldView (Recording R)) → AppliedAll stream steps old now
-    → Applied stream (step_act step) reply now new → AppliedAll stream (steps ++ step ∷ []) old new
-unfolding AppliedAll
+applied_after : {R : Type 0} (stream : R → Stream) (steps : List StepContent) (step : StepContent) (reply : Reply) (old now new : WorldView (Recording R)) → AppliesSteps stream steps old now
+    → AppliesWithPromises stream (step_act step) reply now new → AppliesSteps stream (steps ++ step ∷ []) old new
+unfolding AppliesSteps
 applied_after {R = R} stream [] step reply old now new same applied =
-    record { reply = reply; between = new; applied = subst (λ (w : WorldView (Recording R)). Applied stream (step_act step) reply w new) same applied; others = refl }
+    record { reply = reply; between = new; applied = subst (λ (w : WorldView (Recording R)). AppliesWithPromises stream (step_act step) reply w new) same applied; others = refl }
 applied_after stream (first ∷ steps) step reply old now new all applied =
     record {
       reply = all.reply;
@@ -214,7 +214,7 @@ applied_after stream (first ∷ steps) step reply old now new all applied =
     }
 
 ran_more : {R : Type 0} (stream : R → Stream) (steps : List StepContent) (step : StepContent) (reply : Reply) (old now new : WorldView (Recording R)) → Ran stream steps old now
-    → Applied stream (step_act step) reply now new → Ran stream (steps ++ step ∷ []) old new
+    → AppliesWithPromises stream (step_act step) reply now new → Ran stream (steps ++ step ∷ []) old new
 ran_more stream steps step reply old now new ran applied =
     record {
       runs = ran.runs;
@@ -232,7 +232,7 @@ ran_more stream steps step reply old now new ran applied =
 
 -- as a loop over them goes
 pub ran_next : {R : Type 0} (stream : R → Stream) (steps : List Step) (i : ℕ) (default : Step) (reply : Reply) (old now new : WorldView (Recording R)) → i < length steps
-    → Ran stream (map step_content (take i steps)) old now → Applied stream (step_act (step_content (get_or steps i default))) reply now new
+    → Ran stream (map step_content (take i steps)) old now → AppliesWithPromises stream (step_act (step_content (get_or steps i default))) reply now new
     → Ran stream (map step_content (take (i + 1) steps)) old new
 ran_next stream steps i default reply old now new within ran applied =
     subst (λ (l : List StepContent). Ran stream l old new)
@@ -277,8 +277,8 @@ ran_out_among stream steps i default fault old now new within ran out (Err given
 
 pub copy_refused : {R : Type 0} (act : ActContent) (old : WorldView R) → old.failed ≡ false → ActRanOutOfMemory act old (record old { failed = true })
 copy_refused {R = R} act old runs =
-    let mover : SideShown R = of_side (side_of_act act) old.sides in
-    let other : SideShown R = of_other (side_of_act act) old.sides in
+    let mover : ShownSide R = of_side (side_of_act act) old.sides in
+    let other : ShownSide R = of_other (side_of_act act) old.sides in
     record {
       runs = runs;
       fails = refl;

@@ -8,12 +8,12 @@ use Rattle.dcsctp_core.specs.types.declared.association.Pair.{Pair}
 use Rattle.dcsctp_core.specs.types.declared.options.Options.{Options}
 use Rattle.dcsctp_core.specs.types.declared.snapshot.HandoverSocketState.{HandoverSocketState}
 use Rattle.dcsctp_core.specs.types.declared.snapshot.HandoverSocketState.TheVariants as states
-use Rattle.dcsctp_core.specs.spec.endpoint.Endpoint.{Endpoint, Core, closed, cookie_wait, cookie_echoed, open_in, established, held_in}
+use Rattle.dcsctp_core.specs.spec.endpoint.Endpoint.{Endpoint, Core, closed, cookie_wait, cookie_echoed, open_in, established, held_by_core}
 use Rattle.dcsctp_core.specs.spec.endpoint.Event.{Event}
 use Rattle.dcsctp_core.specs.spec.Packet.{Content, Emission}
 use Rattle.dcsctp_core.specs.spec.endpoint.Outcome.{Outcome}
 use Rattle.dcsctp_core.specs.types.Snapshot.{Snapshot}
-use Rattle.dcsctp_core.specs.spec.SocketSnapshot.{connected_snapshot, snapshot_in, snapshot_of}
+use Rattle.dcsctp_core.specs.spec.SocketSnapshot.{connected_snapshot, snapshot_by_core, snapshot_of}
 use Rattle.dcsctp_core.specs.spec.endpoint.Turn.{act_input}
 use Rattle.dcsctp_core.specs.spec.association.Acts.{hands_over}
 use Rattle.dcsctp_core.specs.spec.endpoint.CallTurns.{Transition, Turns, after_all}
@@ -27,17 +27,17 @@ use Rattle.dcsctp_spec_runs.specs.Sockets.{inputs_where_valid, inputs_of_both, B
 use Rattle.dcsctp_core.specs.api.Calls.{is_closed}
 use Rattle.dcsctp_world.specs.declared.act.Reply.{Reply}
 use Rattle.dcsctp_world.specs.declared.act.Reply.TheVariants.{Restored}
-use Rattle.dcsctp_world.specs.Acts.{ActApplied, with_associations}
+use Rattle.dcsctp_world.specs.Acts.{AppliesAct, with_associations}
 use Rattle.dcsctp_world.specs.Growth.{IsReply, IsRestoreReply, IsHandedOver, IsHandedOn}
-use Rattle.dcsctp_world.specs.Shown.{SideShown, WorldView}
+use Rattle.dcsctp_world.specs.Shown.{ShownSide, WorldView}
 use Rattle.dcsctp_core.specs.spec.endpoint.BegunResets.{BegunReset, after_begun}
-use Rattle.dcsctp_core.specs.spec.endpoint.DataOutcomes.{FlushTurn, AnswersTo, flush_by}
-use Rattle.dcsctp_core.specs.spec.endpoint.FlushOutcomes.{Answer, Ask, AreFlushAnswers, at_limit, at_empty, after_packet, IsFlushAnswer, goes_out, filled, answer_contents, asked, next_draft, flush_of, draft_to, filling_event}
+use Rattle.dcsctp_core.specs.spec.endpoint.DataOutcomes.{FlushTurn, AnswersTo, flush_to_peer}
+use Rattle.dcsctp_core.specs.spec.endpoint.FlushOutcomes.{Answer, Ask, AreFlushAnswers, at_limit, at_empty, after_packet, IsFlushAnswer, goes_out, filled_draft, answer_contents, asked_outcome, next_draft, flush_of, draft_to, filling_event}
 use Rattle.dcsctp_core.specs.spec.endpoint.HandoverOutcomes.{hand_over_outcome}
 use Rattle.dcsctp_core.specs.spec.endpoint.RestoreOutcomes.{own_pair, held_restored, RestoreTurn}
 use Rattle.dcsctp_theorem_sockets.specs.Restores.{RestoredSocketsBeginNothing}
 use Rattle.dcsctp_theorem_sockets.proofs.SnapshotsBack.{held_is}
-use Rattle.dcsctp_world.specs.Returning.{GoesOnFrom, ResumesEstablished, RestoresBy, BringsBack}
+use Rattle.dcsctp_world.specs.Returning.{ContinuesFromSnapshot, ResumesEstablished, BringsBackAssociation, BringsBack}
 use Rattle.dcsctp_world.specs.Run.{IsRun}
 
 -- ---- a flush keeps the tie tag
@@ -50,9 +50,9 @@ begun_tie : (begun : Option BegunReset) (e : Endpoint) → (after_begun begun e)
 begun_tie None e = refl
 begun_tie (Some begun) e = refl
 
-asked_tie : (ask : Ask) (e : Endpoint) (draft : Emission) (answer : Answer) → IsFlushAnswer ask e draft answer → (asked e draft answer).after.tie ≡ e.tie
+asked_tie : (ask : Ask) (e : Endpoint) (draft : Emission) (answer : Answer) → IsFlushAnswer ask e draft answer → (asked_outcome e draft answer).after.tie ≡ e.tie
 asked_tie ask e draft answer h =
-    goes_out_tie answer.after (map filling_event answer.told) draft.with_checksum draft.packet.tag (filled draft (answer_contents answer)).packet.contents
+    goes_out_tie answer.after (map filling_event answer.told) draft.with_checksum draft.packet.tag (filled_draft draft (answer_contents answer)).packet.contents
     ∙ ap (λ (x : Endpoint). x.tie) h.kept
     ∙ begun_tie answer.begun e
 
@@ -60,9 +60,9 @@ flush_tie : (ask : Ask) (n : ℕ) (e : Endpoint) (draft : Emission) (answers : L
 flush_tie _ _ _ _ _ (at_limit ask e draft) = refl
 flush_tie _ _ _ _ _ (at_empty ask more e draft answer is empty) = asked_tie ask e draft answer is
 flush_tie _ _ _ _ _ (after_packet ask more e draft answer answers is some rest) =
-    flush_tie _ more (asked e draft answer).after (next_draft e.core draft) answers rest ∙ asked_tie ask e draft answer is
+    flush_tie _ more (asked_outcome e draft answer).after (next_draft e.core draft) answers rest ∙ asked_tie ask e draft answer is
 
-flushed_tie : (e : Endpoint) (o : Outcome) (peer : Option Held) (answers : List Answer) → AnswersTo e peer answers → o ≡ flush_by e peer answers → o.after.tie ≡ e.tie
+flushed_tie : (e : Endpoint) (o : Outcome) (peer : Option Held) (answers : List Answer) → AnswersTo e peer answers → o ≡ flush_to_peer e peer answers → o.after.tie ≡ e.tie
 flushed_tie e o None answers allowed is = ap (λ (x : Outcome). x.after.tie) is
 flushed_tie e o (Some held) answers allowed is = ap (λ (x : Outcome). x.after.tie) is ∙ flush_tie _ _ e (draft_to held) answers allowed
 
@@ -77,7 +77,7 @@ restore_at e (open_in phase my held) state o is turn = absurd (cc)
 
 -- the turns of a restore from a connected socket's snapshot
 pub goes_on_from : RestoredSocketsBeginNothing → (e : Endpoint) (connection : HandoverSocketState) (state : Snapshot) (ts : List Transition) → e.core ≡ closed
-    → connection ≡ states.Connected → Turns e (inputs_of_snapshot connection state) ts → GoesOnFrom e.options state (after_all e ts)
+    → connection ≡ states.Connected → Turns e (inputs_of_snapshot connection state) ts → ContinuesFromSnapshot e.options state (after_all e ts)
 goes_on_from law e states.Closed state ts none is turns = absurd (cc)
 goes_on_from law e states.Connected state [] none is turns = absurd turns
 goes_on_from law e states.Connected state (t ∷ []) none is turns = absurd turns.1
@@ -86,7 +86,7 @@ goes_on_from law e states.Connected state (t ∷ next ∷ []) none is turns =
     let flush : FlushTurn t.outcome.after next.outcome = turns.1.0.comes in
     record {
       core = law e state t.outcome next.outcome none turns.0.comes flush ∙ restored.0;
-      tie = flushed_tie t.outcome.after next.outcome (held_in t.outcome.after.core) flush.0 flush.1 flush.2 ∙ restored.1;
+      tie = flushed_tie t.outcome.after next.outcome (held_by_core t.outcome.after.core) flush.0 flush.1 flush.2 ∙ restored.1;
     }
 goes_on_from law e states.Connected state (t ∷ next ∷ last ∷ ts) none is turns = absurd turns.1.1
 
@@ -94,7 +94,7 @@ goes_on_from law e states.Connected state (t ∷ next ∷ last ∷ ts) none is t
 
 -- what is restored from it
 pub goes_on : (old mid new : Endpoint) (my : Pair) (held : Held) → UsesOwnMethod old.options held.capabilities → mid.options ≡ old.options
-    → GoesOnFrom mid.options (connected_snapshot old my held) new → ResumesEstablished old my held new
+    → ContinuesFromSnapshot mid.options (connected_snapshot old my held) new → ResumesEstablished old my held new
 goes_on old mid new my held method options h =
     record {
       core = h.core
@@ -117,7 +117,7 @@ handed_on law e my held [] sound core turns = absurd turns
 handed_on law e my held (t ∷ ts) sound core turns =
     let here : IsSoundCore e.options (open_in established my held) = subst (IsSoundCore e.options) core sound in
     let left = left_by e e.core my held t.outcome core turns.0.comes in
-    let own : snapshot_of e ≡ connected_snapshot e my held = ap (snapshot_in e) core in
+    let own : snapshot_of e ≡ connected_snapshot e my held = ap (snapshot_by_core e) core in
     let rest : Turns t.outcome.after (inputs_of_snapshot states.Connected (connected_snapshot e my held)) ts =
     subst (λ (s : Snapshot). Turns t.outcome.after (inputs_of_snapshot s.socket_state s) ts) own turns.1 in
     goes_on e t.outcome.after (after_all t.outcome.after ts) my held here.1.method left.1
@@ -129,9 +129,9 @@ not_restored : (core : Core) → is_closed core ≡ false → IsRestoreReply tru
 not_restored core is_open answer = let closes : is_closed core ≡ true = answer in absurd (cc)
 
 restored_by : RestoredSocketsBeginNothing → (e new : Endpoint) (core : Core) (is_valid : Bool) (state : Snapshot) (reply : Reply) (ts : List Transition) → e.core ≡ core → IsRestoreReply is_valid core reply
-    → Turns e (inputs_where_valid is_valid core state) ts → new ≡ after_all e ts → reply ≡ Restored (Ok tt) → state.socket_state ≡ states.Connected → GoesOnFrom e.options state new
+    → Turns e (inputs_where_valid is_valid core state) ts → new ≡ after_all e ts → reply ≡ Restored (Ok tt) → state.socket_state ≡ states.Connected → ContinuesFromSnapshot e.options state new
 restored_by law e new closed true state reply ts is answer turns after restored connected =
-    subst (GoesOnFrom e.options state) (sym after) (goes_on_from law e state.socket_state state ts is connected turns)
+    subst (ContinuesFromSnapshot e.options state) (sym after) (goes_on_from law e state.socket_state state ts is connected turns)
 restored_by law e new (cookie_wait my) true state reply ts is answer turns after restored connected = absurd (not_restored (cookie_wait my) refl (subst (IsRestoreReply true (cookie_wait my)) restored answer))
 restored_by law e new (cookie_echoed my held cookie) true state reply ts is answer turns after restored connected =
     absurd (not_restored (cookie_echoed my held cookie) refl (subst (IsRestoreReply true (cookie_echoed my held cookie)) restored answer))
@@ -147,7 +147,7 @@ handed_on_by law e new zero reply ts sound answer turns after restored my held c
 handed_on_by law e new (suc reasons) reply ts sound answer turns after restored my held core = absurd (subst (IsHandedOver e) restored answer)
 
 by_act : RestoredSocketsBeginNothing → (e new : Endpoint) (packets : List (List ℕ)) (outside : OutsideContent) (reply : Reply) (ts : List Transition) → IsSound e → IsReply e packets (outside_act outside) reply
-    → TurnsOfAct e packets (outside_act outside) ts → new ≡ after_all e ts → RestoresBy outside reply e new
+    → TurnsOfAct e packets (outside_act outside) ts → new ≡ after_all e ts → BringsBackAssociation outside reply e new
 by_act law e new packets (input_outside side bytes) reply ts sound answer turns after = tt
 by_act law e new packets (handover_outside side) reply ts sound answer turns after = handed_on_by law e new (readiness_of e) reply ts sound answer turns after
 by_act law e new packets (restore_outside side state) reply ts sound answer turns after =
@@ -158,21 +158,21 @@ abbrev pub BothSound : {R : Type 0} → WorldView R → Type 0
 BothSound world = (side : Side) → IsSound (of_side side world.sides).socket.view.endpoint
 
 -- the endpoint of a side
-abbrev EndpointAt : {R : Type 0} → Side → Both (SideShown R) → Endpoint
+abbrev EndpointAt : {R : Type 0} → Side → Both (ShownSide R) → Endpoint
 EndpointAt side both = (of_side side both).socket.view.endpoint
 
-noted_keeps : {R : Type 0} (side : Side) (both : Both (SideShown R)) → EndpointAt side (with_associations both) ≡ EndpointAt side both
+noted_keeps : {R : Type 0} (side : Side) (both : Both (ShownSide R)) → EndpointAt side (with_associations both) ≡ EndpointAt side both
 noted_keeps sides.A both = refl
 noted_keeps sides.B both = refl
 
-pub restores_by : {R : Type 0} (stream : R → Stream) → RestoredSocketsBeginNothing → (act : ActContent) (reply : Reply) (old new : WorldView R) → BothSound old → ActApplied stream act reply old new
+pub restores_by : {R : Type 0} (stream : R → Stream) → RestoredSocketsBeginNothing → (act : ActContent) (reply : Reply) (old new : WorldView R) → BothSound old → AppliesAct stream act reply old new
     → BringsBack act reply (EndpointAt (side_of_act act) old.sides) (EndpointAt (side_of_act act) new.sides)
 restores_by stream law (step_act step) reply old new sound h = tt
 restores_by stream law (outside_act outside) reply old new sound h =
     let side : Side = side_of_outside outside in
     let grows = h.moves.grows in
     by_act law (EndpointAt side old.sides) (EndpointAt side new.sides) (of_other side old.sides).packets outside reply grows.turns (sound side) h.moves.reply grows.are
-    (ap (λ (both : Both (SideShown _)). EndpointAt side both) h.sides ∙ noted_keeps side h.moved ∙ grows.endpoint)
+    (ap (λ (both : Both (ShownSide _)). EndpointAt side both) h.sides ∙ noted_keeps side h.moved ∙ grows.endpoint)
 
 -- ---- both sockets of a run
 

@@ -18,7 +18,7 @@ use Rattle.dcsctp_world.specs.Promises.{Promises}
 use Rattle.dcsctp_world.specs.Recording.{Recording}
 use Rattle.dcsctp_world.specs.Rounds.{emitted_counts, ShowsRounds, Settles, CanConnect, ConnectedSince, HasSettled}
 use Rattle.dcsctp_world.specs.Run.{SideRuns, IsRun}
-use Rattle.dcsctp_world.specs.Shown.{SideShown, WorldView, options_of}
+use Rattle.dcsctp_world.specs.Shown.{ShownSide, WorldView, options_of}
 use Rattle.dcsctp_world.proofs.Agreeing.{connections_shown}
 use Rattle.dcsctp_world.proofs.Following.{ran_none_is}
 use Rattle.dcsctp_world.proofs.Settling.{counts_are}
@@ -33,7 +33,7 @@ one_round options settled settled' earlier run h =
     subst (λ (s : Both ℕ). QuietRound options settled earlier s run) (sym h.3.0) (subst (λ (r : List PerformedAct). QuietRound options settled earlier h.0 r) (sym h.3.1) h.2)
 
 -- how often a side has reported OnConnected
-told : {R : Type 0} (options : Options) (turns : List Transition) (side : SideShown R) → SideRuns options turns side → connections_of_events side.events ≡ connections_of_events (events_of turns)
+told : {R : Type 0} (options : Options) (turns : List Transition) (side : ShownSide R) → SideRuns options turns side → connections_of_events side.events ≡ connections_of_events (events_of turns)
 told options turns side h = ap (λ (events : List (Event (List ℕ))). connections_of_events events) h.events ∙ connections_shown (emission_bytes (ports_of options)) (events_of turns)
 
 -- by a run of each

@@ -5,7 +5,7 @@ use Rattle.rand_core.specs.Stream.{Stream}
 use Rattle.dcsctp_core.specs.types.Schedule.{StepContent, ActContent, step_act}
 use Rattle.dcsctp_core.specs.api.declared.errors.SocketFault.{SocketFault}
 use Rattle.dcsctp_core.specs.api.declared.errors.SocketFault.TheVariants.{OutOfMemory, Failed}
-use Rattle.dcsctp_world.specs.Acts.{AppliedAll, Ran, RanOutAmong, RunsSteps, WorldStaysFailed}
+use Rattle.dcsctp_world.specs.Acts.{AppliesSteps, Ran, RanOutAmong, RunsSteps, WorldStaysFailed}
 use Rattle.dcsctp_world.specs.Continuing.{Continues}
 use Rattle.dcsctp_world.specs.Recording.{Recording}
 use Rattle.dcsctp_world.specs.Rounds.{RanOutOnTheWay}
@@ -15,10 +15,10 @@ use Rattle.dcsctp_world.proofs.Running.{continues_further}
 
 -- ---- all were applied
 
-applied_further : {R : Type 0} (stream : R → Stream) (steps others : List StepContent) (old now new : WorldView (Recording R)) → AppliedAll stream steps old now → AppliedAll stream others now new
-    → AppliedAll stream (steps ++ others) old new
-unfolding AppliedAll
-applied_further {R = R} stream [] others old now new same applied = subst (λ (w : WorldView (Recording R)). AppliedAll stream others w new) same applied
+applied_further : {R : Type 0} (stream : R → Stream) (steps others : List StepContent) (old now new : WorldView (Recording R)) → AppliesSteps stream steps old now → AppliesSteps stream others now new
+    → AppliesSteps stream (steps ++ others) old new
+unfolding AppliesSteps
+applied_further {R = R} stream [] others old now new same applied = subst (λ (w : WorldView (Recording R)). AppliesSteps stream others w new) same applied
 applied_further stream (step ∷ steps) others old now new all applied =
     record {
       reply = all.reply;
@@ -46,7 +46,7 @@ ran_further stream steps others old now new first second =
 
 -- None were.
 pub ran_none_is : {R : Type 0} (stream : R → Stream) (old new : WorldView (Recording R)) → Ran stream [] old new → new ≡ old
-unfolding AppliedAll
+unfolding AppliesSteps
 ran_none_is stream old new ran = ran.applied
 
 -- ---- an allocation failed at one of them

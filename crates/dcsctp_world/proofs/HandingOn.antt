@@ -7,24 +7,24 @@ use Rattle.dcsctp_core.specs.types.declared.options.Options.{Options}
 use Rattle.dcsctp_core.specs.spec.endpoint.Endpoint.{Endpoint, Core, closed, cookie_wait, cookie_echoed, open_in, established, shutdown_pending, shutdown_sent, shutdown_received, shutdown_ack_sent}
 use Rattle.dcsctp_core.specs.spec.endpoint.Event.{Event}
 use Rattle.dcsctp_core.specs.spec.Packet.{Emission}
-use Rattle.dcsctp_core.specs.spec.Handover.{readiness_of, readiness_in}
+use Rattle.dcsctp_core.specs.spec.Handover.{readiness_of, readiness_by_core}
 use Rattle.dcsctp_core.specs.spec.endpoint.Outcome.{Outcome}
 use Rattle.dcsctp_core.specs.types.Settings.{ports_of}
 use Rattle.dcsctp_core.specs.types.Snapshot.{Snapshot, is_valid_snapshot}
 use Rattle.dcsctp_core.specs.spec.SocketSnapshot.{snapshot_of}
 use Rattle.dcsctp_core.specs.spec.endpoint.Turn.{act_input}
 use Rattle.dcsctp_core.specs.spec.association.Acts.{hands_over}
-use Rattle.dcsctp_core.specs.spec.association.Effect.{drawn_in}
+use Rattle.dcsctp_core.specs.spec.association.Effect.{drawn_pairs}
 use Rattle.dcsctp_core.specs.spec.endpoint.CallTurns.{Transition, IsTurn, Turns, after_all, words_of, effects_of, pairs_of, events_of}
 use Rattle.dcsctp_core.specs.spec.HandoverInputs.{inputs_of_handover, inputs_of_restore}
 use Rattle.dcsctp_spec_runs.specs.Sockets.{inputs_where_valid, inputs_of_both}
 use Rattle.dcsctp_core.specs.spec.endpoint.HandoverOutcomes.{hand_over_outcome}
 use Rattle.rand_core.specs.Stream.{Stream}
-use Rattle.dcsctp_core.proofs.spec_lemmas.TurnLists.{drawn_in-append, events_of-append, words_of-append}
-use Rattle.dcsctp_core.proofs.Moving.{Drawn-append}
+use Rattle.dcsctp_core.proofs.spec_lemmas.TurnLists.{drawn_pairs-append, events_of-append, words_of-append}
+use Rattle.dcsctp_core.proofs.Moving.{DrawsWords-append}
 use Rattle.dcsctp_core.specs.api.declared.errors.SocketFault.{SocketFault}
 use Rattle.dcsctp_core.specs.api.declared.errors.SocketFault.TheVariants.{OutOfMemory, Failed}
-use Rattle.dcsctp_core.specs.api.Calls.{UserView, Drawn, Follows, user_event}
+use Rattle.dcsctp_core.specs.api.Calls.{UserView, DrawsWords, Follows, user_event}
 use Rattle.dcsctp_core.specs.api.declared.errors.HandoverError.{HandoverError}
 use Rattle.dcsctp_core.specs.api.declared.errors.HandoverError.TheVariants.{NotReady}
 use Rattle.dcsctp_core.specs.api.declared.errors.RestoreError.TheVariants.{SocketNotClosed}
@@ -32,9 +32,9 @@ use Rattle.dcsctp_core.specs.api.declared.errors.RestoreError.{RestoreError}
 use Rattle.dcsctp_core.specs.api.Handover.{IsHandoverAnswer, RestoresSocket}
 use Rattle.dcsctp_world.specs.declared.act.Reply.{Reply}
 use Rattle.dcsctp_world.specs.declared.act.Reply.TheVariants.{NoCall, Done, Sent, SentMany, Reset, Taken, HandedOver, Restored}
-use Rattle.dcsctp_world.specs.Growth.{CallMade, HandlesAct, IsHandedOn, IsRestoreReply}
-use Rattle.dcsctp_world.specs.Shown.{SideShown}
-use Rattle.dcsctp_world.specs.Outside.{OutsideHandoverTurns, IsHandedOnBy, ValidTurns, IsRestoredBy}
+use Rattle.dcsctp_world.specs.Growth.{MakesUserCall, HandlesAct, IsHandedOn, IsRestoreReply}
+use Rattle.dcsctp_world.specs.Shown.{ShownSide}
+use Rattle.dcsctp_world.specs.Outside.{OutsideHandoverTurns, IsHandoverReply, ValidTurns, IsRestoredReply}
 use Rattle.dcsctp_world.proofs.Stopping.{grows_by_nothing}
 
 -- ---- what the handover leaves
@@ -44,9 +44,9 @@ record LeavesClosed (e : Endpoint) (o : Outcome) : Type 0 where
   core : o.after.core ≡ closed
   options : o.after.options ≡ e.options
   words : o.words ≡ []
-  pairs : drawn_in o.effects ≡ []
+  pairs : drawn_pairs o.effects ≡ []
 
-ready_leaves_closed : (e : Endpoint) (core : Core) → e.core ≡ core → readiness_in e core ≡ 0 → LeavesClosed e (hand_over_outcome e core)
+ready_leaves_closed : (e : Endpoint) (core : Core) → e.core ≡ core → readiness_by_core e core ≡ 0 → LeavesClosed e (hand_over_outcome e core)
 ready_leaves_closed e closed is ready = record { core = is; options = refl; words = refl; pairs = refl }
 ready_leaves_closed e (cookie_wait my) is ready = absurd (cc)
 ready_leaves_closed e (cookie_echoed my held cookie) is ready = absurd (cc)
@@ -59,7 +59,7 @@ ready_leaves_closed e (open_in shutdown_ack_sent my held) is ready = absurd (cc)
 -- ---- two calls as one
 
 -- the turn of the first, and the turns of the second
-follows_both : (old mid new : UserView) (t : Transition) (ts : List Transition) → t.outcome.words ≡ [] → drawn_in t.outcome.effects ≡ []
+follows_both : (old mid new : UserView) (t : Transition) (ts : List Transition) → t.outcome.words ≡ [] → drawn_pairs t.outcome.effects ≡ []
     → mid.endpoint.options ≡ old.endpoint.options → Follows old (t ∷ []) mid → Follows mid ts new → Follows old (t ∷ ts) new
 follows_both old mid new t ts words pairs options first second =
     let shown : Event Emission → Event (List ℕ) = user_event (ports_of old.endpoint.options) in
@@ -73,9 +73,9 @@ follows_both old mid new t ts words pairs options first second =
           ∙ append_assoc old.events (map shown (events_of (t ∷ []))) (map shown (events_of ts))
           ∙ ap (λ (es : List (Event (List ℕ))). old.events ++ es) (sym (map-append shown (events_of (t ∷ [])) (events_of ts)) ∙ ap (map shown) (sym (events_of-append (t ∷ []) ts)));
       words = second.words ∙ ap (λ (ws : List Word). ws ++ words_of ts) (sym words);
-      pairs = second.pairs ∙ ap (λ (ps : List Pair). ps ++ pairs_of ts) (sym pairs) ∙ sym (drawn_in-append t.outcome.effects (effects_of ts));
-      drawn = subst (λ (ws : List Word). Drawn old.generator ws new.generator) (sym (words_of-append (t ∷ []) ts))
-          (Drawn-append old.generator mid.generator new.generator (words_of (t ∷ [])) (words_of ts) first.drawn second.drawn);
+      pairs = second.pairs ∙ ap (λ (ps : List Pair). ps ++ pairs_of ts) (sym pairs) ∙ sym (drawn_pairs-append t.outcome.effects (effects_of ts));
+      drawn = subst (λ (ws : List Word). DrawsWords old.generator ws new.generator) (sym (words_of-append (t ∷ []) ts))
+          (DrawsWords-append old.generator mid.generator new.generator (words_of (t ∷ [])) (words_of ts) first.drawn second.drawn);
     }
 
 -- a socket that was handed over: its turn, and what it leaves
@@ -84,7 +84,7 @@ record Left (old mid : UserView) : Type 0 where
   comes : IsTurn old.endpoint (act_input hands_over) turn
   follows : Follows old (turn ∷ []) mid
   words : turn.outcome.words ≡ []
-  pairs : drawn_in turn.outcome.effects ≡ []
+  pairs : drawn_pairs turn.outcome.effects ≡ []
   core : mid.endpoint.core ≡ closed
   options : mid.endpoint.options ≡ old.endpoint.options
 
@@ -134,8 +134,8 @@ answer_of (Restored (Err SocketNotClosed)) is = absurd (cc)
 pub hands_on : (old mid new : UserView) (state : Snapshot) (result : Result Reply SocketFault) (turns : List Transition)
     → readiness_of old.endpoint ≡ 0 → state ≡ snapshot_of old.endpoint → is_valid_snapshot mid.endpoint.options state ≡ true
     → Turns old.endpoint (inputs_of_handover (readiness_of old.endpoint)) turns → Follows old turns mid
-    → CallMade (ValidTurns mid.endpoint state) (IsRestoredBy mid.endpoint state) mid result new
-    → CallMade (OutsideHandoverTurns old.endpoint) (IsHandedOnBy old.endpoint) old result new
+    → MakesUserCall (ValidTurns mid.endpoint state) (IsRestoredReply mid.endpoint state) mid result new
+    → MakesUserCall (OutsideHandoverTurns old.endpoint) (IsHandoverReply old.endpoint) old result new
 hands_on old mid new state (Ok answer) turns ready same valid are follows made =
     let h : Left old mid = handed_over old mid (readiness_of old.endpoint) turns ready ready are follows in
     let at_mid : IsRestoreReply true mid.endpoint.core answer = subst (λ (b : Bool). IsRestoreReply b mid.endpoint.core answer) valid made.answers.0 in
@@ -173,7 +173,7 @@ refused_reply e (suc reasons) error some is = is
 
 pub hand_over_refused : (old new : UserView) (error : HandoverError) (turns : List Transition) → IsHandoverAnswer old.endpoint (Err error)
     → Turns old.endpoint (inputs_of_handover (readiness_of old.endpoint)) turns → Follows old turns new
-    → CallMade (OutsideHandoverTurns old.endpoint) (IsHandedOnBy old.endpoint) old (Ok (HandedOver (Err error))) new
+    → MakesUserCall (OutsideHandoverTurns old.endpoint) (IsHandoverReply old.endpoint) old (Ok (HandedOver (Err error))) new
 hand_over_refused old new error turns is are follows =
     let some : readiness_of old.endpoint ≢ 0 = is_not_ready old.endpoint error is in
     record {
@@ -186,7 +186,7 @@ hand_over_refused old new error turns is are follows =
 -- ---- a restore alone
 
 pub restore_called : (old new : UserView) (state : Snapshot) (answer : Result (Unit {0}) RestoreError) → is_valid_snapshot old.endpoint.options state ≡ true
-    → RestoresSocket state old (Ok answer) new → CallMade (ValidTurns old.endpoint state) (IsRestoredBy old.endpoint state) old (Ok (Restored answer)) new
+    → RestoresSocket state old (Ok answer) new → MakesUserCall (ValidTurns old.endpoint state) (IsRestoredReply old.endpoint state) old (Ok (Restored answer)) new
 restore_called old new state answer valid made =
     record {
       answers = (subst (λ (b : Bool). IsRestoreReply b old.endpoint.core (Restored answer)) (sym valid) made.answers, tt);
@@ -196,9 +196,9 @@ restore_called old new state answer valid made =
     }
 
 -- a snapshot that isn't valid
-pub not_restored_by : {R : Type 0} (stream : R → Stream) (old : SideShown R) (state : Snapshot) → is_valid_snapshot old.socket.view.endpoint.options state ≡ false
+pub not_restored_by : {R : Type 0} (stream : R → Stream) (old : ShownSide R) (state : Snapshot) → is_valid_snapshot old.socket.view.endpoint.options state ≡ false
     → old.socket.view.events ≡ []
-    → HandlesAct stream (ValidTurns old.socket.view.endpoint state) (IsRestoredBy old.socket.view.endpoint state) old (Ok NoCall) old
+    → HandlesAct stream (ValidTurns old.socket.view.endpoint state) (IsRestoredReply old.socket.view.endpoint state) old (Ok NoCall) old
 not_restored_by {R} stream old state invalid waiting =
     let e : Endpoint = old.socket.view.endpoint in
     let Restoring : Bool → Type 0 = λ is_valid.

@@ -6,15 +6,15 @@ use Rattle.std.proofs.lemmas.Option.{slice_get-map, slice_get_read}
 use Rattle.std.specs.List.{slice_get}
 use Rattle.std.specs.Option.{option_map}
 use Rattle.std.specs.declared.alloc.Global.{Global}
-use Rattle.dcsctp_core.specs.spec.endpoint.Event.{Event, packets_in}
+use Rattle.dcsctp_core.specs.spec.endpoint.Event.{Event, packets_of_events}
 use Rattle.dcsctp_spec_runs.specs.Sockets.{packet_at_number}
 use Rattle.dcsctp_core.specs.api.declared.events.SocketEvent.{SocketEvent}
 use Rattle.dcsctp_core.specs.api.declared.events.SocketEvent.TheVariants.{SendPacket}
 use Rattle.dcsctp_core.specs.api.Events.{event_content}
 use Rattle.dcsctp_core.specs.api.Calls.{UserView, PollsEvent}
-use Rattle.dcsctp_theorem_sockets.proofs.Bursts.{packets_in-append}
-use Rattle.dcsctp_world.specs.Growth.{Extends, AppendsFirst, Kept, with_events, KeptFront}
-use Rattle.dcsctp_world.specs.Parts.{bytes_of_packets, kept}
+use Rattle.dcsctp_theorem_sockets.proofs.Bursts.{packets_of_events-append}
+use Rattle.dcsctp_world.specs.Growth.{Extends, AppendsFirst, KeptOutput, with_events, KeepsFront}
+use Rattle.dcsctp_world.specs.Parts.{bytes_of_packets, kept_output}
 
 -- ---- lists that grow
 
@@ -52,15 +52,15 @@ front_behind whole first all rest old mid new is before next =
 
 -- ---- events that are kept
 
-same_kept : (x y : Kept) → x.events ≡ y.events → x.packets ≡ y.packets → x ≡ y
+same_kept : (x y : KeptOutput) → x.events ≡ y.events → x.packets ≡ y.packets → x ≡ y
 same_kept x y events packets =
-    ap (λ (l : List (Event (List ℕ))). let k : Kept = record { events = l; packets = x.packets } in k) events
-    ∙ ap (λ (l : List (List ℕ)). let k : Kept = record { events = y.events; packets = l } in k) packets
+    ap (λ (l : List (Event (List ℕ))). let k : KeptOutput = record { events = l; packets = x.packets } in k) events
+    ∙ ap (λ (l : List (List ℕ)). let k : KeptOutput = record { events = y.events; packets = l } in k) packets
 
-with_events-append : (kept : Kept) (xs ys : List (Event (List ℕ))) → with_events ys (with_events xs kept) ≡ with_events (xs ++ ys) kept
-with_events-append kept xs ys =
-    same_kept (with_events ys (with_events xs kept)) (with_events (xs ++ ys) kept) (append_assoc kept.events xs ys)
-    (append_assoc kept.packets (packets_in xs) (packets_in ys) ∙ ap (λ (l : List (List ℕ)). kept.packets ++ l) (sym (packets_in-append xs ys)))
+with_events-append : (kept_output : KeptOutput) (xs ys : List (Event (List ℕ))) → with_events ys (with_events xs kept_output) ≡ with_events (xs ++ ys) kept_output
+with_events-append kept_output xs ys =
+    same_kept (with_events ys (with_events xs kept_output)) (with_events (xs ++ ys) kept_output) (append_assoc kept_output.events xs ys)
+    (append_assoc kept_output.packets (packets_of_events xs) (packets_of_events ys) ∙ ap (λ (l : List (List ℕ)). kept_output.packets ++ l) (sym (packets_of_events-append xs ys)))
 
 -- an event that is kept
 module _ (events events' : List SocketEvent) (packets packets' : List (Vec ℕ Global)) where
@@ -69,76 +69,76 @@ module _ (events events' : List SocketEvent) (packets packets' : List (Vec ℕ G
 
   -- its packet too
   added_packet : (event : SocketEvent) (packet copy : Vec ℕ Global) → event ≡ SendPacket packet → copy.items ≡ packet.items → packets' ≡ packets ++ copy ∷ []
-      → bytes_of_packets packets' ≡ bytes_of_packets packets ++ packets_in (event_content event ∷ [])
+      → bytes_of_packets packets' ≡ bytes_of_packets packets ++ packets_of_events (event_content event ∷ [])
   added_packet event packet copy is_packet same is =
       ap bytes_of_packets is ∙ map-append (λ (p : Vec ℕ Global). p.items) packets (copy ∷ [])
       ∙ ap (λ (l : List ℕ). bytes_of_packets packets ++ l ∷ []) same
-      ∙ ap (λ (e : SocketEvent). bytes_of_packets packets ++ packets_in (event_content e ∷ [])) (sym is_packet)
+      ∙ ap (λ (e : SocketEvent). bytes_of_packets packets ++ packets_of_events (event_content e ∷ [])) (sym is_packet)
 
   pub kept_packet : (event : SocketEvent) (packet copy : Vec ℕ Global) → event ≡ SendPacket packet → copy.items ≡ packet.items
       → events' ≡ events ++ event ∷ [] → packets' ≡ packets ++ copy ∷ []
-      → kept events' packets' ≡ with_events (event_content event ∷ []) (kept events packets)
+      → kept_output events' packets' ≡ with_events (event_content event ∷ []) (kept_output events packets)
   kept_packet event packet copy is_packet same is_events is_packets =
-      same_kept (kept events' packets') (with_events (event_content event ∷ []) (kept events packets)) (added_events event is_events)
+      same_kept (kept_output events' packets') (with_events (event_content event ∷ []) (kept_output events packets)) (added_events event is_events)
       (added_packet event packet copy is_packet same is_packets)
 
   -- its packet alone: there was no memory for the event
   pub kept_packet_alone : (event : SocketEvent) (packet copy : Vec ℕ Global) → event ≡ SendPacket packet → copy.items ≡ packet.items
-      → events' ≡ events → packets' ≡ packets ++ copy ∷ [] → KeptFront (event_content event ∷ []) (kept events packets) (kept events' packets')
+      → events' ≡ events → packets' ≡ packets ++ copy ∷ [] → KeepsFront (event_content event ∷ []) (kept_output events packets) (kept_output events' packets')
   kept_packet_alone event packet copy is_packet same is_events is_packets =
       record {
         events = front_same (event_content event ∷ []) (ap (λ (l : List SocketEvent). map event_content l) is_events);
-        packets = front_whole (packets_in (event_content event ∷ [])) (added_packet event packet copy is_packet same is_packets);
+        packets = front_whole (packets_of_events (event_content event ∷ [])) (added_packet event packet copy is_packet same is_packets);
       }
 
-  pub kept_nothing : (event : SocketEvent) → events' ≡ events → packets' ≡ packets → KeptFront (event_content event ∷ []) (kept events packets) (kept events' packets')
+  pub kept_nothing : (event : SocketEvent) → events' ≡ events → packets' ≡ packets → KeepsFront (event_content event ∷ []) (kept_output events packets) (kept_output events' packets')
   kept_nothing event is_events is_packets =
       record {
         events = front_same (event_content event ∷ []) (ap (λ (l : List SocketEvent). map event_content l) is_events);
-        packets = front_same (packets_in (event_content event ∷ [])) (ap bytes_of_packets is_packets);
+        packets = front_same (packets_of_events (event_content event ∷ [])) (ap bytes_of_packets is_packets);
       }
 
-  no_packet : (event : SocketEvent) → ((packet : Vec ℕ Global) → event ≡ SendPacket packet → ⊥) → packets_in (event_content event ∷ []) ≡ []
+  no_packet : (event : SocketEvent) → ((packet : Vec ℕ Global) → event ≡ SendPacket packet → ⊥) → packets_of_events (event_content event ∷ []) ≡ []
   no_packet (SendPacket packet) none = absurd (none packet refl)
   no_packet event none = refl
 
   pub kept_other : (event : SocketEvent) → ((packet : Vec ℕ Global) → event ≡ SendPacket packet → ⊥) → events' ≡ events ++ event ∷ [] → packets' ≡ packets
-      → kept events' packets' ≡ with_events (event_content event ∷ []) (kept events packets)
+      → kept_output events' packets' ≡ with_events (event_content event ∷ []) (kept_output events packets)
   kept_other event none is_events is_packets =
-      same_kept (kept events' packets') (with_events (event_content event ∷ []) (kept events packets)) (added_events event is_events)
+      same_kept (kept_output events' packets') (with_events (event_content event ∷ []) (kept_output events packets)) (added_events event is_events)
       (ap bytes_of_packets is_packets ∙ sym (append-nil (bytes_of_packets packets)) ∙ ap (λ (l : List (List ℕ)). bytes_of_packets packets ++ l) (sym (no_packet event none)))
 
 -- Events were taken from a socket and kept, and nothing else of it changed.
-pub record Taken (old : UserView) (kept_before : Kept) (new : UserView) (kept_now : Kept) : Type 0 where
+pub record Taken (old : UserView) (kept_before : KeptOutput) (new : UserView) (kept_now : KeptOutput) : Type 0 where
   pub taken : List (Event (List ℕ))
   pub front : old.events ≡ taken ++ new.events
   pub kept : kept_now ≡ with_events taken kept_before
   pub rest : new ≡ record old { events = new.events }
 
-pub taken_more : (old now new : UserView) (kept_before kept_now kept_then : Kept) (event : SocketEvent)
+pub taken_more : (old now new : UserView) (kept_before kept_now kept_then : KeptOutput) (event : SocketEvent)
     → Taken old kept_before now kept_now → PollsEvent now (Some event) new → kept_then ≡ with_events (event_content event ∷ []) kept_now
     → Taken old kept_before new kept_then
-taken_more old now new kept_before kept_now kept_then event so_far polled kept =
+taken_more old now new kept_before kept_now kept_then event so_far polled kept_output =
     record {
       taken = so_far.taken ++ event_content event ∷ [];
       front = so_far.front ∙ ap (λ (l : List (Event (List ℕ))). so_far.taken ++ l) polled.0 ∙ sym (append_assoc so_far.taken (event_content event ∷ []) new.events);
-      kept = kept ∙ ap (λ (k : Kept). with_events (event_content event ∷ []) k) so_far.kept ∙ with_events-append kept_before so_far.taken (event_content event ∷ []);
+      kept = kept_output ∙ ap (λ (k : KeptOutput). with_events (event_content event ∷ []) k) so_far.kept ∙ with_events-append kept_before so_far.taken (event_content event ∷ []);
       rest = polled.1 ∙ ap (λ (v : UserView). let w : UserView = record v { events = new.events } in w) so_far.rest;
     }
 
-pub taken_in_part : (old now next : UserView) (kept_before kept_now kept_then : Kept) (event : SocketEvent)
-    → Taken old kept_before now kept_now → PollsEvent now (Some event) next → KeptFront (event_content event ∷ []) kept_now kept_then
-    → KeptFront old.events kept_before kept_then
+pub taken_in_part : (old now next : UserView) (kept_before kept_now kept_then : KeptOutput) (event : SocketEvent)
+    → Taken old kept_before now kept_now → PollsEvent now (Some event) next → KeepsFront (event_content event ∷ []) kept_now kept_then
+    → KeepsFront old.events kept_before kept_then
 taken_in_part old now next kept_before kept_now kept_then event so_far polled part =
     let one : List (Event (List ℕ)) = event_content event ∷ [] in
     let whole : old.events ≡ so_far.taken ++ (one ++ next.events) = so_far.front ∙ ap (λ (l : List (Event (List ℕ))). so_far.taken ++ l) polled.0 in
-    let packets : packets_in old.events ≡ packets_in so_far.taken ++ (packets_in one ++ packets_in next.events) =
-    ap packets_in whole ∙ packets_in-append so_far.taken (one ++ next.events) ∙ ap (λ (l : List (List ℕ)). packets_in so_far.taken ++ l) (packets_in-append one next.events) in
+    let packets : packets_of_events old.events ≡ packets_of_events so_far.taken ++ (packets_of_events one ++ packets_of_events next.events) =
+    ap packets_of_events whole ∙ packets_of_events-append so_far.taken (one ++ next.events) ∙ ap (λ (l : List (List ℕ)). packets_of_events so_far.taken ++ l) (packets_of_events-append one next.events) in
     record {
       events = front_behind old.events so_far.taken one next.events kept_before.events kept_now.events kept_then.events
-          whole (ap (λ (k : Kept). k.events) so_far.kept) part.events;
-      packets = front_behind (packets_in old.events) (packets_in so_far.taken) (packets_in one) (packets_in next.events) kept_before.packets kept_now.packets kept_then.packets
-          packets (ap (λ (k : Kept). k.packets) so_far.kept) part.packets;
+          whole (ap (λ (k : KeptOutput). k.events) so_far.kept) part.events;
+      packets = front_behind (packets_of_events old.events) (packets_of_events so_far.taken) (packets_of_events one) (packets_of_events next.events) kept_before.packets kept_now.packets kept_then.packets
+          packets (ap (λ (k : KeptOutput). k.packets) so_far.kept) part.packets;
     }
 
 -- ---- a packet by its number

@@ -5,27 +5,27 @@ use Rattle.std.specs.List.{AllByRecursion}
 use Rattle.dcsctp_core.specs.types.declared.ends.AbortReason.TheVariants.{TooManyErrors}
 use Rattle.dcsctp_core.specs.types.declared.snapshot.HandoverSocketState.{HandoverSocketState}
 use Rattle.dcsctp_core.specs.types.declared.snapshot.HandoverSocketState.TheVariants as states
-use Rattle.dcsctp_core.specs.spec.Admission.{Admission, all_chunks, shutdown_acks_alone, refused, admits, shutdown_acks_in}
+use Rattle.dcsctp_core.specs.spec.Admission.{Admission, all_chunks, shutdown_acks_alone, refused, admits, shutdown_acks_of}
 use Rattle.dcsctp_core.specs.spec.endpoint.MessageOutcomes.{awaits_opening}
 use Rattle.dcsctp_core.specs.spec.endpoint.CallTurns.{packet_tail, asked_again, Transition, IsTurn, Turns, AfterChunk, ChunkTurns, WholeTurns, AdmittedTurns, HandleInput, unreadable, readable}
 use Rattle.dcsctp_core.specs.spec.endpoint.Endpoint.{Endpoint, Core, closed, cookie_wait, cookie_echoed, open_in}
 use Rattle.dcsctp_core.specs.spec.endpoint.Following.{Following, next_chunk, packet_end, dropped_rest}
-use Rattle.dcsctp_core.specs.spec.Packet.{Content, Packet, packet_in}
+use Rattle.dcsctp_core.specs.spec.Packet.{Content, Packet, packet_of_content}
 use Rattle.dcsctp_core.specs.spec.Handover.{readiness_of}
 use Rattle.dcsctp_core.specs.types.Snapshot.{Snapshot, is_valid_snapshot}
 use Rattle.dcsctp_core.specs.spec.SocketSnapshot.{snapshot_of}
 use Rattle.dcsctp_core.specs.spec.HandoverInputs.{inputs_of_handover, inputs_of_snapshot, inputs_of_restore}
 use Rattle.dcsctp_spec_runs.specs.Sockets.{inputs_where_valid, inputs_of_both}
-use Rattle.dcsctp_core.specs.spec.endpoint.TimeTurns.{Timer, t1_timer, own_timer, t2_timer, timers_in, deadline, has_come, has_restart, t2_input, expiry_input, inputs_behind, after_expiries, ExpiryThen, ExpiryTurns, MomentTurns, TimeTurns, AdvanceTurns}
+use Rattle.dcsctp_core.specs.spec.endpoint.TimeTurns.{Timer, t1_timer, own_timer, t2_timer, handled_timers, deadline, has_come, has_restart, t2_input, expiry_input, inputs_behind, after_expiries, ExpiryThen, ExpiryTurns, MomentTurns, TimeTurns, AdvanceTurns}
 use Rattle.dcsctp_core.specs.spec.endpoint.Turn.{Input, arrival, refusal, packet_begins, chunk_input, packet_ends, act_input, user_sets, user_sends, user_resets, user_takes, timer_expires, time_passes, restores, unreadable_text}
 use Rattle.dcsctp_core.specs.spec.association.Acts.{abort_with, flushes}
 use Rattle.dcsctp_core.specs.types.queues.Messages.{MessageContent}
 use Rattle.dcsctp_core.specs.spec.endpoint.HeartbeatOutcomes.{is_exhausted}
-use Rattle.dcsctp_delivery_sockets.specs.UserMessages.{sent_in, messages_sent_in, read_in, read_of}
+use Rattle.dcsctp_delivery_sockets.specs.UserMessages.{messages_of_input, messages_of_turns, messages_read_of_input, read_of}
 
 -- no message was sent, and none was read
 pub record AreQuiet (e : Endpoint) (turns : List Transition) : Type 0 where
-  pub sent : messages_sent_in e turns ≡ []
+  pub sent : messages_of_turns e turns ≡ []
   pub read : read_of e turns ≡ []
 
 -- ---- inputs
@@ -38,7 +38,7 @@ IsQuiet input = Unit {0}
 abbrev pub AllQuiet : List Input → Type 0
 AllQuiet inputs = AllByRecursion IsQuiet inputs
 
-quiet_input : (e : Endpoint) (input : Input) → IsQuiet input → (sent_in e input ≡ []) × (read_in e input ≡ [])
+quiet_input : (e : Endpoint) (input : Input) → IsQuiet input → (messages_of_input e input ≡ []) × (messages_read_of_input e input ≡ [])
 quiet_input e arrival quiet = (refl, refl)
 quiet_input e (refusal text) quiet = (refl, refl)
 quiet_input e (packet_begins contents) quiet = (refl, refl)
@@ -62,7 +62,7 @@ first_quiet : (e : Endpoint) (input : Input) (t : Transition) (turns : List Tran
 first_quiet e input t turns quiet turn rest =
     let none = quiet_input e t.input (subst IsQuiet (sym turn.is) quiet) in
     record {
-      sent = ap (λ (l : List MessageContent). l ++ messages_sent_in t.outcome.after turns) none.0 ∙ rest.sent;
+      sent = ap (λ (l : List MessageContent). l ++ messages_of_turns t.outcome.after turns) none.0 ∙ rest.sent;
       read = ap (λ (l : List MessageContent). l ++ read_of t.outcome.after turns) none.1 ∙ rest.read;
     }
 
@@ -101,13 +101,13 @@ whole_quiet e packet (t ∷ turns) taken =
 
 admitted_quiet : (e : Endpoint) (packet : Packet) (admission : Admission) (turns : List Transition) → AdmittedTurns e packet admission turns → AreQuiet e turns
 admitted_quiet e packet all_chunks turns taken = whole_quiet e packet turns taken
-admitted_quiet e packet shutdown_acks_alone turns taken = chunks_quiet (shutdown_acks_in packet.contents) e packet.tag [] turns tt taken
+admitted_quiet e packet shutdown_acks_alone turns taken = chunks_quiet (shutdown_acks_of packet.contents) e packet.tag [] turns tt taken
 admitted_quiet e packet (refused text) turns taken = turns_quiet e (refusal text ∷ []) turns (tt, tt) taken
 
 pub input_quiet : (e : Endpoint) (bytes : List ℕ) (turns : List Transition) → HandleInput e bytes turns → AreQuiet e turns
 input_quiet e bytes _ (unreadable turns none taken) = turns_quiet e (arrival ∷ refusal unreadable_text ∷ []) turns (tt, (tt, tt)) taken
 input_quiet e bytes _ (readable packet counted turns found counts taken) =
-    first_quiet e arrival counted turns tt counts (admitted_quiet counted.outcome.after (packet_in packet) (admits e.core (packet_in packet)) turns taken)
+    first_quiet e arrival counted turns tt counts (admitted_quiet counted.outcome.after (packet_of_content packet) (admits e.core (packet_of_content packet)) turns taken)
 
 -- ---- time
 
@@ -148,7 +148,7 @@ expiries_quiet (timer ∷ timers) has_expired e turns taken =
 moment_quiet : (e : Endpoint) (moment : ℕ) (turns : List Transition) → MomentTurns e moment turns → AreQuiet e turns
 moment_quiet e moment [] taken = absurd taken
 moment_quiet e moment (t ∷ turns) taken =
-    first_quiet e (time_passes moment) t turns tt taken.0 (expiries_quiet (timers_in t.outcome.after.core) false t.outcome.after turns taken.1)
+    first_quiet e (time_passes moment) t turns tt taken.0 (expiries_quiet (handled_timers t.outcome.after.core) false t.outcome.after turns taken.1)
 
 time_quiet : (later : Bool) (e : Endpoint) (moment : ℕ) (turns : List Transition) → TimeTurns later e moment turns → AreQuiet e turns
 time_quiet true e moment turns taken = moment_quiet e moment turns taken

@@ -9,10 +9,10 @@ use Rattle.dcsctp_core.specs.types.Setting.{Setting}
 use Rattle.dcsctp_core.specs.spec.endpoint.SettingOutcomes.{setting_outcome}
 use Rattle.dcsctp_core.specs.api.Calls.{UserView, with_setting}
 use Rattle.dcsctp_world.specs.declared.act.Reply.TheVariants.{Done}
-use Rattle.dcsctp_world.specs.Growth.{CallMade, IsCallReply}
+use Rattle.dcsctp_world.specs.Growth.{MakesUserCall, IsCallReply}
 
 set_is_called : (setting : Setting) (old : UserView) → old.failed ≡ false
-    → CallMade (UserTurns old.endpoint (set_call setting)) (IsCallReply old.endpoint (set_call setting)) old (Ok Done) (with_setting setting old)
+    → MakesUserCall (UserTurns old.endpoint (set_call setting)) (IsCallReply old.endpoint (set_call setting)) old (Ok Done) (with_setting setting old)
 set_is_called setting old runs =
     record {
       answers = (refl, tt);
@@ -30,7 +30,7 @@ set_is_called setting old runs =
     }
 
 pub setting_called : (setting : Setting) (old new : UserView) → old.failed ≡ false → new ≡ with_setting setting old
-    → CallMade (UserTurns old.endpoint (set_call setting)) (IsCallReply old.endpoint (set_call setting)) old (Ok Done) new
+    → MakesUserCall (UserTurns old.endpoint (set_call setting)) (IsCallReply old.endpoint (set_call setting)) old (Ok Done) new
 setting_called setting old new runs is =
-    subst (λ (view : UserView). CallMade (UserTurns old.endpoint (set_call setting)) (IsCallReply old.endpoint (set_call setting)) old (Ok Done) view) (sym is)
+    subst (λ (view : UserView). MakesUserCall (UserTurns old.endpoint (set_call setting)) (IsCallReply old.endpoint (set_call setting)) old (Ok Done) view) (sym is)
     (set_is_called setting old runs)

@@ -9,19 +9,19 @@ use Rattle.dcsctp_core.specs.spec.queues.Transfer.{Transfer}
 use Rattle.dcsctp_core.specs.spec.endpoint.Endpoint.{Endpoint}
 use Rattle.dcsctp_core.specs.spec.endpoint.Outcome.{Outcome, still}
 use Rattle.dcsctp_core.specs.spec.endpoint.Turn.{user_takes}
-use Rattle.dcsctp_core.specs.spec.endpoint.DataOutcomes.{TakeWhere, TakeLeft, TakeTurn}
+use Rattle.dcsctp_core.specs.spec.endpoint.DataOutcomes.{TakesFirstReady, TakeLeft, TakeTurn}
 use Rattle.dcsctp_core.specs.spec.endpoint.CallTurns.{transition}
 use Rattle.dcsctp_core.specs.api.Calls.{UserView, Follows}
 use Rattle.dcsctp_core.specs.api.Messages.{TakesNextMessage}
 use Rattle.dcsctp_world.specs.declared.act.Reply.TheVariants.{Taken}
-use Rattle.dcsctp_world.specs.Growth.{CallMade, IsCallReply}
+use Rattle.dcsctp_world.specs.Growth.{MakesUserCall, IsCallReply}
 
 -- ---- it changes the endpoint alone
 
 still_after : (e : Endpoint) (o : Outcome) → o ≡ still e → o ≡ still o.after
 still_after e o is = is ∙ ap (λ (x : Outcome). still x.after) (sym is)
 
-quiet_where : (e : Endpoint) (transfer : Transfer) (messages : List MessageContent) (o : Outcome) → TakeWhere e transfer messages o → o ≡ still o.after
+quiet_where : (e : Endpoint) (transfer : Transfer) (messages : List MessageContent) (o : Outcome) → TakesFirstReady e transfer messages o → o ≡ still o.after
 quiet_where e transfer [] o turn = still_after e o turn
 quiet_where e transfer (message ∷ messages) o turn = still_after _ o turn
 
@@ -45,7 +45,7 @@ take_follows old o runs is =
     (record { runs = runs; goes_on = runs; endpoint = refl; events = sym (append-nil old.events); words = refl; pairs = refl; drawn = refl })
 
 pub take_called : (old new : UserView) (result : Option Message) → old.failed ≡ false → TakesNextMessage old result new
-    → CallMade (UserTurns old.endpoint take_call) (IsCallReply old.endpoint take_call) old (Ok (Taken result)) new
+    → MakesUserCall (UserTurns old.endpoint take_call) (IsCallReply old.endpoint take_call) old (Ok (Taken result)) new
 unfolding after_taking
 take_called old new result runs h =
     record {

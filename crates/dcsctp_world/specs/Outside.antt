@@ -14,13 +14,13 @@ use Rattle.dcsctp_world.specs.Growth.{IsHandedOn, IsRestoreReply}
 abbrev pub OutsideHandoverTurns : Endpoint → List Transition → Type 0
 OutsideHandoverTurns e turns = Turns e (inputs_of_both (readiness_of e) (snapshot_of e)) turns
 
-abbrev pub IsHandedOnBy : Endpoint → Reply → Type 0
-IsHandedOnBy e reply = IsHandedOn (readiness_of e) e reply
+abbrev pub IsHandoverReply : Endpoint → Reply → Type 0
+IsHandoverReply e reply = IsHandedOn (readiness_of e) e reply
 
 -- ---- one that is restored from any snapshot
 
 abbrev pub ValidTurns : Endpoint → Snapshot → List Transition → Type 0
 ValidTurns e state turns = Turns e (inputs_where_valid (is_valid_snapshot e.options state) e.core state) turns
 
-abbrev pub IsRestoredBy : Endpoint → Snapshot → Reply → Type 0
-IsRestoredBy e state reply = IsRestoreReply (is_valid_snapshot e.options state) e.core reply
+abbrev pub IsRestoredReply : Endpoint → Snapshot → Reply → Type 0
+IsRestoredReply e state reply = IsRestoreReply (is_valid_snapshot e.options state) e.core reply

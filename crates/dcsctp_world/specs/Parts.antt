@@ -8,19 +8,19 @@ use Rattle.dcsctp_core.specs.types.Schedule.{act_content}
 use Rattle.dcsctp_core.specs.types.declared.schedule.Act.{Act}
 use Rattle.dcsctp_core.specs.types.queues.Messages.{message_content}
 use Rattle.dcsctp_world.specs.declared.watched_socket.WatchedSocket.{WatchedSocket}
-use Rattle.dcsctp_world.specs.Growth.{Kept}
-use Rattle.dcsctp_world.specs.Shown.{SideShown, WorldView}
+use Rattle.dcsctp_world.specs.Growth.{KeptOutput}
+use Rattle.dcsctp_world.specs.Shown.{ShownSide, WorldView}
 
 -- the bytes of packets
 abbrev pub bytes_of_packets : List (Vec ℕ Global) → List (List ℕ)
 bytes_of_packets packets = map (λ (packet : Vec ℕ Global). packet.items) packets
 
 -- events and packets that are kept
-abbrev pub kept : List SocketEvent → List (Vec ℕ Global) → Kept
-kept events packets = record { events = map event_content events; packets = bytes_of_packets packets }
+abbrev pub kept_output : List SocketEvent → List (Vec ℕ Global) → KeptOutput
+kept_output events packets = record { events = map event_content events; packets = bytes_of_packets packets }
 
-abbrev pub shown : {R : Type 0} → WatchedSocket R → SideShown R
-shown watched =
+abbrev pub shown_side : {R : Type 0} → WatchedSocket R → ShownSide R
+shown_side watched =
     record {
       socket = watched.socket;
       options = watched.options;
@@ -33,8 +33,8 @@ shown watched =
       associations = watched.associations.items;
     }
 
-abbrev pub both : {R : Type 0} → WatchedSocket R → WatchedSocket R → Both (SideShown R)
-both a b = record { a = shown a; b = shown b }
+abbrev pub both : {R : Type 0} → WatchedSocket R → WatchedSocket R → Both (ShownSide R)
+both a b = record { a = shown_side a; b = shown_side b }
 
 abbrev pub world_of : {R : Type 0} → WatchedSocket R → WatchedSocket R → List Act → Bool → WorldView R
 world_of a b acts failed = record { sides = both a b; acts = map act_content acts; failed = failed }

@@ -8,35 +8,35 @@ use Rattle.dcsctp_core.specs.spec.endpoint.Endpoint.{fresh_endpoint}
 use Rattle.dcsctp_core.specs.spec.endpoint.CallTurns.{Transition, AlongTurns}
 use Rattle.dcsctp_spec_runs.specs.Past.{Each, InPlace}
 use Rattle.dcsctp_spec_runs.specs.Sockets.{of_side, turns_after, acts_of}
-use Rattle.dcsctp_theorem_sockets.specs.Agreement.{AgreeThroughout, noted_past}
+use Rattle.dcsctp_theorem_sockets.specs.Agreement.{AgreeThroughout, recorded_past}
 use Rattle.dcsctp_theorem_sockets.specs.Deadlines.{RunsT1}
 use Rattle.dcsctp_theorem_sockets.specs.Handshake.{AreFitting, ConnectThroughout}
-use Rattle.dcsctp_theorem_sockets.specs.OneSocket.{EndsByAnswer, TellsEnd, IsWithinLimit, TurnKeepsBurst, TimeIsQuiet}
-use Rattle.dcsctp_theorem_sockets.specs.Telling.{TellsNoted, HoldsNoted, AreAnew}
+use Rattle.dcsctp_theorem_sockets.specs.OneSocket.{EndsByAnswer, ReportsEnd, IsWithinLimit, TurnKeepsBurst, TimeIsQuiet}
+use Rattle.dcsctp_theorem_sockets.specs.Telling.{ReportsRecorded, HasRecordedAssociation, AreNewRecords}
 use Rattle.dcsctp_theorem_cookies.specs.Ages.{AgeThroughout}
-use Rattle.dcsctp_theorem_cookies.specs.Cookies.{GivenThroughout}
+use Rattle.dcsctp_theorem_cookies.specs.Cookies.{GivesCookiesThroughout}
 use Rattle.dcsctp_delivery_shown.specs.Delivery.{DeliverThroughout}
 use Rattle.dcsctp_world.specs.Connecting.{ShownRoundsConnect}
 use Rattle.dcsctp_world.specs.Drawing.{AreWhole}
 use Rattle.dcsctp_world.specs.Handshake.{ShownHandshakeConnects}
 use Rattle.dcsctp_world.specs.Recording.{Recording}
 use Rattle.dcsctp_world.specs.Run.{IsRun}
-use Rattle.dcsctp_world.specs.Shown.{SideShown, WorldView, options_of}
+use Rattle.dcsctp_world.specs.Shown.{ShownSide, WorldView, options_of}
 
 -- What each socket keeps, whatever bytes it was handed: by its options, the turns that it had, and what it shows.
-pub record KeepsPromises {R : Type 0} (options : Options) (turns : List Transition) (side : SideShown R) : Type 0 where
+pub record KeepsPromises {R : Type 0} (options : Options) (turns : List Transition) (side : ShownSide R) : Type 0 where
   -- An association connects at most once, and the numbers of requests to reset streams go up by one (RFC 6525, section 4.1).
-  pub numbers : Each InPlace (noted_past turns)
+  pub numbers : Each InPlace (recorded_past turns)
   -- Each turn's events report the connections, ends and resets that it recorded, in the same order.
-  pub told : AllByRecursion TellsNoted turns
+  pub told : AllByRecursion ReportsRecorded turns
   -- The socket's association is the one that was recorded last.
-  pub held : HoldsNoted turns side.socket.view.endpoint
+  pub held : HasRecordedAssociation turns side.socket.view.endpoint
   -- An association of a handshake is recorded only if it differs from the one before.
-  pub anew : AreAnew (fresh_endpoint options) turns
+  pub anew : AreNewRecords (fresh_endpoint options) turns
   -- A request to reset streams ends by an answer with its number.
   pub answers : AllByRecursion EndsByAnswer turns
   -- A turn that ends an association reports that once, and no other turn reports an end.
-  pub ends : AlongTurns TellsEnd (fresh_endpoint options) turns
+  pub ends : AlongTurns ReportsEnd (fresh_endpoint options) turns
   -- A socket that awaits an INIT ACK or a COOKIE ACK has T1 running.
   pub t1 : RunsT1 side.socket.view.endpoint
   -- No packet is longer than the options allow.
@@ -57,7 +57,7 @@ pub record Promises {R : Type 0} (world : WorldView (Recording R)) : Type 0 wher
   -- was performed, its peer performed one of that number, if it is one of the first 2^32 - 1 of a lifetime.
   pub agree : AgreeThroughout (options_of world) run.steps
   -- Each COOKIE ECHO that a side handles has a cookie that this side gave away in an earlier turn.
-  pub given : GivenThroughout run.steps
+  pub given : GivesCookiesThroughout run.steps
   -- If it makes an association, that is at most the cookie's lifetime later.
   pub ages : AgeThroughout (options_of world) run.steps
   -- What a user reads is what the other user sent, and no message is read twice. This also needs that each tag serves one

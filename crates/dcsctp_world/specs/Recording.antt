@@ -18,9 +18,9 @@ abbrev pub recorded_stream : {R : Type 0} → (R → Stream) → Recording R →
 recorded_stream stream recording = stream recording.inner
 
 -- It is whole after it gave this word if it was before and the word is kept. Else nothing more is kept.
-abbrev pub KeepsWhere : {R : Type 0} → Bool → Word → Recording R → List Word → Type 0
-KeepsWhere true word old words = (old.is_whole ≡ true) × (words ≡ old.words ++ word ∷ [])
-KeepsWhere false word old words = words ≡ old.words
+abbrev pub KeepsWordIfRoom : {R : Type 0} → Bool → Word → Recording R → List Word → Type 0
+KeepsWordIfRoom true word old words = (old.is_whole ≡ true) × (words ≡ old.words ++ word ∷ [])
+KeepsWordIfRoom false word old words = words ≡ old.words
 
 abbrev pub KeepsWord : {R : Type 0} → Word → Recording R → Recording R → Type 0
-KeepsWord word old new = KeepsWhere new.is_whole word old new.words
+KeepsWord word old new = KeepsWordIfRoom new.is_whole word old new.words

@@ -14,7 +14,7 @@ use Rattle.dcsctp_world.specs.declared.act.Reply.TheVariants.{Restored}
 
 -- Both pairs, the tie tag, what both ends support, and the numbers of requests are those of the snapshot. The flush after
 -- it begins no request of our own.
-pub record GoesOnFrom (options : Options) (state : Snapshot) (new : Endpoint) : Type 0 where
+pub record ContinuesFromSnapshot (options : Options) (state : Snapshot) (new : Endpoint) : Type 0 where
   pub core : new.core ≡ open_in established (own_pair state) (held_restored options state)
   pub tie : new.tie ≡ state.tie_tag
 
@@ -25,13 +25,13 @@ pub record ResumesEstablished (old : Endpoint) (my : Pair) (held : Held) (new : 
   pub tie : new.tie ≡ old.tie
 
 -- What an act from outside that restores a socket brings back.
-abbrev pub RestoresBy : OutsideContent → Reply → Endpoint → Endpoint → Type 0
-RestoresBy (input_outside side bytes) reply old new = Unit {0}
-RestoresBy (handover_outside side) reply old new =
+abbrev pub BringsBackAssociation : OutsideContent → Reply → Endpoint → Endpoint → Type 0
+BringsBackAssociation (input_outside side bytes) reply old new = Unit {0}
+BringsBackAssociation (handover_outside side) reply old new =
     reply ≡ Restored (Ok tt) → (my : Pair) (held : Held) → old.core ≡ open_in established my held → ResumesEstablished old my held new
-RestoresBy (restore_outside side state) reply old new = reply ≡ Restored (Ok tt) → state.socket_state ≡ Connected → GoesOnFrom old.options state new
+BringsBackAssociation (restore_outside side state) reply old new = reply ≡ Restored (Ok tt) → state.socket_state ≡ Connected → ContinuesFromSnapshot old.options state new
 
 -- What an act brings back of an association: a step restores no socket.
 abbrev pub BringsBack : ActContent → Reply → Endpoint → Endpoint → Type 0
 BringsBack (step_act step) reply old new = Unit {0}
-BringsBack (outside_act outside) reply old new = RestoresBy outside reply old new
+BringsBack (outside_act outside) reply old new = BringsBackAssociation outside reply old new

@@ -7,13 +7,13 @@ use Rattle.dcsctp_core.specs.spec.endpoint.Endpoint.{fresh_endpoint}
 use Rattle.dcsctp_spec_runs.specs.Sockets.{Both, of_side, PerformedAct, SocketRun, turns_after, endpoint_after, events_shown, packets_shown, acts_of, associations_of}
 use Rattle.dcsctp_theorem_sockets.specs.Agreement.{AreUsable}
 use Rattle.dcsctp_delivery_sockets.specs.Delivery.{AreInMemory}
-use Rattle.dcsctp_delivery_sockets.specs.UserMessages.{messages_sent_in, read_of}
-use Rattle.dcsctp_world.specs.Shown.{SideShown, WorldView, options_of}
+use Rattle.dcsctp_delivery_sockets.specs.UserMessages.{messages_of_turns, read_of}
+use Rattle.dcsctp_world.specs.Shown.{ShownSide, WorldView, options_of}
 use Rattle.dcsctp_world.specs.Recording.{Recording}
 use Rattle.dcsctp_world.specs.Drawing.{AreWhole}
 
 -- A side after these turns: it has not failed, no event waits in it, and it shows what they brought.
-pub record SideRuns {R : Type 0} (options : Options) (turns : List Transition) (side : SideShown R) : Type 0 where
+pub record SideRuns {R : Type 0} (options : Options) (turns : List Transition) (side : ShownSide R) : Type 0 where
   pub made_with : side.options ≡ options
   pub goes_on : side.socket.failed ≡ false
   pub endpoint : side.socket.view.endpoint ≡ endpoint_after options turns
@@ -22,7 +22,7 @@ pub record SideRuns {R : Type 0} (options : Options) (turns : List Transition) (
   pub packets : side.packets ≡ packets_shown options turns
   pub words : side.words ≡ words_of turns
   pub pairs : side.pairs ≡ pairs_of turns
-  pub sent : side.sent ≡ messages_sent_in (fresh_endpoint options) turns
+  pub sent : side.sent ≡ messages_of_turns (fresh_endpoint options) turns
   pub read : side.read ≡ read_of (fresh_endpoint options) turns
 
 -- All that the world shows is what two sockets with these options show, along one run of what was applied. Each message that a

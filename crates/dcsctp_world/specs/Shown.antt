@@ -13,7 +13,7 @@ use Rattle.dcsctp_core.specs.types.Schedule.{ActContent}
 -- A socket, and all that it ever showed, oldest first: its events, the packets among them, the words that it drew, and the pairs
 -- that it made of them; the messages that its user sent and read. Also its association at the start and after each act of either
 -- side.
-pub record SideShown (R : Type 0) : Type 0 where
+pub record ShownSide (R : Type 0) : Type 0 where
   pub socket : SocketView R
   -- those that the socket was made with
   pub options : Options
@@ -28,12 +28,12 @@ pub record SideShown (R : Type 0) : Type 0 where
 
 -- two of these, what happened to them, oldest first, and whether an allocation failed
 pub record WorldView (R : Type 0) : Type 0 where
-  pub sides : Both (SideShown R)
+  pub sides : Both (ShownSide R)
   pub acts : List ActContent
   pub failed : Bool
 
 -- a side with a socket that was just made
-abbrev pub fresh_side_shown : {R : Type 0} → Options → R → SideShown R
+abbrev pub fresh_side_shown : {R : Type 0} → Options → R → ShownSide R
 fresh_side_shown options generator =
     record { socket = fresh_socket options generator; options = options; events = []; packets = []; words = []; pairs = []; sent = []; read = []; associations = None ∷ [] }
 

@@ -3,8 +3,8 @@
 ghost use Rattle.std.specs.Prelude.{◌≡◌, map};
 ghost use Rattle.dcsctp_core.specs.types.Schedule.{call_content};
 ghost use Rattle.dcsctp_core.specs.types.queues.Messages.{message_content};
-ghost use Rattle.dcsctp_core.specs.api.Messages.{refused_in};
-ghost use Rattle.dcsctp_world.specs.Messages.{refused_by, is_refused_at, other_at, others_from, sent_if, sent_among, messages_of_call, taken_by, read_by, AddsAllOrFirst};
+ghost use Rattle.dcsctp_core.specs.api.Messages.{refused_messages};
+ghost use Rattle.dcsctp_world.specs.Messages.{refused_of_many, is_place_refused, other_unless_refused, others_from, sent_if, sent_among, messages_of_call, taken_messages, messages_read_of_call, AddsAllOrFirst};
 
 use crate::act::Reply;
 use dcsctp_core::api::{BatchSendError, Message, SendError};
@@ -24,7 +24,7 @@ fn keep_sent(sent: &mut Vec<Message>, message: &Message, reply: &Reply) -> Resul
 
 // Does this answer of `send_many` refuse the message of this place?
 fn refuses(answer: &Result<(), BatchSendError>, place: usize) -> bool
-    ensures { result ≡ is_refused_at place (refused_by answer.now) }
+    ensures { result ≡ is_place_refused place (refused_of_many answer.now) }
 {
     match answer {
         Ok(()) => false,
@@ -34,7 +34,7 @@ fn refuses(answer: &Result<(), BatchSendError>, place: usize) -> bool
 
 // Is the message of this place among these?
 fn is_among(refused: &[(usize, SendError)], place: usize) -> bool
-    ensures { result ≡ is_refused_at place (refused_in refused.now) }
+    ensures { result ≡ is_place_refused place (refused_messages refused.now) }
 {
     for (index, _) in refused {
         if *index == place {
@@ -52,7 +52,7 @@ fn keep_other(
     answer: &Result<(), BatchSendError>,
     place: usize,
 ) -> Result<(), AllocError>
-    ensures { AddsAllOrFirst (other_at place (refused_by answer.now) (message_content message.now))
+    ensures { AddsAllOrFirst (other_unless_refused place (refused_of_many answer.now) (message_content message.now))
         (map message_content sent.old.items) result (map message_content sent.new.items) }
 {
     if !refuses(answer, place) {
@@ -69,7 +69,7 @@ fn keep_others(
     answer: &Result<(), BatchSendError>,
 ) -> Result<(), AllocError>
     ensures { AddsAllOrFirst
-        (others_from 0 (refused_by answer.now) (map message_content messages.now))
+        (others_from 0 (refused_of_many answer.now) (map message_content messages.now))
         (map message_content sent.old.items) result (map message_content sent.new.items) }
 {
     for (place, message) in messages.iter().enumerate() {
@@ -96,7 +96,7 @@ fn keep_accepted(
 
 // Keeps a copy of the message that was read, if one was. `Err`: an allocation failed, and nothing was kept.
 fn keep_taken(read: &mut Vec<Message>, reply: &Reply) -> Result<(), AllocError>
-    ensures { AddsAllOrFirst (taken_by reply.now) (map message_content read.old.items) result
+    ensures { AddsAllOrFirst (taken_messages reply.now) (map message_content read.old.items) result
         (map message_content read.new.items) }
 {
     if let Reply::Taken(Some(message)) = reply {
@@ -115,7 +115,7 @@ pub(crate) fn keep_messages(
 ) -> Result<(), AllocError>
     ensures sent { AddsAllOrFirst (messages_of_call (call_content call.now) reply.now)
         (map message_content sent.old.items) result (map message_content sent.new.items) }
-    ensures read { AddsAllOrFirst (read_by (call_content call.now) reply.now)
+    ensures read { AddsAllOrFirst (messages_read_of_call (call_content call.now) reply.now)
         (map message_content read.old.items) result (map message_content read.new.items) }
 {
     match call {

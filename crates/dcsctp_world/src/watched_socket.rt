@@ -14,9 +14,9 @@ ghost use Rattle.dcsctp_core.specs.api.Events.{event_content};
 ghost use Rattle.dcsctp_world.specs.declared.act.Reply.TheVariants.{Done};
 ghost use Rattle.dcsctp_socket.specs.SocketView.{user_view_of};
 ghost use Rattle.dcsctp_world.specs.Shown.{fresh_side_shown};
-ghost use Rattle.dcsctp_world.specs.Growth.{KeepsEvents, TakesAll, CollectsAll, CallMade, HandlesAct, Notes, IsReply, IsDeliveryReply, IsCallReply};
-ghost use Rattle.dcsctp_world.specs.Outside.{OutsideHandoverTurns, IsHandedOnBy, ValidTurns, IsRestoredBy};
-ghost use Rattle.dcsctp_world.specs.Parts.{bytes_of_packets, kept, shown};
+ghost use Rattle.dcsctp_world.specs.Growth.{KeepsEvents, TakesAll, CollectsAll, MakesUserCall, HandlesAct, RecordsAssociation, IsReply, IsDeliveryReply, IsCallReply};
+ghost use Rattle.dcsctp_world.specs.Outside.{OutsideHandoverTurns, IsHandoverReply, ValidTurns, IsRestoredReply};
+ghost use Rattle.dcsctp_world.specs.Parts.{bytes_of_packets, kept_output, shown_side};
 
 use crate::act::Reply;
 use crate::user_messages::keep_messages;
@@ -67,8 +67,8 @@ fn keep_event(
     packets: &mut Vec<Vec<u8>>,
     event: SocketEvent,
 ) -> Result<(), AllocError>
-    ensures { KeepsEvents (event_content event ∷ []) (kept events.old.items packets.old.items)
-        result (kept events.new.items packets.new.items) }
+    ensures { KeepsEvents (event_content event ∷ []) (kept_output events.old.items packets.old.items)
+        result (kept_output events.new.items packets.new.items) }
 {
     if let SocketEvent::SendPacket(packet) = &event {
         packets.push(packet.clone()?)?;
@@ -84,8 +84,8 @@ fn take_events<R: Rng + Drop>(
     events: &mut Vec<SocketEvent>,
     packets: &mut Vec<Vec<u8>>,
 ) -> Result<(), AllocError>
-    ensures { TakesAll (user_view_of R.stream socket.old) (kept events.old.items packets.old.items)
-        result (user_view_of R.stream socket.new) (kept events.new.items packets.new.items) }
+    ensures { TakesAll (user_view_of R.stream socket.old) (kept_output events.old.items packets.old.items)
+        result (user_view_of R.stream socket.new) (kept_output events.new.items packets.new.items) }
 {
     while let Some(event) = socket.poll_event() {
         keep_event(events, packets, event)?;
@@ -95,7 +95,7 @@ fn take_events<R: Rng + Drop>(
 
 // Makes a call of the user. The errors are those of the call.
 fn make_call<R: Rng + Drop>(socket: &mut Socket<R>, call: &Call) -> Result<Reply, SocketFault>
-    ensures { CallMade (UserTurns socket.old.view.endpoint (call_content call.now))
+    ensures { MakesUserCall (UserTurns socket.old.view.endpoint (call_content call.now))
         (IsCallReply socket.old.view.endpoint (call_content call.now))
         (user_view_of R.stream socket.old) result (user_view_of R.stream socket.new) }
 {
@@ -146,7 +146,7 @@ fn send<R: Rng + Drop>(
     message: &Message,
     options: &SendOptions,
 ) -> Result<Reply, SocketFault>
-    ensures { CallMade
+    ensures { MakesUserCall
         (UserTurns socket.old.view.endpoint (send_call (message_content message.now) options.now))
         (IsCallReply socket.old.view.endpoint (send_call (message_content message.now) options.now))
         (user_view_of R.stream socket.old) result (user_view_of R.stream socket.new) }
@@ -164,7 +164,7 @@ fn send_many<R: Rng + Drop>(
     messages: &Vec<Message>,
     options: &SendOptions,
 ) -> Result<Reply, SocketFault>
-    ensures { CallMade (UserTurns socket.old.view.endpoint
+    ensures { MakesUserCall (UserTurns socket.old.view.endpoint
         (send_many_call (map message_content messages.now.items) options.now))
         (IsCallReply socket.old.view.endpoint
         (send_many_call (map message_content messages.now.items) options.now))
@@ -182,7 +182,7 @@ fn reset_streams<R: Rng + Drop>(
     socket: &mut Socket<R>,
     stream_ids: &[StreamId],
 ) -> Result<Reply, SocketFault>
-    ensures { CallMade
+    ensures { MakesUserCall
         (UserTurns socket.old.view.endpoint (reset_call (stream_numbers stream_ids.now)))
         (IsCallReply socket.old.view.endpoint (reset_call (stream_numbers stream_ids.now)))
         (user_view_of R.stream socket.old) result (user_view_of R.stream socket.new) }
@@ -193,7 +193,7 @@ fn reset_streams<R: Rng + Drop>(
 
 // The user takes a message. `Err`: the socket had failed.
 fn take_message<R: Rng + Drop>(socket: &mut Socket<R>) -> Result<Reply, SocketFault>
-    ensures { CallMade (UserTurns socket.old.view.endpoint take_call)
+    ensures { MakesUserCall (UserTurns socket.old.view.endpoint take_call)
         (IsCallReply socket.old.view.endpoint take_call)
         (user_view_of R.stream socket.old) result (user_view_of R.stream socket.new) }
 {
@@ -205,7 +205,7 @@ fn take_message<R: Rng + Drop>(socket: &mut Socket<R>) -> Result<Reply, SocketFa
 
 // The user hands the socket over. The errors are those of the call.
 fn hand_over<R: Rng + Drop>(socket: &mut Socket<R>) -> Result<Reply, SocketFault>
-    ensures { CallMade (UserTurns socket.old.view.endpoint hand_over_call)
+    ensures { MakesUserCall (UserTurns socket.old.view.endpoint hand_over_call)
         (IsCallReply socket.old.view.endpoint hand_over_call)
         (user_view_of R.stream socket.old) result (user_view_of R.stream socket.new) }
 {
@@ -219,8 +219,8 @@ fn restore<R: Rng + Drop>(
     state: &SocketHandoverState,
 ) -> Result<Reply, SocketFault>
     requires { is_valid_snapshot socket.old.view.endpoint.options (snapshot state.now) ≡ true }
-    ensures { CallMade (ValidTurns socket.old.view.endpoint (snapshot state.now))
-        (IsRestoredBy socket.old.view.endpoint (snapshot state.now))
+    ensures { MakesUserCall (ValidTurns socket.old.view.endpoint (snapshot state.now))
+        (IsRestoredReply socket.old.view.endpoint (snapshot state.now))
         (user_view_of R.stream socket.old) result (user_view_of R.stream socket.new) }
 {
     let answer = socket.restore_from_state(state)?;
@@ -229,8 +229,8 @@ fn restore<R: Rng + Drop>(
 
 // Hands the socket over, and restores it from its snapshot. The errors are those of the calls.
 fn hand_over_and_restore<R: Rng + Drop>(socket: &mut Socket<R>) -> Result<Reply, SocketFault>
-    ensures { CallMade (OutsideHandoverTurns socket.old.view.endpoint)
-        (IsHandedOnBy socket.old.view.endpoint)
+    ensures { MakesUserCall (OutsideHandoverTurns socket.old.view.endpoint)
+        (IsHandoverReply socket.old.view.endpoint)
         (user_view_of R.stream socket.old) result (user_view_of R.stream socket.new) }
 {
     match socket.get_handover_state_and_close()? {
@@ -259,7 +259,7 @@ impl<R: Rng + Drop> WatchedSocket<R> {
         rng: R,
     ) -> Result<WatchedSocket<R>, SocketFault>
         requires { IsValid options.now }
-        ensures fresh { IfOk result (λ watched. shown watched ≡ fresh_side_shown options.now rng) }
+        ensures fresh { IfOk result (λ watched. shown_side watched ≡ fresh_side_shown options.now rng) }
         ensures fault { IsOkUnless result SocketFault.OutOfMemory }
     {
         let socket = Socket::new(alloc, name, options, rng)?;
@@ -281,7 +281,7 @@ impl<R: Rng + Drop> WatchedSocket<R> {
     // Keeps what the last call brought: its events, the words that it drew, and the pairs that it made of them.
     // `Err`: an allocation failed; the first of them have been kept.
     fn keep_all(&mut self) -> Result<(), AllocError>
-        ensures { CollectsAll R.stream (shown self.old) result (shown self.new) }
+        ensures { CollectsAll R.stream (shown_side self.old) result (shown_side self.new) }
     {
         take_events(&mut self.socket, &mut self.events, &mut self.packets)?;
         self.words.extend_from_slice(self.socket.drawn_words())?;
@@ -295,8 +295,8 @@ impl<R: Rng + Drop> WatchedSocket<R> {
         requires { self.old.socket.view.events ≡ [] }
         ensures { HandlesAct R.stream
             (UserTurns self.old.socket.view.endpoint (call_content call.now))
-            (IsCallReply self.old.socket.view.endpoint (call_content call.now)) (shown self.old)
-            result (shown self.new) }
+            (IsCallReply self.old.socket.view.endpoint (call_content call.now)) (shown_side self.old)
+            result (shown_side self.new) }
     {
         let reply = make_call(&mut self.socket, call)?;
         keep_messages(&mut self.sent, &mut self.read, call, &reply)?;
@@ -308,7 +308,7 @@ impl<R: Rng + Drop> WatchedSocket<R> {
     fn hand_in(&mut self, bytes: &[u8]) -> Result<Reply, SocketFault>
         requires { self.old.socket.view.events ≡ [] }
         ensures { HandlesAct R.stream (HandleInput self.old.socket.view.endpoint bytes.now)
-            (λ reply. reply ≡ Done) (shown self.old) result (shown self.new) }
+            (λ reply. reply ≡ Done) (shown_side self.old) result (shown_side self.new) }
     {
         self.socket.handle_input(bytes)?;
         self.keep_all()?;
@@ -322,7 +322,7 @@ impl<R: Rng + Drop> WatchedSocket<R> {
             (DeliveryTurns self.old.socket.view.endpoint (packet_at_number number
             (bytes_of_packets packets.now)))
             (IsDeliveryReply (packet_at_number number (bytes_of_packets packets.now)))
-            (shown self.old) result (shown self.new) }
+            (shown_side self.old) result (shown_side self.new) }
     {
         match packet_numbered(packets, number) {
             None => Ok(Reply::NoCall),
@@ -334,7 +334,7 @@ impl<R: Rng + Drop> WatchedSocket<R> {
     fn hand_over_and_restore(&mut self) -> Result<Reply, SocketFault>
         requires { self.old.socket.view.events ≡ [] }
         ensures { HandlesAct R.stream (OutsideHandoverTurns self.old.socket.view.endpoint)
-            (IsHandedOnBy self.old.socket.view.endpoint) (shown self.old) result (shown self.new) }
+            (IsHandoverReply self.old.socket.view.endpoint) (shown_side self.old) result (shown_side self.new) }
     {
         let reply = hand_over_and_restore(&mut self.socket)?;
         self.keep_all()?;
@@ -346,8 +346,8 @@ impl<R: Rng + Drop> WatchedSocket<R> {
         requires { self.old.socket.view.events ≡ [] }
         ensures { HandlesAct R.stream
             (ValidTurns self.old.socket.view.endpoint (snapshot state.now))
-            (IsRestoredBy self.old.socket.view.endpoint (snapshot state.now)) (shown self.old)
-            result (shown self.new) }
+            (IsRestoredReply self.old.socket.view.endpoint (snapshot state.now)) (shown_side self.old)
+            result (shown_side self.new) }
     {
         if !state.is_valid(&self.socket.options()) {
             return Ok(Reply::NoCall);
@@ -367,7 +367,7 @@ impl<R: Rng + Drop> WatchedSocket<R> {
             (TurnsOfAct self.old.socket.view.endpoint (bytes_of_packets packets.now)
             (act_content act.now))
             (IsReply self.old.socket.view.endpoint (bytes_of_packets packets.now)
-            (act_content act.now)) (shown self.old) result (shown self.new) }
+            (act_content act.now)) (shown_side self.old) result (shown_side self.new) }
     {
         match act {
             Act::Step(Step::Call(_, call)) => self.call(call),
@@ -380,7 +380,7 @@ impl<R: Rng + Drop> WatchedSocket<R> {
 
     /// Keeps the association as it is now. `Err`: an allocation failed, and nothing was kept.
     pub fn keep_association(&mut self) -> Result<(), AllocError>
-        ensures { Notes (shown self.old) result (shown self.new) }
+        ensures { RecordsAssociation (shown_side self.old) result (shown_side self.new) }
     {
         self.associations.push(self.socket.association())?;
         Ok(())

@@ -65,8 +65,8 @@ ghost use Rattle.dcsctp_world.specs.Shown.{fresh_world};
 ghost use Rattle.dcsctp_world.specs.Recording.{fresh_recording, recorded_stream};
 ghost use Rattle.dcsctp_world.specs.Drawing.{AreWhole};
 ghost use Rattle.dcsctp_world.specs.Promises.{Promises};
-ghost use Rattle.dcsctp_world.specs.Acts.{MovesSide, WorksAct, Applies, RunsSteps};
-ghost use Rattle.dcsctp_world.specs.Parts.{bytes_of_packets, shown, both, world_of};
+ghost use Rattle.dcsctp_world.specs.Acts.{MovesSide, AppliesOrFails, Applies, RunsSteps};
+ghost use Rattle.dcsctp_world.specs.Parts.{bytes_of_packets, shown_side, both, world_of};
 
 // Performs an act at its side. The errors are those of `WatchedSocket::perform`; the other side is unchanged.
 fn move_side<R: Rng + Drop>(
@@ -108,7 +108,7 @@ fn perform_and_keep<R: Rng + Drop>(
 ) -> Result<Reply, SocketFault>
     requires a { a.old.socket.view.events ≡ [] }
     requires b { b.old.socket.view.events ≡ [] }
-    ensures call { WorksAct (recorded_stream R.stream) (act_content act)
+    ensures call { AppliesOrFails (recorded_stream R.stream) (act_content act)
         (world_of a.old b.old acts.old.items false) result
         (world_of a.new b.new acts.new.items false) }
     ensures whole { OnOk result (AreWhole (both a.new b.new)) }
@@ -299,7 +299,7 @@ impl<R: Rng + Drop> World<R> {
 
     // One of the two sockets, with all that it showed.
     fn watched(&self, side: Side) -> &WatchedSocket<Recorded<R>>
-        ensures { shown result.now ≡ of_side side self.now.sides }
+        ensures { shown_side result.now ≡ of_side side self.now.sides }
     {
         match side {
             Side::A => &self.a,

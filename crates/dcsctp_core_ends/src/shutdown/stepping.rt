@@ -2,7 +2,7 @@
 
 ghost use Rattle.std.specs.Prelude.{◌≡◌, true};
 ghost use Rattle.std.specs.Duration.{as_nanos};
-ghost use Rattle.dcsctp_core.specs.spec.endpoint.Timers.{started};
+ghost use Rattle.dcsctp_core.specs.spec.endpoint.Timers.{started_timer};
 ghost use Rattle.dcsctp_core.specs.spec.endpoint.ShutdownOutcomes.{awaits_reset, t2_settings, waits_for_abandoned, waits_for_queue};
 ghost use Rattle.dcsctp_core.specs.Handling.{Tries};
 ghost use Rattle.dcsctp_core.specs.View.{core_of, endpoint_of};
@@ -22,7 +22,7 @@ use std::time::Duration;
 // how often a packet is sent again. Unlike RFC 9260, section 9.2, `t2_shutdown_timeout` is not used
 // (docs/design/decisions.md, Shutdown).
 fn started_t2(options: &Options, rto: Duration, now: SocketTime) -> ShutdownState
-    ensures { result.t2_shutdown.running ≡ started now (t2_settings options.now (as_nanos rto)) }
+    ensures { result.t2_shutdown.running ≡ started_timer now (t2_settings options.now (as_nanos rto)) }
 {
     let mut t2_shutdown = Timer::new(
         rto,

@@ -9,7 +9,7 @@ use dcsctp_api::wire::GapAckBlock;
 
 impl Outstanding {
     ghost use Rattle.std.specs.Prelude.{true, length};
-    ghost use Rattle.dcsctp_api.specs.spec.queues.Outstanding.{reported};
+    ghost use Rattle.dcsctp_api.specs.spec.queues.Outstanding.{reported_items};
     ghost use Rattle.dcsctp_api.specs.types.queues.Progress.{is_unacknowledged};
     ghost use Rattle.dcsctp_api.specs.spec.queues.Reports.{IsPlaceWithin, NamesItem, IsNewlyAcknowledged, IsLastPlace};
     ghost use Rattle.dcsctp_send_outstanding.specs.NamedPlaces.{AreSettledBetween, BlocksAreSettled};
@@ -117,7 +117,7 @@ impl Outstanding {
     /// Acknowledges the items that the blocks name, from the place `count` on.
     pub fn acknowledge_blocks(&mut self, count: usize, blocks: &[GapAckBlock])
         requires { count ≤ length self.old.items }
-        ensures { self.new ≡ record self.old { items = reported count blocks.now self.old.items } }
+        ensures { self.new ≡ record self.old { items = reported_items count blocks.now self.old.items } }
     {
         let _ = self.len();
         let mut row = 0;

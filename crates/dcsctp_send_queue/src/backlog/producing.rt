@@ -9,13 +9,13 @@ use std::alloc::AllocError;
 
 impl Backlog {
     ghost use Rattle.dcsctp_send_queue.specs.Backlog.{queue_of};
-    ghost use Rattle.dcsctp_api.specs.spec.queues.SendQueue.{CanGoOn, IsUnderWay, is_front_unordered, numbered_anew, numbered_for};
+    ghost use Rattle.dcsctp_api.specs.spec.queues.SendQueue.{CanGoOn, IsUnderWay, is_front_unordered, renumbered_under_way, numbered_for};
     ghost use Rattle.std.specs.Option.{option_map};
     ghost use Rattle.std.specs.Prelude.{◌≡◌, ◌==◌, ◌+◌, ◌-◌, ◌<◌, ◌++◌, ℕ, length, Some, None, Ok, OnOk, OnErr, IfOk, IfSome};
     ghost use Rattle.dcsctp_api.specs.types.queues.SendStreams.{Waiting, front_of, is_expired, stream_at};
-    ghost use Rattle.dcsctp_send_streams.specs.Telling.{contents, TellsFront};
+    ghost use Rattle.dcsctp_send_streams.specs.Telling.{contents, AddsFront};
     ghost use Rattle.dcsctp_send_streams.specs.Fragment.{HasSize};
-    ghost use Rattle.dcsctp_api.specs.spec.queues.Sending.{next_turn, begun_message_counted, fragment, after_part, part_events, after_last, last_events, DropsAll, size_produced, produced, produced_events, begun, TakesNextFragment, DiscardsNamed};
+    ghost use Rattle.dcsctp_api.specs.spec.queues.Sending.{next_turn, begun_message_counted, fragment, after_part, part_events, after_last, last_events, DropsAll, size_produced, queue_after_producing, produced_events, begun_under_way, TakesNextFragment, DiscardsNamed};
     ghost use Rattle.dcsctp_send_queue.specs.Leaving.{HasMore, HasUnsentBytes, DropsSome, NextUnexpired};
     ghost use Rattle.dcsctp_send_queue.specs.Calls.{StopsTaking, StopsDiscarding};
 
@@ -24,7 +24,7 @@ impl Backlog {
         requires { place < length self.now.streams }
         ensures { (message : Waiting)
             → front_of (stream_at self.now.streams place).messages ≡ Some message
-            → result ≡ begun message (stream_at self.now.streams place) }
+            → result ≡ begun_under_way message (stream_at self.now.streams place) }
     {
         let stream = self.streams.at(place);
         let is_unordered = self.is_front_unordered(place);
@@ -66,7 +66,7 @@ impl Backlog {
     fn number_anew(&mut self, is_interleaved: bool)
         requires { CanGoOn self.old.streams self.old.under_way }
         ensures whole { queue_of self.new
-            ≡ numbered_anew self.old.under_way
+            ≡ renumbered_under_way self.old.under_way
             (record (queue_of self.old) { is_interleaved = is_interleaved }) }
         ensures can { CanGoOn self.new.streams self.new.under_way }
     {
@@ -147,7 +147,7 @@ impl Backlog {
         ensures left { (message : Waiting)
             → front_of (stream_at self.old.streams place).messages ≡ Some message
             → OnOk result
-            (queue_of self.new ≡ produced place max message under_way (queue_of self.old)) }
+            (queue_of self.new ≡ queue_after_producing place max message under_way (queue_of self.old)) }
         ensures told { (message : Waiting)
             → front_of (stream_at self.old.streams place).messages ≡ Some message
             → OnOk result
@@ -158,7 +158,7 @@ impl Backlog {
         ensures front { (message : Waiting)
             → front_of (stream_at self.old.streams place).messages ≡ Some message
             → OnErr result
-            (TellsFront (contents events.old)
+            (AddsFront (contents events.old)
             (produced_events place max message under_way (queue_of self.old))
             (contents events.new)) }
     {
@@ -322,7 +322,7 @@ impl Backlog {
             ≡ contents events.old ++ part_events place size (queue_of self.old)) }
         ensures err { OnErr result (self.new ≡ self.old) }
         ensures front { OnErr result
-            (TellsFront (contents events.old) (part_events place size (queue_of self.old))
+            (AddsFront (contents events.old) (part_events place size (queue_of self.old))
             (contents events.new)) }
     {
         let message = self.streams.at(place).front().unwrap();
@@ -369,7 +369,7 @@ impl Backlog {
         ensures front { (message : Waiting)
             → front_of (stream_at self.old.streams place).messages ≡ Some message
             → OnErr result
-            (TellsFront (contents events.old)
+            (AddsFront (contents events.old)
             (last_events place message under_way (queue_of self.old)) (contents events.new)) }
     {
         let message = self.streams.at(place).front().unwrap();

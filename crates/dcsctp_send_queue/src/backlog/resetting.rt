@@ -14,11 +14,11 @@ impl Backlog {
     ghost use Rattle.dcsctp_api.specs.types.queues.SendStreams.{handed_out, stream_at, IsAscending};
     ghost use Rattle.dcsctp_api.specs.types.Ids.{stream_numbers};
     ghost use Rattle.dcsctp_api.specs.spec.queues.Transfer.{is_none_ready};
-    ghost use Rattle.dcsctp_send_streams.specs.Telling.{contents, TellsFront};
+    ghost use Rattle.dcsctp_send_streams.specs.Telling.{contents, AddsFront};
     ghost use Rattle.dcsctp_send_streams.specs.Ranking.{count_pausing};
-    ghost use Rattle.dcsctp_api.specs.spec.queues.OwnResets.{count_under_way, ready_streams, prepared, prepare_events, handing_out};
+    ghost use Rattle.dcsctp_api.specs.spec.queues.OwnResets.{count_under_way, ready_streams, queue_with_prepared, prepare_events, handing_out};
     ghost use Rattle.dcsctp_send_queue.specs.Leaving.{after_pause, pause_events};
-    ghost use Rattle.dcsctp_api.specs.spec.queues.Sending.{begun};
+    ghost use Rattle.dcsctp_api.specs.spec.queues.Sending.{begun_under_way};
     ghost use Rattle.dcsctp_send_queue.specs.Resets.{IsUsedAtMost};
 
     /// Drops the messages of the stream that haven't been started, and pauses it.
@@ -29,7 +29,7 @@ impl Backlog {
             (contents events.new ≡ contents events.old ++ pause_events place (queue_of self.old)) }
         ensures err { OnErr result (self.new ≡ self.old) }
         ensures front { OnErr result
-            (TellsFront (contents events.old) (pause_events place (queue_of self.old))
+            (AddsFront (contents events.old) (pause_events place (queue_of self.old))
             (contents events.new)) }
     {
         let kept = self.count_under_way(self.streams.at(place).id());
@@ -43,7 +43,7 @@ impl Backlog {
 
     /// Drops the messages of the stream that haven't been started, and pauses it, if it isn't paused yet.
     pub fn prepare(&mut self, events: &mut Events, stream_id: StreamId) -> Result<(), AllocError>
-        ensures ok { OnOk result (queue_of self.new ≡ prepared stream_id.0 (queue_of self.old)) }
+        ensures ok { OnOk result (queue_of self.new ≡ queue_with_prepared stream_id.0 (queue_of self.old)) }
         ensures told { OnOk result
             (contents events.new
             ≡ contents events.old ++ prepare_events stream_id.0 (queue_of self.old)) }
@@ -53,7 +53,7 @@ impl Backlog {
         ensures err { OnErr result
             (IsUsedAtMost stream_id.0 (queue_of self.old) (queue_of self.new)) }
         ensures front { OnErr result
-            (TellsFront (contents events.old) (prepare_events stream_id.0 (queue_of self.old))
+            (AddsFront (contents events.old) (prepare_events stream_id.0 (queue_of self.old))
             (contents events.new)) }
     {
         let place = self.use_stream(stream_id)?;

@@ -3,7 +3,7 @@
 ghost use Rattle.std.specs.Prelude.{◌≡◌, ◌++◌, true, OnOk, OnErr};
 ghost use Rattle.std.specs.Option.{option_map};
 ghost use Rattle.dcsctp_api.specs.types.Ids.{lifecycle_number};
-ghost use Rattle.dcsctp_send_streams.specs.Telling.{contents, TellsFront};
+ghost use Rattle.dcsctp_send_streams.specs.Telling.{contents, AddsFront};
 ghost use Rattle.dcsctp_api.specs.spec.queues.Filling.{maybe_expired};
 ghost use Rattle.dcsctp_api.specs.spec.queues.NextItem.{is_used_up, is_over, is_abandonment_due};
 
@@ -16,13 +16,13 @@ use std::alloc::AllocError;
 
 impl RetransmissionQueue {
     ghost use Rattle.std.specs.Prelude.{ℕ, List, [], ◌&&◌, ◌+◌, ◌-◌, ◌/◌, ◌<◌, ◌≤◌, IfOk, length};
-    ghost use Rattle.dcsctp_api.specs.spec.endpoint.Timers.{expires_at};
+    ghost use Rattle.dcsctp_api.specs.spec.endpoint.Timers.{is_expired_timer};
     ghost use Rattle.dcsctp_api.specs.spec.queues.Items.{is_first_abandoned};
     ghost use Rattle.dcsctp_send_retransmission.specs.Queue.{MayGrow, AbandonsItems};
     ghost use Rattle.dcsctp_api.specs.spec.queues.ItemMessages.{AtPlace};
     ghost use Rattle.dcsctp_api.specs.types.queues.Progress.{is_unacknowledged};
-    ghost use Rattle.dcsctp_send_retransmission.specs.States.{RefusesUpAt, RefusesClosing, stage};
-    ghost use Rattle.dcsctp_api.specs.spec.queues.Filling.{GivesUpAt, ClosesMessage};
+    ghost use Rattle.dcsctp_send_retransmission.specs.States.{RefusesAbandoningItem, RefusesClosing, stage};
+    ghost use Rattle.dcsctp_api.specs.spec.queues.Filling.{GivesUpItem, ClosesMessage};
     ghost use Rattle.dcsctp_send_retransmission.specs.GivingUp.{GivesUpDue, GivesUpIf};
 
     // Is the message of the item at the place to be abandoned instead of being sent again?
@@ -46,11 +46,11 @@ impl RetransmissionQueue {
         ensures ok { OnOk result (AbandonsItems place self.old self.new) }
         ensures whole { OnOk result
             ((tsns : List ℕ) (room : ℕ)
-            → GivesUpAt now place (stage self.old queue.old events.old tsns room)
+            → GivesUpItem now place (stage self.old queue.old events.old tsns room)
             (stage self.new queue.new events.new tsns room)) }
         ensures err { OnErr result ((self.new ≡ self.old) × (queue.new ≡ queue.old)) }
         ensures front { OnErr result
-            (RefusesUpAt place self.old.outstanding.items queue.old (contents events.old)
+            (RefusesAbandoningItem place self.old.outstanding.items queue.old (contents events.old)
             (contents events.new)) }
     {
         let (start, end) = self.outstanding.message_places(place);
@@ -218,7 +218,7 @@ fn tell_maybe_expired(events: &mut Events, id: Option<LifecycleId>) -> Result<()
         (contents events.new
         ≡ contents events.old ++ maybe_expired (option_map lifecycle_number id)) }
     ensures err { OnErr result
-        (TellsFront (contents events.old) (maybe_expired (option_map lifecycle_number id))
+        (AddsFront (contents events.old) (maybe_expired (option_map lifecycle_number id))
         (contents events.new)) }
 {
     if let Some(id) = id {

@@ -2,8 +2,8 @@
 
 ghost use Rattle.std.specs.Prelude.{◌≡◌, ◌++◌, Some, true, OnOk, OnErr};
 ghost use Rattle.dcsctp_api.specs.types.Ids.{lifecycle_number};
-ghost use Rattle.dcsctp_api.specs.spec.queues.Acknowledging.{ends_delivery, lifecycle_events_by, delivered_events};
-ghost use Rattle.dcsctp_send_streams.specs.Telling.{contents, TellsFront};
+ghost use Rattle.dcsctp_api.specs.spec.queues.Acknowledging.{ends_delivery, lifecycle_events_of, delivered_events};
+ghost use Rattle.dcsctp_send_streams.specs.Telling.{contents, AddsFront};
 
 use super::RetransmissionQueue;
 use crate::handle_sack_result::HandleSackResult;
@@ -21,8 +21,8 @@ impl RetransmissionQueue {
     ghost use Rattle.dcsctp_api.specs.spec.queues.Reports.{MissesUntil, IsNewlyAcknowledged, IsLastPlace};
     ghost use Rattle.dcsctp_api.specs.spec.queues.Outstanding.{tsn_at};
     ghost use Rattle.dcsctp_send_retransmission.specs.Queue.{HandlesSackInQueue};
-    ghost use Rattle.dcsctp_api.specs.spec.queues.Acknowledging.{acknowledged_until, missed_until, window_settled_at, is_recovering, is_sack_valid};
-    ghost use Rattle.dcsctp_api.specs.spec.queues.RoundTrip.{round_trip_at};
+    ghost use Rattle.dcsctp_api.specs.spec.queues.Acknowledging.{acknowledged_until, missed_until, window_after_settling, is_recovering, is_sack_valid};
+    ghost use Rattle.dcsctp_api.specs.spec.queues.RoundTrip.{round_trip_of_place};
 
     /// Does a cumulative TSN ack count? One that is old doesn't, nor does one that was never sent (RFC 9260,
     /// section 6.2.1).
@@ -81,7 +81,7 @@ impl RetransmissionQueue {
     // again at once, if the timer has expired since it was started: those were probes, for which there was no room
     // (section 6.1, rule A).
     fn settle(&mut self, now: SocketTime, a_rwnd: u32, count: usize)
-        ensures { self.new ≡ window_settled_at now a_rwnd count self.old }
+        ensures { self.new ≡ window_after_settling now a_rwnd count self.old }
     {
         let was_closed = self.is_window_closed();
         self.peer_window = a_rwnd as usize;
@@ -103,7 +103,7 @@ impl RetransmissionQueue {
             (contents events.new
             ≡ contents events.old ++ delivered_events (take count self.now.outstanding.items)) }
         ensures err { OnErr result
-            (TellsFront (contents events.old)
+            (AddsFront (contents events.old)
             (delivered_events (take count self.now.outstanding.items)) (contents events.new)) }
     {
         for place in 0..count {
@@ -115,7 +115,7 @@ impl RetransmissionQueue {
     // The round trip of the item at the place, unless it was sent again or was to be (RFC 9260, section 6.3.1).
     fn round_trip(&self, place: Option<usize>, now: SocketTime) -> Option<Duration>
         requires { IfSome place (λ newest. newest < length self.now.outstanding.items) }
-        ensures { option_map as_nanos result ≡ round_trip_at now self.now.outstanding.items place }
+        ensures { option_map as_nanos result ≡ round_trip_of_place now self.now.outstanding.items place }
     {
         let item = self.outstanding.item(place?);
         if item.progress.times_sent_again == 0 && !item.progress.state.is_marked() {
@@ -210,10 +210,10 @@ fn tell_of(events: &mut Events, item: &Item) -> Result<(), AllocError>
     ensures ok { OnOk result
         (contents events.new
         ≡ contents events.old
-        ++ lifecycle_events_by item.now.fragment.lifecycle (ends_delivery item.now)) }
+        ++ lifecycle_events_of item.now.fragment.lifecycle (ends_delivery item.now)) }
     ensures err { OnErr result
-        (TellsFront (contents events.old)
-        (lifecycle_events_by item.now.fragment.lifecycle (ends_delivery item.now))
+        (AddsFront (contents events.old)
+        (lifecycle_events_of item.now.fragment.lifecycle (ends_delivery item.now))
         (contents events.new)) }
 {
     match item.fragment.lifecycle_id {
@@ -232,9 +232,9 @@ fn tell_of(events: &mut Events, item: &Item) -> Result<(), AllocError>
 fn tell_delivered(events: &mut Events, id: LifecycleId) -> Result<(), AllocError>
     ensures ok { OnOk result
         (contents events.new
-        ≡ contents events.old ++ lifecycle_events_by (Some (lifecycle_number id)) true) }
+        ≡ contents events.old ++ lifecycle_events_of (Some (lifecycle_number id)) true) }
     ensures err { OnErr result
-        (TellsFront (contents events.old) (lifecycle_events_by (Some (lifecycle_number id)) true)
+        (AddsFront (contents events.old) (lifecycle_events_of (Some (lifecycle_number id)) true)
         (contents events.new)) }
 {
     events.add(SocketEvent::OnLifecycleMessageDelivered(id))?;

@@ -23,7 +23,7 @@ pub(super) struct LastNumbers {
 impl RetransmissionQueue {
     ghost use Rattle.dcsctp_send_retransmission.specs.Forwarding.{SkipsAbandoned};
     ghost use Rattle.dcsctp_api.specs.spec.queues.Skipping.{is_row_continued, entry_limit};
-    ghost use Rattle.dcsctp_send_retransmission.specs.Skipping.{CollectsLastNumbers, SkipsRow, TakesItemIn};
+    ghost use Rattle.dcsctp_send_retransmission.specs.Skipping.{CollectsLastNumbers, SkipsRow, TakesItem};
 
     /// What a FORWARD-TSN says, or with interleaving an I-FORWARD-TSN (RFC 3758, section 3.5; RFC 8260,
     /// section 2.3.1). It has the last TSN of the row of abandoned items at the front. For each stream it has
@@ -98,7 +98,7 @@ impl RetransmissionQueue {
         requires row { CollectsLastNumbers self.now (take place self.now.outstanding.items)
             numbers.old.entries }
         ensures { IfOk result
-            (λ taken. TakesItemIn self.now place numbers.old.entries numbers.new.entries taken) }
+            (λ taken. TakesItem self.now place numbers.old.entries numbers.new.entries taken) }
     {
         let fragment = &self.outstanding.item(place).fragment;
         if !self.is_listed(fragment) {

@@ -12,9 +12,9 @@ impl RetransmissionQueue {
     ghost use Rattle.dcsctp_api.specs.declared.events.SocketEvent.{SocketEvent};
     ghost use Rattle.dcsctp_api.specs.spec.queues.Items.{marked_items};
     ghost use Rattle.dcsctp_api.specs.spec.queues.Retransmission.{has_fast_retransmit, timer_with};
-    ghost use Rattle.dcsctp_api.specs.spec.queues.NextItem.{IsNextMarked, IsMarkedAt, HaltsAgain, is_abandonment_due};
+    ghost use Rattle.dcsctp_api.specs.spec.queues.NextItem.{IsNextMarked, IsMarkedItem, HaltsAgain, is_abandonment_due};
     ghost use Rattle.dcsctp_send_retransmission.specs.Halting.{SendsAgain, GoesAgain};
-    ghost use Rattle.dcsctp_send_retransmission.specs.States.{TriesAtOnce, stage, Goes, SendsAt};
+    ghost use Rattle.dcsctp_send_retransmission.specs.States.{TriesAtOnce, stage, Goes, SendsItemAgain};
     ghost use Rattle.dcsctp_api.specs.spec.queues.Filling.{SendsMarked, StepAgain};
     ghost use Rattle.dcsctp_api.specs.spec.queues.AtOnce.{HaltsAtOnce, SendsFirst, timer_restarted};
     ghost use Rattle.dcsctp_api.specs.spec.queues.ItemMessages.{AtPlace};
@@ -75,7 +75,7 @@ impl RetransmissionQueue {
 
     // Sends the chunk at the place again, which waits for that, if it fits into the packet.
     fn send_again_at(&mut self, place: usize, packet: &mut Packet) -> Result<bool, AllocError>
-        requires { IsMarkedAt place self.old.outstanding.items }
+        requires { IsMarkedItem place self.old.outstanding.items }
         ensures fills { ContinuesPacket self.old packet.old self.new packet.new }
         ensures one { IfOk result
             (λ sent. length packet.new.tsns.items
@@ -84,7 +84,7 @@ impl RetransmissionQueue {
             (SendsAgain place self.old.outstanding packet.old.room self.new.outstanding
             packet.new.room) }
         ensures sends { AtPlace self.old.outstanding.items place
-            (λ item. IfOk result (SendsAt place item self.old packet.old self.new packet.new)) }
+            (λ item. IfOk result (SendsItemAgain place item self.old packet.old self.new packet.new)) }
         ensures err { OnErr result (self.new ≡ self.old) }
     {
         let item = self.outstanding.item(place);

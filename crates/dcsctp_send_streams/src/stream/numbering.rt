@@ -4,7 +4,7 @@ use super::OutgoingStream;
 
 impl OutgoingStream {
     ghost use Rattle.std.specs.Prelude.{◌≡◌};
-    ghost use Rattle.dcsctp_api.specs.types.queues.SendStreams.{next_numbers, stream_counted, served};
+    ghost use Rattle.dcsctp_api.specs.types.queues.SendStreams.{next_numbers, stream_counted, served_stream};
 
     /// The numbers of an ordered or unordered message that is started next: SSN and MID. One of the two is
     /// sent, by whether messages are interleaved.
@@ -40,7 +40,7 @@ impl OutgoingStream {
 
     /// It has this turn.
     pub fn serve(&mut self, turn: u64)
-        ensures { self.new ≡ served turn self.old }
+        ensures { self.new ≡ served_stream turn self.old }
     {
         self.last_turn = turn;
     }

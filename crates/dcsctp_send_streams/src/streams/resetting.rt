@@ -6,10 +6,10 @@ use dcsctp_api::StreamId;
 
 impl Streams {
     ghost use Rattle.std.specs.Prelude.{◌≡◌, ◌<◌, [], length, map, slice_index_or, slice_set, IfSome, IfNone};
-    ghost use Rattle.dcsctp_api.specs.types.queues.SendStreams.{paused, handed_out, begun_anew, committed, rolled_back, stream_at, IsAscending};
-    ghost use Rattle.dcsctp_api.specs.spec.queues.QueuedParts.{emptied};
+    ghost use Rattle.dcsctp_api.specs.types.queues.SendStreams.{paused_stream, handed_out, renumbered_stream, committed_stream, rolled_back, stream_at, IsAscending};
+    ghost use Rattle.dcsctp_api.specs.spec.queues.QueuedParts.{emptied_stream};
     ghost use Rattle.dcsctp_send_streams.specs.Ranking.{count_pausing};
-    ghost use Rattle.dcsctp_send_streams.specs.Pausing.{pausing_ids, handed_out_ids, IsHandedOutAt};
+    ghost use Rattle.dcsctp_send_streams.specs.Pausing.{pausing_ids, handed_out_ids, IsHandedOutStream};
 
     /// How many streams are to be reset, and weren't handed out yet.
     pub fn count_pausing(&self) -> usize
@@ -29,7 +29,7 @@ impl Streams {
 
     // The place of a stream that is handed out; none if none is.
     fn first_handed_out(&self) -> Option<usize>
-        ensures some { IfSome result (IsHandedOutAt self.now) }
+        ensures some { IfSome result (IsHandedOutStream self.now) }
         ensures none { IfNone result (handed_out_ids self.now ≡ []) }
     {
         let id = *self.paused.handed_out.front()?;
@@ -42,7 +42,7 @@ impl Streams {
     /// Keeps only that many of the stream's messages, the oldest, and pauses the stream.
     pub fn pause(&mut self, place: usize, kept: usize)
         requires { place < length self.old }
-        ensures { self.new ≡ slice_set self.old place (paused kept (stream_at self.old place)) }
+        ensures { self.new ≡ slice_set self.old place (paused_stream kept (stream_at self.old place)) }
     {
         let stream = self.items.at_mut(place);
         let id = stream.id();
@@ -74,7 +74,7 @@ impl Streams {
     /// Ends the stream's pause, and counts its messages from 0 again.
     pub fn begin_anew(&mut self, place: usize)
         requires { place < length self.old }
-        ensures { self.new ≡ slice_set self.old place (begun_anew (stream_at self.old place)) }
+        ensures { self.new ≡ slice_set self.old place (renumbered_stream (stream_at self.old place)) }
     {
         let stream = self.items.at_mut(place);
         let id = stream.id();
@@ -90,7 +90,7 @@ impl Streams {
     /// It was reset, if it was handed out: its pause ends, and its messages are counted from 0 again.
     pub fn commit(&mut self, place: usize)
         requires { place < length self.old }
-        ensures { self.new ≡ slice_set self.old place (committed (stream_at self.old place)) }
+        ensures { self.new ≡ slice_set self.old place (committed_stream (stream_at self.old place)) }
     {
         let stream = self.items.at_mut(place);
         let id = stream.id();
@@ -122,7 +122,7 @@ impl Streams {
     /// Drops the messages of the stream, and counts them from 0 again.
     pub fn empty(&mut self, place: usize)
         requires { place < length self.old }
-        ensures { self.new ≡ slice_set self.old place (emptied (stream_at self.old place)) }
+        ensures { self.new ≡ slice_set self.old place (emptied_stream (stream_at self.old place)) }
     {
         let stream = self.items.at_mut(place);
         let id = stream.id();
@@ -137,7 +137,7 @@ impl Streams {
 
     /// Ends every pause, and counts all messages from 0 again.
     pub fn begin_all_anew(&mut self)
-        ensures { self.new ≡ map begun_anew self.old }
+        ensures { self.new ≡ map renumbered_stream self.old }
     {
         for place in 0..self.len() {
             self.begin_anew(place);
@@ -146,7 +146,7 @@ impl Streams {
 
     /// Drops all messages, and counts those of each stream from 0 again.
     pub fn empty_all(&mut self)
-        ensures { self.new ≡ map emptied self.old }
+        ensures { self.new ≡ map emptied_stream self.old }
     {
         for place in 0..self.len() {
             self.empty(place);
@@ -155,7 +155,7 @@ impl Streams {
 
     /// The streams that are handed out were reset.
     pub fn commit_all(&mut self)
-        ensures { self.new ≡ map committed self.old }
+        ensures { self.new ≡ map committed_stream self.old }
     {
         while let Some(place) = self.first_handed_out() {
             self.commit(place);

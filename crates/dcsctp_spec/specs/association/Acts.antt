@@ -9,9 +9,9 @@ use Rattle.dcsctp_spec.specs.Reconfiguration.{RequestedReset, renewed_reset}
 use Rattle.dcsctp_spec.specs.Packet.{Content, init, init_ack, cookie_echo, cookie_ack, re_config, abort, shutdown, shutdown_ack, shutdown_complete, plain}
 use Rattle.dcsctp_spec.specs.endpoint.Endpoint.{Core, closed, cookie_wait, cookie_echoed, open_in, OpenPhase, established}
 use Rattle.dcsctp_spec.specs.endpoint.Following.{Following, next_chunk}
-use Rattle.dcsctp_spec.specs.association.Effect.{Effect, begins, gives_up, Change, unchanged, ended, emitted, emitted_alone}
+use Rattle.dcsctp_spec.specs.association.Effect.{Effect, begins, gives_up, Change, no_change, ending_change, emission_effects, emitted_alone}
 use Rattle.dcsctp_spec.specs.association.Choices.{Choices}
-use Rattle.dcsctp_spec.specs.association.FlushChanges.{Flushed, further_packets, flush, held_asking, reset_request}
+use Rattle.dcsctp_spec.specs.association.FlushChanges.{FlushResult, further_packets, flush, held_asking, reset_request}
 use Rattle.dcsctp_spec.specs.association.HandshakeChanges.{IsCookieOf, answering_pair, connect_change, answered_init_change, init_ack_change, cookie_ack_change, t1_again_change, t1_gives_up_change}
 use Rattle.dcsctp_spec.specs.association.CookieEchoChanges.{cookie_echo_change}
 use Rattle.dcsctp_spec.specs.association.ResetChanges.{re_config_change}
@@ -45,28 +45,28 @@ pub data Act : Type 0 where
   request_renewed : RequestedReset → Act
 
 -- packets that don't concern the association, and then a flush
-abbrev pub sent_then_flushed : Held → Choices → Flushed
+abbrev pub sent_then_flushed : Held → Choices → FlushResult
 sent_then_flushed held choices =
-    let after : Flushed = flush held.peer.tag held [] choices.filling in
+    let after : FlushResult = flush held.peer.tag held [] choices.filling in
     record { held = after.held; effects = further_packets held.peer.tag choices.plain ++ after.effects }
 
 abbrev pub flush_change : Core → Choices → Change
 flush_change (cookie_echoed my held cookie) choices =
-    let after : Flushed = sent_then_flushed held choices in
+    let after : FlushResult = sent_then_flushed held choices in
     record { core = cookie_echoed my after.held cookie; effects = after.effects; following = next_chunk }
 flush_change (open_in phase my held) choices =
-    let after : Flushed = sent_then_flushed held choices in
+    let after : FlushResult = sent_then_flushed held choices in
     record { core = open_in phase my after.held; effects = after.effects; following = next_chunk }
-flush_change core choices = unchanged core
+flush_change core choices = no_change core
 
 -- An association that is open and not shutting down can be handed over: it is closed here, and nothing is sent to the peer.
-abbrev pub hand_over_change_in : OpenPhase → Pair → Held → Change
-hand_over_change_in established my held = ended []
-hand_over_change_in phase my held = unchanged (open_in phase my held)
+abbrev pub hand_over_change_by_phase : OpenPhase → Pair → Held → Change
+hand_over_change_by_phase established my held = ending_change []
+hand_over_change_by_phase phase my held = no_change (open_in phase my held)
 
 abbrev pub hand_over_change : Core → Change
-hand_over_change (open_in phase my held) = hand_over_change_in phase my held
-hand_over_change core = unchanged core
+hand_over_change (open_in phase my held) = hand_over_change_by_phase phase my held
+hand_over_change core = no_change core
 
 -- under its number (RFC 6525, section 5.1.1)
 abbrev pub request_sent : Held → Option ℕ → RequestedReset → Bool → List Effect
@@ -78,26 +78,26 @@ request_again_change (cookie_echoed my held cookie) reset fits =
     record { core = cookie_echoed my held cookie; effects = request_sent held held.own_outstanding reset fits; following = next_chunk }
 request_again_change (open_in phase my held) reset fits =
     record { core = open_in phase my held; effects = request_sent held held.own_outstanding reset fits; following = next_chunk }
-request_again_change core reset fits = unchanged core
+request_again_change core reset fits = no_change core
 
 -- Its number is given up, and the next one is begun.
-abbrev pub renewed_by : Held → Option ℕ → RequestedReset → Bool → Flushed
-renewed_by held None reset fits = record { held = held; effects = [] }
-renewed_by held (Some number) reset false = record { held = held; effects = [] }
-renewed_by held (Some number) reset true =
+abbrev pub renewed_if_fitting : Held → Option ℕ → RequestedReset → Bool → FlushResult
+renewed_if_fitting held None reset fits = record { held = held; effects = [] }
+renewed_if_fitting held (Some number) reset false = record { held = held; effects = [] }
+renewed_if_fitting held (Some number) reset true =
     record {
       held = held_asking held;
-      effects = gives_up number ∷ begins held.own_next ∷ emitted held.peer.tag (reset_request held.own_next (renewed_reset reset) ∷ []);
+      effects = gives_up number ∷ begins held.own_next ∷ emission_effects held.peer.tag (reset_request held.own_next (renewed_reset reset) ∷ []);
     }
 
 abbrev pub request_renewed_change : Core → RequestedReset → Bool → Change
 request_renewed_change (cookie_echoed my held cookie) reset fits =
-    let after : Flushed = renewed_by held held.own_outstanding reset fits in
+    let after : FlushResult = renewed_if_fitting held held.own_outstanding reset fits in
     record { core = cookie_echoed my after.held cookie; effects = after.effects; following = next_chunk }
 request_renewed_change (open_in phase my held) reset fits =
-    let after : Flushed = renewed_by held held.own_outstanding reset fits in
+    let after : FlushResult = renewed_if_fitting held held.own_outstanding reset fits in
     record { core = open_in phase my after.held; effects = after.effects; following = next_chunk }
-request_renewed_change core reset fits = unchanged core
+request_renewed_change core reset fits = no_change core
 
 abbrev pub act_change : Options → Core → Act → Choices → Change
 act_change options core connect choices = connect_change options core choices
@@ -120,8 +120,8 @@ then_changes first second following = record { core = second.core; effects = fir
 
 -- A violation counts if the peer is known.
 abbrev pub violation_change : Core → Choices → Change
-violation_change closed choices = unchanged closed
-violation_change (cookie_wait my) choices = unchanged (cookie_wait my)
+violation_change closed choices = no_change closed
+violation_change (cookie_wait my) choices = no_change (cookie_wait my)
 violation_change core choices = abort_call_change core choices.causes choices.fits
 
 -- A chunk that doesn't concern the association. If it breaks the negotiated protocol, the association is aborted; so it is,

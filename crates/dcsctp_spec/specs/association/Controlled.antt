@@ -8,7 +8,7 @@ use Rattle.dcsctp_spec.specs.Packet.{Content, Packet, Emission}
 use Rattle.dcsctp_spec.specs.endpoint.Event.{Event, sent, connected, closed, aborted, streams_reset_failed, streams_reset_performed, incoming_stream_reset}
 use Rattle.dcsctp_spec.specs.endpoint.Endpoint.{Endpoint}
 use Rattle.dcsctp_spec.specs.endpoint.Outcome.{Outcome}
-use Rattle.dcsctp_spec.specs.association.Effect.{Effect, draws, sends, holds, connects, ends, begins, gives_up, completes, fails, accepts, performs, renews, resumes, noted, Change}
+use Rattle.dcsctp_spec.specs.association.Effect.{Effect, draws, sends, holds, connects, ends, begins, gives_up, completes, fails, accepts, performs, renews, resumes, effects_without_packets, Change}
 use Rattle.dcsctp_spec.specs.association.Choices.{Choices}
 use Rattle.dcsctp_spec.specs.association.Acts.{Act, act_change, ChunkChange}
 
@@ -52,13 +52,13 @@ pub record IsControlled (e : Endpoint) (o : Outcome) (change : Change) : Type 0 
   pub core : o.after.core ≡ change.core
   pub options : SameOptions e.options o.after.options
   pub observations : observations_of_events o.events ≡ observations_of_effects change.effects
-  pub effects : o.effects ≡ noted change.effects
+  pub effects : o.effects ≡ effects_without_packets change.effects
   pub following : o.following ≡ change.following
 
 -- a chunk's turn, as far as the association goes
-abbrev pub ControlledChunk : Endpoint → ℕ → Content → Outcome → Type 0
-ControlledChunk e tag content o = (change : Change) × ChunkChange e.options e.core tag content change × IsControlled e o change
+abbrev pub IsControlledChunk : Endpoint → ℕ → Content → Outcome → Type 0
+IsControlledChunk e tag content o = (change : Change) × ChunkChange e.options e.core tag content change × IsControlled e o change
 
 -- an act's turn, as far as the association goes
-abbrev pub ControlledAct : Endpoint → Act → Outcome → Type 0
-ControlledAct e act o = (choices : Choices) × IsControlled e o (act_change e.options e.core act choices)
+abbrev pub IsControlledAct : Endpoint → Act → Outcome → Type 0
+IsControlledAct e act o = (choices : Choices) × IsControlled e o (act_change e.options e.core act choices)

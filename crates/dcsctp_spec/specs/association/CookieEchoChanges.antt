@@ -3,15 +3,15 @@ use Rattle.std.specs.Prelude.{◌==◌, ◌&&◌, ℕ, Bool, true, false, List, 
 use Rattle.dcsctp_types.specs.declared.association.Pair.{Pair}
 use Rattle.dcsctp_types.specs.declared.association.Held.{Held}
 use Rattle.dcsctp_types.specs.declared.options.Options.{Options}
-use Rattle.dcsctp_types.specs.Offer.{offer_of, negotiated}
-use Rattle.dcsctp_spec.specs.Cookie.{Cookie, cookie_at}
+use Rattle.dcsctp_types.specs.Offer.{offer_of, negotiated_capabilities}
+use Rattle.dcsctp_spec.specs.Cookie.{Cookie, cookie_of_bytes}
 use Rattle.dcsctp_spec.specs.endpoint.Cause.{cookie_received_while_shutting_down, stale_cookie}
 use Rattle.dcsctp_spec.specs.Packet.{Content, cookie_ack, shutdown_ack, plain, error_of}
 use Rattle.dcsctp_spec.specs.endpoint.Endpoint.{Core, closed, cookie_wait, cookie_echoed, open_in, OpenPhase, established, shutdown_ack_sent}
 use Rattle.dcsctp_spec.specs.endpoint.Following.{next_chunk, dropped_rest}
-use Rattle.dcsctp_spec.specs.association.Effect.{holds, connects, Change, unchanged, rest_dropped, emitted, emitted_alone, identity_of}
+use Rattle.dcsctp_spec.specs.association.Effect.{holds, connects, Change, no_change, rest_dropped, emission_effects, emitted_alone, identity_of}
 use Rattle.dcsctp_spec.specs.association.Choices.{Choices}
-use Rattle.dcsctp_spec.specs.association.FlushChanges.{Flushed, flush}
+use Rattle.dcsctp_spec.specs.association.FlushChanges.{FlushResult, flush}
 use Rattle.dcsctp_spec.specs.association.HandshakeChanges.{new_held}
 
 -- ---- which case
@@ -33,13 +33,13 @@ pub data Resolution : Type 0 where
 
 -- The table of RFC 9260, section 5.2.4, if the peer is known, by four answers. Is the header tag its own tag, and is the cookie's
 -- peer tag the peer's? Is its tie tag the association's, and is it the one that is borne where there is no association?
-abbrev pub case_by : Bool → Bool → Bool → Bool → Resolution
-case_by false false true untied = restart
-case_by false false false untied = invalid_tag
-case_by true false tie untied = simultaneous_init
-case_by false true tie true = discard
-case_by false true tie false = invalid_tag
-case_by true true tie untied = maintain_existing
+abbrev pub case_by_answers : Bool → Bool → Bool → Bool → Resolution
+case_by_answers false false true untied = restart
+case_by_answers false false false untied = invalid_tag
+case_by_answers true false tie untied = simultaneous_init
+case_by_answers false true tie true = discard
+case_by_answers false true tie false = invalid_tag
+case_by_answers true true tie untied = maintain_existing
 
 -- If the peer isn't known, the header carries the tag that the cookie's maker had chosen.
 abbrev pub case_without_peer : Bool → Resolution
@@ -48,7 +48,7 @@ case_without_peer false = invalid_tag
 
 abbrev pub case_with_peer : Pair → Held → ℕ → ℕ → ℕ → Cookie → Resolution
 case_with_peer my held tie secret header cookie =
-    case_by (header == my.tag) (cookie.addressee.tag == held.peer.tag) (cookie.tie == tie) (cookie.tie == secret)
+    case_by_answers (header == my.tag) (cookie.addressee.tag == held.peer.tag) (cookie.tie == tie) (cookie.tie == secret)
 
 -- by the association, its tie tag and the one that is borne where there is none, the header tag and the cookie
 abbrev pub resolve : Core → ℕ → ℕ → ℕ → Cookie → Resolution
@@ -58,24 +58,24 @@ resolve (cookie_echoed my held echoed) tie secret header cookie = case_with_peer
 resolve (open_in phase my held) tie secret header cookie = case_with_peer my held tie secret header cookie
 
 -- A stale cookie makes no association; of the existing one its age says nothing.
-abbrev pub aged : Bool → Resolution → Resolution
-aged true establish_new = stale
-aged true restart = stale
-aged true simultaneous_init = stale
-aged is_stale resolution = resolution
+abbrev pub aged_resolution : Bool → Resolution → Resolution
+aged_resolution true establish_new = stale
+aged_resolution true restart = stale
+aged_resolution true simultaneous_init = stale
+aged_resolution is_stale resolution = resolution
 
 -- ---- what each does
 
 -- the peer that a cookie shows
 abbrev pub held_by_cookie : Options → Cookie → Held
-held_by_cookie options cookie = new_held cookie.maker cookie.addressee (negotiated (offer_of options) cookie.offer)
+held_by_cookie options cookie = new_held cookie.maker cookie.addressee (negotiated_capabilities (offer_of options) cookie.offer)
 
 -- A new association: of the pairs in the cookie, with what was offered in the INIT that it answers. COOKIE ACK
 -- is the first chunk of a flush.
 abbrev pub new_association_change : Options → Cookie → Choices → Change
 new_association_change options cookie choices =
     let held : Held = held_by_cookie options cookie in
-    let after : Flushed = flush cookie.addressee.tag held (cookie_ack ∷ []) choices.filling in
+    let after : FlushResult = flush cookie.addressee.tag held (cookie_ack ∷ []) choices.filling in
     record {
       core = open_in established cookie.maker after.held;
       effects = holds (identity_of cookie.maker held) ∷ connects (identity_of cookie.maker held) ∷ after.effects;
@@ -89,7 +89,7 @@ shutting_down_error = plain (error_of (cookie_received_while_shutting_down ∷ [
 -- A restart is refused once SHUTDOWN ACK was sent.
 abbrev pub restart_change_where_open : Options → OpenPhase → Pair → Held → Cookie → Choices → Change
 restart_change_where_open options shutdown_ack_sent my held cookie choices =
-    record { core = open_in shutdown_ack_sent my held; effects = emitted held.peer.tag (shutdown_ack ∷ shutting_down_error ∷ []); following = dropped_rest }
+    record { core = open_in shutdown_ack_sent my held; effects = emission_effects held.peer.tag (shutdown_ack ∷ shutting_down_error ∷ []); following = dropped_rest }
 restart_change_where_open options phase my held cookie choices = new_association_change options cookie choices
 
 abbrev pub restart_change : Options → Core → Cookie → Choices → Change
@@ -99,12 +99,12 @@ restart_change options core cookie choices = new_association_change options cook
 -- While its COOKIE ACK is awaited, the association is established; in every phase COOKIE ACK is sent.
 abbrev pub maintain_change : Core → Cookie → Choices → Change
 maintain_change (cookie_echoed my held echoed) cookie choices =
-    let after : Flushed = flush cookie.addressee.tag held (cookie_ack ∷ []) choices.filling in
+    let after : FlushResult = flush cookie.addressee.tag held (cookie_ack ∷ []) choices.filling in
     record { core = open_in established my after.held; effects = connects (identity_of my held) ∷ after.effects; following = next_chunk }
 maintain_change (open_in phase my held) cookie choices =
-    let after : Flushed = flush cookie.addressee.tag held (cookie_ack ∷ []) choices.filling in
+    let after : FlushResult = flush cookie.addressee.tag held (cookie_ack ∷ []) choices.filling in
     record { core = open_in phase my after.held; effects = after.effects; following = next_chunk }
-maintain_change core cookie choices = unchanged core
+maintain_change core cookie choices = no_change core
 
 -- ERROR with the cause Stale Cookie
 abbrev pub stale_error : Content
@@ -131,7 +131,7 @@ resolved_change options core cookie choices stale = stale_change options core co
 -- Bytes that are no cookie change nothing.
 abbrev pub read_echo_change : Options → Core → ℕ → Result Cookie (List ℕ) → Choices → Change
 read_echo_change options core header (Err text) choices = rest_dropped core
-read_echo_change options core header (Ok cookie) choices = resolved_change options core cookie choices (aged choices.is_stale (resolve core choices.tie choices.secret header cookie))
+read_echo_change options core header (Ok cookie) choices = resolved_change options core cookie choices (aged_resolution choices.is_stale (resolve core choices.tie choices.secret header cookie))
 
 abbrev pub cookie_echo_change : Options → Core → ℕ → List ℕ → Choices → Change
-cookie_echo_change options core header bytes choices = read_echo_change options core header (cookie_at bytes) choices
+cookie_echo_change options core header bytes choices = read_echo_change options core header (cookie_of_bytes bytes) choices

@@ -44,38 +44,38 @@ pub data Effect : Type 0 where
   resumes : AssociationIdentity → ℕ → ℕ → Effect
 
 -- the pairs that were drawn
-abbrev pub drawn_in : List Effect → List Pair
-drawn_in [] = []
-drawn_in (draws pair ∷ effects) = pair ∷ drawn_in effects
-drawn_in (sends packet ∷ effects) = drawn_in effects
-drawn_in (holds link ∷ effects) = drawn_in effects
-drawn_in (connects link ∷ effects) = drawn_in effects
-drawn_in (ends ∷ effects) = drawn_in effects
-drawn_in (begins number ∷ effects) = drawn_in effects
-drawn_in (gives_up number ∷ effects) = drawn_in effects
-drawn_in (completes my number ∷ effects) = drawn_in effects
-drawn_in (fails number ∷ effects) = drawn_in effects
-drawn_in (accepts number ∷ effects) = drawn_in effects
-drawn_in (performs peer number ∷ effects) = drawn_in effects
-drawn_in (renews peer number ∷ effects) = drawn_in effects
-drawn_in (resumes link own last ∷ effects) = drawn_in effects
+abbrev pub drawn_pairs : List Effect → List Pair
+drawn_pairs [] = []
+drawn_pairs (draws pair ∷ effects) = pair ∷ drawn_pairs effects
+drawn_pairs (sends packet ∷ effects) = drawn_pairs effects
+drawn_pairs (holds link ∷ effects) = drawn_pairs effects
+drawn_pairs (connects link ∷ effects) = drawn_pairs effects
+drawn_pairs (ends ∷ effects) = drawn_pairs effects
+drawn_pairs (begins number ∷ effects) = drawn_pairs effects
+drawn_pairs (gives_up number ∷ effects) = drawn_pairs effects
+drawn_pairs (completes my number ∷ effects) = drawn_pairs effects
+drawn_pairs (fails number ∷ effects) = drawn_pairs effects
+drawn_pairs (accepts number ∷ effects) = drawn_pairs effects
+drawn_pairs (performs peer number ∷ effects) = drawn_pairs effects
+drawn_pairs (renews peer number ∷ effects) = drawn_pairs effects
+drawn_pairs (resumes link own last ∷ effects) = drawn_pairs effects
 
 -- all but the packets
-abbrev pub noted : List Effect → List Effect
-noted [] = []
-noted (sends packet ∷ effects) = noted effects
-noted (draws pair ∷ effects) = draws pair ∷ noted effects
-noted (holds link ∷ effects) = holds link ∷ noted effects
-noted (connects link ∷ effects) = connects link ∷ noted effects
-noted (ends ∷ effects) = ends ∷ noted effects
-noted (begins number ∷ effects) = begins number ∷ noted effects
-noted (gives_up number ∷ effects) = gives_up number ∷ noted effects
-noted (completes my number ∷ effects) = completes my number ∷ noted effects
-noted (fails number ∷ effects) = fails number ∷ noted effects
-noted (accepts number ∷ effects) = accepts number ∷ noted effects
-noted (performs peer number ∷ effects) = performs peer number ∷ noted effects
-noted (renews peer number ∷ effects) = renews peer number ∷ noted effects
-noted (resumes link own last ∷ effects) = resumes link own last ∷ noted effects
+abbrev pub effects_without_packets : List Effect → List Effect
+effects_without_packets [] = []
+effects_without_packets (sends packet ∷ effects) = effects_without_packets effects
+effects_without_packets (draws pair ∷ effects) = draws pair ∷ effects_without_packets effects
+effects_without_packets (holds link ∷ effects) = holds link ∷ effects_without_packets effects
+effects_without_packets (connects link ∷ effects) = connects link ∷ effects_without_packets effects
+effects_without_packets (ends ∷ effects) = ends ∷ effects_without_packets effects
+effects_without_packets (begins number ∷ effects) = begins number ∷ effects_without_packets effects
+effects_without_packets (gives_up number ∷ effects) = gives_up number ∷ effects_without_packets effects
+effects_without_packets (completes my number ∷ effects) = completes my number ∷ effects_without_packets effects
+effects_without_packets (fails number ∷ effects) = fails number ∷ effects_without_packets effects
+effects_without_packets (accepts number ∷ effects) = accepts number ∷ effects_without_packets effects
+effects_without_packets (performs peer number ∷ effects) = performs peer number ∷ effects_without_packets effects
+effects_without_packets (renews peer number ∷ effects) = renews peer number ∷ effects_without_packets effects
+effects_without_packets (resumes link own last ∷ effects) = resumes link own last ∷ effects_without_packets effects
 
 -- What one turn makes of the association, and its effects in order.
 pub record Change : Type 0 where
@@ -84,33 +84,33 @@ pub record Change : Type 0 where
   pub following : Following
 
 -- nothing happens
-abbrev pub unchanged : Core → Change
-unchanged core = record { core = core; effects = []; following = next_chunk }
+abbrev pub no_change : Core → Change
+no_change core = record { core = core; effects = []; following = next_chunk }
 
 -- Nothing happens, and the rest of the packet is dropped.
 abbrev pub rest_dropped : Core → Change
 rest_dropped core = record { core = core; effects = []; following = dropped_rest }
 
 -- The association ends, and the rest of the packet is dropped.
-abbrev pub ended : List Effect → Change
-ended before = record { core = closed; effects = before ++ ends ∷ []; following = dropped_rest }
+abbrev pub ending_change : List Effect → Change
+ending_change before = record { core = closed; effects = before ++ ends ∷ []; following = dropped_rest }
 
 -- a packet, unless it is empty: one without chunks isn't emitted
-abbrev pub emitted : ℕ → List Content → List Effect
-emitted tag [] = []
-emitted tag (content ∷ contents) = sends (record { tag = tag; contents = content ∷ contents }) ∷ []
+abbrev pub emission_effects : ℕ → List Content → List Effect
+emission_effects tag [] = []
+emission_effects tag (content ∷ contents) = sends (record { tag = tag; contents = content ∷ contents }) ∷ []
 
 -- a packet of one chunk, if it fits
 abbrev pub emitted_alone : Bool → ℕ → Content → List Effect
-emitted_alone fits tag content = if fits then emitted tag (content ∷ []) else []
+emitted_alone fits tag content = if fits then emission_effects tag (content ∷ []) else []
 
 -- the association with a peer that this is
 abbrev pub identity_of : Pair → Held → AssociationIdentity
 identity_of my held = record { my = my; peer = held.peer; capabilities = held.capabilities }
 
 -- the existing association, outside CookieWait
-abbrev pub identity_in : Core → Option AssociationIdentity
-identity_in closed = None
-identity_in (cookie_wait my) = None
-identity_in (cookie_echoed my held cookie) = Some (identity_of my held)
-identity_in (open_in phase my held) = Some (identity_of my held)
+abbrev pub identity_of_core : Core → Option AssociationIdentity
+identity_of_core closed = None
+identity_of_core (cookie_wait my) = None
+identity_of_core (cookie_echoed my held cookie) = Some (identity_of my held)
+identity_of_core (open_in phase my held) = Some (identity_of my held)

@@ -4,7 +4,7 @@ use Rattle.std.specs.Prelude.{ℕ, Bool, true, false, ◌+◌, ◌%◌, ◌^◌,
 use Rattle.dcsctp_types.specs.declared.association.Held.{Held}
 use Rattle.dcsctp_spec.specs.Packet.{Plain, Content, re_config}
 use Rattle.dcsctp_spec.specs.Reconfiguration.{RequestedReset, outgoing_reset_request, number_answered}
-use Rattle.dcsctp_spec.specs.association.Effect.{Effect, begins, emitted}
+use Rattle.dcsctp_spec.specs.association.Effect.{Effect, begins, emission_effects}
 use Rattle.dcsctp_spec.specs.association.Choices.{plain_contents, Filling}
 
 -- the number after this one (RFC 6525, section 4.1)
@@ -27,7 +27,7 @@ reset_to_begin (Some number) reset = None
 -- packets of chunks that speak of no association
 abbrev pub further_packets : ℕ → List (List Plain) → List Effect
 further_packets tag [] = []
-further_packets tag (chunks ∷ packets) = emitted tag (plain_contents chunks) ++ further_packets tag packets
+further_packets tag (chunks ∷ packets) = emission_effects tag (plain_contents chunks) ++ further_packets tag packets
 
 -- what the first packet has after the chunks that its builder held
 abbrev pub chunks_behind : ℕ → Filling → Option RequestedReset → List Content
@@ -36,14 +36,14 @@ chunks_behind number filling (Some reset) = plain_contents filling.acknowledgeme
 
 -- the packets of a flush, the first with these chunks in front
 abbrev pub flush_packets : ℕ → ℕ → List Content → Filling → Option RequestedReset → List Effect
-flush_packets tag number front filling reset = emitted tag (front ++ chunks_behind number filling reset) ++ further_packets tag filling.further
+flush_packets tag number front filling reset = emission_effects tag (front ++ chunks_behind number filling reset) ++ further_packets tag filling.further
 
-pub record Flushed : Type 0 where
+pub record FlushResult : Type 0 where
   pub held : Held
   pub effects : List Effect
 
 -- with a reset or without
-abbrev pub flushed_with : ℕ → Held → List Content → Filling → Option RequestedReset → Flushed
+abbrev pub flushed_with : ℕ → Held → List Content → Filling → Option RequestedReset → FlushResult
 flushed_with tag held front filling None = record { held = held; effects = flush_packets tag held.own_next front filling None }
 flushed_with tag held front filling (Some reset) =
     record {
@@ -52,10 +52,10 @@ flushed_with tag held front filling (Some reset) =
     }
 
 -- If no packet is allowed, nothing is sent, and no reset is begun.
-abbrev pub flush_where : Bool → ℕ → Held → List Content → Filling → Flushed
-flush_where false tag held front filling = record { held = held; effects = [] }
-flush_where true tag held front filling = flushed_with tag held front filling (reset_to_begin held.own_outstanding filling.reset)
+abbrev pub flush_if_allowed : Bool → ℕ → Held → List Content → Filling → FlushResult
+flush_if_allowed false tag held front filling = record { held = held; effects = [] }
+flush_if_allowed true tag held front filling = flushed_with tag held front filling (reset_to_begin held.own_outstanding filling.reset)
 
 -- a flush under this tag whose first packet begins with these chunks
-abbrev pub flush : ℕ → Held → List Content → Filling → Flushed
-flush tag held front filling = flush_where filling.is_allowed tag held front filling
+abbrev pub flush : ℕ → Held → List Content → Filling → FlushResult
+flush tag held front filling = flush_if_allowed filling.is_allowed tag held front filling

@@ -8,9 +8,9 @@ use Rattle.dcsctp_spec.specs.Reconfiguration.{RequestState, early, due, renewed,
 use Rattle.dcsctp_spec.specs.Packet.{re_config}
 use Rattle.dcsctp_spec.specs.endpoint.Endpoint.{Core, cookie_echoed, open_in}
 use Rattle.dcsctp_spec.specs.endpoint.Following.{next_chunk}
-use Rattle.dcsctp_spec.specs.association.Effect.{Effect, completes, fails, accepts, performs, renews, Change, unchanged, emitted_alone}
+use Rattle.dcsctp_spec.specs.association.Effect.{Effect, completes, fails, accepts, performs, renews, Change, no_change, emitted_alone}
 use Rattle.dcsctp_spec.specs.association.Choices.{Choices}
-use Rattle.dcsctp_spec.specs.association.FlushChanges.{Flushed, flush, next_number}
+use Rattle.dcsctp_spec.specs.association.FlushChanges.{FlushResult, flush, next_number}
 
 -- ---- which number
 
@@ -44,18 +44,18 @@ performed_request held number true = record { held = with_last held number Succe
 performed_request held number false = record { held = with_last held number InProgress; result = InProgress; effects = [] }
 
 -- The last request again is answered as before; one in progress is handled again.
-abbrev pub repeated : Held → ReconfigurationResponseResult → Bool → RequestOutcome
-repeated held SuccessNothingToDo is_reached = record { held = held; result = SuccessNothingToDo; effects = [] }
-repeated held SuccessPerformed is_reached = record { held = held; result = SuccessPerformed; effects = [] }
-repeated held Denied is_reached = record { held = held; result = Denied; effects = [] }
-repeated held ErrorWrongSSN is_reached = record { held = held; result = ErrorWrongSSN; effects = [] }
-repeated held ErrorRequestAlreadyInProgress is_reached = record { held = held; result = ErrorRequestAlreadyInProgress; effects = [] }
-repeated held ErrorBadSequenceNumber is_reached = record { held = held; result = ErrorBadSequenceNumber; effects = [] }
-repeated held InProgress is_reached = performed_request held held.peer_last is_reached
+abbrev pub repeated_request_outcome : Held → ReconfigurationResponseResult → Bool → RequestOutcome
+repeated_request_outcome held SuccessNothingToDo is_reached = record { held = held; result = SuccessNothingToDo; effects = [] }
+repeated_request_outcome held SuccessPerformed is_reached = record { held = held; result = SuccessPerformed; effects = [] }
+repeated_request_outcome held Denied is_reached = record { held = held; result = Denied; effects = [] }
+repeated_request_outcome held ErrorWrongSSN is_reached = record { held = held; result = ErrorWrongSSN; effects = [] }
+repeated_request_outcome held ErrorRequestAlreadyInProgress is_reached = record { held = held; result = ErrorRequestAlreadyInProgress; effects = [] }
+repeated_request_outcome held ErrorBadSequenceNumber is_reached = record { held = held; result = ErrorBadSequenceNumber; effects = [] }
+repeated_request_outcome held InProgress is_reached = performed_request held held.peer_last is_reached
 
 -- a request whose number is neither the last nor the next
-abbrev pub refused : Held → RequestOutcome
-refused held = record { held = held; result = ErrorBadSequenceNumber; effects = [] }
+abbrev pub refused_outcome : Held → RequestOutcome
+refused_outcome held = record { held = held; result = ErrorBadSequenceNumber; effects = [] }
 
 -- the effects of an acceptance before those of the request
 abbrev pub accepted_request : ℕ → RequestOutcome → RequestOutcome
@@ -76,24 +76,24 @@ is_due early = false
 is_due due = true
 is_due renewed = true
 
-abbrev pub outgoing_by : Held → ℕ → RequestState → RequestPlace → RequestOutcome
-outgoing_by held number state again = repeated held held.peer_result (is_due state)
-outgoing_by held number state next = accepted_request number (next_request held number state)
-outgoing_by held number state astray = refused held
+abbrev pub outgoing_by_place : Held → ℕ → RequestState → RequestPlace → RequestOutcome
+outgoing_by_place held number state again = repeated_request_outcome held held.peer_result (is_due state)
+outgoing_by_place held number state next = accepted_request number (next_request held number state)
+outgoing_by_place held number state astray = refused_outcome held
 
 -- No stream is reset for an Incoming SSN Reset Request: it is answered by this, even if the answer before was in progress.
 abbrev pub nothing_to_do : Held → ℕ → RequestOutcome
 nothing_to_do held number = record { held = with_last held number SuccessNothingToDo; result = SuccessNothingToDo; effects = [] }
 
-abbrev pub incoming_by : Held → ℕ → RequestPlace → RequestOutcome
-incoming_by held number again = nothing_to_do held number
-incoming_by held number next = accepted_request number (nothing_to_do held number)
-incoming_by held number astray = refused held
+abbrev pub incoming_by_place : Held → ℕ → RequestPlace → RequestOutcome
+incoming_by_place held number again = nothing_to_do held number
+incoming_by_place held number next = accepted_request number (nothing_to_do held number)
+incoming_by_place held number astray = refused_outcome held
 
 -- ---- an answer of the peer
 
 -- what is known of the association after an answer, and its effects
-pub record Informed : Type 0 where
+pub record AnswerResult : Type 0 where
   pub held : Held
   pub effects : List Effect
 
@@ -101,30 +101,30 @@ pub record Informed : Type 0 where
 abbrev pub without_outstanding : Held → Held
 without_outstanding held = record held { own_outstanding = None }
 
-abbrev pub completed : Pair → Held → ℕ → Informed
-completed my held number = record { held = without_outstanding held; effects = completes my number ∷ [] }
+abbrev pub completed_request : Pair → Held → ℕ → AnswerResult
+completed_request my held number = record { held = without_outstanding held; effects = completes my number ∷ [] }
 
-abbrev pub failed : Held → ℕ → Informed
-failed held number = record { held = without_outstanding held; effects = fails number ∷ [] }
+abbrev pub failed_request : Held → ℕ → AnswerResult
+failed_request held number = record { held = without_outstanding held; effects = fails number ∷ [] }
 
 -- One in progress stays outstanding, and is sent again.
-abbrev pub informed_by : Pair → Held → ℕ → ReconfigurationResponseResult → Informed
-informed_by my held number SuccessNothingToDo = completed my held number
-informed_by my held number SuccessPerformed = completed my held number
-informed_by my held number Denied = failed held number
-informed_by my held number ErrorWrongSSN = failed held number
-informed_by my held number ErrorRequestAlreadyInProgress = failed held number
-informed_by my held number ErrorBadSequenceNumber = failed held number
-informed_by my held number InProgress = record { held = held; effects = [] }
+abbrev pub result_of_answer : Pair → Held → ℕ → ReconfigurationResponseResult → AnswerResult
+result_of_answer my held number SuccessNothingToDo = completed_request my held number
+result_of_answer my held number SuccessPerformed = completed_request my held number
+result_of_answer my held number Denied = failed_request held number
+result_of_answer my held number ErrorWrongSSN = failed_request held number
+result_of_answer my held number ErrorRequestAlreadyInProgress = failed_request held number
+result_of_answer my held number ErrorBadSequenceNumber = failed_request held number
+result_of_answer my held number InProgress = record { held = held; effects = [] }
 
 -- is it the number of the outstanding request?
 abbrev pub is_outstanding : ℕ → Option ℕ → Bool
 is_outstanding number None = false
 is_outstanding number (Some outstanding) = number == outstanding
 
-abbrev pub informed_where : Pair → Held → ℕ → ReconfigurationResponseResult → Bool → Informed
-informed_where my held number result true = informed_by my held number result
-informed_where my held number result false = record { held = held; effects = [] }
+abbrev pub result_if_outstanding : Pair → Held → ℕ → ReconfigurationResponseResult → Bool → AnswerResult
+result_if_outstanding my held number result true = result_of_answer my held number result
+result_if_outstanding my held number result false = record { held = held; effects = [] }
 
 -- ---- the parameters after one another
 
@@ -139,31 +139,31 @@ abbrev pub after_request : ℕ → RequestOutcome → HandledParameters → Hand
 after_request number first rest =
     record rest { effects = first.effects ++ rest.effects; answers = reconfiguration_response number first.result ∷ rest.answers }
 
-abbrev pub after_answer : Informed → HandledParameters → HandledParameters
+abbrev pub after_answer : AnswerResult → HandledParameters → HandledParameters
 after_answer first rest = record rest { effects = first.effects ++ rest.effects }
 
 -- its own pair, what an outgoing request finds, and whether one was handled so far
-abbrev pub work_parameters : Pair → RequestState → Bool → Held → List ResetParameter → HandledParameters
-work_parameters my state has_worked held [] = record { held = held; effects = []; answers = []; is_refused = false }
-work_parameters my state true held (outgoing_reset_request number answered reset ∷ parameters) =
+abbrev pub parameters_outcome : Pair → RequestState → Bool → Held → List ResetParameter → HandledParameters
+parameters_outcome my state has_worked held [] = record { held = held; effects = []; answers = []; is_refused = false }
+parameters_outcome my state true held (outgoing_reset_request number answered reset ∷ parameters) =
     record { held = held; effects = []; answers = []; is_refused = true }
-work_parameters my state false held (outgoing_reset_request number answered reset ∷ parameters) =
-    let first : RequestOutcome = outgoing_by held number state (request_place held.peer_last number) in
-    after_request number first (work_parameters my state true first.held parameters)
-work_parameters my state has_worked held (incoming_reset_request number streams ∷ parameters) =
-    let first : RequestOutcome = incoming_by held number (request_place held.peer_last number) in
-    after_request number first (work_parameters my state has_worked first.held parameters)
-work_parameters my state has_worked held (reconfiguration_response number result ∷ parameters) =
-    let first : Informed = informed_where my held number result (is_outstanding number held.own_outstanding) in
-    after_answer first (work_parameters my state has_worked first.held parameters)
-work_parameters my state has_worked held (other_reset_parameter parameter ∷ parameters) = work_parameters my state has_worked held parameters
+parameters_outcome my state false held (outgoing_reset_request number answered reset ∷ parameters) =
+    let first : RequestOutcome = outgoing_by_place held number state (request_place held.peer_last number) in
+    after_request number first (parameters_outcome my state true first.held parameters)
+parameters_outcome my state has_worked held (incoming_reset_request number streams ∷ parameters) =
+    let first : RequestOutcome = incoming_by_place held number (request_place held.peer_last number) in
+    after_request number first (parameters_outcome my state has_worked first.held parameters)
+parameters_outcome my state has_worked held (reconfiguration_response number result ∷ parameters) =
+    let first : AnswerResult = result_if_outstanding my held number result (is_outstanding number held.own_outstanding) in
+    after_answer first (parameters_outcome my state has_worked first.held parameters)
+parameters_outcome my state has_worked held (other_reset_parameter parameter ∷ parameters) = parameters_outcome my state has_worked held parameters
 
 -- ---- the chunk
 
 -- A chunk without parameters is an error too.
-abbrev pub work_chunk : Pair → RequestState → Held → List ResetParameter → HandledParameters
-work_chunk my state held [] = record { held = held; effects = []; answers = []; is_refused = true }
-work_chunk my state held (parameter ∷ parameters) = work_parameters my state false held (parameter ∷ parameters)
+abbrev pub reset_chunk_outcome : Pair → RequestState → Held → List ResetParameter → HandledParameters
+reset_chunk_outcome my state held [] = record { held = held; effects = []; answers = []; is_refused = true }
+reset_chunk_outcome my state held (parameter ∷ parameters) = parameters_outcome my state false held (parameter ∷ parameters)
 
 -- If there are answers, they are sent in a packet of one RE-CONFIG.
 abbrev pub answers_emitted : Bool → ℕ → List ResetParameter → List Effect
@@ -171,29 +171,29 @@ answers_emitted fits tag [] = []
 answers_emitted fits tag (answer ∷ answers) = emitted_alone fits tag (re_config (answer ∷ answers))
 
 -- After them comes a flush: a request that has ended may let the next one begin.
-abbrev pub reset_sent : Bool → Held → List ResetParameter → Choices → Flushed
+abbrev pub reset_sent : Bool → Held → List ResetParameter → Choices → FlushResult
 reset_sent true held answers choices = record { held = held; effects = [] }
 reset_sent false held answers choices =
-    let after : Flushed = flush held.peer.tag held [] choices.filling in
+    let after : FlushResult = flush held.peer.tag held [] choices.filling in
     record { held = after.held; effects = answers_emitted choices.fits held.peer.tag answers ++ after.effects }
 
 -- the peer part and effects after the chunk
-abbrev pub peer_part_handled : Pair → Held → List ResetParameter → Choices → Informed
+abbrev pub peer_part_handled : Pair → Held → List ResetParameter → Choices → AnswerResult
 peer_part_handled my held parameters choices =
-    let performed_request : HandledParameters = work_chunk my choices.state held parameters in
-    let sent : Flushed = reset_sent performed_request.is_refused performed_request.held performed_request.answers choices in
+    let performed_request : HandledParameters = reset_chunk_outcome my choices.state held parameters in
+    let sent : FlushResult = reset_sent performed_request.is_refused performed_request.held performed_request.answers choices in
     record { held = sent.held; effects = performed_request.effects ++ sent.effects }
 
 -- By the RFC one that comes before the COOKIE ACK is dropped.
 abbrev pub echoed_re_config_change : Bool → Pair → Held → List ℕ → List ResetParameter → Choices → Change
-echoed_re_config_change true my held cookie parameters choices = unchanged (cookie_echoed my held cookie)
+echoed_re_config_change true my held cookie parameters choices = no_change (cookie_echoed my held cookie)
 echoed_re_config_change false my held cookie parameters choices =
-    let after : Informed = peer_part_handled my held parameters choices in
+    let after : AnswerResult = peer_part_handled my held parameters choices in
     record { core = cookie_echoed my after.held cookie; effects = after.effects; following = next_chunk }
 
 abbrev pub re_config_change : Bool → Core → List ResetParameter → Choices → Change
 re_config_change follows_rfc (cookie_echoed my held cookie) parameters choices = echoed_re_config_change follows_rfc my held cookie parameters choices
 re_config_change follows_rfc (open_in phase my held) parameters choices =
-    let after : Informed = peer_part_handled my held parameters choices in
+    let after : AnswerResult = peer_part_handled my held parameters choices in
     record { core = open_in phase my after.held; effects = after.effects; following = next_chunk }
-re_config_change follows_rfc core parameters choices = unchanged core
+re_config_change follows_rfc core parameters choices = no_change core

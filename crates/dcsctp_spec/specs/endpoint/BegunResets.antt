@@ -12,7 +12,7 @@ use Rattle.dcsctp_spec.specs.queues.Outstanding.{next_tsn}
 use Rattle.dcsctp_spec.specs.queues.Retransmission.{with_reset_begun}
 use Rattle.dcsctp_spec.specs.queues.Retransmission.{RetransmissionState}
 use Rattle.dcsctp_spec.specs.endpoint.Endpoint.{Endpoint, Core, cookie_echoed, open_in}
-use Rattle.dcsctp_spec.specs.endpoint.Timers.{TimerSettings, started}
+use Rattle.dcsctp_spec.specs.endpoint.Timers.{TimerSettings, started_timer}
 use Rattle.dcsctp_spec.specs.association.Effect.{Effect, begins}
 use Rattle.dcsctp_spec.specs.association.FlushChanges.{held_asking, reset_request}
 
@@ -37,19 +37,19 @@ abbrev pub last_assigned_tsn : RetransmissionState → ℕ
 last_assigned_tsn state = (next_tsn state.outstanding + (2 ^ 32 - 1)) % 2 ^ 32
 
 -- It is begun if none is outstanding, and a stream is to be reset. With the option it says that it is new.
-abbrev pub begun_where : Bool → Option ℕ → ℕ → ℕ → List ℕ → Option BegunReset
-begun_where follows None number last_tsn (stream ∷ streams) =
+abbrev pub begun_if_ready : Bool → Option ℕ → ℕ → ℕ → List ℕ → Option BegunReset
+begun_if_ready follows None number last_tsn (stream ∷ streams) =
     Some (record { number = number; reset = record { last_tsn = last_tsn; streams = stream ∷ streams; is_new = follows } })
-begun_where follows outstanding number last_tsn streams = None
+begun_if_ready follows outstanding number last_tsn streams = None
 
 -- a stream, as its field of 16 bits holds it
 abbrev pub stream_field : ℕ → ℕ
 stream_field stream = stream % 2 ^ 16
 
 -- Of the streams that are ready it names as many as fit, the first of them; the others stay ready.
-abbrev pub begun_in : Bool → Option Held → ℕ → ℕ → SendQueueState → Option BegunReset
-begun_in follows None room last_tsn queue = None
-begun_in follows (Some held) room last_tsn queue = begun_where follows held.own_outstanding held.own_next last_tsn (map stream_field (take (streams_within room) (ready_streams queue)))
+abbrev pub begun_if_connected : Bool → Option Held → ℕ → ℕ → SendQueueState → Option BegunReset
+begun_if_connected follows None room last_tsn queue = None
+begun_if_connected follows (Some held) room last_tsn queue = begun_if_ready follows held.own_outstanding held.own_next last_tsn (map stream_field (take (streams_within room) (ready_streams queue)))
 
 -- ---- its chunk and its effects
 
@@ -107,5 +107,5 @@ after_begun (Some begun) e =
     record e {
       core = core_asking e.core;
       outstanding = Some (record { last_tsn = begun.reset.last_tsn; streams = begun.reset.streams; is_new = begun.reset.is_new; waits_for_retry = false });
-      timers = record e.timers { reconfiguration = started e.moment (reconfiguration_settings e.queues.transfer) };
+      timers = record e.timers { reconfiguration = started_timer e.moment (reconfiguration_settings e.queues.transfer) };
     }

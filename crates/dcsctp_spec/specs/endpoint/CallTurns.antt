@@ -4,10 +4,10 @@ use Rattle.dcsctp_types.specs.declared.association.Pair.{Pair}
 use Rattle.dcsctp_types.specs.declared.word.Word.{Word}
 use Rattle.dcsctp_types.specs.Settings.{wire_options}
 use Rattle.dcsctp_spec.specs.endpoint.Event.{Event}
-use Rattle.dcsctp_spec.specs.Packet.{Content, Packet, Emission, packet_in}
-use Rattle.dcsctp_spec.specs.Admission.{Admission, all_chunks, shutdown_acks_alone, refused, admits, shutdown_acks_in}
+use Rattle.dcsctp_spec.specs.Packet.{Content, Packet, Emission, packet_of_content}
+use Rattle.dcsctp_spec.specs.Admission.{Admission, all_chunks, shutdown_acks_alone, refused, admits, shutdown_acks_of}
 use Rattle.dcsctp_spec.specs.endpoint.Endpoint.{Endpoint}
-use Rattle.dcsctp_spec.specs.association.Effect.{Effect, drawn_in}
+use Rattle.dcsctp_spec.specs.association.Effect.{Effect, drawn_pairs}
 use Rattle.dcsctp_spec.specs.endpoint.Outcome.{Outcome}
 use Rattle.dcsctp_spec.specs.endpoint.Following.{Following, next_chunk, packet_end, dropped_rest}
 use Rattle.dcsctp_spec.specs.association.Acts.{shut_down}
@@ -51,7 +51,7 @@ effects_of (turn ∷ turns) = turn.outcome.effects ++ effects_of turns
 
 -- the pairs that were drawn
 abbrev pub pairs_of : List Transition → List Pair
-pairs_of turns = drawn_in (effects_of turns)
+pairs_of turns = drawn_pairs (effects_of turns)
 
 abbrev pub events_of : List Transition → List (Event Emission)
 events_of [] = []
@@ -97,7 +97,7 @@ WholeTurns e packet (begun ∷ turns) =
 -- A packet that was read and counted. If its SHUTDOWN ACK chunks alone are handled, nothing else of it is.
 abbrev pub AdmittedTurns : Endpoint → Packet → Admission → List Transition → Type 0
 AdmittedTurns e packet all_chunks turns = WholeTurns e packet turns
-AdmittedTurns e packet shutdown_acks_alone turns = ChunkTurns e packet.tag (shutdown_acks_in packet.contents) [] turns
+AdmittedTurns e packet shutdown_acks_alone turns = ChunkTurns e packet.tag (shutdown_acks_of packet.contents) [] turns
 AdmittedTurns e packet (refused text) turns = Turns e (refusal text ∷ []) turns
 
 -- The packet is counted; then it can't be read, or admission decides (RFC 9260, section 8.5).
@@ -109,7 +109,7 @@ pub data HandleInput (e : Endpoint) (bytes : List ℕ) : List Transition → Typ
   readable : (packet : PacketContent) (counted : Transition) (turns : List Transition)
       → IsPacket (wire_options e.options) packet bytes
       → IsTurn e arrival counted
-      → AdmittedTurns counted.outcome.after (packet_in packet) (admits e.core (packet_in packet)) turns
+      → AdmittedTurns counted.outcome.after (packet_of_content packet) (admits e.core (packet_of_content packet)) turns
       → HandleInput e bytes (counted ∷ turns)
 
 -- ---- handle_input when an allocation fails
@@ -128,16 +128,16 @@ FirstOfWhole e packet (begun ∷ turns) =
     ⊎ (count : ℕ) × ChunkTurns begun.outcome.after packet.tag packet.contents (take count (packet_tail begun.outcome.after)) turns)
 
 -- the first turns after a packet was counted
-abbrev pub FirstAdmitted : Endpoint → Packet → Admission → List Transition → Type 0
-FirstAdmitted e packet all_chunks turns = FirstOfWhole e packet turns
-FirstAdmitted e packet shutdown_acks_alone turns = FirstTurns e packet.tag (shutdown_acks_in packet.contents) turns
-FirstAdmitted e packet (refused text) turns = turns ≡ []
+abbrev pub FirstOfAdmitted : Endpoint → Packet → Admission → List Transition → Type 0
+FirstOfAdmitted e packet all_chunks turns = FirstOfWhole e packet turns
+FirstOfAdmitted e packet shutdown_acks_alone turns = FirstTurns e packet.tag (shutdown_acks_of packet.contents) turns
+FirstOfAdmitted e packet (refused text) turns = turns ≡ []
 
 -- The call was cut: before the packet was known to be one, or after some of its turns.
-pub data CutInput (e : Endpoint) (bytes : List ℕ) : List Transition → Type 0 where
-  unread : CutInput e bytes []
+pub data FirstOfCall (e : Endpoint) (bytes : List ℕ) : List Transition → Type 0 where
+  unread : FirstOfCall e bytes []
   read : (packet : PacketContent) (counted : Transition) (turns : List Transition)
       → IsPacket (wire_options e.options) packet bytes
       → IsTurn e arrival counted
-      → FirstAdmitted counted.outcome.after (packet_in packet) (admits e.core (packet_in packet)) turns
-      → CutInput e bytes (counted ∷ turns)
+      → FirstOfAdmitted counted.outcome.after (packet_of_content packet) (admits e.core (packet_of_content packet)) turns
+      → FirstOfCall e bytes (counted ∷ turns)

@@ -7,18 +7,18 @@ use Rattle.dcsctp_types.specs.declared.capabilities.Capabilities.{Capabilities}
 use Rattle.dcsctp_types.specs.declared.options.Options.{Options}
 use Rattle.dcsctp_types.specs.declared.word.Word.TheVariants.{U64}
 use Rattle.dcsctp_types.specs.declared.kinds.ErrorKind.TheVariants.{ParseFailed, WrongSequence}
-use Rattle.dcsctp_spec.specs.Cookie.{Cookie, cookie_at, is_stale}
+use Rattle.dcsctp_spec.specs.Cookie.{Cookie, cookie_of_bytes, is_stale}
 use Rattle.dcsctp_spec.specs.endpoint.Event.{Event, sent, connected, connection_restarted, error}
 use Rattle.dcsctp_spec.specs.Packet.{cookie_ack, shutdown_ack, Emission}
 use Rattle.dcsctp_spec.specs.queues.SendQueue.{SendQueueState, numbered_for, is_other}
 use Rattle.dcsctp_spec.specs.queues.Transfer.{Transfer, EndpointQueues, new_transfer, outlasts_peer, transfer_kept}
 use Rattle.dcsctp_spec.specs.endpoint.Endpoint.{Endpoint, Core, cookie_echoed, open_in, OpenPhase, established, shutdown_ack_sent, stopped_timers, heartbeats_begun, errors_begun}
-use Rattle.dcsctp_spec.specs.endpoint.Outcome.{Outcome, noting, still, packet_counted, behind, emits}
+use Rattle.dcsctp_spec.specs.endpoint.Outcome.{Outcome, with_effects_first, still, packet_counted, behind, emits}
 use Rattle.dcsctp_spec.specs.endpoint.Following.{dropped_rest}
-use Rattle.dcsctp_spec.specs.association.CookieEchoChanges.{Resolution, establish_new, restart, simultaneous_init, discard, maintain_existing, invalid_tag, stale, aged, resolve, held_by_cookie, shutting_down_error, stale_error}
+use Rattle.dcsctp_spec.specs.association.CookieEchoChanges.{Resolution, establish_new, restart, simultaneous_init, discard, maintain_existing, invalid_tag, stale, aged_resolution, resolve, held_by_cookie, shutting_down_error, stale_error}
 use Rattle.dcsctp_spec.specs.association.Effect.{holds, connects, identity_of}
 use Rattle.dcsctp_spec.specs.endpoint.FlushOutcomes.{Answer, FlushAnswers, FlushKind, flush_answered, flush_outcome}
-use Rattle.dcsctp_spec.specs.endpoint.HandshakeOutcomes.{queue_anew, connected_after}
+use Rattle.dcsctp_spec.specs.endpoint.HandshakeOutcomes.{renumbered_queue, connected_after}
 
 -- ---- one that is refused
 
@@ -76,8 +76,8 @@ window_by_cookie options cookie = min cookie.window options.max_send_buffer_size
 
 -- The association is established, and what belongs to it is new. The heartbeat interval starts again, and a running heartbeat
 -- timeout continues.
-abbrev pub established_by : Endpoint → Cookie → EndpointQueues → ℕ → Endpoint
-established_by e cookie queues tie =
+abbrev pub endpoint_established : Endpoint → Cookie → EndpointQueues → ℕ → Endpoint
+endpoint_established e cookie queues tie =
     record e {
       core = open_in established cookie.maker (held_by_cookie e.options cookie);
       tie = tie;
@@ -96,11 +96,11 @@ cookie_ack_emission held cookie =
     record { with_checksum = held.capabilities.zero_checksum_method.0 == 0; packet = record { tag = cookie.addressee.tag; contents = cookie_ack ∷ [] } }
 
 -- These events, and a flush that begins with COOKIE ACK.
-abbrev pub establish_by : FlushKind → Endpoint → Cookie → EndpointQueues → ℕ → List (Event Emission) → Outcome
-establish_by flush e cookie queues tie events =
+abbrev pub establish_with_flush : FlushKind → Endpoint → Cookie → EndpointQueues → ℕ → List (Event Emission) → Outcome
+establish_with_flush flush e cookie queues tie events =
     let held : Held = held_by_cookie e.options cookie in
-    noting (holds (identity_of cookie.maker held) ∷ connects (identity_of cookie.maker held) ∷ [])
-    (flush (established_by e cookie queues tie) (U64 tie ∷ []) events (held.capabilities.zero_checksum_method.0 == 0) cookie.addressee.tag (cookie_ack ∷ []))
+    with_effects_first (holds (identity_of cookie.maker held) ∷ connects (identity_of cookie.maker held) ∷ [])
+    (flush (endpoint_established e cookie queues tie) (U64 tie ∷ []) events (held.capabilities.zero_checksum_method.0 == 0) cookie.addressee.tag (cookie_ack ∷ []))
 
 -- are messages of such an association numbered for interleaving?
 abbrev pub interleaves : Endpoint → Cookie → Bool
@@ -116,15 +116,15 @@ queues_with e cookie queue =
 
 -- What waits to be sent starts again if there was a peer.
 abbrev pub queues_begun : Endpoint → Cookie → EndpointQueues
-queues_begun e cookie = queues_with e cookie (queue_anew e.queues.queue (interleaves e cookie))
+queues_begun e cookie = queues_with e cookie (renumbered_queue e.queues.queue (interleaves e cookie))
 
 -- Otherwise what waits stays, numbered as negotiated; by the RFC its numbers start again, too (RFC 9260, sections 5.1 and 6.5).
-abbrev pub queue_where : Bool → Endpoint → Cookie → SendQueueState
-queue_where true e cookie = queue_anew e.queues.queue (interleaves e cookie)
-queue_where false e cookie = numbered_for (interleaves e cookie) e.queues.queue
+abbrev pub queue_if_kept : Bool → Endpoint → Cookie → SendQueueState
+queue_if_kept true e cookie = renumbered_queue e.queues.queue (interleaves e cookie)
+queue_if_kept false e cookie = numbered_for (interleaves e cookie) e.queues.queue
 
 abbrev pub queues_kept : Endpoint → Cookie → EndpointQueues
-queues_kept e cookie = queues_with e cookie (queue_where e.options.follow_rfc e cookie)
+queues_kept e cookie = queues_with e cookie (queue_if_kept e.options.follow_rfc e cookie)
 
 -- Was no request to reset streams begun yet, and can the other peer reset them if the one could? What was sent after a reset is
 -- numbered by it, and the other peer knows of none.
@@ -139,59 +139,59 @@ outlasts e mine held cookie transfer =
     && (asks_alike mine held (held_by_cookie e.options cookie).capabilities
     && outlasts_peer cookie.maker.first_tsn (held_by_cookie e.options cookie).capabilities transfer)
 
-abbrev pub queues_by : Bool → Endpoint → Cookie → Transfer → EndpointQueues
-queues_by true e cookie transfer =
+abbrev pub queues_if_kept : Bool → Endpoint → Cookie → Transfer → EndpointQueues
+queues_if_kept true e cookie transfer =
     record e.queues { transfer = Some (transfer_kept e.moment e.options cookie.addressee.first_tsn (window_by_cookie e.options cookie) transfer) }
-queues_by false e cookie transfer = queues_begun e cookie
+queues_if_kept false e cookie transfer = queues_begun e cookie
 
 abbrev pub queues_for_other : Endpoint → Pair → Held → Cookie → Option Transfer → EndpointQueues
 queues_for_other e mine held cookie None = queues_begun e cookie
-queues_for_other e mine held cookie (Some transfer) = queues_by (outlasts e mine held cookie transfer) e cookie transfer
+queues_for_other e mine held cookie (Some transfer) = queues_if_kept (outlasts e mine held cookie transfer) e cookie transfer
 
 -- Both sides began at the same time. What was sent may outlast the one peer while its COOKIE ACK is awaited.
 abbrev pub queues_collided : Endpoint → Core → Cookie → EndpointQueues
 queues_collided e (cookie_echoed mine held echoed) cookie = queues_for_other e mine held cookie e.queues.transfer
 queues_collided e core cookie = queues_begun e cookie
 
-abbrev pub establish_new_by : FlushKind → Endpoint → Cookie → ℕ → Outcome
-establish_new_by flush e cookie tie = establish_by flush e cookie (queues_kept e cookie) tie (connected ∷ [])
+abbrev pub establish_new_with_flush : FlushKind → Endpoint → Cookie → ℕ → Outcome
+establish_new_with_flush flush e cookie tie = establish_with_flush flush e cookie (queues_kept e cookie) tie (connected ∷ [])
 
-abbrev pub restart_by : FlushKind → Endpoint → Cookie → ℕ → Outcome
-restart_by flush e cookie tie = establish_by flush e cookie (queues_begun e cookie) tie (connection_restarted ∷ connected ∷ [])
+abbrev pub restart_with_flush : FlushKind → Endpoint → Cookie → ℕ → Outcome
+restart_with_flush flush e cookie tie = establish_with_flush flush e cookie (queues_begun e cookie) tie (connection_restarted ∷ connected ∷ [])
 
-abbrev pub collide_by : FlushKind → Endpoint → Core → Cookie → ℕ → Outcome
-collide_by flush e core cookie tie = establish_by flush e cookie (queues_collided e core cookie) tie (connected ∷ [])
+abbrev pub collide_with_flush : FlushKind → Endpoint → Core → Cookie → ℕ → Outcome
+collide_with_flush flush e core cookie tie = establish_with_flush flush e cookie (queues_collided e core cookie) tie (connected ∷ [])
 
-abbrev pub restart_by_in : FlushKind → Endpoint → Cookie → ℕ → OpenPhase → Held → Outcome
-restart_by_in flush e cookie tie shutdown_ack_sent held = refused_restart_outcome e held
-restart_by_in flush e cookie tie phase held = restart_by flush e cookie tie
+abbrev pub restart_with_flush_by_phase : FlushKind → Endpoint → Cookie → ℕ → OpenPhase → Held → Outcome
+restart_with_flush_by_phase flush e cookie tie shutdown_ack_sent held = refused_restart_outcome e held
+restart_with_flush_by_phase flush e cookie tie phase held = restart_with_flush flush e cookie tie
 
-abbrev pub restart_by_where : FlushKind → Endpoint → Cookie → ℕ → Core → Outcome
-restart_by_where flush e cookie tie (open_in phase mine held) = restart_by_in flush e cookie tie phase held
-restart_by_where flush e cookie tie core = restart_by flush e cookie tie
+abbrev pub restart_with_flush_by_core : FlushKind → Endpoint → Cookie → ℕ → Core → Outcome
+restart_with_flush_by_core flush e cookie tie (open_in phase mine held) = restart_with_flush_by_phase flush e cookie tie phase held
+restart_with_flush_by_core flush e cookie tie core = restart_with_flush flush e cookie tie
 
 -- ---- one of the existing association
 
-abbrev pub acknowledge_by : FlushKind → Endpoint → Held → Cookie → List (Event Emission) → Outcome
-acknowledge_by flush e held cookie events = flush e [] events (held.capabilities.zero_checksum_method.0 == 0) cookie.addressee.tag (cookie_ack ∷ [])
+abbrev pub acknowledge_with_flush : FlushKind → Endpoint → Held → Cookie → List (Event Emission) → Outcome
+acknowledge_with_flush flush e held cookie events = flush e [] events (held.capabilities.zero_checksum_method.0 == 0) cookie.addressee.tag (cookie_ack ∷ [])
 
-abbrev pub maintain_by : FlushKind → Endpoint → Cookie → Core → Outcome
-maintain_by flush e cookie (cookie_echoed mine held echoed) =
-    noting (connects (identity_of mine held) ∷ []) (acknowledge_by flush (connected_after e mine held) held cookie (connected ∷ []))
-maintain_by flush e cookie (open_in phase mine held) = acknowledge_by flush e held cookie []
-maintain_by flush e cookie core = still e
+abbrev pub maintain_with_flush : FlushKind → Endpoint → Cookie → Core → Outcome
+maintain_with_flush flush e cookie (cookie_echoed mine held echoed) =
+    with_effects_first (connects (identity_of mine held) ∷ []) (acknowledge_with_flush flush (connected_after e mine held) held cookie (connected ∷ []))
+maintain_with_flush flush e cookie (open_in phase mine held) = acknowledge_with_flush flush e held cookie []
+maintain_with_flush flush e cookie core = still e
 
 -- ---- every case
 
 -- Its change is `resolved_change`.
-abbrev pub resolved_by : FlushKind → Endpoint → Cookie → Core → ℕ → Resolution → Outcome
-resolved_by flush e cookie core word establish_new = establish_new_by flush e cookie word
-resolved_by flush e cookie core word restart = restart_by_where flush e cookie word core
-resolved_by flush e cookie core word simultaneous_init = collide_by flush e core cookie word
-resolved_by flush e cookie core word discard = discard_outcome e
-resolved_by flush e cookie core word maintain_existing = maintain_by flush e cookie core
-resolved_by flush e cookie core word invalid_tag = refused_echo_outcome e invalid_tag_text
-resolved_by flush e cookie core word stale = stale_outcome e cookie
+abbrev pub resolve_with_flush : FlushKind → Endpoint → Cookie → Core → ℕ → Resolution → Outcome
+resolve_with_flush flush e cookie core word establish_new = establish_new_with_flush flush e cookie word
+resolve_with_flush flush e cookie core word restart = restart_with_flush_by_core flush e cookie word core
+resolve_with_flush flush e cookie core word simultaneous_init = collide_with_flush flush e core cookie word
+resolve_with_flush flush e cookie core word discard = discard_outcome e
+resolve_with_flush flush e cookie core word maintain_existing = maintain_with_flush flush e cookie core
+resolve_with_flush flush e cookie core word invalid_tag = refused_echo_outcome e invalid_tag_text
+resolve_with_flush flush e cookie core word stale = stale_outcome e cookie
 
 abbrev pub is_last_tag : Option ℕ → ℕ → Bool
 is_last_tag None header = false
@@ -217,26 +217,26 @@ is_spent e core header cookie =
 
 -- the case, by that too
 abbrev pub resolved_now : Endpoint → Core → ℕ → Cookie → Resolution
-resolved_now e core header cookie = aged (is_spent e core header cookie) (resolve core e.tie e.secret header cookie)
+resolved_now e core header cookie = aged_resolution (is_spent e core header cookie) (resolve core e.tie e.secret header cookie)
 
 -- By the association, the header tag and what the bytes read as; the word is the one that comes next, drawn or not. Its change is
 -- `cookie_echo_change`.
-abbrev pub cookie_echo_by : FlushKind → Endpoint → Core → ℕ → Result Cookie (List ℕ) → ℕ → Outcome
-cookie_echo_by flush e core header (Err text) word = refused_echo_outcome e text
-cookie_echo_by flush e core header (Ok cookie) word = resolved_by flush e cookie core word (resolved_now e core header cookie)
+abbrev pub cookie_echo_with_flush : FlushKind → Endpoint → Core → ℕ → Result Cookie (List ℕ) → ℕ → Outcome
+cookie_echo_with_flush flush e core header (Err text) word = refused_echo_outcome e text
+cookie_echo_with_flush flush e core header (Ok cookie) word = resolve_with_flush flush e cookie core word (resolved_now e core header cookie)
 
 -- ---- the answers that its flush may get, if there is one
 
 abbrev pub EstablishAnswers : Endpoint → Cookie → EndpointQueues → ℕ → List Answer → Type 0
 EstablishAnswers e cookie queues tie answers =
-    FlushAnswers (established_by e cookie queues tie) (cookie_ack_emission (held_by_cookie e.options cookie) cookie) answers
+    FlushAnswers (endpoint_established e cookie queues tie) (cookie_ack_emission (held_by_cookie e.options cookie) cookie) answers
 
-abbrev pub RestartAnswersIn : Endpoint → Cookie → ℕ → OpenPhase → List Answer → Type 0
-RestartAnswersIn e cookie tie shutdown_ack_sent answers = answers ≡ []
-RestartAnswersIn e cookie tie phase answers = EstablishAnswers e cookie (queues_begun e cookie) tie answers
+abbrev pub RestartAnswersByPhase : Endpoint → Cookie → ℕ → OpenPhase → List Answer → Type 0
+RestartAnswersByPhase e cookie tie shutdown_ack_sent answers = answers ≡ []
+RestartAnswersByPhase e cookie tie phase answers = EstablishAnswers e cookie (queues_begun e cookie) tie answers
 
 abbrev pub RestartAnswers : Endpoint → Cookie → ℕ → Core → List Answer → Type 0
-RestartAnswers e cookie tie (open_in phase mine held) answers = RestartAnswersIn e cookie tie phase answers
+RestartAnswers e cookie tie (open_in phase mine held) answers = RestartAnswersByPhase e cookie tie phase answers
 RestartAnswers e cookie tie core answers = EstablishAnswers e cookie (queues_begun e cookie) tie answers
 
 abbrev pub MaintainAnswers : Endpoint → Cookie → Core → List Answer → Type 0
@@ -260,34 +260,34 @@ EchoedAnswers e core header (Ok cookie) word answers = ResolvedAnswers e cookie 
 -- a COOKIE ECHO is handled
 abbrev pub CookieEchoTurn : Endpoint → ℕ → List ℕ → Outcome → Type 0
 CookieEchoTurn e header bytes o =
-    (word : ℕ) × (answers : List Answer) × EchoedAnswers e e.core header (cookie_at bytes) word answers
-    × (o ≡ cookie_echo_by (flush_answered answers) e e.core header (cookie_at bytes) word)
+    (word : ℕ) × (answers : List Answer) × EchoedAnswers e e.core header (cookie_of_bytes bytes) word answers
+    × (o ≡ cookie_echo_with_flush (flush_answered answers) e e.core header (cookie_of_bytes bytes) word)
 
 -- ---- if nothing waits, as it is so far
 
 abbrev pub establish_outcome : Endpoint → Cookie → EndpointQueues → ℕ → List (Event Emission) → Outcome
-establish_outcome e cookie queues tie events = establish_by flush_outcome e cookie queues tie events
+establish_outcome e cookie queues tie events = establish_with_flush flush_outcome e cookie queues tie events
 
 abbrev pub establish_new_outcome : Endpoint → Cookie → ℕ → Outcome
-establish_new_outcome e cookie tie = establish_new_by flush_outcome e cookie tie
+establish_new_outcome e cookie tie = establish_new_with_flush flush_outcome e cookie tie
 
 abbrev pub collide_outcome : Endpoint → Core → Cookie → ℕ → Outcome
-collide_outcome e core cookie tie = collide_by flush_outcome e core cookie tie
+collide_outcome e core cookie tie = collide_with_flush flush_outcome e core cookie tie
 
 abbrev pub restart_outcome : Endpoint → Cookie → ℕ → Outcome
-restart_outcome e cookie tie = restart_by flush_outcome e cookie tie
+restart_outcome e cookie tie = restart_with_flush flush_outcome e cookie tie
 
-abbrev pub restart_outcome_in : Endpoint → Cookie → ℕ → OpenPhase → Held → Outcome
-restart_outcome_in e cookie tie phase held = restart_by_in flush_outcome e cookie tie phase held
+abbrev pub restart_outcome_by_phase : Endpoint → Cookie → ℕ → OpenPhase → Held → Outcome
+restart_outcome_by_phase e cookie tie phase held = restart_with_flush_by_phase flush_outcome e cookie tie phase held
 
-abbrev pub restart_outcome_where : Endpoint → Cookie → ℕ → Core → Outcome
-restart_outcome_where e cookie tie core = restart_by_where flush_outcome e cookie tie core
+abbrev pub restart_outcome_by_core : Endpoint → Cookie → ℕ → Core → Outcome
+restart_outcome_by_core e cookie tie core = restart_with_flush_by_core flush_outcome e cookie tie core
 
 abbrev pub maintain_outcome : Endpoint → Cookie → Core → Outcome
-maintain_outcome e cookie core = maintain_by flush_outcome e cookie core
+maintain_outcome e cookie core = maintain_with_flush flush_outcome e cookie core
 
 abbrev pub resolved_outcome : Endpoint → Cookie → Core → ℕ → Resolution → Outcome
-resolved_outcome e cookie core word resolution = resolved_by flush_outcome e cookie core word resolution
+resolved_outcome e cookie core word resolution = resolve_with_flush flush_outcome e cookie core word resolution
 
 abbrev pub cookie_echo_outcome : Endpoint → Core → ℕ → Result Cookie (List ℕ) → ℕ → Outcome
-cookie_echo_outcome e core header read word = cookie_echo_by flush_outcome e core header read word
+cookie_echo_outcome e core header read word = cookie_echo_with_flush flush_outcome e core header read word

@@ -20,9 +20,9 @@ use Rattle.dcsctp_spec.specs.endpoint.Following.{Following, next_chunk, packet_e
 
 -- The messages that can be taken once the association has ended: by the RFCs' rules those that are ready, for their data was
 -- acknowledged. Without a peer there are no new ones.
-abbrev pub left_by : Options → Option Transfer → List MessageContent → List MessageContent
-left_by options None left = left
-left_by options (Some transfer) left = if options.follow_rfc then transfer.reassembly.incoming.ready else left
+abbrev pub left_messages : Options → Option Transfer → List MessageContent → List MessageContent
+left_messages options None left = left
+left_messages options (Some transfer) left = if options.follow_rfc then transfer.reassembly.incoming.ready else left
 
 -- the own tag of the association that ends now, if it has a peer
 abbrev pub ended_tag : Core → Option ℕ → Option ℕ
@@ -43,7 +43,7 @@ closed_after e =
       shutdown_asked = false;
       timers = stopped_timers;
       queues = record e.queues { transfer = None };
-      left = left_by e.options e.queues.transfer e.left;
+      left = left_messages e.options e.queues.transfer e.left;
     }
 
 -- After this outcome the association ends with this event, and the rest of the packet is dropped.

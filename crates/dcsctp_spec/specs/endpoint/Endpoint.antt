@@ -1,7 +1,7 @@
 -- What a socket is between two turns (RFC 9260, sections 4 and 5).
 use Rattle.std.specs.Prelude.{◌==◌, ℕ, ◌+◌, ◌*◌, ◌/◌, ◌%◌, ◌^◌, min, Bool, true, false, not, ◌&&◌, if◌then◌else◌, Option, None, Some, List, []}
 use Rattle.std.specs.Duration.{as_nanos, max_nanos}
-use Rattle.dcsctp_spec.specs.endpoint.Timers.{TimerSettings, RunningTimer, started, longest_wait}
+use Rattle.dcsctp_spec.specs.endpoint.Timers.{TimerSettings, RunningTimer, started_timer, longest_wait}
 use Rattle.dcsctp_spec.specs.queues.Transfer.{EndpointQueues, empty_queues}
 use Rattle.dcsctp_spec.specs.Reconfiguration.{NumberedReset}
 use Rattle.dcsctp_types.specs.declared.association.Pair.{Pair}
@@ -60,11 +60,11 @@ is_cookie_echoed (cookie_echoed my held cookie) = true
 is_cookie_echoed (open_in phase my held) = false
 
 -- what is known of a peer
-abbrev pub held_in : Core → Option Held
-held_in closed = None
-held_in (cookie_wait my) = None
-held_in (cookie_echoed my held cookie) = Some held
-held_in (open_in phase my held) = Some held
+abbrev pub held_by_core : Core → Option Held
+held_by_core closed = None
+held_by_core (cookie_wait my) = None
+held_by_core (cookie_echoed my held cookie) = Some held
+held_by_core (open_in phase my held) = Some held
 
 -- A timer that belongs to a phase doesn't run outside it.
 pub record Timers : Type 0 where
@@ -164,7 +164,7 @@ abbrev pub heartbeats_begun : Endpoint → ℕ → Timers → Timers
 heartbeats_begun e tag timers =
     if as_nanos e.options.heartbeat_interval == 0 then timers
     else record timers {
-      heartbeat_interval = started e.moment (record (heartbeat_settings e.options) { duration = heartbeat_wait e.options tag });
+      heartbeat_interval = started_timer e.moment (record (heartbeat_settings e.options) { duration = heartbeat_wait e.options tag });
     }
 
 -- a pair as one number

@@ -41,7 +41,7 @@ event_map f (lifecycle_message_delivered id) = lifecycle_message_delivered id
 event_map f (lifecycle_end id) = lifecycle_end id
 
 -- the packets among events, in order
-abbrev pub packets_in : {P : Type 0} → List (Event P) → List P
-packets_in [] = []
-packets_in (sent packet ∷ events) = packet ∷ packets_in events
-packets_in (event ∷ events) = packets_in events
+abbrev pub packets_of_events : {P : Type 0} → List (Event P) → List P
+packets_of_events [] = []
+packets_of_events (sent packet ∷ events) = packet ∷ packets_of_events events
+packets_of_events (event ∷ events) = packets_of_events events

@@ -6,7 +6,7 @@ use Rattle.dcsctp_types.specs.declared.association.Held.{Held}
 use Rattle.dcsctp_types.specs.declared.word.Word.{Word}
 use Rattle.dcsctp_types.specs.Settings.{packet_size_limit}
 use Rattle.dcsctp_types.specs.Sizes.{common_header_size}
-use Rattle.dcsctp_spec.specs.endpoint.Event.{Event, sent, packets_in, buffered_amount_low, total_buffered_amount_low, lifecycle_message_fully_sent, lifecycle_message_maybe_expired, lifecycle_message_expired, lifecycle_end}
+use Rattle.dcsctp_spec.specs.endpoint.Event.{Event, sent, packets_of_events, buffered_amount_low, total_buffered_amount_low, lifecycle_message_fully_sent, lifecycle_message_maybe_expired, lifecycle_message_expired, lifecycle_end}
 use Rattle.dcsctp_spec.specs.Packet.{Plain, unworked, plain_out, Content, Emission}
 use Rattle.dcsctp_spec.specs.queues.SendQueue.{SendQueueState, has_queued_data}
 use Rattle.dcsctp_spec.specs.queues.Abandoning.{GivesUpAll}
@@ -16,11 +16,11 @@ use Rattle.dcsctp_spec.specs.queues.Items.{is_first_abandoned}
 use Rattle.dcsctp_spec.specs.queues.Retransmission.{RetransmissionState, outstanding_count, can_send}
 use Rattle.dcsctp_spec.specs.queues.Skipping.{SaysForward}
 use Rattle.dcsctp_spec.specs.queues.Transfer.{Transfer, advertised_window, may_give, is_idle}
-use Rattle.dcsctp_spec.specs.queues.Tracker.{TrackerState, is_acknowledgement_due, owes_acknowledgement, sack_of, sacked}
-use Rattle.dcsctp_spec.specs.endpoint.BegunResets.{BegunReset, streams_within, last_assigned_tsn, begun_in, request_contents, begun_effects, queue_requesting, retransmission_begun, after_begun}
-use Rattle.dcsctp_spec.specs.endpoint.Endpoint.{Endpoint, Core, closed, cookie_wait, cookie_echoed, open_in, Timers, heartbeats_begun, held_in, own_tag}
+use Rattle.dcsctp_spec.specs.queues.Tracker.{TrackerState, is_acknowledgement_due, owes_acknowledgement, sack_of, tracker_after_sack}
+use Rattle.dcsctp_spec.specs.endpoint.BegunResets.{BegunReset, streams_within, last_assigned_tsn, begun_if_connected, request_contents, begun_effects, queue_requesting, retransmission_begun, after_begun}
+use Rattle.dcsctp_spec.specs.endpoint.Endpoint.{Endpoint, Core, closed, cookie_wait, cookie_echoed, open_in, Timers, heartbeats_begun, held_by_core, own_tag}
 use Rattle.dcsctp_spec.specs.endpoint.Timers.{moment_after}
-use Rattle.dcsctp_spec.specs.endpoint.Outcome.{Outcome, contents_len, still, quiet, sends, behind, noting, then_outcome}
+use Rattle.dcsctp_spec.specs.endpoint.Outcome.{Outcome, contents_len, still, quiet, sends, behind, with_effects_first, then_outcome}
 use Rattle.dcsctp_spec.specs.association.Choices.{plain_contents}
 use Rattle.dcsctp_types.specs.wire.Content.{ChunkContent, sack_chunk}
 use Rattle.dcsctp_types.specs.wire.ReadsBack.{FitsChunk}
@@ -67,8 +67,8 @@ abbrev pub answer_contents : Answer → List Content
 answer_contents answer = plain_contents answer.acknowledgements ++ (request_contents answer.begun ++ plain_contents answer.data_chunks)
 
 -- the packet with these chunks after what it holds
-abbrev pub filled : Emission → List Content → Emission
-filled draft chunks = record draft { packet = record draft.packet { contents = draft.packet.contents ++ chunks } }
+abbrev pub filled_draft : Emission → List Content → Emission
+filled_draft draft chunks = record draft { packet = record draft.packet { contents = draft.packet.contents ++ chunks } }
 
 -- The packet is sent after these events, unless it is empty.
 abbrev pub goes_out : Endpoint → List (Event Emission) → Bool → ℕ → List Content → Outcome
@@ -77,9 +77,9 @@ goes_out e told with_checksum tag (content ∷ contents) =
     sends e [] told (record { with_checksum = with_checksum; packet = record { tag = tag; contents = content ∷ contents } })
 
 -- the outcome of one packet that is asked to be filled
-abbrev pub asked : Endpoint → Emission → Answer → Outcome
-asked e draft answer =
-    noting (begun_effects answer.begun) (goes_out answer.after (map filling_event answer.told) draft.with_checksum draft.packet.tag (filled draft (answer_contents answer)).packet.contents)
+abbrev pub asked_outcome : Endpoint → Emission → Answer → Outcome
+asked_outcome e draft answer =
+    with_effects_first (begun_effects answer.begun) (goes_out answer.after (map filling_event answer.told) draft.with_checksum draft.packet.tag (filled_draft draft (answer_contents answer)).packet.contents)
 
 -- ---- a list of them
 
@@ -98,7 +98,7 @@ next_draft (open_in phase my held) draft = draft_to held
 abbrev pub flush_of : Endpoint → Emission → List Answer → Outcome
 flush_of e draft [] = still e
 flush_of e draft (answer ∷ answers) =
-    then_outcome (asked e draft answer) (flush_of (asked e draft answer).after (next_draft e.core draft) answers)
+    then_outcome (asked_outcome e draft answer) (flush_of (asked_outcome e draft answer).after (next_draft e.core draft) answers)
 
 -- how many packets a flush may send: one at most while the COOKIE ECHO isn't answered (RFC 9260, section 5.1)
 abbrev pub packets_allowed : ℤ → Core → ℕ
@@ -123,8 +123,8 @@ pub data Ask : Type 0 where
   later_ask : Ask
 
 -- how many bytes of chunks still fit into a packet
-abbrev pub room_in : Endpoint → Emission → ℕ
-room_in e draft = packet_size_limit e.options - common_header_size - contents_len draft.packet.contents
+abbrev pub room_of_draft : Endpoint → Emission → ℕ
+room_of_draft e draft = packet_size_limit e.options - common_header_size - contents_len draft.packet.contents
 
 -- the chunk, if it fits into that many bytes
 abbrev pub where_fits : ℕ → Plain → List Plain
@@ -144,7 +144,7 @@ own_sack room transfer = unworked (sack_chunk (sack_of room transfer.tracker (ad
 -- It is sent if it is asked for and fits. Then all received data counts as acknowledged.
 abbrev pub Acknowledges : Bool → ℕ → Transfer → TrackerState → List Plain → Type 0
 Acknowledges false room transfer after chunks = (after ≡ transfer.tracker) × (chunks ≡ [])
-Acknowledges true room transfer after chunks = (after ≡ sacked transfer.tracker) × (chunks ≡ where_fits room (own_sack room transfer))
+Acknowledges true room transfer after chunks = (after ≡ tracker_after_sack transfer.tracker) × (chunks ≡ where_fits room (own_sack room transfer))
 
 -- Its numbers fit their fields.
 abbrev pub FitsPlain : Plain → Type 0
@@ -176,26 +176,26 @@ may_forward first_ask e state = nat_le e.no_forward_tsn_before e.moment && may_a
 
 -- A FORWARD-TSN is made if the first item was abandoned, and goes if it fits. Before that moment no other one is made, also if it
 -- didn't fit.
-abbrev pub ForwardsWhere : Bool → ℕ → Transfer → ℕ → RetransmissionState → Option ℕ → List Plain → Type 0
-ForwardsWhere false now transfer room state next chunks = (next ≡ None) × (chunks ≡ [])
-ForwardsWhere true now transfer room state next chunks =
+abbrev pub ForwardsIfAbandoned : Bool → ℕ → Transfer → ℕ → RetransmissionState → Option ℕ → List Plain → Type 0
+ForwardsIfAbandoned false now transfer room state next chunks = (next ≡ None) × (chunks ≡ [])
+ForwardsIfAbandoned true now transfer room state next chunks =
     (next ≡ Some (next_forward now transfer)) × ((chunk : ChunkContent) × SaysForward state chunk × (chunks ≡ where_fits room (unworked chunk)))
 
 -- Before it, messages are abandoned that may not be sent any more.
-abbrev pub GivesUpWhere : Bool → ℕ → Transfer → ℕ → Stage → Stage → Option ℕ → List Plain → Type 0
-GivesUpWhere false now transfer room old new next chunks = (new ≡ old) × (next ≡ None) × (chunks ≡ [])
-GivesUpWhere true now transfer room old new next chunks =
-    GivesUpAll now old new × ForwardsWhere (is_first_abandoned new.queue.outstanding.items) now transfer room new.queue next chunks
+abbrev pub GivesUpThenForwards : Bool → ℕ → Transfer → ℕ → Stage → Stage → Option ℕ → List Plain → Type 0
+GivesUpThenForwards false now transfer room old new next chunks = (new ≡ old) × (next ≡ None) × (chunks ≡ [])
+GivesUpThenForwards true now transfer room old new next chunks =
+    GivesUpAll now old new × ForwardsIfAbandoned (is_first_abandoned new.queue.outstanding.items) now transfer room new.queue next chunks
 
 -- the moment before which no FORWARD-TSN is sent, by whether one was made
-abbrev pub forward_where : Option ℕ → ℕ → ℕ
-forward_where None before = before
-forward_where (Some next) before = next
+abbrev pub forward_moment : Option ℕ → ℕ → ℕ
+forward_moment None before = before
+forward_moment (Some next) before = next
 
 -- The packet is filled with data. If none may go, nothing changes but that the timer may be set as it is when a packet is full.
-abbrev pub FillsWhere : Bool → ℕ → Stage → Stage → Type 0
-FillsWhere false now old new = (new ≡ old) ⊎ FillsPacket now old new
-FillsWhere true now old new = FillsPacket now old new
+abbrev pub FillsIfAllowed : Bool → ℕ → Stage → Stage → Type 0
+FillsIfAllowed false now old new = (new ≡ old) ⊎ FillsPacket now old new
+FillsIfAllowed true now old new = FillsPacket now old new
 
 -- is the list empty?
 abbrev pub is_none : {A : Type 0} → List A → Bool
@@ -206,11 +206,11 @@ is_none (first ∷ rest) = false
 abbrev pub may_be_asked : Core → Bool → Option Held
 may_be_asked (cookie_echoed my held cookie) true = None
 may_be_asked (cookie_echoed my held cookie) false = Some held
-may_be_asked core follows_rfc = held_in core
+may_be_asked core follows_rfc = held_by_core core
 
-abbrev pub begun_at : Ask → Bool → Option Held → ℕ → ℕ → SendQueueState → Option BegunReset
-begun_at first_ask follows held room last_tsn queue = begun_in follows held room last_tsn queue
-begun_at later_ask follows held room last_tsn queue = None
+abbrev pub begun_by_ask : Ask → Bool → Option Held → ℕ → ℕ → SendQueueState → Option BegunReset
+begun_by_ask first_ask follows held room last_tsn queue = begun_if_connected follows held room last_tsn queue
+begun_by_ask later_ask follows held room last_tsn queue = None
 
 -- What the transfer layer of an association gives: what acknowledges, what abandons messages, a request to reset streams, and data
 -- as far as it may go.
@@ -219,22 +219,22 @@ pub record Gives (ask : Ask) (e : Endpoint) (draft : Emission) (transfer : Trans
   pub forwards : List Plain
   pub parts : answer.acknowledgements ≡ sacks ++ forwards
   pub tracker : TrackerState
-  pub acknowledges : Acknowledges (wants_sack ask e.queues.queue transfer) (room_in e draft) transfer tracker sacks
+  pub acknowledges : Acknowledges (wants_sack ask e.queues.queue transfer) (room_of_draft e draft) transfer tracker sacks
   -- once messages were abandoned
   pub gave_up : Stage
   pub next : Option ℕ
-  pub gives_up : GivesUpWhere (may_forward ask e transfer.retransmission) e.moment transfer (room_in e (filled draft (plain_contents sacks)))
+  pub gives_up : GivesUpThenForwards (may_forward ask e transfer.retransmission) e.moment transfer (room_of_draft e (filled_draft draft (plain_contents sacks)))
       (stage_of e.queues.queue transfer.retransmission [] 0) gave_up next forwards
-  pub later : answer.after.no_forward_tsn_before ≡ forward_where next e.no_forward_tsn_before
+  pub later : answer.after.no_forward_tsn_before ≡ forward_moment next e.no_forward_tsn_before
   pub begins : answer.begun
-      ≡ begun_at ask e.options.follow_rfc (may_be_asked e.core e.options.follow_rfc) (room_in e (filled draft (plain_contents answer.acknowledgements))) (last_assigned_tsn gave_up.queue) gave_up.waiting
+      ≡ begun_by_ask ask e.options.follow_rfc (may_be_asked e.core e.options.follow_rfc) (room_of_draft e (filled_draft draft (plain_contents answer.acknowledgements))) (last_assigned_tsn gave_up.queue) gave_up.waiting
   -- once the packet is full
   pub sent : Stage
   pub fills : let left : SendQueueState =
-      queue_requesting (streams_within (room_in e (filled draft (plain_contents answer.acknowledgements)))) answer.begun gave_up.waiting in
+      queue_requesting (streams_within (room_of_draft e (filled_draft draft (plain_contents answer.acknowledgements)))) answer.begun gave_up.waiting in
       let begun : RetransmissionState = retransmission_begun answer.begun gave_up.queue in
-      FillsWhere (may_give left begun) e.moment
-      (stage_of left begun gave_up.told (room_in e (filled draft (plain_contents answer.acknowledgements ++ request_contents answer.begun)))) sent
+      FillsIfAllowed (may_give left begun) e.moment
+      (stage_of left begun gave_up.told (room_of_draft e (filled_draft draft (plain_contents answer.acknowledgements ++ request_contents answer.begun)))) sent
   pub chunks : AreChunksOfTsns sent.queue.outstanding sent.tsns answer.data_chunks
   pub forwards_fit : AllByRecursion FitsPlain forwards
   pub data_fit : AllByRecursion FitsPlain answer.data_chunks
@@ -243,13 +243,13 @@ pub record Gives (ask : Ask) (e : Endpoint) (draft : Emission) (transfer : Trans
       ≡ record { queue = sent.waiting; transfer = Some (record transfer { retransmission = sent.queue; tracker = tracker }) }
 
 -- If the association is idle, nothing happens.
-abbrev pub GivesWhere : Bool → Ask → Endpoint → Emission → Transfer → Answer → Type 0
-GivesWhere true ask e draft transfer answer = answer ≡ nothing_waits e
-GivesWhere false ask e draft transfer answer = Gives ask e draft transfer answer
+abbrev pub GivesUnlessIdle : Bool → Ask → Endpoint → Emission → Transfer → Answer → Type 0
+GivesUnlessIdle true ask e draft transfer answer = answer ≡ nothing_waits e
+GivesUnlessIdle false ask e draft transfer answer = Gives ask e draft transfer answer
 
 abbrev pub IsAnswerOfQueues : Ask → Endpoint → Emission → Answer → Option Transfer → Type 0
 IsAnswerOfQueues ask e draft answer None = answer ≡ nothing_waits e
-IsAnswerOfQueues ask e draft answer (Some transfer) = GivesWhere (is_idle e.queues.queue transfer) ask e draft transfer answer
+IsAnswerOfQueues ask e draft answer (Some transfer) = GivesUnlessIdle (is_idle e.queues.queue transfer) ask e draft transfer answer
 
 -- With data the heartbeat interval starts again.
 abbrev pub timers_with : Endpoint → List Plain → Timers
@@ -264,7 +264,7 @@ pub record IsFlushAnswer (ask : Ask) (e : Endpoint) (draft : Emission) (answer :
         no_forward_tsn_before = answer.after.no_forward_tsn_before;
         queues = answer.after.queues;
       }
-  pub within : IsWithinMtu e draft → IsWithinMtu e (filled draft (answer_contents answer))
+  pub within : IsWithinMtu e draft → IsWithinMtu e (filled_draft draft (answer_contents answer))
   pub by_transfer : IsAnswerOfQueues ask e draft answer e.queues.transfer
 
 -- The lists of answers that end a flush of at most that many packets. It ends at its limit, or at a packet that is empty after
@@ -272,11 +272,11 @@ pub record IsFlushAnswer (ask : Ask) (e : Endpoint) (draft : Emission) (answer :
 pub data AreFlushAnswers : Ask → ℕ → Endpoint → Emission → List Answer → Type 0 where
   at_limit : (ask : Ask) (e : Endpoint) (draft : Emission) → AreFlushAnswers ask 0 e draft []
   at_empty : (ask : Ask) (more : ℕ) (e : Endpoint) (draft : Emission) (answer : Answer) → IsFlushAnswer ask e draft answer
-      → (filled draft (answer_contents answer)).packet.contents ≡ [] → AreFlushAnswers ask (suc more) e draft (answer ∷ [])
+      → (filled_draft draft (answer_contents answer)).packet.contents ≡ [] → AreFlushAnswers ask (suc more) e draft (answer ∷ [])
   after_packet : (ask : Ask) (more : ℕ) (e : Endpoint) (draft : Emission) (answer : Answer) (answers : List Answer)
       → IsFlushAnswer ask e draft answer
-      → ((filled draft (answer_contents answer)).packet.contents ≡ [] → ⊥)
-      → AreFlushAnswers later_ask more (asked e draft answer).after (next_draft e.core draft) answers
+      → ((filled_draft draft (answer_contents answer)).packet.contents ≡ [] → ⊥)
+      → AreFlushAnswers later_ask more (asked_outcome e draft answer).after (next_draft e.core draft) answers
       → AreFlushAnswers ask (suc more) e draft (answer ∷ answers)
 
 -- the answers that a flush whose first packet is this may get
@@ -323,8 +323,8 @@ IsFlushEvent event = ⊥
 
 -- At most that many packets, none longer than `mtu`, and besides them only events of these kinds.
 pub record KeepsLimits (e : Endpoint) (events : List (Event Emission)) : Type 0 where
-  pub packets : length (packets_in events) ≤ packets_allowed e.options.max_burst e.core
-  pub sizes : AllByRecursion (IsWithinMtu e) (packets_in events)
+  pub packets : length (packets_of_events events) ≤ packets_allowed e.options.max_burst e.core
+  pub sizes : AllByRecursion (IsWithinMtu e) (packets_of_events events)
   pub others : AllByRecursion IsFlushEvent events
 
 -- ---- if nothing waits

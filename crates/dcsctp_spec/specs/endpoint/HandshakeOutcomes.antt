@@ -11,15 +11,15 @@ use Rattle.dcsctp_types.specs.declared.kinds.SctpImplementation.{SctpImplementat
 use Rattle.dcsctp_types.specs.declared.kinds.SctpImplementation.TheVariants.{Unknown, DcsctpRs, DcsctpCc, UsrSctp}
 use Rattle.dcsctp_types.specs.wire.Numbers.{state_cookie_type}
 use Rattle.dcsctp_types.specs.Offer.{offer_of, answering_offer, agreed_method}
-use Rattle.dcsctp_spec.specs.Cookie.{Cookie, cookie_bytes, cut}
+use Rattle.dcsctp_spec.specs.Cookie.{Cookie, cookie_bytes, cookie_moment}
 use Rattle.dcsctp_spec.specs.endpoint.Cause.{missing_mandatory_parameter}
 use Rattle.dcsctp_spec.specs.endpoint.Event.{aborted, connected}
 use Rattle.dcsctp_spec.specs.Packet.{Introduction, Content, init, init_ack, cookie_echo, abort, shutdown_ack, Emission}
 use Rattle.dcsctp_spec.specs.queues.SendQueue.{SendQueueState, queue_restarted, numbered_for}
 use Rattle.dcsctp_spec.specs.queues.Transfer.{new_transfer, next_tsn_of}
 use Rattle.dcsctp_spec.specs.endpoint.Endpoint.{Endpoint, Core, closed, cookie_wait, cookie_echoed, open_in, OpenPhase, established, shutdown_ack_sent, heartbeats_begun, t1_settings, errors_begun, may_answer, secret_with, with_secret}
-use Rattle.dcsctp_spec.specs.endpoint.Timers.{started}
-use Rattle.dcsctp_spec.specs.endpoint.Outcome.{Outcome, still, quiet, fits, to_peer, emits, answering, noting, drawing}
+use Rattle.dcsctp_spec.specs.endpoint.Timers.{started_timer}
+use Rattle.dcsctp_spec.specs.endpoint.Outcome.{Outcome, still, quiet, fits, to_peer, emits, answering, with_effects_first, drawing}
 use Rattle.dcsctp_spec.specs.association.Effect.{holds, connects, identity_of}
 use Rattle.dcsctp_spec.specs.association.HandshakeChanges.{introduction_of, held_by_init_ack}
 use Rattle.dcsctp_spec.specs.endpoint.FlushOutcomes.{Answer, FlushAnswers, FlushKind, draft_to, flush_answered, flush_outcome}
@@ -41,7 +41,7 @@ pair_from word next = record { tag = tag_from next; first_tsn = first_tsn_from w
 
 -- the cookie in the answer to an INIT, made at this moment
 abbrev pub cookie_for : ℕ → Introduction → Pair → ℕ → Cookie
-cookie_for now theirs mine tie = record { maker = mine; addressee = theirs.pair; offer = theirs.offer; window = theirs.window; tie = tie; moment = cut now }
+cookie_for now theirs mine tie = record { maker = mine; addressee = theirs.pair; offer = theirs.offer; window = theirs.window; tie = tie; moment = cookie_moment now }
 
 abbrev pub init_ack_for : Endpoint → Introduction → Pair → ℕ → Content
 init_ack_for e theirs mine tie =
@@ -112,7 +112,7 @@ awaits_init_ack e mine =
     record e {
       core = cookie_wait mine;
       secret = secret_with e mine;
-      timers = record e.timers { t1 = started e.moment (t1_settings e.options (as_nanos e.options.t1_init_timeout)) };
+      timers = record e.timers { t1 = started_timer e.moment (t1_settings e.options (as_nanos e.options.t1_init_timeout)) };
     }
 
 -- A closed socket draws a pair and begins an association. The words are those that come next, drawn or not.
@@ -145,17 +145,17 @@ refused_init_ack_outcome e tag = ended_outcome (emits e [] (abort_emission tag))
 abbrev pub implementations : List (List ℕ × SctpImplementation)
 implementations = (codes "dcSCTP00", DcsctpCc) ∷ (codes "dcSCTPr0", DcsctpRs) ∷ (codes "KAME-BSD", UsrSctp) ∷ []
 
-abbrev pub named_in : List ℕ → List (List ℕ × SctpImplementation) → SctpImplementation
-named_in cookie [] = Unknown
-named_in cookie (row ∷ rows) = if starts_with nat_eq cookie row.0 then row.1 else named_in cookie rows
+abbrev pub implementation_named : List ℕ → List (List ℕ × SctpImplementation) → SctpImplementation
+implementation_named cookie [] = Unknown
+implementation_named cookie (row ∷ rows) = if starts_with nat_eq cookie row.0 then row.1 else implementation_named cookie rows
 
 -- The peer's implementation, by the first 8 bytes of its cookie. The cookie must be longer than these.
 abbrev pub implementation_of : List ℕ → SctpImplementation
-implementation_of cookie = if nat_le (length cookie) 8 then Unknown else named_in cookie implementations
+implementation_of cookie = if nat_le (length cookie) 8 then Unknown else implementation_named cookie implementations
 
 -- the queue as a new association finds it, with its numbers started again
-abbrev pub queue_anew : SendQueueState → Bool → SendQueueState
-queue_anew queue is_interleaved = numbered_for is_interleaved (queue_restarted queue)
+abbrev pub renumbered_queue : SendQueueState → Bool → SendQueueState
+renumbered_queue queue is_interleaved = numbered_for is_interleaved (queue_restarted queue)
 
 -- the peer that an INIT ACK shows: a COOKIE ACK is awaited
 abbrev pub awaits_cookie_ack : Endpoint → Pair → Introduction → List ℕ → ℕ → Endpoint
@@ -166,10 +166,10 @@ awaits_cookie_ack e mine theirs cookie tie =
       tie = tie;
       outstanding = None;
       error_count = errors_begun e;
-      timers = record e.timers { t1 = started e.moment (t1_settings e.options (as_nanos e.options.t1_cookie_timeout)); reconfiguration = None };
+      timers = record e.timers { t1 = started_timer e.moment (t1_settings e.options (as_nanos e.options.t1_cookie_timeout)); reconfiguration = None };
       peer_implementation = implementation_of cookie;
       queues = record {
-        queue = queue_anew e.queues.queue held.capabilities.message_interleaving;
+        queue = renumbered_queue e.queues.queue held.capabilities.message_interleaving;
         transfer = Some (new_transfer e.options held.capabilities mine.first_tsn theirs.pair.first_tsn theirs.window);
       };
       left = [];
@@ -179,30 +179,30 @@ awaits_cookie_ack e mine theirs cookie tie =
 abbrev pub echo_emission : ℕ → List ℕ → Emission
 echo_emission tag cookie = record { with_checksum = true; packet = record { tag = tag; contents = cookie_echo cookie ∷ [] } }
 
-abbrev pub send_echo_by : FlushKind → Endpoint → List Word → ℕ → List ℕ → Outcome
-send_echo_by flush e words tag cookie = if fits e (echo_emission tag cookie)
+abbrev pub send_echo_with_flush : FlushKind → Endpoint → List Word → ℕ → List ℕ → Outcome
+send_echo_with_flush flush e words tag cookie = if fits e (echo_emission tag cookie)
     then flush e words [] (echo_emission tag cookie).with_checksum tag (echo_emission tag cookie).packet.contents else quiet e words []
 
 abbrev pub send_echo_outcome : Endpoint → List Word → ℕ → List ℕ → Outcome
-send_echo_outcome e words tag cookie = send_echo_by flush_outcome e words tag cookie
+send_echo_outcome e words tag cookie = send_echo_with_flush flush_outcome e words tag cookie
 
-abbrev pub accepted_init_ack_by : FlushKind → Endpoint → Pair → Introduction → Option (List ℕ) → ℕ → Outcome
-accepted_init_ack_by flush e mine theirs None tie = refused_init_ack_outcome e theirs.pair.tag
-accepted_init_ack_by flush e mine theirs (Some cookie) tie =
-    noting (holds (identity_of mine (held_by_init_ack e.options mine theirs)) ∷ [])
-    (send_echo_by flush (awaits_cookie_ack e mine theirs cookie tie) (U64 tie ∷ []) theirs.pair.tag cookie)
+abbrev pub accept_init_ack_with_flush : FlushKind → Endpoint → Pair → Introduction → Option (List ℕ) → ℕ → Outcome
+accept_init_ack_with_flush flush e mine theirs None tie = refused_init_ack_outcome e theirs.pair.tag
+accept_init_ack_with_flush flush e mine theirs (Some cookie) tie =
+    with_effects_first (holds (identity_of mine (held_by_init_ack e.options mine theirs)) ∷ [])
+    (send_echo_with_flush flush (awaits_cookie_ack e mine theirs cookie tie) (U64 tie ∷ []) theirs.pair.tag cookie)
 
 abbrev pub accepted_init_ack_outcome : Endpoint → Pair → Introduction → Option (List ℕ) → ℕ → Outcome
-accepted_init_ack_outcome e mine theirs cookie tie = accepted_init_ack_by flush_outcome e mine theirs cookie tie
+accepted_init_ack_outcome e mine theirs cookie tie = accept_init_ack_with_flush flush_outcome e mine theirs cookie tie
 
 -- INIT ACK counts only in CookieWait (RFC 9260, section 5.2.3). The word is the one that comes next, drawn or not. Its change is
 -- `init_ack_change`.
-abbrev pub init_ack_by : FlushKind → Endpoint → Introduction → Option (List ℕ) → Core → ℕ → Outcome
-init_ack_by flush e theirs cookie (cookie_wait mine) word = accepted_init_ack_by flush e mine theirs cookie word
-init_ack_by flush e theirs cookie core word = still e
+abbrev pub init_ack_with_flush : FlushKind → Endpoint → Introduction → Option (List ℕ) → Core → ℕ → Outcome
+init_ack_with_flush flush e theirs cookie (cookie_wait mine) word = accept_init_ack_with_flush flush e mine theirs cookie word
+init_ack_with_flush flush e theirs cookie core word = still e
 
 abbrev pub init_ack_outcome : Endpoint → Introduction → Option (List ℕ) → Core → ℕ → Outcome
-init_ack_outcome e theirs cookie core word = init_ack_by flush_outcome e theirs cookie core word
+init_ack_outcome e theirs cookie core word = init_ack_with_flush flush_outcome e theirs cookie core word
 
 -- The answers that its flush may get, if there is one.
 abbrev pub EchoAnswers : Bool → Endpoint → ℕ → List ℕ → List Answer → Type 0
@@ -219,7 +219,7 @@ InitAckAnswers e theirs cookie core word answers = answers ≡ []
 abbrev pub InitAckTurn : Endpoint → Introduction → Option (List ℕ) → Outcome → Type 0
 InitAckTurn e theirs cookie o =
     (word : ℕ) × (answers : List Answer) × InitAckAnswers e theirs cookie e.core word answers
-    × (o ≡ init_ack_by (flush_answered answers) e theirs cookie e.core word)
+    × (o ≡ init_ack_with_flush (flush_answered answers) e theirs cookie e.core word)
 
 -- ---- COOKIE ACK
 
@@ -229,14 +229,14 @@ connected_after e mine held =
     record e { core = open_in established mine held; timers = heartbeats_begun e mine.tag (record e.timers { t1 = None }) }
 
 -- COOKIE ACK counts only in CookieEchoed (RFC 9260, section 5.2.5). A flush follows. Its change is `cookie_ack_change`.
-abbrev pub cookie_ack_by : FlushKind → Endpoint → Core → Outcome
-cookie_ack_by flush e (cookie_echoed mine held cookie) =
-    noting (connects (identity_of mine held) ∷ [])
+abbrev pub cookie_ack_with_flush : FlushKind → Endpoint → Core → Outcome
+cookie_ack_with_flush flush e (cookie_echoed mine held cookie) =
+    with_effects_first (connects (identity_of mine held) ∷ [])
     (flush (connected_after e mine held) [] (connected ∷ []) (held.capabilities.zero_checksum_method.0 == 0) held.peer.tag [])
-cookie_ack_by flush e core = still e
+cookie_ack_with_flush flush e core = still e
 
 abbrev pub cookie_ack_outcome : Endpoint → Core → Outcome
-cookie_ack_outcome e core = cookie_ack_by flush_outcome e core
+cookie_ack_outcome e core = cookie_ack_with_flush flush_outcome e core
 
 abbrev pub CookieAckAnswers : Endpoint → Core → List Answer → Type 0
 CookieAckAnswers e (cookie_echoed mine held cookie) answers = FlushAnswers (connected_after e mine held) (draft_to held) answers
@@ -244,4 +244,4 @@ CookieAckAnswers e core answers = answers ≡ []
 
 -- a COOKIE ACK is handled
 abbrev pub CookieAckTurn : Endpoint → Outcome → Type 0
-CookieAckTurn e o = (answers : List Answer) × CookieAckAnswers e e.core answers × (o ≡ cookie_ack_by (flush_answered answers) e e.core)
+CookieAckTurn e o = (answers : List Answer) × CookieAckAnswers e e.core answers × (o ≡ cookie_ack_with_flush (flush_answered answers) e e.core)

@@ -9,8 +9,8 @@ use Rattle.dcsctp_spec.specs.queues.Retransmission.{RetransmissionState}
 use Rattle.dcsctp_spec.specs.queues.Transfer.{Transfer}
 use Rattle.dcsctp_spec.specs.endpoint.Endpoint.{Endpoint, Core, open_in, OpenPhase, established, shutdown_pending, shutdown_sent, shutdown_received, shutdown_ack_sent}
 use Rattle.dcsctp_spec.specs.endpoint.Outcome.{Outcome}
-use Rattle.dcsctp_spec.specs.endpoint.DataOutcomes.{AcknowledgesBy}
-use Rattle.dcsctp_spec.specs.endpoint.ShutdownOutcomes.{phase_at, shutdown_outcome_in, shutdown_outcome}
+use Rattle.dcsctp_spec.specs.endpoint.DataOutcomes.{TakesSackAndFlushes}
+use Rattle.dcsctp_spec.specs.endpoint.ShutdownOutcomes.{endpoint_in_phase, shutdown_outcome_by_phase, shutdown_outcome}
 
 -- What it says as a SACK: its cumulative TSN ack, no gap, and the window that was last reported, as the field of a SACK holds it.
 abbrev pub said_by_shutdown : ℕ → RetransmissionState → SackContent
@@ -25,20 +25,20 @@ may_have_sent shutdown_received = true
 may_have_sent shutdown_ack_sent = false
 
 -- Does the TSN acknowledge? It doesn't if it is old, or was never sent.
-abbrev pub heeds_shutdown : Options → OpenPhase → Transfer → ℕ → Bool
-heeds_shutdown options phase transfer tsn = options.follow_rfc && (may_have_sent phase && is_sack_valid transfer.retransmission tsn)
+abbrev pub acknowledges_by_shutdown : Options → OpenPhase → Transfer → ℕ → Bool
+acknowledges_by_shutdown options phase transfer tsn = options.follow_rfc && (may_have_sent phase && is_sack_valid transfer.retransmission tsn)
 
 -- The association is in ShutdownReceived, and what the TSN acknowledges is taken into account there.
-abbrev pub ShutdownWhere : Bool → Endpoint → OpenPhase → Pair → Held → Transfer → ℕ → Outcome → Type 0
-ShutdownWhere true e phase my held transfer tsn o =
-    AcknowledgesBy (phase_at e shutdown_received my held) held transfer (said_by_shutdown tsn transfer.retransmission) o
-ShutdownWhere false e phase my held transfer tsn o = o ≡ shutdown_outcome_in e phase my held
+abbrev pub HearsValidShutdown : Bool → Endpoint → OpenPhase → Pair → Held → Transfer → ℕ → Outcome → Type 0
+HearsValidShutdown true e phase my held transfer tsn o =
+    TakesSackAndFlushes (endpoint_in_phase e shutdown_received my held) held transfer (said_by_shutdown tsn transfer.retransmission) o
+HearsValidShutdown false e phase my held transfer tsn o = o ≡ shutdown_outcome_by_phase e phase my held
 
-abbrev pub ShutdownBy : Endpoint → OpenPhase → Pair → Held → Option Transfer → ℕ → Outcome → Type 0
-ShutdownBy e phase my held None tsn o = o ≡ shutdown_outcome_in e phase my held
-ShutdownBy e phase my held (Some transfer) tsn o = ShutdownWhere (heeds_shutdown e.options phase transfer tsn) e phase my held transfer tsn o
+abbrev pub HearsShutdown : Endpoint → OpenPhase → Pair → Held → Option Transfer → ℕ → Outcome → Type 0
+HearsShutdown e phase my held None tsn o = o ≡ shutdown_outcome_by_phase e phase my held
+HearsShutdown e phase my held (Some transfer) tsn o = HearsValidShutdown (acknowledges_by_shutdown e.options phase transfer tsn) e phase my held transfer tsn o
 
 -- A SHUTDOWN with this cumulative TSN ack is received.
 abbrev pub ShutdownTurn : Endpoint → Core → ℕ → Outcome → Type 0
-ShutdownTurn e (open_in phase my held) tsn o = ShutdownBy e phase my held e.queues.transfer tsn o
+ShutdownTurn e (open_in phase my held) tsn o = HearsShutdown e phase my held e.queues.transfer tsn o
 ShutdownTurn e core tsn o = o ≡ shutdown_outcome e core

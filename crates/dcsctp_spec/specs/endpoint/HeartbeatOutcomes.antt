@@ -13,8 +13,8 @@ use Rattle.dcsctp_types.specs.declared.options.Options.{Options}
 use Rattle.dcsctp_types.specs.Sizes.{word_size}
 use Rattle.dcsctp_spec.specs.Packet.{heartbeat, heartbeat_ack, plain, Emission}
 use Rattle.dcsctp_spec.specs.endpoint.Endpoint.{Endpoint, Core, cookie_echoed, open_in}
-use Rattle.dcsctp_spec.specs.endpoint.Timers.{RunningTimer, TimerSettings, started, expired}
-use Rattle.dcsctp_spec.specs.endpoint.TransferMoves.{timed_by}
+use Rattle.dcsctp_spec.specs.endpoint.Timers.{RunningTimer, TimerSettings, started_timer, timer_after_expiry}
+use Rattle.dcsctp_spec.specs.endpoint.TransferMoves.{timed_transfer}
 use Rattle.dcsctp_spec.specs.endpoint.Outcome.{Outcome, still, reports, emits, answers_with, to_peer}
 
 -- ---- the count of errors (RFC 9260, section 8.1)
@@ -38,10 +38,10 @@ heartbeat_outcome e (open_in phase my held) parameters = answers_with e (to_peer
 heartbeat_outcome e core parameters = still e
 
 -- The first Heartbeat Info counts,
-abbrev pub info_in : List ParameterContent → Option (List ℕ)
-info_in [] = None
-info_in (heartbeat_info info ∷ parameters) = Some info
-info_in (parameter ∷ parameters) = info_in parameters
+abbrev pub first_heartbeat_info : List ParameterContent → Option (List ℕ)
+first_heartbeat_info [] = None
+first_heartbeat_info (heartbeat_info info ∷ parameters) = Some info
+first_heartbeat_info (parameter ∷ parameters) = first_heartbeat_info parameters
 
 -- and it has the counter alone, in four bytes.
 abbrev pub counter_of : Option (List ℕ) → Option ℕ
@@ -56,26 +56,26 @@ abbrev pub heartbeat_round_trip : Endpoint → Option ℕ
 heartbeat_round_trip e = if e.options.follow_rfc then option_map (λ sent. e.moment - sent) e.heartbeat_sent else None
 
 -- The peer is there: no answer is awaited, and no error counts.
-abbrev pub answered : Endpoint → Endpoint
-answered e =
+abbrev pub endpoint_answered : Endpoint → Endpoint
+endpoint_answered e =
     record e {
       error_count = 0;
       heartbeat_sent = None;
       timers = record e.timers { heartbeat_timeout = None };
-      queues = record e.queues { transfer = option_map (timed_by (heartbeat_round_trip e)) e.queues.transfer };
+      queues = record e.queues { transfer = option_map (timed_transfer (heartbeat_round_trip e)) e.queues.transfer };
     }
 
 -- A HEARTBEAT ACK counts if it carries the present counter.
 abbrev pub heartbeat_ack_outcome : Endpoint → Option ℕ → Outcome
 heartbeat_ack_outcome e None = reports e ParseFailed invalid_info_text
-heartbeat_ack_outcome e (Some counter) = if counter == e.heartbeat_counter then still (answered e) else still e
+heartbeat_ack_outcome e (Some counter) = if counter == e.heartbeat_counter then still (endpoint_answered e) else still e
 
 -- ---- timers
 
 -- what is left of a timer that expires at this moment
 abbrev pub expired_of : ℕ → Option RunningTimer → Option RunningTimer
 expired_of moment None = None
-expired_of moment (Some timer) = expired moment timer
+expired_of moment (Some timer) = timer_after_expiry moment timer
 
 -- An answer is awaited for as long as the first retransmission timeout, once.
 abbrev pub heartbeat_timeout_settings : Options → TimerSettings
@@ -92,7 +92,7 @@ beating e =
     record e {
       heartbeat_counter = (e.heartbeat_counter + 1) % 2 ^ 32;
       heartbeat_sent = Some e.moment;
-      timers = record e.timers { heartbeat_timeout = started e.moment (heartbeat_timeout_settings e.options) };
+      timers = record e.timers { heartbeat_timeout = started_timer e.moment (heartbeat_timeout_settings e.options) };
     }
 
 -- a HEARTBEAT with this counter

@@ -9,11 +9,11 @@ use Rattle.dcsctp_spec.specs.endpoint.Event.{Event, error, lifecycle_end}
 use Rattle.dcsctp_spec.specs.Packet.{Emission}
 use Rattle.dcsctp_types.specs.Ids.{lifecycle_number}
 use Rattle.dcsctp_types.specs.queues.Messages.{MessageContent}
-use Rattle.dcsctp_spec.specs.queues.SendQueue.{SendQueueState, queue_stream, queued, with_added}
-use Rattle.dcsctp_spec.specs.endpoint.Endpoint.{Endpoint, Core, closed, cookie_wait, cookie_echoed, open_in, held_in, OpenPhase, established, shutdown_pending, shutdown_sent, shutdown_received, shutdown_ack_sent}
+use Rattle.dcsctp_spec.specs.queues.SendQueue.{SendQueueState, queue_stream, queued_message, with_added}
+use Rattle.dcsctp_spec.specs.endpoint.Endpoint.{Endpoint, Core, closed, cookie_wait, cookie_echoed, open_in, held_by_core, OpenPhase, established, shutdown_pending, shutdown_sent, shutdown_received, shutdown_ack_sent}
 use Rattle.dcsctp_spec.specs.endpoint.Outcome.{Outcome, count_up, still, quiet, then_outcome}
 use Rattle.dcsctp_spec.specs.endpoint.FlushOutcomes.{Answer}
-use Rattle.dcsctp_spec.specs.endpoint.DataOutcomes.{flush_by, AnswersTo}
+use Rattle.dcsctp_spec.specs.endpoint.DataOutcomes.{flush_to_peer, AnswersTo}
 
 pub data MessageRefusal : Type 0 where
   empty_payload : MessageRefusal
@@ -23,18 +23,18 @@ pub data MessageRefusal : Type 0 where
   resource_exhaustion : MessageRefusal
 
 -- Does the association end once what was sent is acknowledged (RFC 9260, section 9.2)?
-abbrev pub is_shutting_in : OpenPhase → Bool
-is_shutting_in established = false
-is_shutting_in shutdown_pending = true
-is_shutting_in shutdown_sent = true
-is_shutting_in shutdown_received = true
-is_shutting_in shutdown_ack_sent = true
+abbrev pub is_phase_shutting_down : OpenPhase → Bool
+is_phase_shutting_down established = false
+is_phase_shutting_down shutdown_pending = true
+is_phase_shutting_down shutdown_sent = true
+is_phase_shutting_down shutdown_received = true
+is_phase_shutting_down shutdown_ack_sent = true
 
 abbrev pub is_shutting_down : Core → Bool
 is_shutting_down closed = false
 is_shutting_down (cookie_wait my) = false
 is_shutting_down (cookie_echoed my held cookie) = false
-is_shutting_down (open_in phase my held) = is_shutting_in phase
+is_shutting_down (open_in phase my held) = is_phase_shutting_down phase
 
 -- Does a shutdown wait for the association to open?
 abbrev pub awaits_opening : Endpoint → Core → Bool
@@ -92,7 +92,7 @@ lifecycle_name sending = option_map lifecycle_number sending.options.lifecycle_i
 
 -- the queue once it was taken at this moment
 abbrev pub sending_queued : ℕ → Sending → SendQueueState → SendQueueState
-sending_queued now sending queue = with_added sending.message.stream (queued now sending.message sending.options queue) queue
+sending_queued now sending queue = with_added sending.message.stream (queued_message now sending.message sending.options queue) queue
 
 -- the endpoint once a message was taken
 abbrev pub message_queued : Endpoint → Sending → Endpoint
@@ -102,13 +102,13 @@ message_queued e message =
       queues = record e.queues { queue = sending_queued e.moment message e.queues.queue };
     }
 
-abbrev pub queue_by : Endpoint → Sending → Option MessageRefusal → Outcome
-queue_by e message None = still (message_queued e message)
-queue_by e message (Some refusal) = quiet e [] (refusal_events refusal (lifecycle_name message))
+abbrev pub queue_unless_refused : Endpoint → Sending → Option MessageRefusal → Outcome
+queue_unless_refused e message None = still (message_queued e message)
+queue_unless_refused e message (Some refusal) = quiet e [] (refusal_events refusal (lifecycle_name message))
 
 -- The message is taken or refused.
 abbrev pub queue_one : Endpoint → Sending → Outcome
-queue_one e message = queue_by e message (sending_refusal e message)
+queue_one e message = queue_unless_refused e message (sending_refusal e message)
 
 -- one message after another
 abbrev pub queue_all : Endpoint → List Sending → Outcome
@@ -120,15 +120,15 @@ pub record RefusedMessage : Type 0 where
   pub place : ℕ
   pub refusal : MessageRefusal
 
-abbrev pub refused_where : ℕ → Option MessageRefusal → List RefusedMessage
-refused_where place None = []
-refused_where place (Some refusal) = record { place = place; refusal = refusal } ∷ []
+abbrev pub refused_message_at_place : ℕ → Option MessageRefusal → List RefusedMessage
+refused_message_at_place place None = []
+refused_message_at_place place (Some refusal) = record { place = place; refusal = refusal } ∷ []
 
 -- those of these that are refused, in order, if the first has this place
 abbrev pub refused_from : ℕ → Endpoint → List Sending → List RefusedMessage
 refused_from place e [] = []
 refused_from place e (message ∷ messages) =
-    refused_where place (sending_refusal e message) ++ refused_from (place + 1) (queue_one e message).after messages
+    refused_message_at_place place (sending_refusal e message) ++ refused_from (place + 1) (queue_one e message).after messages
 
 -- is one of them taken?
 abbrev pub takes_any : Endpoint → List Sending → Bool
@@ -138,14 +138,14 @@ takes_any e (message ∷ messages) = is_none (sending_refusal e message) || take
 -- If one was taken, what waits is sent.
 abbrev pub SendAnswers : Bool → Endpoint → List Answer → Type 0
 SendAnswers false e answers = answers ≡ []
-SendAnswers true e answers = AnswersTo e (held_in e.core) answers
+SendAnswers true e answers = AnswersTo e (held_by_core e.core) answers
 
-abbrev pub send_by : Bool → Endpoint → List Answer → Outcome
-send_by false e answers = still e
-send_by true e answers = flush_by e (held_in e.core) answers
+abbrev pub flush_if_queued : Bool → Endpoint → List Answer → Outcome
+flush_if_queued false e answers = still e
+flush_if_queued true e answers = flush_to_peer e (held_by_core e.core) answers
 
 -- The user sends these messages.
 abbrev pub SendTurn : Endpoint → List Sending → Outcome → Type 0
 SendTurn e messages o =
     (answers : List Answer) × SendAnswers (takes_any e messages) (queue_all e messages).after answers
-    × (o ≡ then_outcome (queue_all e messages) (send_by (takes_any e messages) (queue_all e messages).after answers))
+    × (o ≡ then_outcome (queue_all e messages) (flush_if_queued (takes_any e messages) (queue_all e messages).after answers))

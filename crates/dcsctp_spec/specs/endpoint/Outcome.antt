@@ -72,13 +72,13 @@ emits e words emission = if fits e emission then sends e words [] emission else 
 abbrev pub answering : Outcome → Outcome
 answering o = record o { after = record o.after { has_answered = true } }
 
-abbrev pub answered_where : Bool → Endpoint → Emission → Outcome
-answered_where false e emission = still e
-answered_where true e emission = answering (emits e [] emission)
+abbrev pub answered_if_allowed : Bool → Endpoint → Emission → Outcome
+answered_if_allowed false e emission = still e
+answered_if_allowed true e emission = answering (emits e [] emission)
 
 -- A chunk is answered by this packet, if it fits, unless another one of its packet was.
 abbrev pub answers_with : Endpoint → Emission → Outcome
-answers_with e emission = answered_where (may_answer e) e emission
+answers_with e emission = answered_if_allowed (may_answer e) e emission
 
 -- this outcome, after these words and events
 abbrev pub behind : List Word → List (Event Emission) → Outcome → Outcome
@@ -96,9 +96,9 @@ then_outcome first second =
     }
 
 -- this outcome, after these effects
-abbrev pub noting : List Effect → Outcome → Outcome
-noting effects o = record o { effects = effects ++ o.effects }
+abbrev pub with_effects_first : List Effect → Outcome → Outcome
+with_effects_first effects o = record o { effects = effects ++ o.effects }
 
 -- the outcome of a turn that draws this pair
 abbrev pub drawing : Pair → Outcome → Outcome
-drawing pair o = noting (draws pair ∷ []) o
+drawing pair o = with_effects_first (draws pair ∷ []) o

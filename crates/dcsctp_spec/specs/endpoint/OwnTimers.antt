@@ -1,7 +1,7 @@
 -- The timers of an association, except for T1, and the outcome of each.
 use Rattle.std.specs.Prelude.{◌≡◌, Bool, true, false}
 use Rattle.dcsctp_spec.specs.Reconfiguration.{RequestedReset}
-use Rattle.dcsctp_spec.specs.endpoint.Endpoint.{Endpoint, held_in}
+use Rattle.dcsctp_spec.specs.endpoint.Endpoint.{Endpoint, held_by_core}
 use Rattle.dcsctp_spec.specs.endpoint.Outcome.{Outcome}
 use Rattle.dcsctp_spec.specs.association.Acts.{Act, flushes, request_again, request_renewed}
 use Rattle.dcsctp_spec.specs.endpoint.HeartbeatOutcomes.{interval_outcome, timeout_outcome}
@@ -24,7 +24,7 @@ TimerTurn e acknowledgement_delay o = o ≡ delay_outcome e e.queues.transfer
 TimerTurn e retransmission o = LossTurn e e.queues.transfer o
 TimerTurn e heartbeat_interval o = o ≡ interval_outcome e e.core
 TimerTurn e heartbeat_timeout o = o ≡ timeout_outcome e
-TimerTurn e reconfiguration o = o ≡ reconfiguration_outcome e (held_in e.core) e.outstanding
+TimerTurn e reconfiguration o = o ≡ reconfiguration_outcome e (held_by_core e.core) e.outstanding
 
 -- Under its number, or under the next one.
 abbrev pub repeating_act : Bool → RequestedReset → Act

@@ -19,9 +19,9 @@ use Rattle.dcsctp_spec.specs.endpoint.Endpoint.{Endpoint, Core, cookie_echoed, o
 use Rattle.dcsctp_spec.specs.endpoint.Following.{Following, next_chunk, packet_end}
 use Rattle.dcsctp_spec.specs.endpoint.Outcome.{Outcome, still, reports, quiet, sends, to_peer}
 use Rattle.dcsctp_spec.specs.endpoint.EndOutcomes.{aborting_outcome, ended_outcome}
-use Rattle.dcsctp_spec.specs.queues.Arrivals.{data_arrival, i_data_arrival, skipped_in, messages_skipped_in}
+use Rattle.dcsctp_spec.specs.queues.Arrivals.{data_arrival, i_data_arrival, named_skips, skipped_messages}
 use Rattle.dcsctp_spec.specs.endpoint.DataOutcomes.{DataTurn, ForwardTurn, SackTurn}
-use Rattle.dcsctp_spec.specs.endpoint.HeartbeatOutcomes.{heartbeat_outcome, info_in, counter_of, heartbeat_ack_outcome}
+use Rattle.dcsctp_spec.specs.endpoint.HeartbeatOutcomes.{heartbeat_outcome, first_heartbeat_info, counter_of, heartbeat_ack_outcome}
 
 -- ---- what breaks the protocol that was negotiated
 
@@ -45,18 +45,18 @@ i_forward_tsn_violation false is_partial = Some InterleavedDataWithout
 i_forward_tsn_violation true true = None
 i_forward_tsn_violation true false = Some ForwardTsnWithout
 
-abbrev pub violation_by : Capabilities → Plain → Option Violation
-violation_by capabilities (unworked (data_chunk chunk)) = data_violation capabilities.message_interleaving
-violation_by capabilities (unworked (i_data_chunk chunk)) = i_data_violation capabilities.message_interleaving
-violation_by capabilities (unworked (forward_tsn_chunk tsn streams)) = forward_tsn_violation capabilities.message_interleaving capabilities.partial_reliability
-violation_by capabilities (unworked (i_forward_tsn_chunk tsn streams)) = i_forward_tsn_violation capabilities.message_interleaving capabilities.partial_reliability
-violation_by capabilities chunk = None
+abbrev pub violation_of_capabilities : Capabilities → Plain → Option Violation
+violation_of_capabilities capabilities (unworked (data_chunk chunk)) = data_violation capabilities.message_interleaving
+violation_of_capabilities capabilities (unworked (i_data_chunk chunk)) = i_data_violation capabilities.message_interleaving
+violation_of_capabilities capabilities (unworked (forward_tsn_chunk tsn streams)) = forward_tsn_violation capabilities.message_interleaving capabilities.partial_reliability
+violation_of_capabilities capabilities (unworked (i_forward_tsn_chunk tsn streams)) = i_forward_tsn_violation capabilities.message_interleaving capabilities.partial_reliability
+violation_of_capabilities capabilities chunk = None
 
 -- A violation counts if the peer is known.
-abbrev pub violation_at : Core → Plain → Option Violation
-violation_at (cookie_echoed my held cookie) chunk = violation_by held.capabilities chunk
-violation_at (open_in phase my held) chunk = violation_by held.capabilities chunk
-violation_at core chunk = None
+abbrev pub violation_by_core : Core → Plain → Option Violation
+violation_by_core (cookie_echoed my held cookie) chunk = violation_of_capabilities held.capabilities chunk
+violation_by_core (open_in phase my held) chunk = violation_of_capabilities held.capabilities chunk
+violation_by_core core chunk = None
 
 -- ---- a chunk of a type that isn't known (RFC 9260, section 3.2)
 
@@ -117,18 +117,18 @@ error_outcome e core causes = still e
 
 -- A chunk that breaks the protocol ends the association. Data and ERROR have their own outcomes, and a chunk without a handler
 -- changes nothing.
-abbrev pub PlainTurnBy : Endpoint → Plain → Option Violation → Outcome → Type 0
-PlainTurnBy e chunk (Some violation) o = o ≡ aborting_outcome e e.core (reasons.Violation violation)
-PlainTurnBy e (unknown type flags value) None o = o ≡ unknown_outcome e e.core type flags value
-PlainTurnBy e (heartbeat parameters) None o = o ≡ heartbeat_outcome e e.core parameters
-PlainTurnBy e (heartbeat_ack parameters) None o = o ≡ heartbeat_ack_outcome e (counter_of (info_in parameters))
-PlainTurnBy e (unworked (data_chunk chunk)) None o = DataTurn e (data_arrival chunk) o
-PlainTurnBy e (unworked (i_data_chunk chunk)) None o = DataTurn e (i_data_arrival chunk) o
-PlainTurnBy e (unworked (sack_chunk chunk)) None o = SackTurn e e.queues.transfer chunk o
-PlainTurnBy e (unworked (forward_tsn_chunk tsn streams)) None o = ForwardTurn e e.queues.transfer tsn (skipped_in streams) o
-PlainTurnBy e (unworked (i_forward_tsn_chunk tsn streams)) None o = ForwardTurn e e.queues.transfer tsn (messages_skipped_in streams) o
-PlainTurnBy e (unworked (error_chunk causes)) None o = o ≡ error_outcome e e.core causes
-PlainTurnBy e (unworked chunk) None o = o ≡ still e
+abbrev pub PlainTurnUnlessViolating : Endpoint → Plain → Option Violation → Outcome → Type 0
+PlainTurnUnlessViolating e chunk (Some violation) o = o ≡ aborting_outcome e e.core (reasons.Violation violation)
+PlainTurnUnlessViolating e (unknown type flags value) None o = o ≡ unknown_outcome e e.core type flags value
+PlainTurnUnlessViolating e (heartbeat parameters) None o = o ≡ heartbeat_outcome e e.core parameters
+PlainTurnUnlessViolating e (heartbeat_ack parameters) None o = o ≡ heartbeat_ack_outcome e (counter_of (first_heartbeat_info parameters))
+PlainTurnUnlessViolating e (unworked (data_chunk chunk)) None o = DataTurn e (data_arrival chunk) o
+PlainTurnUnlessViolating e (unworked (i_data_chunk chunk)) None o = DataTurn e (i_data_arrival chunk) o
+PlainTurnUnlessViolating e (unworked (sack_chunk chunk)) None o = SackTurn e e.queues.transfer chunk o
+PlainTurnUnlessViolating e (unworked (forward_tsn_chunk tsn streams)) None o = ForwardTurn e e.queues.transfer tsn (named_skips streams) o
+PlainTurnUnlessViolating e (unworked (i_forward_tsn_chunk tsn streams)) None o = ForwardTurn e e.queues.transfer tsn (skipped_messages streams) o
+PlainTurnUnlessViolating e (unworked (error_chunk causes)) None o = o ≡ error_outcome e e.core causes
+PlainTurnUnlessViolating e (unworked chunk) None o = o ≡ still e
 
 abbrev pub PlainTurn : Endpoint → Plain → Outcome → Type 0
-PlainTurn e chunk o = PlainTurnBy e chunk (violation_at e.core chunk) o
+PlainTurn e chunk o = PlainTurnUnlessViolating e chunk (violation_by_core e.core chunk) o

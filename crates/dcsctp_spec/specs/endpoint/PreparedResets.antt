@@ -4,7 +4,7 @@ use Rattle.std.specs.Prelude.{◌≡◌, ℕ, Option, None, Some, List, [], if�
 use Rattle.dcsctp_types.specs.declared.association.Held.{Held}
 use Rattle.dcsctp_spec.specs.queues.OwnResets.{prepared_all, prepare_all_events}
 use Rattle.dcsctp_spec.specs.queues.SendQueue.{SendQueueState}
-use Rattle.dcsctp_spec.specs.endpoint.Endpoint.{Endpoint, held_in}
+use Rattle.dcsctp_spec.specs.endpoint.Endpoint.{Endpoint, held_by_core}
 use Rattle.dcsctp_spec.specs.endpoint.Outcome.{Outcome, still, behind}
 use Rattle.dcsctp_spec.specs.endpoint.DataOutcomes.{FlushTurn}
 
@@ -16,13 +16,13 @@ pub data ResetRefusal : Type 0 where
   -- Resets of streams weren't negotiated.
   not_supported : ResetRefusal
 
-abbrev pub refusal_by : Option Held → Option ResetRefusal
-refusal_by None = Some not_connected
-refusal_by (Some held) = if held.capabilities.reconfig then None else Some not_supported
+abbrev pub refusal_of_peer : Option Held → Option ResetRefusal
+refusal_of_peer None = Some not_connected
+refusal_of_peer (Some held) = if held.capabilities.reconfig then None else Some not_supported
 
 -- why no stream can be reset
 abbrev pub reset_refusal : Endpoint → Option ResetRefusal
-reset_refusal e = refusal_by (held_in e.core)
+reset_refusal e = refusal_of_peer (held_by_core e.core)
 
 -- ---- the turn
 
@@ -37,10 +37,10 @@ pub record PreparesResets (e : Endpoint) (ids : List ℕ) (o : Outcome) : Type 0
   pub is : o ≡ behind [] (prepare_all_events ids e.queues.queue) flushed
 
 -- If it is refused, nothing happens.
-abbrev pub OwnResetsWhere : Option ResetRefusal → Endpoint → List ℕ → Outcome → Type 0
-OwnResetsWhere (Some refusal) e ids o = o ≡ still e
-OwnResetsWhere None e ids o = PreparesResets e ids o
+abbrev pub PreparesUnlessRefused : Option ResetRefusal → Endpoint → List ℕ → Outcome → Type 0
+PreparesUnlessRefused (Some refusal) e ids o = o ≡ still e
+PreparesUnlessRefused None e ids o = PreparesResets e ids o
 
 -- The user resets the streams of these numbers.
 abbrev pub OwnResetsTurn : Endpoint → List ℕ → Outcome → Type 0
-OwnResetsTurn e ids o = OwnResetsWhere (reset_refusal e) e ids o
+OwnResetsTurn e ids o = PreparesUnlessRefused (reset_refusal e) e ids o

@@ -4,7 +4,7 @@ use Rattle.std.specs.Option.{option_map}
 use Rattle.dcsctp_types.specs.declared.association.Held.{Held}
 use Rattle.dcsctp_spec.specs.Reconfiguration.{RequestedReset, renewed_reset}
 use Rattle.dcsctp_spec.specs.endpoint.Endpoint.{Endpoint, OutstandingRequest}
-use Rattle.dcsctp_spec.specs.endpoint.Outcome.{Outcome, still, noting, fits, sends, emits, to_peer}
+use Rattle.dcsctp_spec.specs.endpoint.Outcome.{Outcome, still, with_effects_first, fits, sends, emits, to_peer}
 use Rattle.dcsctp_spec.specs.Packet.{Content}
 use Rattle.dcsctp_spec.specs.association.Effect.{begins, gives_up}
 use Rattle.dcsctp_spec.specs.association.FlushChanges.{reset_request}
@@ -28,16 +28,16 @@ abbrev pub as_renewed : OutstandingRequest → OutstandingRequest
 as_renewed request = record request { is_new = false }
 
 -- The next number takes the place of its number, if the packet fits.
-abbrev pub renewed_request_where : Bool → Endpoint → Held → ℕ → Content → Outcome
-renewed_request_where false e held number request = still e
-renewed_request_where true e held number request =
-    noting (gives_up number ∷ begins held.own_next ∷ []) (sends (record e { core = core_asking e.core; outstanding = option_map as_renewed e.outstanding }) [] [] (to_peer held request))
+abbrev pub renewed_request_if_fitting : Bool → Endpoint → Held → ℕ → Content → Outcome
+renewed_request_if_fitting false e held number request = still e
+renewed_request_if_fitting true e held number request =
+    with_effects_first (gives_up number ∷ begins held.own_next ∷ []) (sends (record e { core = core_asking e.core; outstanding = option_map as_renewed e.outstanding }) [] [] (to_peer held request))
 
 abbrev pub request_renewed : Endpoint → Held → Option ℕ → RequestedReset → Outcome
 request_renewed e held None reset = still e
 request_renewed e held (Some number) reset =
     let request : Content = reset_request held.own_next (renewed_reset reset) in
-    renewed_request_where (fits e (to_peer held request)) e held number request
+    renewed_request_if_fitting (fits e (to_peer held request)) e held number request
 
 -- With `follow_rfc` a request that the peer has answered as in progress (RFC 6525, section 5.2.7) is sent under the next number,
 -- as dcsctp in C++ does: a peer that repeats its answer to a number that it knows may then perform it.

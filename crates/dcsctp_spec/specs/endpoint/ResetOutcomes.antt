@@ -1,5 +1,5 @@
 -- The turn of RE-CONFIG: what the peer asks to be reset, how it is answered, and what it answers (RFC 6525, section 5.2). Which
--- numbers are accepted, and with which answer, is in association/ResetChanges (`work_chunk`); the rest is here.
+-- numbers are accepted, and with which answer, is in association/ResetChanges (`reset_chunk_outcome`); the rest is here.
 use Rattle.std.specs.Prelude.{◌≡◌, ◌==◌, ◌&&◌, ℕ, nat_eq, length, Bool, true, false, not, Option, None, Some, List, [], ◌∷◌, ◌++◌, codes, if◌then◌else◌}
 use Rattle.std.specs.List.{list_any, starts_with}
 use Rattle.std.specs.Option.{option_map}
@@ -16,11 +16,11 @@ use Rattle.dcsctp_spec.specs.queues.OwnResets.{queue_committed, queue_rolled_bac
 use Rattle.dcsctp_spec.specs.queues.SendQueue.{SendQueueState}
 use Rattle.dcsctp_spec.specs.queues.Transfer.{Transfer}
 use Rattle.dcsctp_spec.specs.endpoint.Endpoint.{Endpoint, Core, cookie_echoed, open_in, OutstandingRequest}
-use Rattle.dcsctp_spec.specs.endpoint.Timers.{started}
-use Rattle.dcsctp_spec.specs.endpoint.Outcome.{Outcome, still, quiet, behind, noting, to_peer, answers_with}
+use Rattle.dcsctp_spec.specs.endpoint.Timers.{started_timer}
+use Rattle.dcsctp_spec.specs.endpoint.Outcome.{Outcome, still, quiet, behind, with_effects_first, to_peer, answers_with}
 use Rattle.dcsctp_spec.specs.association.Effect.{Effect, completes, fails, performs, renews}
 use Rattle.dcsctp_spec.specs.association.FlushChanges.{next_number}
-use Rattle.dcsctp_spec.specs.association.ResetChanges.{HandledParameters, work_chunk}
+use Rattle.dcsctp_spec.specs.association.ResetChanges.{HandledParameters, reset_chunk_outcome}
 use Rattle.dcsctp_spec.specs.endpoint.FlushOutcomes.{Answer, draft_to, flush_of, FlushAnswers}
 use Rattle.dcsctp_spec.specs.queues.Numbers.{is_tsn_beyond}
 use Rattle.dcsctp_spec.specs.endpoint.BegunResets.{reconfiguration_settings}
@@ -28,12 +28,12 @@ use Rattle.dcsctp_spec.specs.endpoint.BegunResets.{reconfiguration_settings}
 -- ---- when a reset is due
 
 -- what the first Outgoing SSN Reset Request of a chunk wants: no other is handled
-abbrev pub requested_in : List ResetParameter → Option RequestedReset
-requested_in [] = None
-requested_in (outgoing_reset_request number answered reset ∷ parameters) = Some reset
-requested_in (incoming_reset_request number streams ∷ parameters) = requested_in parameters
-requested_in (reconfiguration_response number result ∷ parameters) = requested_in parameters
-requested_in (other_reset_parameter parameter ∷ parameters) = requested_in parameters
+abbrev pub first_reset_request : List ResetParameter → Option RequestedReset
+first_reset_request [] = None
+first_reset_request (outgoing_reset_request number answered reset ∷ parameters) = Some reset
+first_reset_request (incoming_reset_request number streams ∷ parameters) = first_reset_request parameters
+first_reset_request (reconfiguration_response number result ∷ parameters) = first_reset_request parameters
+first_reset_request (other_reset_parameter parameter ∷ parameters) = first_reset_request parameters
 
 -- Was everything received that was sent before the reset was requested? Else it is in progress (RFC 6525, section 5.2.2, E2).
 abbrev pub is_request_reached : Option Transfer → Option RequestedReset → Bool
@@ -43,12 +43,12 @@ is_request_reached transfer reset = true
 -- ---- a request that comes again under the next number
 
 -- the number of that request
-abbrev pub request_number_in : List ResetParameter → Option ℕ
-request_number_in [] = None
-request_number_in (outgoing_reset_request number answered reset ∷ parameters) = Some number
-request_number_in (incoming_reset_request number streams ∷ parameters) = request_number_in parameters
-request_number_in (reconfiguration_response number result ∷ parameters) = request_number_in parameters
-request_number_in (other_reset_parameter parameter ∷ parameters) = request_number_in parameters
+abbrev pub first_request_number : List ResetParameter → Option ℕ
+first_request_number [] = None
+first_request_number (outgoing_reset_request number answered reset ∷ parameters) = Some number
+first_request_number (incoming_reset_request number streams ∷ parameters) = first_request_number parameters
+first_request_number (reconfiguration_response number result ∷ parameters) = first_request_number parameters
+first_request_number (other_reset_parameter parameter ∷ parameters) = first_request_number parameters
 
 -- are they the same numbers, in the same order?
 abbrev pub is_same_list : List ℕ → List ℕ → Bool
@@ -64,21 +64,21 @@ is_renewal (Some old) last (Some number) (Some reset) = old.number == last && (n
 is_renewal old last number reset = false
 
 -- what a request finds that was reached, if it is renewed, and if it isn't
-abbrev pub state_by : Bool → RequestState
-state_by true = renewed
-state_by false = due
+abbrev pub state_if_renewed : Bool → RequestState
+state_if_renewed true = renewed
+state_if_renewed false = due
 
 -- Where a request was in progress, the peer sends it again under the next number (RFC 6525, section 5.2.7). A late copy of the old one
 -- may be performed before that comes. With the option the new one is known to be the same. It is answered as performed, and isn't
 -- reported a second time. On its streams nothing may come between the two, so to reset them once more changes nothing.
 abbrev pub request_state : Endpoint → Held → List ResetParameter → RequestState
 request_state e held parameters =
-    if is_request_reached e.queues.transfer (requested_in parameters) then state_by (e.options.follow_rfc && is_renewal e.renewable held.peer_last (request_number_in parameters) (requested_in parameters))
+    if is_request_reached e.queues.transfer (first_reset_request parameters) then state_if_renewed (e.options.follow_rfc && is_renewal e.renewable held.peer_last (first_request_number parameters) (first_reset_request parameters))
     else early
 
 -- what the parameters of a chunk make of the numbers, and how they are answered
-abbrev pub parameters_handled_in : Endpoint → Pair → Held → List ResetParameter → HandledParameters
-parameters_handled_in e my held parameters = work_chunk my (request_state e held parameters) held parameters
+abbrev pub handled_parameters_of : Endpoint → Pair → Held → List ResetParameter → HandledParameters
+handled_parameters_of e my held parameters = reset_chunk_outcome my (request_state e held parameters) held parameters
 
 -- ---- the peer's request
 
@@ -91,13 +91,13 @@ has_reset (effect ∷ effects) = has_reset effects
 
 -- What may come again under the next number, once this was performed: it, if it was in progress before, under the last number. It is
 -- recorded with the option alone.
-abbrev pub renewable_by : Endpoint → ℕ → Option ℕ → Option RequestedReset → Option NumberedReset
-renewable_by e last (Some number) (Some reset) = if e.options.follow_rfc && number == last then Some (record { number = number; reset = renewed_reset reset }) else None
-renewable_by e last number reset = None
+abbrev pub renewable_reset : Endpoint → ℕ → Option ℕ → Option RequestedReset → Option NumberedReset
+renewable_reset e last (Some number) (Some reset) = if e.options.follow_rfc && number == last then Some (record { number = number; reset = renewed_reset reset }) else None
+renewable_reset e last number reset = None
 
 -- the same once the parameters of a chunk were handled
 abbrev pub renewable_after : Endpoint → ℕ → List ResetParameter → Bool → Option NumberedReset
-renewable_after e last parameters true = renewable_by e last (request_number_in parameters) (requested_in parameters)
+renewable_after e last parameters true = renewable_reset e last (first_request_number parameters) (first_reset_request parameters)
 renewable_after e last parameters false = e.renewable
 
 -- is the peer's request answered as in progress?
@@ -164,8 +164,8 @@ has_completed [] = false
 has_completed (completes my number ∷ effects) = true
 has_completed (effect ∷ effects) = has_completed effects
 
-abbrev pub answered_in : Held → HandledParameters → List ResetParameter → OwnAnswer
-answered_in held worked parameters =
+abbrev pub answer_to_own : Held → HandledParameters → List ResetParameter → OwnAnswer
+answer_to_own held worked parameters =
     own_answer held.own_outstanding worked.held.own_outstanding (in_progress_among held.own_outstanding (handled_part false parameters)) (has_completed worked.effects)
 
 -- the streams that its own request resets
@@ -179,8 +179,8 @@ waiting request = record request { waits_for_retry = true }
 
 -- With the option an answer of the peer to its own request shows that it is there, so no error counts (RFC 9260, section 8.1,
 -- says so of SACK and HEARTBEAT ACK).
-abbrev pub errors_heeded : Endpoint → ℕ
-errors_heeded e = if e.options.follow_rfc then 0 else e.error_count
+abbrev pub errors_after_answer : Endpoint → ℕ
+errors_after_answer e = if e.options.follow_rfc then 0 else e.error_count
 
 -- Its own request has ended, and this waits to be sent.
 abbrev pub own_request_ended : SendQueueState → Endpoint → Endpoint
@@ -189,7 +189,7 @@ own_request_ended queue e =
       outstanding = None;
       timers = record e.timers { reconfiguration = None };
       queues = record e.queues { queue = queue };
-      error_count = errors_heeded e;
+      error_count = errors_after_answer e;
     }
 
 -- the endpoint once its own request got this answer
@@ -198,8 +198,8 @@ own_moved unanswered e = e
 own_moved retried e =
     record e {
       outstanding = option_map waiting e.outstanding;
-      timers = record e.timers { reconfiguration = started e.moment (reconfiguration_settings e.queues.transfer) };
-      error_count = errors_heeded e;
+      timers = record e.timers { reconfiguration = started_timer e.moment (reconfiguration_settings e.queues.transfer) };
+      error_count = errors_after_answer e;
     }
 own_moved was_performed e = own_request_ended (queue_committed e.queues.queue) e
 own_moved has_failed e = own_request_ended (queue_rolled_back e.queues.queue) e
@@ -219,7 +219,7 @@ their_streams None = []
 their_streams (Some reset) = reset.streams
 
 abbrev pub reset_events_of : Endpoint → List ResetParameter → List Effect → List (Event Emission)
-reset_events_of e parameters effects = reset_events (their_streams (requested_in parameters)) (own_streams e.outstanding) effects
+reset_events_of e parameters effects = reset_events (their_streams (first_reset_request parameters)) (own_streams e.outstanding) effects
 
 -- the association with this known of its peer
 abbrev pub core_with : Core → Held → Core
@@ -249,9 +249,9 @@ responses_outcome e held [] = still e
 responses_outcome e held (response ∷ responses) = answers_with e (to_peer held (re_config (response ∷ responses)))
 
 -- After the events come the answers, and then a flush; if the chunk is an error, neither does.
-abbrev pub responses_by : Bool → Endpoint → List (Event Emission) → Held → List ResetParameter → List ResetParameter → List Answer → Outcome
-responses_by true e told held parameters responses answers = quiet e [] (told ++ error ProtocolViolation (reset_refusal_text parameters) ∷ [])
-responses_by false e told held parameters responses answers =
+abbrev pub responses_unless_refused : Bool → Endpoint → List (Event Emission) → Held → List ResetParameter → List ResetParameter → List Answer → Outcome
+responses_unless_refused true e told held parameters responses answers = quiet e [] (told ++ error ProtocolViolation (reset_refusal_text parameters) ∷ [])
+responses_unless_refused false e told held parameters responses answers =
     let sent : Outcome = responses_outcome e held responses in
     behind [] (told ++ sent.events) (flush_of sent.after (draft_to held) answers)
 
@@ -260,25 +260,25 @@ ResponseAnswers true e held responses answers = answers ≡ []
 ResponseAnswers false e held responses answers = FlushAnswers (responses_outcome e held responses).after (draft_to held) answers
 
 -- by what the parameters make of the numbers, and with this below the association
-abbrev pub resets_by : Endpoint → Held → HandledParameters → List ResetParameter → Option Transfer → List Answer → Outcome
-resets_by e held worked parameters left answers =
-    noting worked.effects (responses_by worked.is_refused (resets_handled e (answered_in held worked parameters) worked.held left (renewable_left e held worked parameters)) (reset_events_of e parameters worked.effects) worked.held parameters worked.answers answers)
+abbrev pub resets_after_handling : Endpoint → Held → HandledParameters → List ResetParameter → Option Transfer → List Answer → Outcome
+resets_after_handling e held worked parameters left answers =
+    with_effects_first worked.effects (responses_unless_refused worked.is_refused (resets_handled e (answer_to_own held worked parameters) worked.held left (renewable_left e held worked parameters)) (reset_events_of e parameters worked.effects) worked.held parameters worked.answers answers)
 
 -- Its change is `re_config_change`.
-pub record WorksResets (e : Endpoint) (my : Pair) (held : Held) (parameters : List ResetParameter) (o : Outcome) : Type 0 where
+pub record HandlesResets (e : Endpoint) (my : Pair) (held : Held) (parameters : List ResetParameter) (o : Outcome) : Type 0 where
   pub left : Option Transfer
-  pub below : ResetsInQueues (has_reset (parameters_handled_in e my held parameters).effects) (answers_in_progress (parameters_handled_in e my held parameters).answers)
-      (requested_in parameters) e.queues.transfer left
+  pub below : ResetsInQueues (has_reset (handled_parameters_of e my held parameters).effects) (answers_in_progress (handled_parameters_of e my held parameters).answers)
+      (first_reset_request parameters) e.queues.transfer left
   pub answers : List Answer
-  pub allowed : ResponseAnswers (parameters_handled_in e my held parameters).is_refused
-      (resets_handled e (answered_in held (parameters_handled_in e my held parameters) parameters) (parameters_handled_in e my held parameters).held left
-      (renewable_left e held (parameters_handled_in e my held parameters) parameters))
-      (parameters_handled_in e my held parameters).held
-      (parameters_handled_in e my held parameters).answers answers
-  pub is : o ≡ resets_by e held (parameters_handled_in e my held parameters) parameters left answers
+  pub allowed : ResponseAnswers (handled_parameters_of e my held parameters).is_refused
+      (resets_handled e (answer_to_own held (handled_parameters_of e my held parameters) parameters) (handled_parameters_of e my held parameters).held left
+      (renewable_left e held (handled_parameters_of e my held parameters) parameters))
+      (handled_parameters_of e my held parameters).held
+      (handled_parameters_of e my held parameters).answers answers
+  pub is : o ≡ resets_after_handling e held (handled_parameters_of e my held parameters) parameters left answers
 
 -- A RE-CONFIG with these parameters is received; without a peer nothing happens.
 abbrev pub ResetTurn : Endpoint → Core → List ResetParameter → Outcome → Type 0
-ResetTurn e (cookie_echoed my held cookie) parameters o = WorksResets e my held parameters o
-ResetTurn e (open_in phase my held) parameters o = WorksResets e my held parameters o
+ResetTurn e (cookie_echoed my held cookie) parameters o = HandlesResets e my held parameters o
+ResetTurn e (open_in phase my held) parameters o = HandlesResets e my held parameters o
 ResetTurn e core parameters o = o ≡ still e

@@ -1,14 +1,14 @@
 -- What the user sets on a socket, and no packet reports to the peer.
 use Rattle.std.specs.Prelude.{ℕ}
-use Rattle.dcsctp_spec.specs.queues.SendQueue.{SendQueueState, stream_changed, used, with_threshold, with_priority}
+use Rattle.dcsctp_spec.specs.queues.SendQueue.{SendQueueState, stream_changed, used_streams, with_threshold, with_priority}
 use Rattle.dcsctp_spec.specs.endpoint.Endpoint.{Endpoint}
 use Rattle.dcsctp_spec.specs.endpoint.Outcome.{Outcome, still}
 use Rattle.dcsctp_types.specs.Setting.{Setting, stream_priority, stream_low_threshold, longest_message}
 
 -- the queue once this is set
 abbrev pub set_in_queue : Setting → SendQueueState → SendQueueState
-set_in_queue (stream_priority id priority) queue = record queue { streams = stream_changed id (with_priority priority) (used queue id) }
-set_in_queue (stream_low_threshold id bytes) queue = record queue { streams = stream_changed id (with_threshold bytes) (used queue id) }
+set_in_queue (stream_priority id priority) queue = record queue { streams = stream_changed id (with_priority priority) (used_streams queue id) }
+set_in_queue (stream_low_threshold id bytes) queue = record queue { streams = stream_changed id (with_threshold bytes) (used_streams queue id) }
 set_in_queue (longest_message bytes) queue = queue
 
 -- the longest message once this is set

@@ -10,7 +10,7 @@ use Rattle.dcsctp_spec.specs.queues.Transfer.{Transfer}
 use Rattle.dcsctp_spec.specs.queues.Retransmission.{retransmission_deadline}
 use Rattle.dcsctp_spec.specs.endpoint.HeartbeatOutcomes.{is_exhausted}
 use Rattle.dcsctp_spec.specs.endpoint.OwnTimers.{OwnTimer, acknowledgement_delay, retransmission, heartbeat_interval, heartbeat_timeout, reconfiguration}
-use Rattle.dcsctp_spec.specs.endpoint.Turn.{Input, act_input, timer_expires, time_passes, clock_at}
+use Rattle.dcsctp_spec.specs.endpoint.Turn.{Input, act_input, timer_expires, time_passes, with_clock}
 use Rattle.dcsctp_spec.specs.endpoint.CallTurns.{Transition, IsTurn, Turns, after_all, words_of, effects_of, events_of}
 
 -- ---- deadlines
@@ -22,11 +22,11 @@ pub data Timer : Type 0 where
   t2_timer : Timer
 
 -- Those that are handled in a phase, in their order.
-abbrev pub timers_in : Core → List Timer
-timers_in closed = []
-timers_in (cookie_wait mine) = t1_timer ∷ []
-timers_in (cookie_echoed mine held cookie) = own_timer acknowledgement_delay ∷ t1_timer ∷ []
-timers_in (open_in phase mine held) =
+abbrev pub handled_timers : Core → List Timer
+handled_timers closed = []
+handled_timers (cookie_wait mine) = t1_timer ∷ []
+handled_timers (cookie_echoed mine held cookie) = own_timer acknowledgement_delay ∷ t1_timer ∷ []
+handled_timers (open_in phase mine held) =
     own_timer acknowledgement_delay ∷ own_timer retransmission ∷ own_timer heartbeat_interval ∷ own_timer heartbeat_timeout
     ∷ own_timer reconfiguration ∷ t2_timer ∷ []
 
@@ -35,7 +35,7 @@ abbrev pub timers_counted : Core → List Timer
 timers_counted closed = []
 timers_counted (cookie_wait mine) = t1_timer ∷ []
 timers_counted (cookie_echoed mine held cookie) = t1_timer ∷ []
-timers_counted (open_in phase mine held) = timers_in (open_in phase mine held)
+timers_counted (open_in phase mine held) = handled_timers (open_in phase mine held)
 
 -- when a timer expires next, if it runs
 abbrev pub deadline_of : Option RunningTimer → Option ℕ
@@ -145,7 +145,7 @@ ExpiryTurns (timer ∷ timers) has_expired e turns =
 
 -- All that is due.
 abbrev pub DueTurns : Endpoint → List Transition → Type 0
-DueTurns e turns = ExpiryTurns (timers_in e.core) false e turns
+DueTurns e turns = ExpiryTurns (handled_timers e.core) false e turns
 
 -- The clock is moved, and then the timers that are due have their turns.
 abbrev pub MomentTurns : Endpoint → ℕ → List Transition → Type 0
@@ -183,7 +183,7 @@ pub record Waits (e : Endpoint) (moment : ℕ) : Type 0 where
 
 -- The clock has moved, and nothing else happened.
 pub record MoveClock (e : Endpoint) (moment : ℕ) (turns : List Transition) : Type 0 where
-  pub endpoint : after_all e turns ≡ clock_at moment e
+  pub endpoint : after_all e turns ≡ with_clock moment e
   pub events : events_of turns ≡ []
   pub words : words_of turns ≡ []
   pub effects : effects_of turns ≡ []

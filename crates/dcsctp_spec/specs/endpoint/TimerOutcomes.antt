@@ -4,34 +4,34 @@ use Rattle.std.specs.Option.{option_map}
 use Rattle.dcsctp_types.specs.declared.kinds.ErrorKind.TheVariants.{TooManyRetries}
 use Rattle.dcsctp_spec.specs.endpoint.Event.{aborted}
 use Rattle.dcsctp_spec.specs.endpoint.Endpoint.{Endpoint, Core, closed, cookie_wait, cookie_echoed, open_in}
-use Rattle.dcsctp_spec.specs.endpoint.Timers.{going_on}
+use Rattle.dcsctp_spec.specs.endpoint.Timers.{continued_timer}
 use Rattle.dcsctp_spec.specs.endpoint.Outcome.{Outcome, still, quiet, fits, emits}
 use Rattle.dcsctp_spec.specs.endpoint.FlushOutcomes.{Answer, FlushKind, flush_answered, flush_outcome}
 use Rattle.dcsctp_spec.specs.endpoint.EndOutcomes.{ended_outcome}
-use Rattle.dcsctp_spec.specs.endpoint.HandshakeOutcomes.{init_emission, echo_emission, send_echo_by, EchoAnswers}
+use Rattle.dcsctp_spec.specs.endpoint.HandshakeOutcomes.{init_emission, echo_emission, send_echo_with_flush, EchoAnswers}
 
 -- ---- with restarts left
 
 -- T1 continues from the present moment.
-abbrev pub t1_goes_on : Endpoint → Endpoint
-t1_goes_on e = record e { timers = record e.timers { t1 = option_map (going_on e.moment) e.timers.t1 } }
+abbrev pub endpoint_with_t1_continued : Endpoint → Endpoint
+endpoint_with_t1_continued e = record e { timers = record e.timers { t1 = option_map (continued_timer e.moment) e.timers.t1 } }
 
 -- The packet that isn't answered yet is sent again: INIT, or COOKIE ECHO in front of a flush, each if it fits.
-abbrev pub again_by : FlushKind → Endpoint → Core → Outcome
-again_by flush e closed = still e
-again_by flush e (cookie_wait mine) = emits e [] (init_emission e mine)
-again_by flush e (cookie_echoed mine held cookie) = send_echo_by flush e [] held.peer.tag cookie
-again_by flush e (open_in phase mine held) = still e
+abbrev pub send_again_with_flush : FlushKind → Endpoint → Core → Outcome
+send_again_with_flush flush e closed = still e
+send_again_with_flush flush e (cookie_wait mine) = emits e [] (init_emission e mine)
+send_again_with_flush flush e (cookie_echoed mine held cookie) = send_echo_with_flush flush e [] held.peer.tag cookie
+send_again_with_flush flush e (open_in phase mine held) = still e
 
 abbrev pub phase_again_outcome : Endpoint → Core → Outcome
-phase_again_outcome e core = again_by flush_outcome e core
+phase_again_outcome e core = send_again_with_flush flush_outcome e core
 
 -- T1 continues, and the packet is sent. Its change is `t1_again_change`.
-abbrev pub t1_again_by : FlushKind → Endpoint → Core → Outcome
-t1_again_by flush e core = again_by flush (t1_goes_on e) core
+abbrev pub t1_again_with_flush : FlushKind → Endpoint → Core → Outcome
+t1_again_with_flush flush e core = send_again_with_flush flush (endpoint_with_t1_continued e) core
 
 abbrev pub t1_again_outcome : Endpoint → Core → Outcome
-t1_again_outcome e core = t1_again_by flush_outcome e core
+t1_again_outcome e core = t1_again_with_flush flush_outcome e core
 
 -- The answers that its flush may get, if there is one.
 abbrev pub AgainAnswers : Endpoint → Core → List Answer → Type 0
@@ -39,7 +39,7 @@ AgainAnswers e (cookie_echoed mine held cookie) answers = EchoAnswers (fits e (e
 AgainAnswers e core answers = answers ≡ []
 
 abbrev pub T1AgainTurn : Endpoint → Outcome → Type 0
-T1AgainTurn e o = (answers : List Answer) × AgainAnswers (t1_goes_on e) e.core answers × (o ≡ t1_again_by (flush_answered answers) e e.core)
+T1AgainTurn e o = (answers : List Answer) × AgainAnswers (endpoint_with_t1_continued e) e.core answers × (o ≡ t1_again_with_flush (flush_answered answers) e e.core)
 
 -- ---- without
 

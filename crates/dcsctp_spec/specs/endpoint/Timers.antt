@@ -34,8 +34,8 @@ abbrev pub moment_after : ℕ → ℕ → ℕ
 moment_after moment duration = min (moment + duration) max_nanos
 
 -- A timer that is started at this moment. The bound doesn't cut its first deadline.
-abbrev pub started : ℕ → TimerSettings → Option RunningTimer
-started moment settings =
+abbrev pub started_timer : ℕ → TimerSettings → Option RunningTimer
+started_timer moment settings =
     Some (record { deadline = moment_after moment settings.duration; wait = settings.duration; expiries = 0; terms = settings.terms })
 
 -- how long a timer runs after it has expired, before the limit is applied: as long as before, or twice as long
@@ -44,16 +44,16 @@ next_wait Fixed wait = wait
 next_wait Exponential wait = min (wait * 2) max_nanos
 
 -- no longer than the bound, if there is one
-abbrev pub bounded : Option ℕ → ℕ → ℕ
-bounded None wait = wait
-bounded (Some bound) wait = min wait bound
+abbrev pub bounded_wait : Option ℕ → ℕ → ℕ
+bounded_wait None wait = wait
+bounded_wait (Some bound) wait = min wait bound
 
 -- The longest that the retransmission timer runs once it has expired. By the RFC no longer than the greatest timeout (RFC 9260,
 -- section 6.3.3, E2).
 abbrev pub longest_backoff : Options → Option ℕ
 longest_backoff options =
     let limit : Option ℕ = option_map as_nanos options.max_timer_backoff_duration in
-    if options.follow_rfc then Some (bounded limit (as_nanos options.rto_max)) else limit
+    if options.follow_rfc then Some (bounded_wait limit (as_nanos options.rto_max)) else limit
 
 -- The same of a timer that repeats a control chunk of the association: only by the RFC it has a bound.
 abbrev pub longest_wait : Options → Option ℕ
@@ -69,10 +69,10 @@ abbrev pub next_expiries : ℕ → ℕ
 next_expiries expiries = min (expiries + 1) (2 ^ 64 - 1)
 
 -- A timer that has expired at this moment, and continues. Its next wait follows from its last one.
-abbrev pub going_on : ℕ → RunningTimer → RunningTimer
-going_on moment timer =
+abbrev pub continued_timer : ℕ → RunningTimer → RunningTimer
+continued_timer moment timer =
     let wait = next_wait timer.terms.backoff timer.wait in
-    record timer { deadline = moment_after moment (bounded timer.terms.max_backoff wait); wait = wait; expiries = next_expiries timer.expiries }
+    record timer { deadline = moment_after moment (bounded_wait timer.terms.max_backoff wait); wait = wait; expiries = next_expiries timer.expiries }
 
 -- Its deadline has come: a timer expires at no earlier moment.
 abbrev pub is_timer_expired : ℕ → RunningTimer → Bool
@@ -83,8 +83,8 @@ abbrev pub is_restarted : RunningTimer → Bool
 is_restarted timer = may_restart timer.terms.max_restarts (next_expiries timer.expiries)
 
 -- What is left of a timer that expires at this moment: it continues, or, if its restarts are used up, it stops.
-abbrev pub expired : ℕ → RunningTimer → Option RunningTimer
-expired moment timer = if is_restarted timer then Some (going_on moment timer) else None
+abbrev pub timer_after_expiry : ℕ → RunningTimer → Option RunningTimer
+timer_after_expiry moment timer = if is_restarted timer then Some (continued_timer moment timer) else None
 
 -- ---- a timer between two calls
 
@@ -100,14 +100,14 @@ running_deadline None = None
 running_deadline (Some timer) = Some timer.deadline
 
 -- Does it expire at this moment?
-abbrev pub expires_at : ℕ → Option RunningTimer → Bool
-expires_at moment None = false
-expires_at moment (Some timer) = is_timer_expired moment timer
+abbrev pub is_expired_timer : ℕ → Option RunningTimer → Bool
+is_expired_timer moment None = false
+is_expired_timer moment (Some timer) = is_timer_expired moment timer
 
 -- what is left of it once this moment has come
 abbrev pub running_after : ℕ → Option RunningTimer → Option RunningTimer
 running_after moment None = None
-running_after moment (Some timer) = if is_timer_expired moment timer then expired moment timer else Some timer
+running_after moment (Some timer) = if is_timer_expired moment timer then timer_after_expiry moment timer else Some timer
 
 -- Has it expired since it was started?
 abbrev pub has_expired : Option RunningTimer → Bool
@@ -118,5 +118,5 @@ has_expired (Some timer) = nat_lt 0 timer.expiries
 abbrev pub backed_off : TimerModel → TimerModel
 backed_off timer =
     let settings : TimerSettings = timer.settings in
-    let wait : ℕ = bounded settings.terms.max_backoff (next_wait settings.terms.backoff settings.duration) in
+    let wait : ℕ = bounded_wait settings.terms.max_backoff (next_wait settings.terms.backoff settings.duration) in
     record timer { settings = record settings { duration = max wait settings.duration } }

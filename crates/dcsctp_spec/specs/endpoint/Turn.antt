@@ -10,7 +10,7 @@ use Rattle.dcsctp_spec.specs.endpoint.HandoverOutcomes.{hand_over_outcome}
 use Rattle.dcsctp_spec.specs.endpoint.HandshakeOutcomes.{InitTurn, ConnectTurn, InitAckTurn, CookieAckTurn}
 use Rattle.dcsctp_spec.specs.endpoint.CookieEchoOutcomes.{CookieEchoTurn}
 use Rattle.dcsctp_spec.specs.endpoint.EndOutcomes.{abort_outcome, aborting_outcome}
-use Rattle.dcsctp_spec.specs.endpoint.DataOutcomes.{FlushTurn, EndsBy, TakeTurn}
+use Rattle.dcsctp_spec.specs.endpoint.DataOutcomes.{FlushTurn, AcknowledgesPacket, TakeTurn}
 use Rattle.dcsctp_spec.specs.endpoint.MessageOutcomes.{Sending, SendTurn}
 use Rattle.dcsctp_spec.specs.endpoint.OwnTimers.{OwnTimer, TimerTurn}
 use Rattle.dcsctp_spec.specs.endpoint.PlainOutcomes.{PlainTurn}
@@ -23,7 +23,7 @@ use Rattle.dcsctp_spec.specs.endpoint.HeardShutdown.{ShutdownTurn}
 use Rattle.dcsctp_spec.specs.endpoint.ShutdownOutcomes.{step_outcome, shut_down_outcome, shutdown_ack_outcome, shutdown_complete_outcome, t2_again_outcome, shutdown_repeated}
 use Rattle.dcsctp_spec.specs.endpoint.TimerOutcomes.{T1AgainTurn, t1_gives_up_outcome}
 use Rattle.dcsctp_spec.specs.association.Acts.{Act, connect, t1_expires, shut_down, step_of_shutdown, shutdown_repeats, abort_with, hands_over, flushes, request_again, request_renewed}
-use Rattle.dcsctp_spec.specs.association.Controlled.{ControlledAct}
+use Rattle.dcsctp_spec.specs.association.Controlled.{IsControlledAct}
 
 pub data Input : Type 0 where
   -- a packet is handed in, and counted
@@ -76,7 +76,7 @@ BeginTurn e core has o = o ≡ still e
 
 -- The end of a packet: what came with it is acknowledged.
 abbrev pub EndTurn : Endpoint → Outcome → Type 0
-EndTurn e o = EndsBy e e.queues.transfer o
+EndTurn e o = AcknowledgesPacket e e.queues.transfer o
 
 -- Is this data, or does it speak of data or of streams?
 abbrev pub needs_connection : Content → Bool
@@ -94,26 +94,26 @@ abbrev pub comes_early : Endpoint → Content → Bool
 comes_early e content = needs_connection content && (e.options.follow_rfc && is_cookie_echoed e.core)
 
 -- What a chunk does that is handled.
-abbrev pub HandledTurn : Endpoint → ℕ → Content → Outcome → Type 0
-HandledTurn e tag (init theirs) o = InitTurn e theirs o
-HandledTurn e tag (init_ack theirs cookie) o = InitAckTurn e theirs cookie o
-HandledTurn e tag (cookie_echo cookie) o = CookieEchoTurn e tag cookie o
-HandledTurn e tag cookie_ack o = CookieAckTurn e o
-HandledTurn e tag (re_config parameters) o = ResetTurn e e.core parameters o
-HandledTurn e tag (abort reflected causes) o = o ≡ abort_outcome e causes e.core
-HandledTurn e tag (shutdown cumulative_tsn) o = ShutdownTurn e e.core cumulative_tsn o
-HandledTurn e tag shutdown_ack o = o ≡ shutdown_ack_outcome e e.core tag
-HandledTurn e tag (shutdown_complete reflected) o = o ≡ shutdown_complete_outcome e e.core
-HandledTurn e tag (plain chunk) o = PlainTurn e chunk o
+abbrev pub HandlesContent : Endpoint → ℕ → Content → Outcome → Type 0
+HandlesContent e tag (init theirs) o = InitTurn e theirs o
+HandlesContent e tag (init_ack theirs cookie) o = InitAckTurn e theirs cookie o
+HandlesContent e tag (cookie_echo cookie) o = CookieEchoTurn e tag cookie o
+HandlesContent e tag cookie_ack o = CookieAckTurn e o
+HandlesContent e tag (re_config parameters) o = ResetTurn e e.core parameters o
+HandlesContent e tag (abort reflected causes) o = o ≡ abort_outcome e causes e.core
+HandlesContent e tag (shutdown cumulative_tsn) o = ShutdownTurn e e.core cumulative_tsn o
+HandlesContent e tag shutdown_ack o = o ≡ shutdown_ack_outcome e e.core tag
+HandlesContent e tag (shutdown_complete reflected) o = o ≡ shutdown_complete_outcome e e.core
+HandlesContent e tag (plain chunk) o = PlainTurn e chunk o
 
 -- by whether it comes early
-abbrev pub ContentTurnBy : Bool → Endpoint → ℕ → Content → Outcome → Type 0
-ContentTurnBy true e tag content o = o ≡ still e
-ContentTurnBy false e tag content o = HandledTurn e tag content o
+abbrev pub HandlesUnlessEarly : Bool → Endpoint → ℕ → Content → Outcome → Type 0
+HandlesUnlessEarly true e tag content o = o ≡ still e
+HandlesUnlessEarly false e tag content o = HandlesContent e tag content o
 
 -- What a chunk does.
 abbrev pub ContentTurn : Endpoint → ℕ → Content → Outcome → Type 0
-ContentTurn e tag content o = ContentTurnBy (comes_early e content) e tag content o
+ContentTurn e tag content o = HandlesUnlessEarly (comes_early e content) e tag content o
 
 -- What the user and the timers bring.
 abbrev pub ActTurn : Endpoint → Act → Outcome → Type 0
@@ -126,12 +126,12 @@ ActTurn e shutdown_repeats o = o ≡ t2_again_outcome e
 ActTurn e (abort_with reason) o = o ≡ aborting_outcome e e.core reason
 ActTurn e hands_over o = o ≡ hand_over_outcome e e.core
 ActTurn e flushes o = FlushTurn e o
-ActTurn e (request_again reset) o = ControlledAct e (request_again reset) o
-ActTurn e (request_renewed reset) o = ControlledAct e (request_renewed reset) o
+ActTurn e (request_again reset) o = IsControlledAct e (request_again reset) o
+ActTurn e (request_renewed reset) o = IsControlledAct e (request_renewed reset) o
 
 -- The clock is set to this moment, and nothing else happens.
-abbrev pub clock_at : ℕ → Endpoint → Endpoint
-clock_at moment e = record e { moment = moment }
+abbrev pub with_clock : ℕ → Endpoint → Endpoint
+with_clock moment e = record e { moment = moment }
 
 abbrev pub Turn : Endpoint → Input → Outcome → Type 0
 Turn e arrival o = o ≡ arrival_outcome e
@@ -145,5 +145,5 @@ Turn e (user_sends messages) o = SendTurn e messages o
 Turn e (user_resets ids) o = OwnResetsTurn e ids o
 Turn e user_takes o = TakeTurn e e.queues.transfer o
 Turn e (timer_expires timer) o = TimerTurn e timer o
-Turn e (time_passes moment) o = o ≡ still (clock_at moment e)
+Turn e (time_passes moment) o = o ≡ still (with_clock moment e)
 Turn e (restores state) o = RestoreTurn e e.core state o

@@ -8,7 +8,7 @@ use Rattle.dcsctp_spec.specs.endpoint.Event.{Event, lifecycle_message_delivered,
 use Rattle.dcsctp_spec.specs.endpoint.Timers.{TimerModel, has_expired}
 use Rattle.dcsctp_types.specs.queues.Congestion.{after_loss, after_acknowledgement, exit_after}
 use Rattle.dcsctp_spec.specs.queues.Items.{Item, unacknowledged_bytes, unacknowledged_items, never_acknowledged_items, marked_items, changed_between}
-use Rattle.dcsctp_spec.specs.queues.Outstanding.{header, tsn_at, next_tsn, acknowledged_count, reported}
+use Rattle.dcsctp_spec.specs.queues.Outstanding.{header, tsn_at, next_tsn, acknowledged_count, reported_items}
 use Rattle.dcsctp_types.specs.queues.Progress.{is_abandoned}
 use Rattle.dcsctp_spec.specs.queues.Reports.{IsNewlyAcknowledged, IsLastPlace, MissesUntil}
 use Rattle.dcsctp_spec.specs.queues.Retransmission.{RetransmissionState, outstanding_count, chunk_bytes_in_flight, with_items, timer_with, is_window_closed, all_lost}
@@ -18,8 +18,8 @@ abbrev pub is_sack_valid : RetransmissionState → ℕ → Bool
 is_sack_valid state cumulative = nat_le (acknowledged_count state.outstanding cumulative) (outstanding_count state)
 
 -- the items with those acknowledged that the SACK covers: that many first ones and those that its blocks name
-abbrev pub covered : ℕ → List GapAckBlock → List Item → List Item
-covered count blocks items = reported count blocks (changed_between Acknowledge 0 count items)
+abbrev pub covered_items : ℕ → List GapAckBlock → List Item → List Item
+covered_items count blocks items = reported_items count blocks (changed_between Acknowledge 0 count items)
 
 -- More items are lost than before: fast recovery begins with a fast retransmission, unless it is under way.
 abbrev pub lossy : RetransmissionState → RetransmissionState
@@ -58,14 +58,14 @@ without_first_items count state =
     }
 
 -- The congestion window grows with what was acknowledged.
-abbrev pub grown_by : Acknowledged → RetransmissionState → RetransmissionState
-grown_by ack state = record state { congestion = after_acknowledgement ack state.congestion.recovery_exit state.congestion }
+abbrev pub grown_window : Acknowledged → RetransmissionState → RetransmissionState
+grown_window ack state = record state { congestion = after_acknowledgement ack state.congestion.recovery_exit state.congestion }
 
 -- The SACK's items are acknowledged; misses count before the place `limit`.
 abbrev pub acknowledged_until : ℕ → List GapAckBlock → ℕ → Option ℕ → RetransmissionState → RetransmissionState
 acknowledged_until count blocks limit newest old =
-    let left = without_first_items count (missed_until count limit newest (with_items (covered count blocks old.outstanding.items) old)) in
-    grown_by (congestion_acknowledgement count old left) left
+    let left = without_first_items count (missed_until count limit newest (with_items (covered_items count blocks old.outstanding.items) old)) in
+    grown_window (congestion_acknowledgement count old left) left
 
 -- fast recovery may end with this cumulative TSN
 abbrev pub exiting : ℕ → RetransmissionState → RetransmissionState
@@ -86,8 +86,8 @@ probes_lost true state = record (all_lost state) { timer = record state.timer { 
 probes_lost false state = state
 
 -- The peer's window is this now, and the timer runs while something is outstanding.
-abbrev pub window_settled_at : ℕ → ℕ → ℕ → RetransmissionState → RetransmissionState
-window_settled_at now window count state =
+abbrev pub window_after_settling : ℕ → ℕ → ℕ → RetransmissionState → RetransmissionState
+window_after_settling now window count state =
     let told : RetransmissionState = record state { peer_window = window } in
     let left : RetransmissionState = probes_lost (opens state told) told in
     record left { timer = timer_with now left.outstanding.items (rewound count left.timer) }
@@ -107,7 +107,7 @@ pub record AcknowledgesItems (now cumulative window : ℕ) (blocks : List GapAck
   pub is_newest : let count = acknowledged_count old.outstanding cumulative in
       IsLastPlace (IsNewlyAcknowledged count blocks) old.outstanding.items newest
   pub is : let count = acknowledged_count old.outstanding cumulative in
-      new ≡ window_settled_at now window count (acknowledged_until count blocks limit (option_map (tsn_at old.outstanding) newest) (exiting cumulative old))
+      new ≡ window_after_settling now window count (acknowledged_until count blocks limit (option_map (tsn_at old.outstanding) newest) (exiting cumulative old))
 
 -- Does it acknowledge an item that no SACK has acknowledged before? One that was abandoned counts, too: whoever acknowledges a
 -- FORWARD-TSN is there (RFC 9260, section 8.1).
@@ -120,16 +120,16 @@ has_acknowledged old new = nat_lt (never_acknowledged_items new.outstanding.item
 abbrev pub ends_delivery : Item → Bool
 ends_delivery item = item.fragment.is_end && not (is_abandoned item.progress.state)
 
-abbrev pub lifecycle_events_by : {P : Type 0} → Option ℕ → Bool → List (Event P)
-lifecycle_events_by None ends = []
-lifecycle_events_by (Some id) true = lifecycle_message_delivered id ∷ lifecycle_end id ∷ []
-lifecycle_events_by (Some id) false = []
+abbrev pub lifecycle_events_of : {P : Type 0} → Option ℕ → Bool → List (Event P)
+lifecycle_events_of None ends = []
+lifecycle_events_of (Some id) true = lifecycle_message_delivered id ∷ lifecycle_end id ∷ []
+lifecycle_events_of (Some id) false = []
 
 -- the events once the cumulative TSN passes these
 abbrev pub delivered_events : {P : Type 0} → List Item → List (Event P)
 delivered_events [] = []
-delivered_events (item ∷ items) = lifecycle_events_by item.fragment.lifecycle (ends_delivery item) ++ delivered_events items
+delivered_events (item ∷ items) = lifecycle_events_of item.fragment.lifecycle (ends_delivery item) ++ delivered_events items
 
 -- the events once the cumulative TSN is this
-abbrev pub delivered_by : {P : Type 0} → ℕ → RetransmissionState → List (Event P)
-delivered_by cumulative state = delivered_events (take (acknowledged_count state.outstanding cumulative) state.outstanding.items)
+abbrev pub delivered_up_to : {P : Type 0} → ℕ → RetransmissionState → List (Event P)
+delivered_up_to cumulative state = delivered_events (take (acknowledged_count state.outstanding cumulative) state.outstanding.items)

@@ -2,7 +2,7 @@
 -- 8260, sections 2.1 and 2.3.1).
 use Rattle.std.specs.Prelude.{ℕ, zero, suc, ◌/◌, Bool, true, false, List, [], ◌∷◌, ◌++◌, length}
 use Rattle.dcsctp_types.specs.wire.Content.{DataContent, IDataContent}
-use Rattle.dcsctp_types.specs.wire.Fields.{skipped_stream_at, skipped_messages_at}
+use Rattle.dcsctp_types.specs.wire.Fields.{numbered_skipped_stream, numbered_skipped_messages}
 use Rattle.dcsctp_types.specs.wire.declared.chunk.forward_tsn.SkippedStream.{SkippedStream}
 use Rattle.dcsctp_types.specs.wire.declared.chunk.forward_tsn.SkippedMessages.{SkippedMessages}
 use Rattle.dcsctp_types.specs.declared.arrivals.Numbering.{Numbering}
@@ -81,16 +81,16 @@ messages_skipped_to entry = Mid (record { 0 = entry.stream_id }) entry.is_unorde
 -- that many entries of these bytes, the first ones
 abbrev pub first_skipped : ℕ → List ℕ → List SkippedTo
 first_skipped zero streams = []
-first_skipped (suc count) streams = first_skipped count streams ++ skipped_to (skipped_stream_at count streams) ∷ []
+first_skipped (suc count) streams = first_skipped count streams ++ skipped_to (numbered_skipped_stream count streams) ∷ []
 
 abbrev pub first_messages_skipped : ℕ → List ℕ → List SkippedTo
 first_messages_skipped zero streams = []
-first_messages_skipped (suc count) streams = first_messages_skipped count streams ++ messages_skipped_to (skipped_messages_at count streams) ∷ []
+first_messages_skipped (suc count) streams = first_messages_skipped count streams ++ messages_skipped_to (numbered_skipped_messages count streams) ∷ []
 
 -- what a FORWARD-TSN names, four bytes each
-abbrev pub skipped_in : List ℕ → List SkippedTo
-skipped_in streams = first_skipped (length streams / 4) streams
+abbrev pub named_skips : List ℕ → List SkippedTo
+named_skips streams = first_skipped (length streams / 4) streams
 
 -- what an I-FORWARD-TSN names, eight bytes each
-abbrev pub messages_skipped_in : List ℕ → List SkippedTo
-messages_skipped_in streams = first_messages_skipped (length streams / 8) streams
+abbrev pub skipped_messages : List ℕ → List SkippedTo
+skipped_messages streams = first_messages_skipped (length streams / 8) streams

@@ -32,7 +32,7 @@ maybe_expired None = []
 maybe_expired (Some id) = lifecycle_message_maybe_expired id ∷ lifecycle_end id ∷ []
 
 -- What waits of the message of that last item is dropped.
-pub record DropsRestAt (now : ℕ) (last : Item) (old new : Stage) : Type 0 where
+pub record DropsRestOfMessage (now : ℕ) (last : Item) (old new : Stage) : Type 0 where
   pub outstanding : OutstandingState
   pub drops : DropsRest now old.queue.reset_begun last old.queue.outstanding old.waiting old.told outstanding new.waiting new.told
   pub is : new ≡ record old { queue = record old.queue { outstanding = outstanding }; waiting = new.waiting; told = new.told }
@@ -41,11 +41,11 @@ pub record DropsRestAt (now : ℕ) (last : Item) (old new : Stage) : Type 0 wher
 abbrev pub ClosesMessage : ℕ → Item → Stage → Stage → Bool → Type 0
 ClosesMessage now last old new true = new ≡ record old { told = old.told ++ maybe_expired last.fragment.lifecycle }
 ClosesMessage now last old new false =
-    ((length old.queue.outstanding.items + 1 < 2 ^ 31) × DropsRestAt now last old new)
+    ((length old.queue.outstanding.items + 1 < 2 ^ 31) × DropsRestOfMessage now last old new)
     ⊎ ((2 ^ 31 ≤ length old.queue.outstanding.items + 1) × (new ≡ old))
 
 -- The message of the item at this place is abandoned.
-pub record GivesUpAt (now place : ℕ) (old new : Stage) : Type 0 where
+pub record GivesUpItem (now place : ℕ) (old new : Stage) : Type 0 where
   pub start : ℕ
   pub last_place : ℕ
   pub message : AreMessageItems place start (last_place + 1) old.queue.outstanding.items
@@ -74,7 +74,7 @@ pub record GivesUpMarked (now : ℕ) (old new : Stage) : Type 0 where
   pub place : ℕ
   pub next : IsNextMarked place old.queue.outstanding.items
   pub due : is_abandonment_due now old.queue.partial_reliability next.marked.item ≡ true
-  pub gives_up : GivesUpAt now place old new
+  pub gives_up : GivesUpItem now place old new
 
 -- the greatest payload of a chunk with this header that fits into that much room (RFC 9260, section 3.2)
 abbrev pub payload_room : ℕ → ℕ → ℕ

@@ -11,7 +11,7 @@ use Rattle.dcsctp_types.specs.declared.arrivals.Numbering.TheVariants.{Ordered, 
 use Rattle.dcsctp_types.specs.declared.arrivals.Taken.{Taken}
 use Rattle.dcsctp_spec.specs.queues.Numbers.{number_near}
 use Rattle.dcsctp_spec.specs.queues.Runs.{RunModel, behind_place, runs_used}
-use Rattle.dcsctp_spec.specs.queues.IncomingStreams.{ready_bytes, streams_used, StreamModel, ChunkModel, new_stream, data_part, delivered_as, TakesUnordered, TakesOnStream, skipped_stream, skipped, skip_deliveries}
+use Rattle.dcsctp_spec.specs.queues.IncomingStreams.{ready_bytes, streams_used, StreamModel, ChunkModel, new_stream, data_part, delivered_as, TakesUnordered, TakesOnStream, skipped_stream, stream_after_skip, skip_deliveries}
 use Rattle.std.specs.List.{filter, list_any}
 use Rattle.dcsctp_types.specs.declared.arrivals.SkippedTo.{SkippedTo}
 
@@ -92,17 +92,17 @@ pub record TakesIncomingChunk (tsn : ℕ) (chunk : ChunkModel) (old new : Incomi
 
 -- a stream once an entry, or all of them in turn, are handled
 abbrev pub skipped_on : SkippedTo → ℕ → StreamModel → StreamModel
-skipped_on entry id stream = if skipped_stream entry == id then skipped entry stream else stream
+skipped_on entry id stream = if skipped_stream entry == id then stream_after_skip entry stream else stream
 
-abbrev pub skipped_by : List SkippedTo → ℕ → StreamModel → StreamModel
-skipped_by [] id stream = stream
-skipped_by (entry ∷ entries) id stream = skipped_by entries id (skipped_on entry id stream)
+abbrev pub stream_skipping : List SkippedTo → ℕ → StreamModel → StreamModel
+stream_skipping [] id stream = stream
+stream_skipping (entry ∷ entries) id stream = stream_skipping entries id (skipped_on entry id stream)
 
 -- what becomes ready then
-abbrev pub deliveries_by : List SkippedTo → (ℕ → StreamModel) → List MessageContent
-deliveries_by [] streams = []
-deliveries_by (entry ∷ entries) streams =
-    skip_deliveries entry (streams (skipped_stream entry)) ++ deliveries_by entries (λ id. skipped_on entry id (streams id))
+abbrev pub deliveries_of_skips : List SkippedTo → (ℕ → StreamModel) → List MessageContent
+deliveries_of_skips [] streams = []
+deliveries_of_skips (entry ∷ entries) streams =
+    skip_deliveries entry (streams (skipped_stream entry)) ++ deliveries_of_skips entries (λ id. skipped_on entry id (streams id))
 
 -- Messages of one stream are skipped; those that become ready are not counted yet.
 pub record SkipsOne (entry : SkippedTo) (old new : IncomingModel) : Type 0 where
@@ -114,8 +114,8 @@ pub record SkipsOne (entry : SkippedTo) (old new : IncomingModel) : Type 0 where
 
 -- Messages of the streams that are named are skipped.
 pub record SkipsAll (entries : List SkippedTo) (old new : IncomingModel) : Type 0 where
-  pub streams : (id : ℕ) → stream_on id new.streams ≡ skipped_by entries id (stream_on id old.streams)
-  pub ready : new.ready ≡ old.ready ++ deliveries_by entries (λ id. stream_on id old.streams)
+  pub streams : (id : ℕ) → stream_on id new.streams ≡ stream_skipping entries id (stream_on id old.streams)
+  pub ready : new.ready ≡ old.ready ++ deliveries_of_skips entries (λ id. stream_on id old.streams)
   pub received : new.messages_received ≡ old.messages_received
   pub unordered : new.unordered ≡ old.unordered
   pub last : new.last_tsn_number ≡ old.last_tsn_number
@@ -123,9 +123,9 @@ pub record SkipsAll (entries : List SkippedTo) (old new : IncomingModel) : Type 
 -- A FORWARD TSN or I-FORWARD-TSN whose TSN has this number is handled. The messages that it names are skipped. Parts of unordered
 -- messages of DATA that begin at the number or before it are dropped.
 pub record MovesTo (tsn_number : ℕ) (entries : List SkippedTo) (old new : IncomingModel) : Type 0 where
-  pub streams : (id : ℕ) → stream_on id new.streams ≡ skipped_by entries id (stream_on id old.streams)
-  pub ready : new.ready ≡ old.ready ++ deliveries_by entries (λ id. stream_on id old.streams)
-  pub received : new.messages_received ≡ received_more (length (deliveries_by entries (λ id. stream_on id old.streams))) old.messages_received
+  pub streams : (id : ℕ) → stream_on id new.streams ≡ stream_skipping entries id (stream_on id old.streams)
+  pub ready : new.ready ≡ old.ready ++ deliveries_of_skips entries (λ id. stream_on id old.streams)
+  pub received : new.messages_received ≡ received_more (length (deliveries_of_skips entries (λ id. stream_on id old.streams))) old.messages_received
   pub unordered : new.unordered ≡ behind_place tsn_number old.unordered
   pub last : new.last_tsn_number ≡ tsn_number
 

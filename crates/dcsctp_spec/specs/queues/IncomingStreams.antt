@@ -9,7 +9,7 @@ use Rattle.dcsctp_types.specs.declared.arrivals.Numbering.{Numbering}
 use Rattle.dcsctp_types.specs.declared.arrivals.Numbering.TheVariants.{Ordered, Unordered, InterleavedOrdered, InterleavedUnordered}
 use Rattle.dcsctp_spec.specs.queues.Numbers.{number_near, short_number_near, short_number_from, fragment_place}
 use Rattle.dcsctp_types.specs.declared.arrivals.Taken.{Taken}
-use Rattle.dcsctp_spec.specs.queues.Runs.{RunModel, PartModel, WholeModel, Assembled, part_dropped, part_kept, message_whole, AddsPart, runs_used, wholes_used}
+use Rattle.dcsctp_spec.specs.queues.Runs.{RunModel, PartModel, WholeModel, Assembly, part_dropped, part_kept, message_whole, AddsPart, runs_used, wholes_used}
 
 pub record StreamModel : Type 0 where
   pub id : ℕ
@@ -60,15 +60,15 @@ deliveries_from next stream = map (delivered_as stream.id) (due next stream.wait
 
 -- the number after a skipped one, if that isn't before the next
 abbrev pub next_past : ℕ → ℕ → ℕ
-next_past skipped next = max next (min (skipped + 1) (2 ^ 64 - 1))
+next_past stream_after_skip next = max next (min (stream_after_skip + 1) (2 ^ 64 - 1))
 
 -- ---- data that is received
 
-abbrev pub NothingTaken : Taken → Type 0
-NothingTaken taken = (taken.kept_bytes ≡ 0) × (taken.ready ≡ 0)
+abbrev pub TakesNothing : Taken → Type 0
+TakesNothing taken = (taken.kept_bytes ≡ 0) × (taken.ready ≡ 0)
 
-abbrev pub KeptOnly : PartModel → Taken → Type 0
-KeptOnly part taken = (taken.kept_bytes ≡ length part.payload) × (taken.ready ≡ 0)
+abbrev pub KeepsOnly : PartModel → Taken → Type 0
+KeepsOnly part taken = (taken.kept_bytes ≡ length part.payload) × (taken.ready ≡ 0)
 
 -- the messages that become ready with an ordered one that is next: it and those that waited for it
 abbrev pub ready_with : StreamModel → WholeModel → List MessageContent
@@ -85,19 +85,19 @@ is_message_due next [] = false
 is_message_due next (whole ∷ waiting) = nat_le whole.number next
 
 -- Is the message, if there is one, numbered below the number, or not?
-abbrev pub NumberedBelow : ℕ → Option WholeModel → Type 0
-NumberedBelow number None = Unit {0}
-NumberedBelow number (Some whole) = whole.number < number
+abbrev pub IsNumberedBelow : ℕ → Option WholeModel → Type 0
+IsNumberedBelow number None = Unit {0}
+IsNumberedBelow number (Some whole) = whole.number < number
 
-abbrev pub NumberedFrom : ℕ → Option WholeModel → Type 0
-NumberedFrom number None = Unit {0}
-NumberedFrom number (Some whole) = number ≤ whole.number
+abbrev pub IsNumberedFrom : ℕ → Option WholeModel → Type 0
+IsNumberedFrom number None = Unit {0}
+IsNumberedFrom number (Some whole) = number ≤ whole.number
 
 -- Where a number belongs among the messages that wait: the one before is numbered below it, the next one is not.
 pub record IsNumberPlace (at number : ℕ) (waiting : List WholeModel) : Type 0 where
   pub within : at ≤ length waiting
-  pub before : 0 < at → NumberedBelow number (slice_get waiting (at - 1))
-  pub behind : NumberedFrom number (slice_get waiting at)
+  pub before : 0 < at → IsNumberedBelow number (slice_get waiting (at - 1))
+  pub behind : IsNumberedFrom number (slice_get waiting at)
 
 -- A message waits among others, which keep their order.
 pub record WaitsAmong (whole : WholeModel) (old new : List WholeModel) : Type 0 where
@@ -114,31 +114,31 @@ pub record TakesWhole (whole : WholeModel) (old : StreamModel) (before : List Me
   pub waiting : MatchBool (whole.number == old.next) (new.waiting ≡ not_due (next_after old.next whole) old.waiting) (WaitsAmong whole old.waiting new.waiting)
 
 -- What a part of an ordered message does, by what became of it.
-abbrev pub OrderedOutcome : PartModel → StreamModel → List MessageContent → Assembled → Taken → StreamModel → List MessageContent → Type 0
-OrderedOutcome part old before part_dropped taken new after = (new ≡ old) × (after ≡ before) × NothingTaken taken
+abbrev pub OrderedOutcome : PartModel → StreamModel → List MessageContent → Assembly → Taken → StreamModel → List MessageContent → Type 0
+OrderedOutcome part old before part_dropped taken new after = (new ≡ old) × (after ≡ before) × TakesNothing taken
 OrderedOutcome part old before part_kept taken new after =
-    (new.next ≡ old.next) × (new.waiting ≡ old.waiting) × (after ≡ before) × KeptOnly part taken
+    (new.next ≡ old.next) × (new.waiting ≡ old.waiting) × (after ≡ before) × KeepsOnly part taken
 OrderedOutcome part old before (message_whole message) taken new after =
     TakesWhole message old before (length part.payload) taken new after
 
 -- A part of an ordered message, or a whole one, that isn't before the next, and whose message doesn't wait.
 pub record TakesOrdered (part : PartModel) (old : StreamModel) (before : List MessageContent) (taken : Taken) (new : StreamModel) (after : List MessageContent) : Type 0 where
-  pub outcome : Assembled
+  pub outcome : Assembly
   pub parts : AddsPart part old.ordered outcome new.ordered
   pub does : OrderedOutcome part old before outcome taken new after
   pub id : new.id ≡ old.id
   pub unordered : (new.last_unordered ≡ old.last_unordered) × (new.unordered ≡ old.unordered)
 
 -- What a part of an unordered message does, by what became of it: one that makes its message whole makes it ready.
-abbrev pub UnorderedOutcome : PartModel → (WholeModel → MessageContent) → List MessageContent → Assembled → Taken → List MessageContent → Type 0
-UnorderedOutcome part shown before part_dropped taken after = (after ≡ before) × NothingTaken taken
-UnorderedOutcome part shown before part_kept taken after = (after ≡ before) × KeptOnly part taken
+abbrev pub UnorderedOutcome : PartModel → (WholeModel → MessageContent) → List MessageContent → Assembly → Taken → List MessageContent → Type 0
+UnorderedOutcome part shown before part_dropped taken after = (after ≡ before) × TakesNothing taken
+UnorderedOutcome part shown before part_kept taken after = (after ≡ before) × KeepsOnly part taken
 UnorderedOutcome part shown before (message_whole message) taken after =
     (after ≡ before ++ shown message ∷ []) × (taken.kept_bytes ≡ length part.payload) × (taken.ready ≡ 1)
 
 -- A part of an unordered message, or a whole one, of which these runs hold the parts.
 pub record TakesUnordered (part : PartModel) (shown : WholeModel → MessageContent) (old : List RunModel) (before : List MessageContent) (taken : Taken) (new : List RunModel) (after : List MessageContent) : Type 0 where
-  pub outcome : Assembled
+  pub outcome : Assembly
   pub parts : AddsPart part old outcome new
   pub does : UnorderedOutcome part shown before outcome taken after
 
@@ -172,7 +172,7 @@ data_part chunk place number =
 
 -- A part of an ordered I-DATA message, or a whole one: it is dropped if its message is before the next.
 pub record TakesInOrder (part : PartModel) (old : StreamModel) (before : List MessageContent) (taken : Taken) (new : StreamModel) (after : List MessageContent) : Type 0 where
-  pub past : part.number < old.next → NothingTaken taken × (new ≡ old) × (after ≡ before)
+  pub past : part.number < old.next → TakesNothing taken × (new ≡ old) × (after ≡ before)
   pub ahead : old.next ≤ part.number → TakesAhead part old before taken new after
 
 -- the same for an unordered I-DATA message
@@ -231,10 +231,10 @@ skipped_stream (Ssn id ssn) = id.0
 skipped_stream (Mid id is_unordered mid) = id.0
 
 -- the stream then
-abbrev pub skipped : SkippedTo → StreamModel → StreamModel
-skipped (Ssn id ssn) stream = skipped_in_order (short_number_near stream.next ssn) stream
-skipped (Mid id false mid) stream = skipped_in_order (number_near stream.next mid) stream
-skipped (Mid id true mid) stream = skipped_out_of_order (number_near stream.last_unordered mid) stream
+abbrev pub stream_after_skip : SkippedTo → StreamModel → StreamModel
+stream_after_skip (Ssn id ssn) stream = skipped_in_order (short_number_near stream.next ssn) stream
+stream_after_skip (Mid id false mid) stream = skipped_in_order (number_near stream.next mid) stream
+stream_after_skip (Mid id true mid) stream = skipped_out_of_order (number_near stream.last_unordered mid) stream
 
 -- what becomes ready then
 abbrev pub skip_deliveries : SkippedTo → StreamModel → List MessageContent

@@ -18,8 +18,8 @@ pub record Item : Type 0 where
   pub begins_after_reset : Bool
 
 -- the number if the test holds, else nothing
-abbrev pub number_where : Bool → ℕ → ℕ
-number_where test number = if test then number else 0
+abbrev pub number_or_zero : Bool → ℕ → ℕ
+number_or_zero test number = if test then number else 0
 
 -- A payload with its chunk's header and padding (RFC 9260, section 3.2). A chunk's length has 16 bits, so no payload is
 -- above 65,535 bytes.
@@ -32,19 +32,19 @@ item_size header item = chunk_size header (length item.fragment.payload)
 
 -- what an item adds to each sum
 abbrev pub in_flight_size : ℕ → Item → ℕ
-in_flight_size header item = number_where (is_in_flight item.progress.state) (item_size header item)
+in_flight_size header item = number_or_zero (is_in_flight item.progress.state) (item_size header item)
 
 abbrev pub unacknowledged_size : ℕ → Item → ℕ
-unacknowledged_size header item = number_where (is_unacknowledged item.progress.state) (item_size header item)
+unacknowledged_size header item = number_or_zero (is_unacknowledged item.progress.state) (item_size header item)
 
 abbrev pub unacknowledged_count : Item → ℕ
-unacknowledged_count item = number_where (is_unacknowledged item.progress.state) 1
+unacknowledged_count item = number_or_zero (is_unacknowledged item.progress.state) 1
 
 abbrev pub never_acknowledged_count : Item → ℕ
-never_acknowledged_count item = number_where (not item.progress.was_acknowledged) 1
+never_acknowledged_count item = number_or_zero (not item.progress.was_acknowledged) 1
 
 abbrev pub marked_count : Item → ℕ
-marked_count item = number_where (is_marked item.progress.state) 1
+marked_count item = number_or_zero (is_marked item.progress.state) 1
 
 -- the bytes in flight, chunk headers and padding included
 abbrev pub bytes_in_flight : ℕ → List Item → ℕ

@@ -14,7 +14,7 @@ abbrev pub NoneMarkedBefore : ℕ → List Item → Type 0
 NoneMarkedBefore place items = (k : ℕ) (item : Item) → k < place → slice_get items k ≡ Some item → is_marked item.progress.state ≡ false
 
 -- the item at this place waits to be sent again
-pub record IsMarkedAt (place : ℕ) (items : List Item) : Type 0 where
+pub record IsMarkedItem (place : ℕ) (items : List Item) : Type 0 where
   pub within : place < length items
   pub item : Item
   pub at : slice_get items place ≡ Some item
@@ -22,7 +22,7 @@ pub record IsMarkedAt (place : ℕ) (items : List Item) : Type 0 where
 
 -- The item at this place is the first that waits to be sent again.
 pub record IsNextMarked (place : ℕ) (items : List Item) : Type 0 where
-  pub marked : IsMarkedAt place items
+  pub marked : IsMarkedItem place items
   pub first : NoneMarkedBefore place items
 
 -- ---- a message that is to be abandoned

@@ -43,7 +43,7 @@ acknowledged_count outstanding cumulative = distance_to outstanding ((cumulative
 
 -- the items with those acknowledged that the blocks name, from the place `count` on, which is the first TSN after the cumulative
 -- one
-abbrev pub reported : ℕ → List GapAckBlock → List Item → List Item
-reported count [] items = items
-reported count (block ∷ blocks) items =
-    reported count blocks (changed_between Acknowledge (count + block.start - 1) (count + block.end) items)
+abbrev pub reported_items : ℕ → List GapAckBlock → List Item → List Item
+reported_items count [] items = items
+reported_items count (block ∷ blocks) items =
+    reported_items count blocks (changed_between Acknowledge (count + block.start - 1) (count + block.end) items)

@@ -3,7 +3,7 @@ use Rattle.std.specs.Prelude.{ℕ, ◌+◌, ◌-◌, ◌%◌, ◌^◌, ◌||◌,
 use Rattle.std.specs.Option.{option_map, unwrap_or}
 use Rattle.dcsctp_types.specs.declared.progress.ItemState.{ItemState}
 use Rattle.dcsctp_types.specs.declared.progress.ItemState.TheVariants.{InFlight, Marked, Acknowledged, Abandoned}
-use Rattle.dcsctp_types.specs.Lifetimes.{millis_ahead, moment_at, millis_since, moment_before}
+use Rattle.dcsctp_types.specs.Lifetimes.{millis_ahead, moment_ahead, millis_since, moment_before}
 use Rattle.dcsctp_types.specs.Snapshot.{SendPart}
 use Rattle.dcsctp_types.specs.SnapshotItems.{OutstandingPart}
 use Rattle.dcsctp_spec.specs.queues.Items.{Item}
@@ -79,7 +79,7 @@ fragment_again now part =
       is_end = part.is_end;
       payload = part.payload;
       max_retransmissions = limit_in_part part.max_retransmissions;
-      expires_at = option_map (moment_at now) part.expires_in_ms;
+      expires_at = option_map (moment_ahead now) part.expires_in_ms;
       lifecycle = name_in_part part.lifecycle_id;
     }
 

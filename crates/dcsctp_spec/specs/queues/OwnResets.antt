@@ -6,9 +6,9 @@ use Rattle.dcsctp_spec.specs.endpoint.Event.{Event}
 use Rattle.dcsctp_types.specs.declared.sending.UnderWay.{UnderWay}
 use Rattle.dcsctp_types.specs.declared.sending.Pause.{Pause}
 use Rattle.dcsctp_types.specs.declared.sending.Pause.TheVariants.{Open, Pausing, HandedOut}
-use Rattle.dcsctp_types.specs.queues.SendStreams.{Waiting, Stream, payload_size, is_pausing, paused, handed_out, committed, rolled_back}
+use Rattle.dcsctp_types.specs.queues.SendStreams.{Waiting, Stream, payload_size, is_pausing, paused_stream, handed_out, committed_stream, rolled_back}
 use Rattle.dcsctp_spec.specs.queues.SendEvents.{low_events, expiries}
-use Rattle.dcsctp_spec.specs.queues.SendQueue.{SendQueueState, stream_changed, used, queue_stream}
+use Rattle.dcsctp_spec.specs.queues.SendQueue.{SendQueueState, stream_changed, used_streams, queue_stream}
 
 -- ---- a stream that is prepared
 
@@ -35,11 +35,11 @@ dropped_size id queue = min (payload_size (dropped_of id queue)) (2 ^ 64 - 1)
 
 -- a stream that is to be reset, without that many payload bytes and with that many messages
 abbrev pub prepared_stream : ℕ → ℕ → Stream → Stream
-prepared_stream size kept stream = paused kept (record stream { amount = stream.amount - size })
+prepared_stream size kept stream = paused_stream kept (record stream { amount = stream.amount - size })
 
 -- the queue, with this stream in any case
 abbrev pub with_used : ℕ → SendQueueState → SendQueueState
-with_used id queue = record queue { streams = used queue id }
+with_used id queue = record queue { streams = used_streams queue id }
 
 -- Messages that haven't been started are dropped, and the stream is paused.
 abbrev pub prepared_open : ℕ → SendQueueState → SendQueueState
@@ -49,30 +49,30 @@ prepared_open id queue =
       total_amount = queue.total_amount - dropped_size id queue;
     }
 
-abbrev pub prepared_in : ℕ → SendQueueState → SendQueueState
-prepared_in id queue = if is_open_pause (queue_stream queue id).pause then prepared_open id queue else queue
+abbrev pub prepared_queue : ℕ → SendQueueState → SendQueueState
+prepared_queue id queue = if is_open_pause (queue_stream queue id).pause then prepared_open id queue else queue
 
 -- A stream that isn't paused is prepared to be reset; it counts as used from now on.
-abbrev pub prepared : ℕ → SendQueueState → SendQueueState
-prepared id queue = prepared_in id (with_used id queue)
+abbrev pub queue_with_prepared : ℕ → SendQueueState → SendQueueState
+queue_with_prepared id queue = prepared_queue id (with_used id queue)
 
-abbrev pub prepare_events_in : {P : Type 0} → ℕ → SendQueueState → List (Event P)
-prepare_events_in id queue =
+abbrev pub prepare_events_of : {P : Type 0} → ℕ → SendQueueState → List (Event P)
+prepare_events_of id queue =
     if is_open_pause (queue_stream queue id).pause
     then low_events (queue_stream queue id) queue.total_threshold queue.total_amount (dropped_size id queue) ++ expiries (dropped_of id queue)
     else []
 
 abbrev pub prepare_events : {P : Type 0} → ℕ → SendQueueState → List (Event P)
-prepare_events id queue = prepare_events_in id (with_used id queue)
+prepare_events id queue = prepare_events_of id (with_used id queue)
 
 -- the streams of these numbers, one after another
 abbrev pub prepared_all : List ℕ → SendQueueState → SendQueueState
 prepared_all [] queue = queue
-prepared_all (id ∷ ids) queue = prepared_all ids (prepared id queue)
+prepared_all (id ∷ ids) queue = prepared_all ids (queue_with_prepared id queue)
 
 abbrev pub prepare_all_events : {P : Type 0} → List ℕ → SendQueueState → List (Event P)
 prepare_all_events [] queue = []
-prepare_all_events (id ∷ ids) queue = prepare_events id queue ++ prepare_all_events ids (prepared id queue)
+prepare_all_events (id ∷ ids) queue = prepare_events id queue ++ prepare_all_events ids (queue_with_prepared id queue)
 
 -- ---- streams that are ready
 
@@ -103,7 +103,7 @@ queue_handing_out count queue = record queue { streams = handing_out (take count
 
 -- The streams that are handed out were reset: they are paused no longer, and number their messages from 0.
 abbrev pub queue_committed : SendQueueState → SendQueueState
-queue_committed queue = record queue { streams = map committed queue.streams }
+queue_committed queue = record queue { streams = map committed_stream queue.streams }
 
 -- The streams that are handed out weren't reset: they are paused no longer.
 abbrev pub queue_rolled_back : SendQueueState → SendQueueState

@@ -4,12 +4,12 @@ use Rattle.std.specs.List.{flat_map}
 use Rattle.std.specs.Option.{option_map, unwrap_or}
 use Rattle.dcsctp_types.specs.declared.sending.UnderWay.{UnderWay}
 use Rattle.dcsctp_types.specs.declared.snapshot.HandoverOutgoingStream.{HandoverOutgoingStream}
-use Rattle.dcsctp_types.specs.Lifetimes.{millis_ahead, moment_at}
+use Rattle.dcsctp_types.specs.Lifetimes.{millis_ahead, moment_ahead}
 use Rattle.dcsctp_types.specs.Snapshot.{SendPart}
 use Rattle.dcsctp_types.specs.SnapshotItems.{QueuedPart}
 use Rattle.dcsctp_spec.specs.queues.OwnResets.{with_used}
 use Rattle.dcsctp_spec.specs.queues.SendQueue.{SendQueueState, stream_changed, queue_stream}
-use Rattle.dcsctp_types.specs.queues.SendStreams.{Waiting, Stream, front_of, unused}
+use Rattle.dcsctp_types.specs.queues.SendStreams.{Waiting, Stream, front_of, unused_stream}
 
 -- ---- numbers that mean none
 
@@ -80,12 +80,12 @@ part_with_queue now with_data queue tx =
 -- ---- what is restored
 
 -- a stream without its messages, which numbers them from 0
-abbrev pub emptied : Stream → Stream
-emptied stream = unused stream.id stream.priority stream.threshold
+abbrev pub emptied_stream : Stream → Stream
+emptied_stream stream = unused_stream stream.id stream.priority stream.threshold
 
 -- Nothing waits, and each stream keeps its priority and its threshold.
 abbrev pub queue_emptied : SendQueueState → SendQueueState
-queue_emptied queue = record queue { streams = map emptied queue.streams; under_way = None; total_amount = 0 }
+queue_emptied queue = record queue { streams = map emptied_stream queue.streams; under_way = None; total_amount = 0 }
 
 -- a stream with the numbers and the priority of the snapshot
 abbrev pub stream_restored : HandoverOutgoingStream → Stream → Stream
@@ -112,7 +112,7 @@ waiting_again now part =
       is_unordered = part.unordered;
       payload = part.payload;
       max_retransmissions = limit_in_part part.max_retransmissions;
-      expires_at = option_map (moment_at now) part.expires_in_ms;
+      expires_at = option_map (moment_ahead now) part.expires_in_ms;
       lifecycle = name_in_part part.lifecycle_id;
     }
 

@@ -10,13 +10,13 @@ IsBeyond number [] = Unit {0}
 IsBeyond number (range ∷ ranges) = (number + 1 < range.first) × (range.first ≤ range.last) × IsBeyond range.last ranges
 
 -- Is the number in one of the ranges?
-abbrev pub is_in : ℕ → List TsnRange → Bool
-is_in number [] = false
-is_in number (range ∷ ranges) = (nat_le range.first number && nat_le number range.last) || is_in number ranges
+abbrev pub is_number_covered : ℕ → List TsnRange → Bool
+is_number_covered number [] = false
+is_number_covered number (range ∷ ranges) = (nat_le range.first number && nat_le number range.last) || is_number_covered number ranges
 
 -- Is the number in the set: up to the cumulative number, or in one of the ranges?
 abbrev pub is_received : ℕ → ℕ → List TsnRange → Bool
-is_received cumulative number ranges = nat_le number cumulative || is_in number ranges
+is_received cumulative number ranges = nat_le number cumulative || is_number_covered number ranges
 
 -- ---- the rule: how the set changes (RFC 9260, section 6.2; RFC 3758, section 3.6)
 
@@ -39,11 +39,11 @@ pub record MovesForwardTo (number : ℕ) (old : List TsnRange) (reached : ℕ) (
 -- A law in dcsctp_spec_laws says that it is the one that the rule allows (`sets_follow_rule`).
 
 -- What is received: all up to the cumulative number, and the ranges beyond it.
-pub record Received : Type 0 where
+pub record ReceivedTsns : Type 0 where
   pub cumulative : ℕ
   pub ranges : List TsnRange
 
-abbrev pub all_to : ℕ → List TsnRange → Received
+abbrev pub all_to : ℕ → List TsnRange → ReceivedTsns
 all_to cumulative ranges = record { cumulative = cumulative; ranges = ranges }
 
 abbrev pub tsn_range_of : ℕ → ℕ → TsnRange
@@ -68,7 +68,7 @@ put_among number (range ∷ ranges) =
     (range ∷ put_among number ranges))
 
 -- All up to the number are received, and what is in the ranges.
-abbrev pub reaching : ℕ → List TsnRange → Received
+abbrev pub reaching : ℕ → List TsnRange → ReceivedTsns
 -- There are no ranges: nothing is received beyond it.
 reaching number [] = all_to number []
 -- If a number is missing before the first range, that range stays. If the first range has the number or begins right after
@@ -80,13 +80,13 @@ reaching number (range ∷ ranges) =
 
 -- The number is received too. If it was received before, nothing changes. If it is the next one, the cumulative number
 -- moves to it, or to the end of the range that begins right after it. Else it is put among the ranges.
-abbrev pub received : ℕ → ℕ → List TsnRange → Received
-received number cumulative ranges =
+abbrev pub ranges_with_number : ℕ → ℕ → List TsnRange → ReceivedTsns
+ranges_with_number number cumulative ranges =
     cond (is_received cumulative number ranges) (all_to cumulative ranges)
     (cond (number == cumulative + 1) (reaching number ranges)
     (all_to cumulative (put_among number ranges)))
 
 -- All up to the number count as received. If they were received before, nothing changes. Else the cumulative number
 -- moves to it, or to the end of the range that has it or begins right after it.
-abbrev pub forwarded : ℕ → ℕ → List TsnRange → Received
-forwarded number cumulative ranges = cond (nat_le number cumulative) (all_to cumulative ranges) (reaching number ranges)
+abbrev pub forwarded_ranges : ℕ → ℕ → List TsnRange → ReceivedTsns
+forwarded_ranges number cumulative ranges = cond (nat_le number cumulative) (all_to cumulative ranges) (reaching number ranges)

@@ -1,7 +1,7 @@
 -- Why what waits, is in flight or was received can't be handed over to another process.
 use Rattle.std.specs.Prelude.{ℕ, bit_or, Bool, not, ◌&&◌, ◌||◌, nat_lt, is_some, length}
 use Rattle.std.specs.List.{list_any}
-use Rattle.dcsctp_types.specs.Readiness.{reason_where, send_queue_not_empty, data_tracker_tsn_blocks_pending, pending_stream_reset, stream_reset_deferred, stream_has_unassembled_chunks, retransmission_queue_outstanding_data, retransmission_queue_fast_recovery, retransmission_queue_not_empty}
+use Rattle.dcsctp_types.specs.Readiness.{reason_if_true, send_queue_not_empty, data_tracker_tsn_blocks_pending, pending_stream_reset, stream_reset_deferred, stream_has_unassembled_chunks, retransmission_queue_outstanding_data, retransmission_queue_fast_recovery, retransmission_queue_not_empty}
 use Rattle.dcsctp_spec.specs.queues.Incoming.{IncomingModel}
 use Rattle.dcsctp_spec.specs.queues.IncomingStreams.{StreamModel}
 use Rattle.dcsctp_spec.specs.queues.Items.{marked_items}
@@ -25,19 +25,19 @@ is_paused stream = not (is_open_pause stream.pause)
 
 abbrev pub queue_readiness : Bool → SendQueueState → ℕ
 queue_readiness with_data queue =
-    bit_or (reason_where (not with_data && list_any has_messages queue.streams) send_queue_not_empty)
-    (reason_where (list_any is_paused queue.streams) pending_stream_reset)
+    bit_or (reason_if_true (not with_data && list_any has_messages queue.streams) send_queue_not_empty)
+    (reason_if_true (list_any is_paused queue.streams) pending_stream_reset)
 
 abbrev pub retransmission_readiness : Bool → RetransmissionState → ℕ
 retransmission_readiness with_data state =
-    bit_or (reason_where (not with_data && nat_lt 0 (outstanding_count state)) retransmission_queue_outstanding_data)
-    (bit_or (reason_where (is_some state.congestion.recovery_exit) retransmission_queue_fast_recovery)
-    (reason_where (not with_data && nat_lt 0 (marked_items state.outstanding.items)) retransmission_queue_not_empty))
+    bit_or (reason_if_true (not with_data && nat_lt 0 (outstanding_count state)) retransmission_queue_outstanding_data)
+    (bit_or (reason_if_true (is_some state.congestion.recovery_exit) retransmission_queue_fast_recovery)
+    (reason_if_true (not with_data && nat_lt 0 (marked_items state.outstanding.items)) retransmission_queue_not_empty))
 
 -- ---- what was received
 
 abbrev pub tracker_readiness : TrackerState → ℕ
-tracker_readiness tracker = reason_where (has_ranges tracker.ranges) data_tracker_tsn_blocks_pending
+tracker_readiness tracker = reason_if_true (has_ranges tracker.ranges) data_tracker_tsn_blocks_pending
 
 -- does something of the stream wait for more: a message for an earlier one, or parts for the others?
 abbrev pub holds_parts : StreamModel → Bool
@@ -49,8 +49,8 @@ is_unassembled incoming = list_any (λ entry. holds_parts entry.1) incoming.stre
 
 abbrev pub reassembly_readiness : ReassemblyState → ℕ
 reassembly_readiness queue =
-    bit_or (reason_where (is_some queue.deferral) stream_reset_deferred)
-    (reason_where (is_unassembled queue.incoming) stream_has_unassembled_chunks)
+    bit_or (reason_if_true (is_some queue.deferral) stream_reset_deferred)
+    (reason_if_true (is_unassembled queue.incoming) stream_has_unassembled_chunks)
 
 -- ---- all of an association
 

@@ -166,13 +166,13 @@ pub record SkipsData (tsn : ℕ) (entries : List SkippedTo) (old new : Reassembl
   pub deferred : is_forward_deferred tsn old.deferral ≡ true → (waits : DeferralModel) → old.deferral ≡ Some waits → ForwardsBeside tsn entries waits old new
 
 -- the deferral that begins, if there is none
-abbrev pub entered : ℕ → List ℕ → Option DeferralModel → Option DeferralModel
-entered last_tsn streams None = Some (record { last_tsn = last_tsn; streams = streams; waiting = []; skips = None })
-entered last_tsn streams (Some deferral) = Some deferral
+abbrev pub begun_deferral : ℕ → List ℕ → Option DeferralModel → Option DeferralModel
+begun_deferral last_tsn streams None = Some (record { last_tsn = last_tsn; streams = streams; waiting = []; skips = None })
+begun_deferral last_tsn streams (Some deferral) = Some deferral
 
 -- A reset of these streams is deferred until all up to this TSN is received. If another one waits, nothing changes.
 abbrev pub deferring : ℕ → List ℕ → ReassemblyState → ReassemblyState
-deferring last_tsn streams queue = record queue { deferral = entered last_tsn streams queue.deferral }
+deferring last_tsn streams queue = record queue { deferral = begun_deferral last_tsn streams queue.deferral }
 
 -- ---- the end of a deferred reset
 

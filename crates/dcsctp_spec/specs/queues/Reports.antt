@@ -19,7 +19,7 @@ abbrev pub IsNewlyAcknowledged : ℕ → List GapAckBlock → ℕ → Item → T
 IsNewlyAcknowledged count blocks place item = ((place < count) ⊎ NamesItem count blocks place) × (is_unacknowledged item.progress.state ≡ true)
 
 -- The item at this place is the last of which that holds.
-pub record IsLastAt (Holds : ℕ → Item → Type 0) (items : List Item) (place : ℕ) : Type 0 where
+pub record IsLastItem (Holds : ℕ → Item → Type 0) (items : List Item) (place : ℕ) : Type 0 where
   pub item : Item
   pub at : slice_get items place ≡ Some item
   pub holds : Holds place item
@@ -28,7 +28,7 @@ pub record IsLastAt (Holds : ℕ → Item → Type 0) (items : List Item) (place
 -- the place of the last item of which that holds; none if it holds of none
 abbrev pub IsLastPlace : (ℕ → Item → Type 0) → List Item → Option ℕ → Type 0
 IsLastPlace Holds items None = (k : ℕ) (item : Item) → slice_get items k ≡ Some item → Holds k item → ⊥
-IsLastPlace Holds items (Some place) = IsLastAt Holds items place
+IsLastPlace Holds items (Some place) = IsLastItem Holds items place
 
 -- ---- which items are missing (RFC 9260, section 7.2.4)
 

@@ -5,7 +5,7 @@ use Rattle.dcsctp_types.specs.declared.congestion.CongestionControl.{CongestionC
 use Rattle.dcsctp_types.specs.declared.kinds.BackoffAlgorithm.TheVariants.{Exponential}
 use Rattle.dcsctp_types.specs.declared.options.Options.{Options}
 use Rattle.dcsctp_types.specs.declared.progress.Change.TheVariants.{Mark}
-use Rattle.dcsctp_spec.specs.endpoint.Timers.{TimerModel, started, running_deadline, running_after, longest_backoff, backed_off}
+use Rattle.dcsctp_spec.specs.endpoint.Timers.{TimerModel, started_timer, running_deadline, running_after, longest_backoff, backed_off}
 use Rattle.dcsctp_types.specs.queues.Congestion.{new_congestion, after_timeout}
 use Rattle.dcsctp_spec.specs.queues.Items.{Item, bytes_in_flight, marked_items, changed_between}
 use Rattle.dcsctp_spec.specs.queues.Outstanding.{OutstandingState, header}
@@ -97,7 +97,7 @@ with_items items state = record state { outstanding = record state.outstanding {
 
 -- The timer with something outstanding, at this moment: it is started if it doesn't run.
 abbrev pub kept_running : ℕ → TimerModel → TimerModel
-kept_running now timer = if is_some timer.running then timer else record timer { running = started now timer.settings }
+kept_running now timer = if is_some timer.running then timer else record timer { running = started_timer now timer.settings }
 
 -- The timer once these items are outstanding (RFC 9260, section 6.3.2).
 abbrev pub timer_with : ℕ → List Item → TimerModel → TimerModel

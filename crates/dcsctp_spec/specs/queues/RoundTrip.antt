@@ -16,12 +16,12 @@ round_trip_of_any now None = None
 round_trip_of_any now (Some item) = round_trip_of now item
 
 -- that of the item at a place
-abbrev pub round_trip_at : ℕ → List Item → Option ℕ → Option ℕ
-round_trip_at now items None = None
-round_trip_at now items (Some place) = round_trip_of_any now (slice_get items place)
+abbrev pub round_trip_of_place : ℕ → List Item → Option ℕ → Option ℕ
+round_trip_of_place now items None = None
+round_trip_of_place now items (Some place) = round_trip_of_any now (slice_get items place)
 
 -- A SACK measures the round trip of the newest item that it acknowledges and none before did.
 pub record MeasuresRoundTrip (now count : ℕ) (blocks : List GapAckBlock) (items : List Item) (round_trip : Option ℕ) : Type 0 where
   pub newest : Option ℕ
   pub is_newest : IsLastPlace (IsNewlyAcknowledged count blocks) items newest
-  pub is : round_trip ≡ round_trip_at now items newest
+  pub is : round_trip ≡ round_trip_of_place now items newest

@@ -31,13 +31,13 @@ pub record WholeModel : Type 0 where
   pub payload : List ℕ
 
 -- what becomes of a part
-pub data Assembled : Type 0 where
+pub data Assembly : Type 0 where
   -- It was received before.
-  part_dropped : Assembled
+  part_dropped : Assembly
   -- Its message isn't whole yet.
-  part_kept : Assembled
+  part_kept : Assembly
   -- Its message is whole with it.
-  message_whole : WholeModel → Assembled
+  message_whole : WholeModel → Assembly
 
 -- the entry before a position
 abbrev pub entry_before : {X : Type 0} → ℕ → List X → Option X
@@ -93,16 +93,16 @@ single_run part =
     record { first = part.place; number = part.number; ppid = part.ppid; has_beginning = part.is_beginning; has_end = part.is_end; payloads = part.payload ∷ [] }
 
 -- two runs of one message, the second after the first
-abbrev pub chained : RunModel → RunModel → RunModel
-chained front back =
+abbrev pub chained_run : RunModel → RunModel → RunModel
+chained_run front back =
     record front { has_end = back.has_end; payloads = front.payloads ++ back.payloads }
 
 -- a part with the run that it follows on, and the run that follows on it, if there are such
-abbrev pub merged : Option RunModel → PartModel → Option RunModel → RunModel
-merged None part None = single_run part
-merged (Some front) part None = chained front (single_run part)
-merged None part (Some back) = chained (single_run part) back
-merged (Some front) part (Some back) = chained front (chained (single_run part) back)
+abbrev pub run_with_part : Option RunModel → PartModel → Option RunModel → RunModel
+run_with_part None part None = single_run part
+run_with_part (Some front) part None = chained_run front (single_run part)
+run_with_part None part (Some back) = chained_run (single_run part) back
+run_with_part (Some front) part (Some back) = chained_run front (chained_run (single_run part) back)
 
 -- the message of a run that is whole
 abbrev pub whole_run : RunModel → WholeModel
@@ -129,8 +129,8 @@ abbrev pub run_behind : PartModel → ℕ → List RunModel → Option RunModel
 run_behind part at runs = preceding part (slice_get runs at)
 
 -- a part with the runs of its message on both sides of a place among the runs
-abbrev pub merged_at : ℕ → List RunModel → PartModel → RunModel
-merged_at at runs part = merged (run_before at runs part) part (run_behind part at runs)
+abbrev pub merged_run : ℕ → List RunModel → PartModel → RunModel
+merged_run at runs part = run_with_part (run_before at runs part) part (run_behind part at runs)
 
 -- a run of the message, if it joins
 abbrev pub chosen : Bool → Option RunModel → Option RunModel
@@ -154,7 +154,7 @@ with_run joins_before joins_behind at run runs =
 -- the runs with a part in one with those that join it
 abbrev pub with_part : Bool → Bool → ℕ → PartModel → List RunModel → List RunModel
 with_part joins_before joins_behind at part runs =
-    with_run joins_before joins_behind at (merged (chosen joins_before (entry_before at runs)) part (chosen joins_behind (slice_get runs at))) runs
+    with_run joins_before joins_behind at (run_with_part (chosen joins_before (entry_before at runs)) part (chosen joins_behind (slice_get runs at))) runs
 
 -- the runs without those that a message was joined from
 abbrev pub without_runs : Bool → Bool → ℕ → List RunModel → List RunModel
@@ -163,29 +163,29 @@ without_runs joins_before joins_behind at runs =
 
 -- What becomes of a part that belongs at this place among the runs. One that was received before is dropped. One that makes its
 -- message whole gives the message's bytes: those of all parts, from the beginning to the end.
-abbrev pub AddsAt : ℕ → PartModel → List RunModel → Assembled → List RunModel → Type 0
-AddsAt at part old part_dropped new = (is_held_before at old part.place ≡ true) × (new ≡ old)
-AddsAt at part old part_kept new =
+abbrev pub AssemblesPart : ℕ → PartModel → List RunModel → Assembly → List RunModel → Type 0
+AssemblesPart at part old part_dropped new = (is_held_before at old part.place ≡ true) × (new ≡ old)
+AssemblesPart at part old part_kept new =
     (is_held_before at old part.place ≡ false)
-    × (is_whole (merged_at at old part) ≡ false)
+    × (is_whole (merged_run at old part) ≡ false)
     × (new ≡ with_part (is_some (run_before at old part)) (is_some (run_behind part at old)) at part old)
-AddsAt at part old (message_whole message) new =
+AssemblesPart at part old (message_whole message) new =
     (is_held_before at old part.place ≡ false)
-    × (is_whole (merged_at at old part) ≡ true)
-    × (message ≡ whole_run (merged_at at old part))
+    × (is_whole (merged_run at old part) ≡ true)
+    × (message ≡ whole_run (merged_run at old part))
     × (new ≡ without_runs (is_some (run_before at old part)) (is_some (run_behind part at old)) at old)
 
 -- A message of one part leaves the runs as they are.
-abbrev pub PassesAlone : PartModel → List RunModel → Assembled → List RunModel → Type 0
+abbrev pub PassesAlone : PartModel → List RunModel → Assembly → List RunModel → Type 0
 PassesAlone part old part_dropped new = new ≡ old
 PassesAlone part old part_kept new = ⊥
 PassesAlone part old (message_whole message) new = (new ≡ old) × (message ≡ whole_run (single_run part))
 
 -- A part was received.
-pub record AddsPart (part : PartModel) (old : List RunModel) (outcome : Assembled) (new : List RunModel) : Type 0 where
+pub record AddsPart (part : PartModel) (old : List RunModel) (outcome : Assembly) (new : List RunModel) : Type 0 where
   pub at : ℕ
   pub place : IsRunPlace at part.place old
-  pub adds : AddsAt at part old outcome new
+  pub adds : AssemblesPart at part old outcome new
   pub alone : part.is_beginning ≡ true → part.is_end ≡ true → PassesAlone part old outcome new
 
 -- ---- how much of the receive window they use

@@ -8,7 +8,7 @@ use Rattle.dcsctp_types.specs.declared.message.SendOptions.{SendOptions}
 use Rattle.dcsctp_types.specs.Ids.{lifecycle_number}
 use Rattle.dcsctp_types.specs.queues.Messages.{MessageContent}
 use Rattle.dcsctp_types.specs.declared.sending.UnderWay.{UnderWay}
-use Rattle.dcsctp_types.specs.queues.SendStreams.{Waiting, Stream, IsAscending, front_of, is_expired, stream_at, unused, with_message, next_numbers, stream_counted, begun_anew, amount_raised, turn_of}
+use Rattle.dcsctp_types.specs.queues.SendStreams.{Waiting, Stream, IsAscending, front_of, is_expired, stream_at, unused_stream, with_message, next_numbers, stream_counted, renumbered_stream, amount_raised, turn_of}
 
 -- What waits to be sent, of all streams.
 pub record SendQueueState : Type 0 where
@@ -91,17 +91,17 @@ abbrev pub is_used : ℕ → List Stream → Bool
 is_used id streams = list_any (λ stream. stream.id == id) streams
 
 -- the streams, with that of the number in any case
-abbrev pub used : SendQueueState → ℕ → List Stream
-used queue id =
-    if is_used id queue.streams then queue.streams else with_stream (unused id queue.default_priority queue.default_threshold) queue.streams
+abbrev pub used_streams : SendQueueState → ℕ → List Stream
+used_streams queue id =
+    if is_used id queue.streams then queue.streams else with_stream (unused_stream id queue.default_priority queue.default_threshold) queue.streams
 
 -- the stream of the number; one that was never used has the defaults
-abbrev pub found_in : Stream → ℕ → List Stream → Stream
-found_in default id [] = default
-found_in default id (stream ∷ streams) = if stream.id == id then stream else found_in default id streams
+abbrev pub stream_found : Stream → ℕ → List Stream → Stream
+stream_found default id [] = default
+stream_found default id (stream ∷ streams) = if stream.id == id then stream else stream_found default id streams
 
 abbrev pub queue_stream : SendQueueState → ℕ → Stream
-queue_stream queue id = found_in (unused id queue.default_priority queue.default_threshold) id queue.streams
+queue_stream queue id = stream_found (unused_stream id queue.default_priority queue.default_threshold) id queue.streams
 
 abbrev pub with_threshold : ℕ → Stream → Stream
 with_threshold bytes stream = record stream { threshold = bytes }
@@ -112,8 +112,8 @@ with_priority number stream = record stream { priority = number }
 -- ---- messages of it
 
 -- a message as it waits, from the moment at which it is added
-abbrev pub queued : ℕ → MessageContent → SendOptions → SendQueueState → Waiting
-queued now message options queue =
+abbrev pub queued_message : ℕ → MessageContent → SendOptions → SendQueueState → Waiting
+queued_message now message options queue =
     record {
       message_id = queue.next_message_id;
       ppid = message.ppid;
@@ -128,7 +128,7 @@ queued now message options queue =
 abbrev pub with_added : ℕ → Waiting → SendQueueState → SendQueueState
 with_added id message queue =
     record queue {
-      streams = stream_changed id (with_message message) (used queue id);
+      streams = stream_changed id (with_message message) (used_streams queue id);
       total_amount = min (queue.total_amount + length message.payload) (2 ^ 64 - 1);
       next_message_id = (queue.next_message_id + 1) % 2 ^ 64;
     }
@@ -147,8 +147,8 @@ abbrev pub has_live : ℕ → List Waiting → Bool
 has_live now messages = list_any (λ message. not (is_expired now message)) messages
 
 -- Does a message wait at this moment that can be sent? The rest of one under way is sent even if its lifetime is over.
-abbrev pub waits_at : ℕ → SendQueueState → Bool
-waits_at now queue = is_some queue.under_way || list_any (λ stream. is_some (turn_of stream) && has_live now stream.messages) queue.streams
+abbrev pub has_waiting_message : ℕ → SendQueueState → Bool
+has_waiting_message now queue = is_some queue.under_way || list_any (λ stream. is_some (turn_of stream) && has_live now stream.messages) queue.streams
 
 -- ---- which numbers count
 
@@ -170,9 +170,9 @@ message_renumbered under_way stream =
     }
 
 -- the message under way takes the next number of its stream, so that no other message has the same
-abbrev pub numbered_anew : Option UnderWay → SendQueueState → SendQueueState
-numbered_anew None queue = queue
-numbered_anew (Some under_way) queue =
+abbrev pub renumbered_under_way : Option UnderWay → SendQueueState → SendQueueState
+renumbered_under_way None queue = queue
+renumbered_under_way (Some under_way) queue =
     record queue {
       streams = stream_changed under_way.stream_id.0 (front_counted queue.is_interleaved) queue.streams;
       under_way = Some (message_renumbered under_way (queue_stream queue under_way.stream_id.0));
@@ -184,14 +184,14 @@ is_other true second = not second
 is_other false second = second
 
 -- by the message under way, and whether messages are interleaved otherwise than before
-abbrev pub numbered_where : Option UnderWay → Bool → SendQueueState → SendQueueState
-numbered_where None is_new queue = queue
-numbered_where (Some under_way) false queue = queue
-numbered_where (Some under_way) true queue = numbered_anew (Some under_way) queue
+abbrev pub numbered_if_new : Option UnderWay → Bool → SendQueueState → SendQueueState
+numbered_if_new None is_new queue = queue
+numbered_if_new (Some under_way) false queue = queue
+numbered_if_new (Some under_way) true queue = renumbered_under_way (Some under_way) queue
 
 -- Messages are interleaved from now on, or not. If that is new, other numbers count than before.
 abbrev pub numbered_for : Bool → SendQueueState → SendQueueState
-numbered_for enabled queue = numbered_where queue.under_way (is_other queue.is_interleaved enabled) (record queue { is_interleaved = enabled })
+numbered_for enabled queue = numbered_if_new queue.under_way (is_other queue.is_interleaved enabled) (record queue { is_interleaved = enabled })
 
 -- ---- another association
 
@@ -207,4 +207,4 @@ put_back (Some under_way) queue =
 
 -- ready for another association
 abbrev pub queue_restarted : SendQueueState → SendQueueState
-queue_restarted queue = record (put_back queue.under_way queue) { streams = map begun_anew (put_back queue.under_way queue).streams }
+queue_restarted queue = record (put_back queue.under_way queue) { streams = map renumbered_stream (put_back queue.under_way queue).streams }

@@ -2,7 +2,7 @@
 use Rattle.std.specs.Prelude.{◌≡◌, ◌<◌, ℕ, ◌+◌, ◌-◌, ◌^◌, ◌%◌, ◌==◌, min, nat_le, Bool, true, false, Option, None, Some, List, [], ◌++◌, length, take, drop, slice_set, if◌then◌else◌}
 use Rattle.dcsctp_spec.specs.endpoint.Event.{Event}
 use Rattle.dcsctp_types.specs.declared.sending.UnderWay.{UnderWay}
-use Rattle.dcsctp_types.specs.queues.SendStreams.{Waiting, Stream, front_of, is_expired, without_front, next_numbers, stream_counted, served, stream_at, turns_of, IsNext}
+use Rattle.dcsctp_types.specs.queues.SendStreams.{Waiting, Stream, front_of, is_expired, without_front, next_numbers, stream_counted, served_stream, stream_at, turns_of, IsNext}
 use Rattle.dcsctp_spec.specs.queues.SendEvents.{low_events, expiry_events, sent_events}
 use Rattle.dcsctp_spec.specs.queues.SendQueue.{SendQueueState}
 
@@ -25,8 +25,8 @@ pub record Fragment : Type 0 where
   pub lifecycle : Option ℕ
 
 -- a message of the stream as it is begun
-abbrev pub begun : Waiting → Stream → UnderWay
-begun message stream =
+abbrev pub begun_under_way : Waiting → Stream → UnderWay
+begun_under_way message stream =
     record {
       stream_id = record { 0 = stream.id };
       ssn = (next_numbers message.is_unordered stream).0;
@@ -64,8 +64,8 @@ is_last max message under_way = nat_le (length message.payload - under_way.sent)
 -- ---- what leaves with it
 
 -- that much leaves the stream at the place
-abbrev pub reduced : ℕ → ℕ → SendQueueState → SendQueueState
-reduced place size queue =
+abbrev pub reduced_queue : ℕ → ℕ → SendQueueState → SendQueueState
+reduced_queue place size queue =
     record queue {
       streams = slice_set queue.streams place (record (stream_at queue.streams place) { amount = (stream_at queue.streams place).amount - size });
       total_amount = queue.total_amount - size;
@@ -83,7 +83,7 @@ next_turn queue = if queue.takes_turns then (queue.turns_taken + 1) % 2 ^ 64 els
 abbrev pub begun_message_counted : ℕ → Bool → SendQueueState → SendQueueState
 begun_message_counted place is_unordered queue =
     record queue {
-      streams = slice_set queue.streams place (served (next_turn queue) (stream_counted queue.is_interleaved is_unordered (stream_at queue.streams place)));
+      streams = slice_set queue.streams place (served_stream (next_turn queue) (stream_counted queue.is_interleaved is_unordered (stream_at queue.streams place)));
       turns_taken = next_turn queue;
     }
 
@@ -94,7 +94,7 @@ begun_numbered place message under_way queue = if under_way.sent == 0 then begun
 -- after a fragment of that many bytes that isn't the last
 abbrev pub after_part : ℕ → ℕ → Waiting → UnderWay → SendQueueState → SendQueueState
 after_part place size message under_way queue =
-    record (begun_numbered place message under_way (reduced place size queue)) {
+    record (begun_numbered place message under_way (reduced_queue place size queue)) {
       under_way = Some (record under_way { next_fsn = (under_way.next_fsn + 1) % 2 ^ 32; sent = under_way.sent + size });
     }
 
@@ -104,15 +104,15 @@ part_events place size queue = low_events (stream_at queue.streams place) queue.
 -- after the last fragment
 abbrev pub after_last : ℕ → Waiting → UnderWay → SendQueueState → SendQueueState
 after_last place message under_way queue =
-    record (without_oldest place (begun_numbered place message under_way (reduced place (length message.payload - under_way.sent) queue))) {
+    record (without_oldest place (begun_numbered place message under_way (reduced_queue place (length message.payload - under_way.sent) queue))) {
       under_way = None;
     }
 
 abbrev pub last_events : {P : Type 0} → ℕ → Waiting → UnderWay → SendQueueState → List (Event P)
 last_events place message under_way queue = part_events place (length message.payload - under_way.sent) queue ++ sent_events message
 
-abbrev pub produced : ℕ → ℕ → Waiting → UnderWay → SendQueueState → SendQueueState
-produced place max message under_way queue =
+abbrev pub queue_after_producing : ℕ → ℕ → Waiting → UnderWay → SendQueueState → SendQueueState
+queue_after_producing place max message under_way queue =
     if is_last max message under_way then after_last place message under_way queue else after_part place max message under_way queue
 
 abbrev pub produced_events : {P : Type 0} → ℕ → ℕ → Waiting → UnderWay → SendQueueState → List (Event P)
@@ -123,7 +123,7 @@ produced_events place max message under_way queue =
 
 -- A message of which that much was sent is dropped.
 abbrev pub without_rest : ℕ → ℕ → Waiting → SendQueueState → SendQueueState
-without_rest place sent message queue = without_oldest place (reduced place (length message.payload - sent) queue)
+without_rest place sent message queue = without_oldest place (reduced_queue place (length message.payload - sent) queue)
 
 abbrev pub drop_events : {P : Type 0} → ℕ → ℕ → Waiting → SendQueueState → List (Event P)
 drop_events place sent message queue =
@@ -152,7 +152,7 @@ pub record DropsAll {P : Type 0} (now : ℕ) (old : SendQueueState) (told_before
 -- messages that are too old to be started are dropped.
 abbrev pub Chooses : ℕ → SendQueueState → Option UnderWay → SendQueueState → ℕ → Waiting → UnderWay → Type 0
 Chooses now old None queue place message under_way =
-    IsNext queue.streams place × (is_expired now message ≡ false) × (under_way ≡ begun message (stream_at queue.streams place))
+    IsNext queue.streams place × (is_expired now message ≡ false) × (under_way ≡ begun_under_way message (stream_at queue.streams place))
 Chooses now old (Some going) queue place message under_way =
     (queue ≡ old) × (under_way ≡ going) × ((stream_at queue.streams place).id ≡ going.stream_id.0)
 
@@ -168,7 +168,7 @@ pub record TakesFragment {P : Type 0} (now max : ℕ) (old : SendQueueState) (to
   pub front : front_of (stream_at queue.streams place).messages ≡ Some message
   pub chosen : Chooses now old old.under_way queue place message under_way
   pub is : part ≡ fragment under_way message (size_produced max message under_way)
-  pub left : new ≡ produced place max message under_way queue
+  pub left : new ≡ queue_after_producing place max message under_way queue
   pub events : told_after ≡ told ++ produced_events place max message under_way queue
 
 -- No message is under way, and none is left that can be started.

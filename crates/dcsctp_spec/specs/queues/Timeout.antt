@@ -46,9 +46,9 @@ abbrev pub absolute_difference : ℕ → ℕ → ℕ
 absolute_difference a b = max a b - min a b
 
 -- SRTT with one more round trip: the first as it is, later ones with weight 1/8
-abbrev pub smoothed : Option ℕ → ℕ → ℕ → ℕ
-smoothed None srtt rtt = rtt
-smoothed (Some variance) srtt rtt = (7 * srtt + rtt) / 8
+abbrev pub smoothed_round_trip : Option ℕ → ℕ → ℕ → ℕ
+smoothed_round_trip None srtt rtt = rtt
+smoothed_round_trip (Some variance) srtt rtt = (7 * srtt + rtt) / 8
 
 -- RTTVAR with one more round trip: half the first, later ones with weight 1/4
 abbrev pub variance_with : Option ℕ → ℕ → ℕ → ℕ
@@ -60,12 +60,12 @@ abbrev pub timeout_for : TimeoutBounds → ℕ → ℕ → ℕ
 timeout_for bounds srtt variance = min (max (srtt + max (4 * variance) bounds.min_rtt_variance) bounds.rto_min) bounds.rto_max
 
 -- the timeout with this smoothed round trip and variance
-abbrev pub measured : TimeoutState → ℕ → ℕ → TimeoutState
-measured timeout srtt variance =
+abbrev pub measured_timeout : TimeoutState → ℕ → ℕ → TimeoutState
+measured_timeout timeout srtt variance =
     record timeout { rto = timeout_for timeout.bounds srtt variance; srtt = srtt; variance = Some variance }
 
 -- one more round trip
 abbrev pub timeout_after : ℕ → TimeoutState → TimeoutState
 timeout_after rtt timeout =
     if nat_lt timeout.bounds.rtt_max rtt then timeout
-    else measured timeout (smoothed timeout.variance timeout.srtt rtt) (variance_with timeout.variance timeout.srtt rtt)
+    else measured_timeout timeout (smoothed_round_trip timeout.variance timeout.srtt rtt) (variance_with timeout.variance timeout.srtt rtt)

@@ -10,8 +10,8 @@ use Rattle.dcsctp_types.specs.declared.kinds.BackoffAlgorithm.TheVariants.{Fixed
 use Rattle.dcsctp_types.specs.declared.tracking.TsnRange.{TsnRange}
 use Rattle.dcsctp_types.specs.declared.tracking.AckState.{AckState}
 use Rattle.dcsctp_types.specs.declared.tracking.AckState.TheVariants.{Idle, BecomingDelayed, Delayed, Immediate}
-use Rattle.dcsctp_spec.specs.queues.Ranges.{is_received, received, forwarded}
-use Rattle.dcsctp_spec.specs.endpoint.Timers.{TimerModel, started, running_deadline, expires_at}
+use Rattle.dcsctp_spec.specs.queues.Ranges.{is_received, ranges_with_number, forwarded_ranges}
+use Rattle.dcsctp_spec.specs.endpoint.Timers.{TimerModel, started_timer, running_deadline, is_expired_timer}
 
 -- ---- the whole value
 
@@ -103,8 +103,8 @@ is_acknowledgement_due tracker = is_sack_due tracker.acknowledgement false
 abbrev pub owes_acknowledgement : TrackerState → Bool
 owes_acknowledgement tracker = is_sack_due tracker.acknowledgement true
 
-abbrev pub stopped : TimerModel → TimerModel
-stopped timer = record timer { running = None }
+abbrev pub stopped_timer : TimerModel → TimerModel
+stopped_timer timer = record timer { running = None }
 
 abbrev pub has_ranges : List TsnRange → Bool
 has_ranges [] = false
@@ -163,19 +163,19 @@ abbrev pub is_new_tsn : ℕ → TrackerState → Bool
 is_new_tsn tsn tracker = not (has_received tracker (nearest_number tracker.cumulative tsn))
 
 -- Does data that comes while these ranges are there come into a gap? By the RFC that counts (RFC 5681, section 4.2).
-abbrev pub heeds_gap : Bool → List TsnRange → Bool
-heeds_gap follows_rfc ranges = follows_rfc && has_ranges ranges
+abbrev pub comes_into_gap : Bool → List TsnRange → Bool
+comes_into_gap follows_rfc ranges = follows_rfc && has_ranges ranges
 
 -- Is data to be acknowledged at once? Yes if it is the association's first, has the I flag, came before, or leaves a gap; also if
 -- it closes one, by the RFC.
 abbrev pub is_urgent : Bool → Bool → TrackerState → List TsnRange → Bool
 is_urgent is_new immediate tracker ranges =
-    not is_new || immediate || not tracker.has_seen_data || has_ranges ranges || heeds_gap tracker.follows_rfc tracker.ranges
+    not is_new || immediate || not tracker.has_seen_data || has_ranges ranges || comes_into_gap tracker.follows_rfc tracker.ranges
 
 -- data with this TSN and I flag was received
-abbrev pub observed : ℕ → Bool → TrackerState → TrackerState
-observed tsn immediate tracker =
-    let left = received (nearest_number tracker.cumulative tsn) tracker.cumulative tracker.ranges in
+abbrev pub tracker_after_data : ℕ → Bool → TrackerState → TrackerState
+tracker_after_data tsn immediate tracker =
+    let left = ranges_with_number (nearest_number tracker.cumulative tsn) tracker.cumulative tracker.ranges in
     let is_new = is_new_tsn tsn tracker in
     record tracker {
       cumulative = left.cumulative;
@@ -183,7 +183,7 @@ observed tsn immediate tracker =
       duplicates = with_duplicate tsn is_new tracker.duplicates;
       has_seen_data = true;
       acknowledgement = after_arrival tracker.acknowledgement (is_urgent is_new immediate tracker left.ranges);
-      delay = stopped tracker.delay;
+      delay = stopped_timer tracker.delay;
     }
 
 -- Was a later TSN received than this one?
@@ -201,24 +201,24 @@ is_forward cumulative tsn = has_numbers_left cumulative && nat_lt cumulative (ne
 -- All up to this TSN count as received.
 abbrev pub moved_forward : ℕ → TrackerState → TrackerState
 moved_forward tsn tracker =
-    let left = forwarded (nearest_number tracker.cumulative tsn) tracker.cumulative tracker.ranges in
+    let left = forwarded_ranges (nearest_number tracker.cumulative tsn) tracker.cumulative tracker.ranges in
     record tracker {
       cumulative = left.cumulative;
       ranges = left.ranges;
       acknowledgement = after_arrival tracker.acknowledgement false;
-      delay = stopped tracker.delay;
+      delay = stopped_timer tracker.delay;
     }
 
 -- An acknowledgement is due: its delay is over, and doesn't start again by itself.
 abbrev pub delay_over : TrackerState → TrackerState
-delay_over tracker = record tracker { acknowledgement = Immediate; delay = stopped tracker.delay }
+delay_over tracker = record tracker { acknowledgement = Immediate; delay = stopped_timer tracker.delay }
 
 -- An acknowledgement is due at this moment: it is delayed until then.
-abbrev pub hastened : ℕ → TrackerState → TrackerState
-hastened moment tracker =
+abbrev pub hastened_tracker : ℕ → TrackerState → TrackerState
+hastened_tracker moment tracker =
     record tracker {
       acknowledgement = Delayed;
-      delay = record tracker.delay { running = started moment (record tracker.delay.settings { duration = 0 }) };
+      delay = record tracker.delay { running = started_timer moment (record tracker.delay.settings { duration = 0 }) };
     }
 
 -- A FORWARD TSN was received. If it doesn't move the cumulative TSN, an acknowledgement is due at once.
@@ -229,7 +229,7 @@ after_forward tsn tracker = if is_forward tracker.cumulative tsn then moved_forw
 abbrev pub delayed_from : ℕ → TrackerState → AckState → TrackerState
 delayed_from moment tracker Idle = tracker
 delayed_from moment tracker BecomingDelayed =
-    record tracker { acknowledgement = Delayed; delay = record tracker.delay { running = started moment tracker.delay.settings } }
+    record tracker { acknowledgement = Delayed; delay = record tracker.delay { running = started_timer moment tracker.delay.settings } }
 delayed_from moment tracker Delayed = tracker
 delayed_from moment tracker Immediate = tracker
 
@@ -238,7 +238,7 @@ after_packet_end moment tracker = delayed_from moment tracker tracker.acknowledg
 
 -- All that was received is acknowledged.
 abbrev pub all_acknowledged : TrackerState → TrackerState
-all_acknowledged tracker = record tracker { acknowledgement = Idle; delay = stopped tracker.delay }
+all_acknowledged tracker = record tracker { acknowledgement = Idle; delay = stopped_timer tracker.delay }
 
 -- asked for an acknowledgement, which may go along with other chunks
 abbrev pub acknowledgement_asked : Bool → TrackerState → TrackerState
@@ -246,7 +246,7 @@ acknowledgement_asked along tracker = if is_sack_due tracker.acknowledgement alo
 
 -- a moment has come
 abbrev pub after_moment : ℕ → TrackerState → TrackerState
-after_moment moment tracker = if expires_at moment tracker.delay.running then delay_over tracker else tracker
+after_moment moment tracker = if is_expired_timer moment tracker.delay.running then delay_over tracker else tracker
 
 -- the tracker with the delay that goes with this retransmission timeout, from its next start on
 abbrev pub with_timeout : ℕ → TrackerState → TrackerState
@@ -276,5 +276,5 @@ sack_of room tracker window =
     }
 
 -- A SACK was made: all is acknowledged, and what came again is forgotten.
-abbrev pub sacked : TrackerState → TrackerState
-sacked tracker = record (all_acknowledged tracker) { duplicates = [] }
+abbrev pub tracker_after_sack : TrackerState → TrackerState
+tracker_after_sack tracker = record (all_acknowledged tracker) { duplicates = [] }

@@ -81,8 +81,8 @@ abbrev pub avoidance : Acknowledged → CongestionControl → CongestionControl
 avoidance ack control = with_partial ack (capped_u64 (control.partial_bytes_acked + ack.bytes)) control
 
 -- When all that was sent is acknowledged, the count is 0 again (section 7.2.2).
-abbrev pub settled : Acknowledged → CongestionControl → CongestionControl
-settled ack control = if ack.is_last then record control { partial_bytes_acked = 0 } else control
+abbrev pub settled_control : Acknowledged → CongestionControl → CongestionControl
+settled_control ack control = if ack.is_last then record control { partial_bytes_acked = 0 } else control
 
 -- While the window isn't above the threshold, it is slow start; else it is congestion avoidance (sections 7.2.1 and 7.2.2).
 abbrev pub window_grown : Acknowledged → CongestionControl → CongestionControl
@@ -90,5 +90,5 @@ window_grown ack control = if nat_le control.cwnd control.ssthresh then slow_sta
 
 -- In fast recovery an acknowledgement leaves the window (section 7.2.4). Outside the window may grow.
 abbrev pub after_acknowledgement : Acknowledged → Option ℕ → CongestionControl → CongestionControl
-after_acknowledgement ack None control = settled ack (window_grown ack control)
+after_acknowledgement ack None control = settled_control ack (window_grown ack control)
 after_acknowledgement ack (Some exit) control = control

@@ -53,25 +53,25 @@ has_come_to newest tsn = nat_lt ((newest + (2 ^ 32 - tsn)) % 2 ^ 32) (2 ^ 31)
 -- Does a SACK tell whether an item is missing? It depends on the TSN before which the item was sent again, and on the newest TSN
 -- that the SACK newly acknowledges. For an item that was sent once each SACK tells. For one that was sent again, only a SACK
 -- tells that acknowledges what was sent after it. Others may have left before it could arrive.
-abbrev pub tells_of : Option ℕ → Option ℕ → Bool
-tells_of None newest = true
-tells_of (Some next) None = false
-tells_of (Some next) (Some newest) = has_come_to newest next
+abbrev pub tells_whether_missing : Option ℕ → Option ℕ → Bool
+tells_whether_missing None newest = true
+tells_whether_missing (Some next) None = false
+tells_whether_missing (Some next) (Some newest) = has_come_to newest next
 
 -- one more miss of an item in flight; the third marks it, and later ones don't count
-abbrev pub missed : ItemState → Progress → Progress
-missed InFlight progress =
+abbrev pub missed_progress : ItemState → Progress → Progress
+missed_progress InFlight progress =
     if progress.misses == 2 then record progress { state = Marked; misses = 3 }
     else if nat_lt progress.misses 2 then record progress { misses = progress.misses + 1 }
     else progress
-missed Marked progress = progress
-missed Acknowledged progress = progress
-missed Abandoned progress = progress
+missed_progress Marked progress = progress
+missed_progress Acknowledged progress = progress
+missed_progress Abandoned progress = progress
 
 -- one more miss, if the SACK tells of the item
-abbrev pub missed_where : Bool → Progress → Progress
-missed_where true progress = missed progress.state progress
-missed_where false progress = progress
+abbrev pub missed_if_told : Bool → Progress → Progress
+missed_if_told true progress = missed_progress progress.state progress
+missed_if_told false progress = progress
 
 -- what was in flight is lost
 abbrev pub marked_lost : ItemState → Progress → Progress
@@ -81,17 +81,17 @@ marked_lost Acknowledged progress = progress
 marked_lost Abandoned progress = progress
 
 -- A SACK has acknowledged it. What was abandoned stays so.
-abbrev pub acknowledged : ItemState → Progress → Progress
-acknowledged InFlight progress = record progress { state = Acknowledged; was_acknowledged = true }
-acknowledged Marked progress = record progress { state = Acknowledged; was_acknowledged = true }
-acknowledged Acknowledged progress = record progress { was_acknowledged = true }
-acknowledged Abandoned progress = record progress { was_acknowledged = true }
+abbrev pub acknowledged_progress : ItemState → Progress → Progress
+acknowledged_progress InFlight progress = record progress { state = Acknowledged; was_acknowledged = true }
+acknowledged_progress Marked progress = record progress { state = Acknowledged; was_acknowledged = true }
+acknowledged_progress Acknowledged progress = record progress { was_acknowledged = true }
+acknowledged_progress Abandoned progress = record progress { was_acknowledged = true }
 
 abbrev pub progress_changed : Change → Progress → Progress
 progress_changed (SendAgain next) progress = item_sent_again next progress
-progress_changed (Miss newest) progress = missed_where (tells_of progress.sent_before newest) progress
+progress_changed (Miss newest) progress = missed_if_told (tells_whether_missing progress.sent_before newest) progress
 progress_changed Mark progress = marked_lost progress.state progress
-progress_changed Acknowledge progress = acknowledged progress.state progress
+progress_changed Acknowledge progress = acknowledged_progress progress.state progress
 progress_changed Abandon progress = record progress { state = Abandoned }
 
 -- that of an item that was just sent

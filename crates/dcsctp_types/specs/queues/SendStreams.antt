@@ -46,8 +46,8 @@ is_expired now message = expired_by now message.expires_at
     expired_by now (Some moment) = nat_lt moment now
 
 -- a stream that was never used
-abbrev pub unused : ℕ → ℕ → ℕ → Stream
-unused id priority threshold =
+abbrev pub unused_stream : ℕ → ℕ → ℕ → Stream
+unused_stream id priority threshold =
     record { id = id; priority = priority; threshold = threshold; amount = 0; next_ssn = 0; next_mid = 0; next_unordered_mid = 0; last_turn = 0; pause = Open; messages = [] }
 
 -- the oldest message
@@ -68,14 +68,14 @@ abbrev pub without_front : Stream → Stream
 without_front stream = record stream { messages = drop 1 stream.messages }
 
 -- paused, with only that many of its messages
-abbrev pub paused : ℕ → Stream → Stream
-paused kept stream = record stream { pause = Pausing; messages = take kept stream.messages }
+abbrev pub paused_stream : ℕ → Stream → Stream
+paused_stream kept stream = record stream { pause = Pausing; messages = take kept stream.messages }
 
 abbrev pub handed_out : Stream → Stream
 handed_out stream = record stream { pause = HandedOut }
 
-abbrev pub resumed : Stream → Stream
-resumed stream = record stream { pause = Open }
+abbrev pub resumed_stream : Stream → Stream
+resumed_stream stream = record stream { pause = Open }
 
 -- with that much more; the amount stops at the greatest `usize`
 abbrev pub amount_raised : ℕ → Stream → Stream
@@ -87,8 +87,8 @@ next_numbers true stream = (0, stream.next_unordered_mid)
 next_numbers false stream = (stream.next_ssn, stream.next_mid)
 
 -- its messages are numbered from 0 again
-abbrev pub begun_anew : Stream → Stream
-begun_anew stream = record stream { next_ssn = 0; next_mid = 0; next_unordered_mid = 0; pause = Open }
+abbrev pub renumbered_stream : Stream → Stream
+renumbered_stream stream = record stream { next_ssn = 0; next_mid = 0; next_unordered_mid = 0; pause = Open }
 
 -- The numbers after a message was started, by whether messages are interleaved and whether it is unordered. Without interleaving
 -- SSNs count, which unordered messages don't have (RFC 9260, section 3.3.1). With it MIDs count, of ordered and of unordered
@@ -100,17 +100,17 @@ stream_counted true false stream = record stream { next_mid = (stream.next_mid +
 stream_counted true true stream = record stream { next_unordered_mid = (stream.next_unordered_mid + 1) % 2 ^ 32 }
 
 -- it had this turn
-abbrev pub served : ℕ → Stream → Stream
-served turn stream = record stream { last_turn = turn }
+abbrev pub served_stream : ℕ → Stream → Stream
+served_stream turn stream = record stream { last_turn = turn }
 
 -- it was reset, if it was handed out
-abbrev pub committed : Stream → Stream
-committed stream = committed_if stream.pause stream
+abbrev pub committed_stream : Stream → Stream
+committed_stream stream = committed_if stream.pause stream
   where
     committed_if : Pause → Stream → Stream
     committed_if Open stream = stream
     committed_if Pausing stream = stream
-    committed_if HandedOut stream = begun_anew stream
+    committed_if HandedOut stream = renumbered_stream stream
 
 -- it was not reset, if it was handed out
 abbrev pub rolled_back : Stream → Stream
@@ -119,7 +119,7 @@ rolled_back stream = rolled_back_if stream.pause stream
     rolled_back_if : Pause → Stream → Stream
     rolled_back_if Open stream = stream
     rolled_back_if Pausing stream = stream
-    rolled_back_if HandedOut stream = resumed stream
+    rolled_back_if HandedOut stream = resumed_stream stream
 
 -- the payload bytes of messages together
 abbrev pub payload_size : List Waiting → ℕ
@@ -161,7 +161,7 @@ with_optional_turn (Some turn) turns = with_turn turn turns
 
 -- the stream at the place
 abbrev pub stream_at : List Stream → ℕ → Stream
-stream_at streams place = slice_index_or streams place (unused 0 0 0)
+stream_at streams place = slice_index_or streams place (unused_stream 0 0 0)
 
 -- the turn of an open stream with a message
 abbrev pub turn_if : ℕ → ℕ → ℕ → Pause → List Waiting → Option Turn

@@ -3,7 +3,7 @@
 ghost use Rattle.std.specs.Prelude.{◌≡◌, ◌≤◌, ◌+◌, ◌↔◌, [], ◌∷◌, ◌++◌, IfOk, OnOk, IsTrue};
 ghost use Rattle.std.specs.List.{filter, All};
 ghost use Rattle.std.specs.List.Sorted.{IsNonDecreasingBy};
-ghost use Rattle.dcsctp_wire.specs.CleanBlocks.{blocks_in, is_range, IsRange, BeginsBefore, AddsGapBlock, AreJoined, AreCleaned};
+ghost use Rattle.dcsctp_wire.specs.CleanBlocks.{blocks_of_bytes, is_range, IsRange, BeginsBefore, AddsGapBlock, AreJoined, AreCleaned};
 
 use super::{GapAckBlock, SackChunk};
 use std::alloc::{AllocError, Global};
@@ -28,7 +28,7 @@ fn add_range(blocks: &mut Vec<GapAckBlock>, block: GapAckBlock) -> Result<(), Al
 // The blocks that are ranges, as they come.
 fn read_blocks(alloc: Global, sack: &SackChunk<'_>) -> Result<Vec<GapAckBlock>, AllocError>
     ensures { IfOk result
-        (λ blocks. blocks.items ≡ filter is_range (blocks_in sack.now.gap_ack_blocks.now)) }
+        (λ blocks. blocks.items ≡ filter is_range (blocks_of_bytes sack.now.gap_ack_blocks.now)) }
 {
     let mut blocks = Vec::new(alloc);
     for index in 0..sack.gap_ack_block_count() {
@@ -93,7 +93,7 @@ fn join_blocks(alloc: Global, ascending: &[GapAckBlock]) -> Result<Vec<GapAckBlo
 /// allocated.
 pub fn clean_sack(alloc: Global, sack: &SackChunk<'_>) -> Result<Vec<GapAckBlock>, AllocError>
     ensures { IfOk result
-        (λ blocks. AreCleaned (blocks_in sack.now.gap_ack_blocks.now) blocks.items) }
+        (λ blocks. AreCleaned (blocks_of_bytes sack.now.gap_ack_blocks.now) blocks.items) }
 {
     let mut blocks = read_blocks(alloc, sack)?;
     blocks.sort_unstable_by_key(|block: &GapAckBlock| block.start);

@@ -3,7 +3,7 @@
 ghost use Rattle.std.specs.Prelude.{◌≡◌, ◌<◌, ◌/◌, length};
 ghost use Rattle.std.specs.Option.{option_map};
 ghost use Rattle.dcsctp_wire.specs.Content.{chunk_content};
-ghost use Rattle.dcsctp_wire.specs.Fields.{forward_tsn_in, i_forward_tsn_in, skipped_stream_at, skipped_messages_at};
+ghost use Rattle.dcsctp_wire.specs.Fields.{forward_tsn_of_value, i_forward_tsn_of_value, numbered_skipped_stream, numbered_skipped_messages};
 
 use super::Chunk;
 use crate::bytes::{has_entries, u16_at, u32_at};
@@ -69,7 +69,7 @@ impl<'a> ForwardTsnChunk<'a> {
     /// The skipped stream at this place.
     pub fn skipped_stream(&self, index: usize) -> SkippedStream
         requires { index < length self.now.skipped_streams.now / 4 }
-        ensures { result ≡ skipped_stream_at index self.now.skipped_streams.now }
+        ensures { result ≡ numbered_skipped_stream index self.now.skipped_streams.now }
     {
         SkippedStream {
             stream_id: u16_at(self.skipped_streams, 4 * index),
@@ -89,7 +89,7 @@ impl<'a> IForwardTsnChunk<'a> {
     /// The entry at this place.
     pub fn skipped_stream(&self, index: usize) -> SkippedMessages
         requires { index < length self.now.skipped_streams.now / 8 }
-        ensures { result ≡ skipped_messages_at index self.now.skipped_streams.now }
+        ensures { result ≡ numbered_skipped_messages index self.now.skipped_streams.now }
     {
         SkippedMessages {
             stream_id: u16_at(self.skipped_streams, 8 * index),
@@ -100,9 +100,9 @@ impl<'a> IForwardTsnChunk<'a> {
 }
 
 /// The FORWARD-TSN of this value, if its streams are whole.
-#[tactic(auto, unfolding(crate::specs::Fields::forward_tsn_in))]
+#[tactic(auto, unfolding(crate::specs::Fields::forward_tsn_of_value))]
 pub(super) fn read_forward_tsn(value: &[u8]) -> Option<Chunk<'_>>
-    ensures { option_map chunk_content result ≡ forward_tsn_in value.now }
+    ensures { option_map chunk_content result ≡ forward_tsn_of_value value.now }
 {
     if !has_entries(value, 4, 4) {
         return None;
@@ -114,9 +114,9 @@ pub(super) fn read_forward_tsn(value: &[u8]) -> Option<Chunk<'_>>
 }
 
 /// The I-FORWARD-TSN of this value, if its streams are whole.
-#[tactic(auto, unfolding(crate::specs::Fields::i_forward_tsn_in))]
+#[tactic(auto, unfolding(crate::specs::Fields::i_forward_tsn_of_value))]
 pub(super) fn read_i_forward_tsn(value: &[u8]) -> Option<Chunk<'_>>
-    ensures { option_map chunk_content result ≡ i_forward_tsn_in value.now }
+    ensures { option_map chunk_content result ≡ i_forward_tsn_of_value value.now }
 {
     if !has_entries(value, 4, 8) {
         return None;

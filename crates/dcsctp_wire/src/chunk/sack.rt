@@ -3,7 +3,7 @@
 ghost use Rattle.std.specs.Prelude.{◌≡◌, ◌<◌, ◌/◌, ◌*◌, length};
 ghost use Rattle.std.specs.Option.{option_map};
 ghost use Rattle.dcsctp_wire.specs.Content.{chunk_content};
-ghost use Rattle.dcsctp_wire.specs.Fields.{u32_at, sack_in, gap_ack_block_at};
+ghost use Rattle.dcsctp_wire.specs.Fields.{u32_at, sack_of_value, numbered_gap_ack_block};
 
 use super::Chunk;
 use crate::bytes::{u16_at, u32_at};
@@ -54,7 +54,7 @@ impl<'a> SackChunk<'a> {
     /// The gap ack block at this place.
     pub fn gap_ack_block(&self, index: usize) -> GapAckBlock
         requires { index < length self.now.gap_ack_blocks.now / 4 }
-        ensures { result ≡ gap_ack_block_at index self.now.gap_ack_blocks.now }
+        ensures { result ≡ numbered_gap_ack_block index self.now.gap_ack_blocks.now }
     {
         GapAckBlock {
             start: u16_at(self.gap_ack_blocks, 4 * index),
@@ -79,9 +79,9 @@ impl<'a> SackChunk<'a> {
 }
 
 /// The SACK of this value, if it is long enough for its blocks and duplicates.
-#[tactic(auto, unfolding(crate::specs::Fields::sack_in))]
+#[tactic(auto, unfolding(crate::specs::Fields::sack_of_value))]
 pub(super) fn read_sack(value: &[u8]) -> Option<Chunk<'_>>
-    ensures { option_map chunk_content result ≡ sack_in value.now }
+    ensures { option_map chunk_content result ≡ sack_of_value value.now }
 {
     if value.len() < 12 {
         return None;

@@ -4,7 +4,7 @@
 ghost use Rattle.std.specs.Prelude.{◌≡◌};
 ghost use Rattle.std.specs.Option.{option_map};
 ghost use Rattle.dcsctp_wire.specs.Content.{chunk_content};
-ghost use Rattle.dcsctp_wire.specs.Fields.{shutdown_in};
+ghost use Rattle.dcsctp_wire.specs.Fields.{shutdown_of_value};
 
 use super::Chunk;
 use crate::bytes::u32_at;
@@ -24,9 +24,9 @@ pub struct ShutdownCompleteChunk {
 }
 
 /// The SHUTDOWN of this value, if it is long enough for a TSN.
-#[tactic(auto, unfolding(crate::specs::Fields::shutdown_in))]
+#[tactic(auto, unfolding(crate::specs::Fields::shutdown_of_value))]
 pub(super) fn read_shutdown(value: &[u8]) -> Option<Chunk<'_>>
-    ensures { option_map chunk_content result ≡ shutdown_in value.now }
+    ensures { option_map chunk_content result ≡ shutdown_of_value value.now }
 {
     if value.len() < 4 {
         return None;

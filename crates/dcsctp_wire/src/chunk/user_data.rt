@@ -3,7 +3,7 @@
 ghost use Rattle.std.specs.Prelude.{◌≡◌};
 ghost use Rattle.std.specs.Option.{option_map};
 ghost use Rattle.dcsctp_wire.specs.Content.{chunk_content};
-ghost use Rattle.dcsctp_wire.specs.Fields.{flags_in, data_in, i_data_in};
+ghost use Rattle.dcsctp_wire.specs.Fields.{flags_of_bits, data_of_value, i_data_of_value};
 ghost use Rattle.dcsctp_wire.specs.Spelling.{data_flags};
 
 use super::Chunk;
@@ -99,7 +99,7 @@ impl DataFlags {
 }
 
 fn flags_from(flags: u8) -> DataFlags
-    ensures { result ≡ flags_in flags }
+    ensures { result ≡ flags_of_bits flags }
 {
     DataFlags {
         is_end: flags % 2 == 1,
@@ -110,9 +110,9 @@ fn flags_from(flags: u8) -> DataFlags
 }
 
 /// The DATA chunk of these flags and this value, if it is long enough for its fields.
-#[tactic(auto, unfolding(crate::specs::Fields::data_in))]
+#[tactic(auto, unfolding(crate::specs::Fields::data_of_value))]
 pub(super) fn read_data(flags: u8, value: &[u8]) -> Option<Chunk<'_>>
-    ensures { option_map chunk_content result ≡ data_in flags value.now }
+    ensures { option_map chunk_content result ≡ data_of_value flags value.now }
 {
     if value.len() < 12 {
         return None;
@@ -128,9 +128,9 @@ pub(super) fn read_data(flags: u8, value: &[u8]) -> Option<Chunk<'_>>
 }
 
 /// The I-DATA chunk of these flags and this value, if it is long enough for its fields.
-#[tactic(auto, unfolding(crate::specs::Fields::i_data_in))]
+#[tactic(auto, unfolding(crate::specs::Fields::i_data_of_value))]
 pub(super) fn read_i_data(flags: u8, value: &[u8]) -> Option<Chunk<'_>>
-    ensures { option_map chunk_content result ≡ i_data_in flags value.now }
+    ensures { option_map chunk_content result ≡ i_data_of_value flags value.now }
 {
     if value.len() < 16 {
         return None;

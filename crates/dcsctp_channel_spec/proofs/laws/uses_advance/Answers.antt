@@ -3,7 +3,7 @@ use Rattle.dcsctp_channel_spec.specs.declared.types.OwnReset.{OwnReset}
 use Rattle.dcsctp_channel_spec.specs.declared.types.OwnReset.TheVariants.{NotAsked, Asked, Performed, GivenUp}
 use Rattle.dcsctp_channel_spec.specs.declared.types.StreamUse.{StreamUse}
 use Rattle.dcsctp_channel_spec.specs.Slots.{Opening, used, SlotInput, opens, agrees, hears_open, hears_ack, hears_message, hears_bad_message, may_acknowledge, is_closed, all_is_sent, cannot_reset, was_performed, was_refused, peer_resets, association_ends}
-use Rattle.dcsctp_channel_spec.specs.Table.{closed_use, heard_use, most_refusals, asks_again_where, outcome_of}
+use Rattle.dcsctp_channel_spec.specs.Table.{closed_use, heard_use, most_refusals, asks_again_or_gives_up, outcome_of}
 use Rattle.dcsctp_channel_spec.specs.Laws.{Advances, AdvancesTo, UsesAdvance}
 use Rattle.dcsctp_channel_spec.proofs.laws.uses_advance.Goals as goal
 
@@ -73,7 +73,7 @@ performed n h o c Performed p a r = answered _ _
 performed n h o c GivenUp p a r = answered _ _
 
 asked_again : (n : Option ℕ) (h o c p a : Bool) (r : ℕ) (again : Bool)
-    → AdvancesTo was_refused (made n h o c Asked p a r) (asks_again_where again (made n h o c Asked p false r)).after
+    → AdvancesTo was_refused (made n h o c Asked p a r) (asks_again_or_gives_up again (made n h o c Asked p false r)).after
 asked_again n h o c p a r true =
     record { heard = λ h. h; closing = λ h. h; peer_reset = λ h. h; owes_ack = λ h. h; answered = λ h. refl; own = inr tt; refusals = omega arith }
 asked_again n h o c p a r false =

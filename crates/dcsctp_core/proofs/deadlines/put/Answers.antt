@@ -1,6 +1,6 @@
 use Rattle.std.proofs.Common.{arith, ap, subst, sym, ◌∙◌}
 use Rattle.dcsctp_core.specs.declared.deadlines.Entry.{Entry}
-use Rattle.dcsctp_core.specs.Listing.{placed, IsAbsent, IsListing}
+use Rattle.dcsctp_core.specs.Listing.{entries_with_one, IsAbsent, IsListing}
 use Rattle.dcsctp_core.proofs.PlaceLemmas.{put_there}
 use Rattle.dcsctp_core.proofs.deadlines.put.Goals as goal
 
@@ -12,4 +12,4 @@ returns-clause-placed c =
     (omega (arith, c.shift_earlier-gap.ensures.all, c.requires.count))
     (subst IsListing (sym same) c.requires.listing) (subst (IsAbsent c.args.kind) (sym same) c.requires.absent)
     c.shift_earlier-gap.ensures.front c.shift_earlier-gap.ensures.back
-    ∙ ap (placed new) same
+    ∙ ap (entries_with_one new) same

@@ -1,6 +1,6 @@
 use Rattle.std.proofs.Common.{◌+◌, arith, ap, subst, sym, ◌∙◌, take}
 use Rattle.dcsctp_core.specs.declared.deadlines.Entry.{Entry}
-use Rattle.dcsctp_core.specs.Listing.{placed, IsAbsent, IsListing}
+use Rattle.dcsctp_core.specs.Listing.{entries_with_one, IsAbsent, IsListing}
 use Rattle.dcsctp_core.proofs.PlaceLemmas.{put_there}
 use Rattle.dcsctp_core.proofs.RelistLemmas.{below-absent}
 use Rattle.dcsctp_core.proofs.deadlines.put_later.Goals as goal
@@ -13,4 +13,4 @@ returns-clause-placed c =
     (omega (arith, c.make_room-place.ensures.all, c.requires.count))
     (subst IsListing (sym same) c.requires.listing) (subst (IsAbsent c.args.kind) (sym same) (below-absent c.args.kind (take c.args.count c.args.entries.now) c.requires.below))
     c.make_room-place.ensures.front c.make_room-place.ensures.back
-    ∙ ap (placed new) same
+    ∙ ap (entries_with_one new) same

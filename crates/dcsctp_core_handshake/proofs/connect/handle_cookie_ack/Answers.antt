@@ -2,7 +2,7 @@ use Rattle.std.proofs.lemmas.Result.{err_from_is_err_and}
 use Rattle.std.proofs.Common.{ap, map, refl}
 use Rattle.dcsctp_core.specs.api.Events.{event_content}
 use Rattle.dcsctp_core.specs.spec.endpoint.Endpoint.{closed, cookie_wait, open_in}
-use Rattle.dcsctp_core.specs.View.{core_of, view_of, held_of, phase_in}
+use Rattle.dcsctp_core.specs.View.{core_of, view_of, held_of, phase_of_open}
 use Rattle.dcsctp_core_handshake.proofs.MaintainSteps.{connected_view, cookie_acked, cookie_acked_cut, cookie_ack_unmade, cookie_ack_none}
 use Rattle.dcsctp_core_handshake.proofs.connect.handle_cookie_ack.Goals as goal
 
@@ -40,4 +40,4 @@ returns-in-CookieWait g c = cookie_ack_none g.R.Rng.stream _ (cookie_wait c.in-C
 pub returns-in-Open : goal.returns-in-Open
 returns-in-Open g c =
     let opened = c.in-Open.field-0 in
-    cookie_ack_none g.R.Rng.stream _ (open_in (phase_in opened.phase) opened.tcb.my (held_of opened.tcb)) (ap core_of c.in-Open.is) refl refl
+    cookie_ack_none g.R.Rng.stream _ (open_in (phase_of_open opened.phase) opened.tcb.my (held_of opened.tcb)) (ap core_of c.in-Open.is) refl refl

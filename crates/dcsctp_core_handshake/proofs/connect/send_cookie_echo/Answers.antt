@@ -10,7 +10,7 @@ use Rattle.dcsctp_core.specs.declared.context.Context.{Context}
 use Rattle.dcsctp_core.specs.Handling.{TakesPossibleTurn}
 use Rattle.dcsctp_core.specs.View.{core_of, held_of, endpoint_of, view_of}
 use Rattle.dcsctp_core.specs.Flushing.{packet_for, empty_packet}
-use Rattle.dcsctp_core_handshake.specs.Handshake.{EchoAt}
+use Rattle.dcsctp_core_handshake.specs.Handshake.{EchoesCookie}
 use Rattle.dcsctp_core_handshake.proofs.InitAckSteps.{echoes_elsewhere, fit_is, unfit_is, echoes_unfit, echoes_flush, echoes_cut, echo_unmade}
 use Rattle.dcsctp_core_handshake.proofs.AckSteps.{held_is_echoed}
 use Rattle.dcsctp_core_handshake.proofs.connect.send_cookie_echo.Goals as goal
@@ -71,7 +71,7 @@ returns-then-bytes_remaining-serialized_size g c =
     ) in
     let same : view_of c.match-chunk.context ≡ view_of old =
     elim c.match-chunk.branch [ in-Init-1 w ↦ ap (λ (x : Context g.row.R.Denot). view_of x) w.context-is | in-InitAck-1 w ↦ ap (λ (x : Context g.row.R.Denot). view_of x) w.context-is | in-HeartbeatRequest-1 w ↦ ap (λ (x : Context g.row.R.Denot). view_of x) w.context-is | in-HeartbeatAck-1 w ↦ ap (λ (x : Context g.row.R.Denot). view_of x) w.context-is | in-Abort-1 w ↦ ap (λ (x : Context g.row.R.Denot). view_of x) w.context-is | in-Error-1 w ↦ ap (λ (x : Context g.row.R.Denot). view_of x) w.context-is | in-ReConfig-1 w ↦ ap (λ (x : Context g.row.R.Denot). view_of x) w.context-is | in-Data-1 w ↦ ap (λ (x : Context g.row.R.Denot). view_of x) w.context-is ] in
-    subst (TakesPossibleTurn g.R.Rng.stream EchoAt (view_of old)) (sym same)
+    subst (TakesPossibleTurn g.R.Rng.stream EchoesCookie (view_of old)) (sym same)
     (echoes_unfit g.R.Rng.stream (view_of old) echoed.tcb.my (held_of echoed.tcb) echoed.cookie.items (ap core_of c.in-CookieEchoed.is) (unfit_is (endpoint_of old) echoed.tcb.peer.tag echoed.cookie.items beyond))
 
 pub returns : goal.returns

@@ -2,7 +2,7 @@ use Rattle.std.proofs.lemmas.Result.{err_from_is_err_and}
 use Rattle.std.proofs.Common.{ap, map, refl}
 use Rattle.dcsctp_core.specs.api.Events.{event_content}
 use Rattle.dcsctp_core.specs.spec.endpoint.Endpoint.{closed, cookie_wait}
-use Rattle.dcsctp_core.specs.View.{core_of, view_of, held_of, phase_in}
+use Rattle.dcsctp_core.specs.View.{core_of, view_of, held_of, phase_of_open}
 use Rattle.dcsctp_core_handshake.proofs.MaintainSteps.{connected_view, maintains, maintains_cut, maintain_unmade, maintains_open, maintains_open_cut, maintains_none}
 use Rattle.dcsctp_core_handshake.proofs.cookie_echo.maintain.Goals as goal
 
@@ -36,13 +36,13 @@ pub returns-in_err-send_cookie_ack-in-Open :
 returns-in_err-send_cookie_ack-in-Open g c =
     let opened = c.in-Open.field-0 in
     rw (err_from_is_err_and c.from_residual-in_err-send_cookie_ack-in-Open.result c.from_residual-in_err-send_cookie_ack-in-Open.ensures.1).1
-    (maintains_open_cut _ _ (phase_in opened.phase) opened.tcb.my (held_of opened.tcb) (ap core_of c.in-Open.is) c.in_err-send_cookie_ack-in-Open.ensures)
+    (maintains_open_cut _ _ (phase_of_open opened.phase) opened.tcb.my (held_of opened.tcb) (ap core_of c.in-Open.is) c.in_err-send_cookie_ack-in-Open.ensures)
 
 pub returns-in_ok-send_cookie_ack-in-Open :
     goal.returns-in_ok-send_cookie_ack-in-Open
 returns-in_ok-send_cookie_ack-in-Open g c =
     let opened = c.in-Open.field-0 in
-    maintains_open g.R.Rng.stream _ _ (phase_in opened.phase) opened.tcb.my (held_of opened.tcb) (ap core_of c.in-Open.is) c.in_ok-send_cookie_ack-in-Open.ensures
+    maintains_open g.R.Rng.stream _ _ (phase_of_open opened.phase) opened.tcb.my (held_of opened.tcb) (ap core_of c.in-Open.is) c.in_ok-send_cookie_ack-in-Open.ensures
 
 pub returns-in-Closed : goal.returns-in-Closed
 returns-in-Closed g c = maintains_none g.R.Rng.stream _ closed (ap core_of c.in-Closed.is) refl refl

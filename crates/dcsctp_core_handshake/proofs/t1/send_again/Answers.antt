@@ -1,7 +1,7 @@
 use Rattle.std.proofs.lemmas.Result.{err_from_is_err_and}
 use Rattle.std.proofs.Common.{ap, refl}
 use Rattle.dcsctp_core.specs.spec.endpoint.Endpoint.{closed, open_in}
-use Rattle.dcsctp_core.specs.View.{core_of, view_of, held_of, phase_in}
+use Rattle.dcsctp_core.specs.View.{core_of, view_of, held_of, phase_of_open}
 use Rattle.dcsctp_core_handshake.proofs.T1Steps.{again_nothing, again_init, again_init_cut, again_echo, again_echo_cut}
 use Rattle.dcsctp_core_handshake.proofs.t1.send_again.Goals as goal
 
@@ -31,4 +31,4 @@ returns-in-Closed g c = again_nothing g.R.Rng.stream _ closed (ap core_of c.in-C
 pub returns-in-Open : goal.returns-in-Open
 returns-in-Open g c =
     let opened = c.in-Open.field-0 in
-    again_nothing g.R.Rng.stream _ (open_in (phase_in opened.phase) opened.tcb.my (held_of opened.tcb)) (ap core_of c.in-Open.is) refl refl
+    again_nothing g.R.Rng.stream _ (open_in (phase_of_open opened.phase) opened.tcb.my (held_of opened.tcb)) (ap core_of c.in-Open.is) refl refl

@@ -5,7 +5,7 @@ use Rattle.dcsctp_core.specs.declared.transmission_control_block.TransmissionCon
 use Rattle.dcsctp_core.specs.View.{performed_reset, view_of}
 use Rattle.dcsctp_core.proofs.LendingLemmas.{found, nobody}
 use Rattle.dcsctp_core_resets.specs.Requests.{held_now, reset_parameters}
-use Rattle.dcsctp_core_resets.specs.Resets.{WorksFor}
+use Rattle.dcsctp_core_resets.specs.Resets.{HandlesForConnection}
 use Rattle.dcsctp_core_resets.proofs.HandlingLemmas.{peer_of, rests, reset_refused, reset_by, asked_from, kept_so, still_held, carried_so, carried_cut, nobody_asked}
 use Rattle.dcsctp_core_resets.proofs.handling.handle_parameters.Goals as goal
 
@@ -32,7 +32,7 @@ returns-in_err-carry_out g c =
     let old = c.args.context.now in
     let worked = c.in_ok-worked.worked in
     let parameters = reset_parameters c.args.parameters.now in
-    let chunk = subst (λ (held : Option TransmissionControlBlock). WorksFor old.options.follow_rfc (performed_reset old.renewable) held parameters worked) c.in-Some.ensures c.in_ok-worked.ensures in
+    let chunk = subst (λ (held : Option TransmissionControlBlock). HandlesForConnection old.options.follow_rfc (performed_reset old.renewable) held parameters worked) c.in-Some.ensures c.in_ok-worked.ensures in
     let kept = c.in_ok-keep_renewable.ensures in
     let here = asked_from old c.keep_renewable.new.context c.keep_last.new.context kept.0 worked.last kept.2 c.keep_last.ensures in
     rw (err_from_is_err_and c.from_residual-in_err-carry_out.result c.from_residual-in_err-carry_out.ensures.1).1
@@ -45,7 +45,7 @@ returns g c =
     let worked = c.in_ok-worked.worked in
     let parameters = reset_parameters c.args.parameters.now in
     let peer = peer_of old.state (ap is_some (found old.state c.in-Some.tcb.now c.in-Some.ensures)) in
-    let chunk = subst (λ (held : Option TransmissionControlBlock). WorksFor old.options.follow_rfc (performed_reset old.renewable) held parameters worked) c.in-Some.ensures c.in_ok-worked.ensures in
+    let chunk = subst (λ (held : Option TransmissionControlBlock). HandlesForConnection old.options.follow_rfc (performed_reset old.renewable) held parameters worked) c.in-Some.ensures c.in_ok-worked.ensures in
     let kept = c.in_ok-keep_renewable.ensures in
     let here = asked_from old c.keep_renewable.new.context c.keep_last.new.context kept.0 worked.last kept.2 c.keep_last.ensures in
     let so = kept_so old kept.0 c.in-Some.tcb.now parameters worked c.requested-request.result c.in-Some.ensures c.requested-request.ensures.number c.requested-request.ensures.wanted kept.1 in

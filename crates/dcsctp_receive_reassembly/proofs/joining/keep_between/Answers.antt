@@ -3,7 +3,7 @@ use Rattle.std.proofs.Common.{◌∙◌, map, refl, ap, subst, sym}
 use Rattle.std.specs.Prelude.{slice_get, IsSome}
 use Rattle.std.specs.Option.{option_copied_mut}
 use Rattle.dcsctp_receive_ordered_map.specs.Entries.{count_up_to}
-use Rattle.dcsctp_receive_reassembly.specs.Runs.{run_model, part_of, RunBeginsAt}
+use Rattle.dcsctp_receive_reassembly.specs.Runs.{run_model, part_of, IsRunBeginning}
 use Rattle.dcsctp_receive_reassembly.proofs.RunMapLemmas.{NextTaken, looked_up, before_looked_up, lent_some, first_looked_up, kept_between, links_after, sides_apart}
 use Rattle.dcsctp_receive_reassembly.proofs.joining.keep_between.Goals as goal
 
@@ -17,7 +17,7 @@ reserve_between-requires c =
 
 pub unwrap-behind-requires : goal.unwrap-behind-requires
 unwrap-behind-requires c =
-    subst (λ o. IsSome o) (sym c.remove.ensures.value) (looked_up c.args.next (count_up_to c.args.part.place c.args.runs.now.entries) c.reserve_between.new.runs.entries c.reserve_between.ensures.ordered (subst (λ all. RunBeginsAt c.args.next (slice_get all (count_up_to c.args.part.place c.args.runs.now.entries))) (sym c.reserve_between.ensures.kept) c.requires.behind))
+    subst (λ o. IsSome o) (sym c.remove.ensures.value) (looked_up c.args.next (count_up_to c.args.part.place c.args.runs.now.entries) c.reserve_between.new.runs.entries c.reserve_between.ensures.ordered (subst (λ all. IsRunBeginning c.args.next (slice_get all (count_up_to c.args.part.place c.args.runs.now.entries))) (sym c.reserve_between.ensures.kept) c.requires.behind))
 
 pub unwrap-requires : goal.unwrap-requires
 unwrap-requires c =

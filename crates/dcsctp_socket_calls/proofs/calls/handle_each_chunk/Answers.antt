@@ -4,7 +4,7 @@ use Rattle.std.proofs.Common.{◌≡◌, ◌++◌, ◌+◌, ◌∷◌, [], List,
 use Rattle.dcsctp_spec_laws.proofs.TurnLemmas.{GoOn-push, chunk_turns_keep_ports, chunk_turns-whole}
 use Rattle.dcsctp_core.specs.types.Settings.{ports_of}
 use Rattle.dcsctp_core.specs.spec.endpoint.Endpoint.{Endpoint}
-use Rattle.dcsctp_core.specs.spec.Packet.{Content, content_in}
+use Rattle.dcsctp_core.specs.spec.Packet.{Content, content_of_chunk}
 use Rattle.dcsctp_core.specs.spec.endpoint.Turn.{Input}
 use Rattle.dcsctp_core.specs.spec.endpoint.CallTurns.{Transition, ChunkTurns, FirstTurns}
 use Rattle.dcsctp_core.specs.declared.following.Following.{Following}
@@ -13,7 +13,7 @@ use Rattle.dcsctp_core.specs.Handling.{following_of}
 use Rattle.dcsctp_core.proofs.Moving.{moves_one, moves_then}
 use Rattle.dcsctp_core.specs.wire.declared.chunk.Chunk.{Chunk}
 use Rattle.dcsctp_core.specs.wire.Content.{chunk_content, packet_content}
-use Rattle.dcsctp_socket_calls.specs.Parts.{ChunksCut}
+use Rattle.dcsctp_socket_calls.specs.Parts.{CutsChunks}
 use Rattle.dcsctp_socket_calls.proofs.CallLemmas.{adds_cut}
 use Rattle.dcsctp_socket_calls.proofs.ChunkLoop.{contents_of, worked_as, turns_more, turns_end, turns_cut, ports_more, first_turns}
 use Rattle.dcsctp_socket_calls.proofs.calls.handle_each_chunk.Goals as goal
@@ -27,7 +27,7 @@ loop-chunk-preserved g c =
     let next = view_of c.handle_chunk.new.context in
     let tag = c.args.packet.now.common_header.verification_tag in
     let chunks = c.deref-chunk-items.result.now in
-    let last : Transition = worked_as tag (content_in (chunk_content c.chunk-item.result)) step.outcome in
+    let last : Transition = worked_as tag (content_of_chunk (chunk_content c.chunk-item.result)) step.outcome in
     record {
       turns = done.turns ++ last ∷ [];
       goes_on = GoOn-push done.turns last done.goes_on (step.following ∙ ap (λ (f : Following). following_of f) c.in-NextChunk.is);
@@ -50,7 +50,7 @@ returns-in-DroppedRest g c =
     let chunks = c.deref-chunk-items.result.now in
     let contents : List Content = contents_of c.args.packet.now.chunks.items in
     let all : chunks ≡ c.args.packet.now.chunks.items = c.deref-chunk-items.ensures.value in
-    let content : Content = content_in (chunk_content c.chunk-item.result) in
+    let content : Content = content_of_chunk (chunk_content c.chunk-item.result) in
     let last : Transition = worked_as tag content step.outcome in
     let ports = chunk_turns_keep_ports start.endpoint tag (contents_of (take c.loop-chunk.chunk-index chunks)) done.turns done.goes_on done.are in
     let are : (ends : List Input) → ChunkTurns start.endpoint tag contents ends (done.turns ++ last ∷ []) =
@@ -77,7 +77,7 @@ returns-in-PacketEnd g c =
     let chunks = c.deref-chunk-items.result.now in
     let contents : List Content = contents_of c.args.packet.now.chunks.items in
     let all : chunks ≡ c.args.packet.now.chunks.items = c.deref-chunk-items.ensures.value in
-    let content : Content = content_in (chunk_content c.chunk-item.result) in
+    let content : Content = content_of_chunk (chunk_content c.chunk-item.result) in
     let last : Transition = worked_as tag content step.outcome in
     let ports = chunk_turns_keep_ports start.endpoint tag (contents_of (take c.loop-chunk.chunk-index chunks)) done.turns done.goes_on done.are in
     record {
@@ -120,7 +120,7 @@ returns-in_err-handle_chunk g c =
     let chunks = c.deref-chunk-items.result.now in
     let contents : List Content = contents_of c.args.packet.now.chunks.items in
     let all : chunks ≡ c.args.packet.now.chunks.items = c.deref-chunk-items.ensures.value in
-    let last : Transition = worked_as tag (content_in (chunk_content c.chunk-item.result)) step.outcome in
+    let last : Transition = worked_as tag (content_of_chunk (chunk_content c.chunk-item.result)) step.outcome in
     let ports : ports_of here.endpoint.options ≡ ports_of start.endpoint.options = ap (λ (e : Endpoint). ports_of e.options) done.moves.endpoint
     ∙ chunk_turns_keep_ports start.endpoint tag (contents_of (take c.loop-chunk.chunk-index chunks)) done.turns done.goes_on done.are in
     let first : FirstTurns start.endpoint tag contents (done.turns ++ last ∷ []) =
@@ -128,7 +128,7 @@ returns-in_err-handle_chunk g c =
     (first_turns start.endpoint tag chunks (c.loop-chunk.chunk-index + 1) (done.turns ++ last ∷ [])
     (turns_more start.endpoint here.endpoint tag chunks c.loop-chunk.chunk-index c.chunk-item.result done.turns step.outcome
     c.loop-chunk-test.true c.chunk-item.is done.goes_on done.are done.moves.endpoint step.turn)) in
-    let cut : ChunksCut (packet_content c.args.packet.now) start (view_of c.handle_chunk.new.context).events =
+    let cut : CutsChunks (packet_content c.args.packet.now) start (view_of c.handle_chunk.new.context).events =
     record {
       turns = done.turns ++ last ∷ [];
       are = inl first;

@@ -1,7 +1,7 @@
 use Rattle.std.proofs.Common.{string_bytes, sym, ap, ◌∙◌}
 use Rattle.std.proofs.lemmas.Result.{err_from_is_err_and}
 use Rattle.dcsctp_core.specs.wire.Content.{packet_content}
-use Rattle.dcsctp_core.specs.spec.Packet.{packet_in}
+use Rattle.dcsctp_core.specs.spec.Packet.{packet_of_content}
 use Rattle.dcsctp_core.specs.View.{core_of, view_of}
 use Rattle.dcsctp_socket_calls.specs.Admission.{admission_of}
 use Rattle.dcsctp_socket_calls.proofs.CallLemmas.{refused_packet, acks_worked, acks_cut}
@@ -18,7 +18,7 @@ returns-in_ok-report-in-Refused g c =
 -- Where its SHUTDOWN ACK chunks alone are admitted no association is open.
 pub handle_shutdown_acks-requires : goal.handle_shutdown_acks-requires
 handle_shutdown_acks-requires g c =
-    alone_is_shut (core_of c.args.context.now.state) (packet_in (packet_content c.args.packet.now)) (sym c.admit.ensures ∙ ap admission_of c.in-ShutdownAcksAlone.is)
+    alone_is_shut (core_of c.args.context.now.state) (packet_of_content (packet_content c.args.packet.now)) (sym c.admit.ensures ∙ ap admission_of c.in-ShutdownAcksAlone.is)
 
 -- They are handled.
 pub returns-in_ok-handle_shutdown_acks-in-ShutdownAcksAlone : goal.returns-in_ok-handle_shutdown_acks-in-ShutdownAcksAlone

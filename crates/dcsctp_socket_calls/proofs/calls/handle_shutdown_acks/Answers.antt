@@ -9,7 +9,7 @@ use Rattle.dcsctp_core.proofs.Moving.{moves_then}
 use Rattle.dcsctp_core_ends.specs.Shutdown.{is_open_core}
 use Rattle.dcsctp_core.specs.wire.declared.chunk.Chunk.{Chunk}
 use Rattle.dcsctp_core.specs.wire.Content.{packet_content}
-use Rattle.dcsctp_socket_calls.specs.Parts.{AcksCut}
+use Rattle.dcsctp_socket_calls.specs.Parts.{CutsAcks}
 use Rattle.dcsctp_socket_calls.proofs.AckLoop.{acks_of, ack_more, acks_cut, go_on_of, go_on_append, acks_first}
 use Rattle.dcsctp_socket_calls.proofs.CallLemmas.{adds_whole}
 use Rattle.dcsctp_socket_calls.proofs.calls.handle_shutdown_acks.Goals as goal
@@ -83,6 +83,6 @@ returns-in_err-answer_shutdown_ack g c =
     subst (λ (contents : List Content). ChunkTurns start.endpoint tag contents [] done.turns) (acks_first chunks i) done.are in
     let are : FirstTurns start.endpoint tag (acks_of c.args.packet.now.chunks.items) done.turns =
     subst (λ (list : List Chunk). FirstTurns start.endpoint tag (acks_of list) done.turns) c.deref-chunk-items.ensures.value (length (acks_of (take i chunks)), first) in
-    let cut : AcksCut (packet_content c.args.packet.now) start next.events =
+    let cut : CutsAcks (packet_content c.args.packet.now) start next.events =
     record { turns = done.turns; are = are; adds = adds_whole g.R.Rng.stream start here done.turns next.events done.moves (ap (λ (v : View g.row.R.Denot). v.events) c.in_err-answer_shutdown_ack.ensures) } in
     rw (err_from_is_err_and c.from_residual.result c.from_residual.ensures.1).1 cut

@@ -2,7 +2,7 @@ use Rattle.std.proofs.Common.{List, [], ◌∷◌, append_assoc, subst, sym, ◌
 use Rattle.std.proofs.lemmas.List.{map_push, append-nil}
 use Rattle.dcsctp_wire.specs.Content.{CauseContent, cause_content}
 use Rattle.dcsctp_wire.specs.Fields.{cause_of}
-use Rattle.dcsctp_wire.specs.Format.{IsReadBy, AreCauses}
+use Rattle.dcsctp_wire.specs.Format.{IsReadAsItem, AreCauses}
 use Rattle.dcsctp_wire.proofs.Frames.{some_left, none_left}
 use Rattle.dcsctp_wire.proofs.Items.{one_is_read, others, none_are}
 use Rattle.dcsctp_wire.proofs.cause.read_causes.Goals as goal
@@ -10,7 +10,7 @@ use Rattle.dcsctp_wire.proofs.cause.read_causes.Goals as goal
 pub returns-in_default-clause-malformed : goal.returns-in_default-clause-malformed
 returns-in_default-clause-malformed c = λ _ ps h.
     let left = c.loop-rest.invariant.only ps h in
-    none_are (IsReadBy cause_of) c.loop-rest.rest.now (some_left c.loop-rest.rest.now (sym c.is_empty.ensures ∙ c.loop-rest-test.true)) c.in_default.ensures.gives left.0 left.1
+    none_are (IsReadAsItem cause_of) c.loop-rest.rest.now (some_left c.loop-rest.rest.now (sym c.is_empty.ensures ∙ c.loop-rest-test.true)) c.in_default.ensures.gives left.0 left.1
 
 pub loop-rest-preserved : goal.loop-rest-preserved
 loop-rest-preserved c =
@@ -18,7 +18,7 @@ loop-rest-preserved c =
     let pushed = map_push cause_content c.loop-rest.causes.items c.in-Some.cause in
     record {
       found = λ qs h. rw (c.in_ok-push.ensures.items, pushed, append_assoc) (c.loop-rest.invariant.found (cause_content c.in-Some.cause ∷ qs) (c.in-Some.after.now, begins, h));
-      only = λ ps h. let left = c.loop-rest.invariant.only ps h in others (IsReadBy cause_of) (one_is_read cause_of) (cause_content c.in-Some.cause) c.in-Some.after.now c.loop-rest.rest.now begins left.0 left.1;
+      only = λ ps h. let left = c.loop-rest.invariant.only ps h in others (IsReadAsItem cause_of) (one_is_read cause_of) (cause_content c.in-Some.cause) c.in-Some.after.now c.loop-rest.rest.now begins left.0 left.1;
     }
 
 pub returns-clause-found : goal.returns-clause-found

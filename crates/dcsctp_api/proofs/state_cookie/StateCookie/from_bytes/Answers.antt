@@ -2,7 +2,7 @@ use Rattle.std.proofs.Common.{rules, ◌≡◌, ◌≢◌, Ok, ℕ, Bool, true, 
 use Rattle.std.proofs.lemmas.Bool.Decides.{nat_tests}
 use Rattle.std.specs.Prelude.{Result}
 use Rattle.dcsctp_spec_lemmas.specs.wire.Fields.{u32_at}
-use Rattle.dcsctp_spec_lemmas.specs.spec.Cookie.{Cookie, cookie_fields, cookie_at, has_magic, has_zero_tag}
+use Rattle.dcsctp_spec_lemmas.specs.spec.Cookie.{Cookie, cookie_fields, cookie_of_bytes, has_magic, has_zero_tag}
 use Rattle.dcsctp_api.proofs.state_cookie.StateCookie.from_bytes.Goals as goal
 
 abbrev read : Cookie → Result Cookie (List ℕ)
@@ -21,8 +21,8 @@ chosen : {A : Type 0} (b : Bool) (x y : A) → b ≡ false → cond b x y ≡ y
 chosen true x y is = absurd (cc)
 chosen false x y is = refl
 
-whole : (bytes : List ℕ) → length bytes ≡ 56 → u32_at 0 bytes ≡ 0x64635343 → u32_at 4 bytes ≡ 0x54507230 → u32_at 8 bytes ≢ 0 → u32_at 12 bytes ≢ 0 → cookie_at bytes ≡ read (cookie_fields bytes)
-unfolding cookie_at
+whole : (bytes : List ℕ) → length bytes ≡ 56 → u32_at 0 bytes ≡ 0x64635343 → u32_at 4 bytes ≡ 0x54507230 → u32_at 8 bytes ≢ 0 → u32_at 12 bytes ≢ 0 → cookie_of_bytes bytes ≡ read (cookie_fields bytes)
+unfolding cookie_of_bytes
 whole bytes size first second one two =
     chosen (not (eqb (length bytes) 56)) _ _ (size_is (length bytes) size)
     ∙ chosen (not (has_magic bytes)) _ _ (magic_is (u32_at 0 bytes) (u32_at 4 bytes) first second)

@@ -3,7 +3,7 @@ use Rattle.std.proofs.lemmas.Result.{err_from_is_err_and}
 use Rattle.dcsctp_transfer.specs.spec.queues.Transfer.{Transfer}
 use Rattle.dcsctp_core.specs.declared.state.State.{State}
 use Rattle.dcsctp_core.specs.Handling.{TakesPossibleTurn}
-use Rattle.dcsctp_core.specs.Below.{has_lost_data, AtOnceAt, FillsLostAtOnce}
+use Rattle.dcsctp_core.specs.Below.{has_lost_data, FlushesAtOnce, FillsLostAtOnce}
 use Rattle.dcsctp_core.specs.View.{View, view_of}
 use Rattle.dcsctp_core.proofs.AtOnceLemmas.{at_once_sent, none_at_once, at_once_no_peer, at_once_cut}
 use Rattle.dcsctp_core.proofs.LendingLemmas.{found, kept, lent, left_with}
@@ -14,7 +14,7 @@ returns-then-not-has_data_at_once g c =
     let old = c.args.self.now in
     let tcb = c.in-Some.tcb.now in
     let holds = c.in-Some.ensures.tcb in
-    subst (λ (s : State). TakesPossibleTurn g.R.Rng.stream AtOnceAt (view_of old) (view_of (record old { state = s }))) (sym (kept old.state tcb holds))
+    subst (λ (s : State). TakesPossibleTurn g.R.Rng.stream FlushesAtOnce (view_of old) (view_of (record old { state = s }))) (sym (kept old.state tcb holds))
     (none_at_once g.R.Rng.stream old (ap has_lost_data (found old.state tcb holds) ∙ sym c.has_data_at_once.ensures ∙ c.if-not-has_data_at_once.true))
 
 pub returns-in_default : goal.returns-in_default

@@ -2,7 +2,7 @@ use Rattle.std.proofs.Common.{sym, ap, ◌∙◌, subst, ◌-◌, ℕ, arith}
 use Rattle.std.proofs.lemmas.Result.{err_from_is_err_and}
 use Rattle.dcsctp_transfer.specs.spec.endpoint.FlushOutcomes.{first_ask, later_ask, draft_to, packets_allowed}
 use Rattle.dcsctp_core.specs.View.{view_of, core_of}
-use Rattle.dcsctp_core.specs.Flushing.{FlushesBy}
+use Rattle.dcsctp_core.specs.Flushing.{FlushesOrFails}
 use Rattle.dcsctp_core.proofs.LoopLemmas.{none_allowed, first_cut, first_last, first_then}
 use Rattle.dcsctp_core.proofs.context.Context.send_buffered_packets_with.Goals as goal
 
@@ -25,5 +25,5 @@ pub returns : goal.returns
 returns g c =
     λ draft is held holds. first_then g.R.Rng.stream (packets_allowed c.args.self.now.options.max_burst (core_of c.args.self.now.state)) (view_of c.args.self.now) (view_of c.send_first.new.self) draft held c.send_further.result (view_of c.send_further.new.self) c.in_ok-send_first.field-0
     (omega (arith, c.packets_allowed-allowed.ensures, c.if-allowed-eq0.false)) c.if-not-branch.false holds (c.in_ok-send_first.ensures draft is)
-    (λ after still. subst (λ (n : ℕ). FlushesBy g.R.Rng.stream later_ask n (draft_to after) (view_of c.send_first.new.self) c.send_further.result (view_of c.send_further.new.self))
+    (λ after still. subst (λ (n : ℕ). FlushesOrFails g.R.Rng.stream later_ask n (draft_to after) (view_of c.send_first.new.self) c.send_further.result (view_of c.send_further.new.self))
     (ap (λ (n : ℕ). n - 1) c.packets_allowed-allowed.ensures) (c.send_further.ensures after still))

@@ -1,5 +1,5 @@
 use Rattle.std.proofs.Common.{◌+◌, None, Some, arith, ap, subst, sym, ◌∙◌, take}
-use Rattle.dcsctp_core.specs.Listing.{placed, rank, AllBelow, IsAbsent, IsListing}
+use Rattle.dcsctp_core.specs.Listing.{entries_with_one, rank, AllBelow, IsAbsent, IsListing}
 use Rattle.dcsctp_core.proofs.ListingLemmas.{listing-placed}
 use Rattle.dcsctp_core.proofs.RelistLemmas.{below-absent, below_added}
 use Rattle.dcsctp_core.proofs.SettingLemmas.{room}
@@ -23,7 +23,7 @@ invariant_of-self c =
 
 pub returns-in-Some-clause-below : goal.returns-in-Some-clause-below
 returns-in-Some-clause-below c =
-    subst (AllBelow (rank c.args.kind + 1)) (sym (c.put_later.ensures.placed ∙ ap (placed _) c.self.view_is)) (below_added c.args.kind (Some c.in-Some.moment) c.args.self.now c.requires)
+    subst (AllBelow (rank c.args.kind + 1)) (sym (c.put_later.ensures.placed ∙ ap (entries_with_one _) c.self.view_is)) (below_added c.args.kind (Some c.in-Some.moment) c.args.self.now c.requires)
 
 pub returns-in_default-clause-below : goal.returns-in_default-clause-below
 returns-in_default-clause-below c = below_added c.args.kind None c.args.self.now c.requires

@@ -1,7 +1,7 @@
 use Rattle.std.proofs.Common.{refl}
-use Rattle.dcsctp_core.specs.spec.Reconfiguration.{reset_streams_in}
+use Rattle.dcsctp_core.specs.spec.Reconfiguration.{streams_of_bytes}
 use Rattle.dcsctp_core_resets.specs.Requests.{in_state}
-use Rattle.dcsctp_core_resets.specs.Resets.{wanted_by}
+use Rattle.dcsctp_core_resets.specs.Resets.{reset_of_request}
 use Rattle.dcsctp_core_resets.proofs.RequestLemmas.{outgoing_one, incoming_one, other_one, response_one, not_second}
 use Rattle.dcsctp_core_resets.proofs.requests.HandledRequests.handle_parameter.Goals as goal
 
@@ -9,7 +9,7 @@ pub returns-in_ok-respond-in-OutgoingSsnResetRequest : goal.returns-in_ok-respon
 returns-in_ok-respond-in-OutgoingSsnResetRequest c =
     let request = c.in-OutgoingSsnResetRequest.request in
     rw c.in-OutgoingSsnResetRequest.is
-    (outgoing_one (in_state c.args.state) request.request_seq_nbr request.response_seq_nbr (wanted_by request) c.args.self.now c.respond.new.self _
+    (outgoing_one (in_state c.args.state) request.request_seq_nbr request.response_seq_nbr (reset_of_request request) c.args.self.now c.respond.new.self _
     c.answer_outgoing-answered.result (not_second c.args.self.now.has_worked _ request c.in-OutgoingSsnResetRequest.is c.requires) c.answer_outgoing-answered.ensures
     (c.in_ok-respond-in-OutgoingSsnResetRequest.ensures) refl refl refl refl (record { outstanding = refl; own = refl; first = refl }) refl)
 
@@ -17,7 +17,7 @@ pub returns-in_ok-respond-in-IncomingSsnResetRequest : goal.returns-in_ok-respon
 returns-in_ok-respond-in-IncomingSsnResetRequest c =
     let request = c.in-IncomingSsnResetRequest.request in
     rw c.in-IncomingSsnResetRequest.is
-    (incoming_one (in_state c.args.state) request.request_seq_nbr (reset_streams_in request.streams.now) c.args.self.now c.respond-in-IncomingSsnResetRequest.new.self _
+    (incoming_one (in_state c.args.state) request.request_seq_nbr (streams_of_bytes request.streams.now) c.args.self.now c.respond-in-IncomingSsnResetRequest.new.self _
     c.answer_incoming-answered.result c.answer_incoming-answered.ensures
     (c.in_ok-respond-in-IncomingSsnResetRequest.ensures) refl refl refl refl (record { outstanding = refl; own = refl; first = refl }) refl)
 

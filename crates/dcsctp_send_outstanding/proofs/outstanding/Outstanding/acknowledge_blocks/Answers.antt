@@ -2,7 +2,7 @@ use Rattle.std.proofs.Common.{List, refl, subst, sym, add-one, arith}
 use Rattle.std.proofs.lemmas.List.{take_all}
 use Rattle.dcsctp_api.specs.wire.declared.chunk.sack.GapAckBlock.{GapAckBlock}
 use Rattle.dcsctp_send_outstanding.specs.NamedPlaces.{BlocksAreSettled}
-use Rattle.dcsctp_api.specs.spec.queues.Outstanding.{OutstandingState, reported}
+use Rattle.dcsctp_api.specs.spec.queues.Outstanding.{OutstandingState, reported_items}
 use Rattle.dcsctp_send_outstanding.proofs.ItemsLemmas.{reported_further}
 use Rattle.dcsctp_send_outstanding.proofs.SettledLemmas.{reported_is_settled}
 use Rattle.dcsctp_send_outstanding.proofs.outstanding.Outstanding.acknowledge_blocks.Goals as goal
@@ -14,7 +14,7 @@ loop-block-preserved c =
 
 pub keep_named-requires-clause-settled : goal.keep_named-requires-clause-settled
 keep_named-requires-clause-settled c =
-    let P : List GapAckBlock → Type 0 = λ blocks. BlocksAreSettled c.args.count c.args.blocks.now (reported c.args.count blocks c.args.self.now.items) in
+    let P : List GapAckBlock → Type 0 = λ blocks. BlocksAreSettled c.args.count c.args.blocks.now (reported_items c.args.count blocks c.args.self.now.items) in
     let Q : OutstandingState → Type 0 = λ m. BlocksAreSettled c.args.count c.args.blocks.now m.items in
     let all = take_all c.loop-block.block-index c.args.blocks.now (omega (arith, c.loop-block-test.false)) in
     subst Q (sym c.loop-block.invariant) (subst P (sym all) (reported_is_settled c.args.count c.args.blocks.now c.args.self.now.items))

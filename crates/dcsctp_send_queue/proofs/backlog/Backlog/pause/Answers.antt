@@ -1,7 +1,7 @@
 use Rattle.std.proofs.Common.{◌≡◌, ◌∙◌, ◌-◌, ◌^◌, ◌++◌, ℕ, List, drop, min, ap, subst}
 use Rattle.std.proofs.lemmas.Result.{err_from_is_err_and}
 use Rattle.dcsctp_api.specs.types.queues.SendStreams.{Waiting, Stream, stream_at, payload_size}
-use Rattle.dcsctp_send_streams.specs.Telling.{contents, TellsFront}
+use Rattle.dcsctp_send_streams.specs.Telling.{contents, AddsFront}
 use Rattle.dcsctp_api.specs.spec.queues.SendEvents.{expiries}
 use Rattle.dcsctp_api.specs.spec.queues.Sending.{part_events}
 use Rattle.dcsctp_api.specs.spec.queues.OwnResets.{count_under_way}
@@ -20,7 +20,7 @@ returns-in_err-tell_low-clause-front c =
     let size : c.size_from-size.result ≡ size_not_begun place queue =
     c.size_from-size.ensures ∙ (ap (λ (n : ℕ). min (payload_size (drop n c.at-2.result.now.messages)) (2 ^ 64 - 1)) kept
     ∙ ap (λ (s : Stream). min (payload_size (drop (count_under_way (stream_at queue.streams place).id queue.under_way) s.messages)) (2 ^ 64 - 1)) c.at-2.ensures) in
-    let P : ℕ → Type 0 = λ n. TellsFront (contents c.args.events.now) (part_events place n queue) (contents c.tell_low.new.events) in
+    let P : ℕ → Type 0 = λ n. AddsFront (contents c.args.events.now) (part_events place n queue) (contents c.tell_low.new.events) in
     rw (err_from_is_err_and c.from_residual.result c.from_residual.ensures.1).1
     (front_left (contents c.args.events.now) (part_events place (size_not_begun place queue) queue) (expiries (not_begun place queue)) (contents c.tell_low.new.events)
     (subst P size c.in_err-tell_low.ensures.err))
@@ -37,7 +37,7 @@ returns-in_err-tell_dropped-clause-front c =
     let left : drop c.count_under_way-kept.result c.at-3.result.now.messages ≡ not_begun place queue =
     ap (λ (n : ℕ). drop n c.at-3.result.now.messages) kept
     ∙ ap (λ (s : Stream). drop (count_under_way (stream_at queue.streams place).id queue.under_way) s.messages) c.at-3.ensures in
-    let P : List Waiting → Type 0 = λ ms. TellsFront (contents c.tell_low.new.events) (expiries ms) (contents c.tell_dropped.new.events) in
+    let P : List Waiting → Type 0 = λ ms. AddsFront (contents c.tell_low.new.events) (expiries ms) (contents c.tell_dropped.new.events) in
     rw (err_from_is_err_and c.from_residual-in_err-tell_dropped.result c.from_residual-in_err-tell_dropped.ensures.1).1
     (front_right (contents c.args.events.now) (part_events place (size_not_begun place queue) queue) (contents c.tell_low.new.events) (expiries (not_begun place queue)) (contents c.tell_dropped.new.events)
     (c.in_ok-tell_low.ensures.ok ∙ ap (λ (n : ℕ). contents c.args.events.now ++ part_events place n queue) size) (subst P left c.in_err-tell_dropped.ensures.err))

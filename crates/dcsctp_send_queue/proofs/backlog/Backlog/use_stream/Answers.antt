@@ -1,6 +1,6 @@
 use Rattle.std.proofs.Common.{ap, ◌∙◌}
 use Rattle.std.specs.List.{insert}
-use Rattle.dcsctp_api.specs.types.queues.SendStreams.{unused}
+use Rattle.dcsctp_api.specs.types.queues.SendStreams.{unused_stream}
 use Rattle.dcsctp_send_streams.proofs.PlaceLemmas.{IsAscending-insert}
 use Rattle.dcsctp_send_queue.proofs.GoingOnLemmas.{insert-used, can_go_on-insert}
 use Rattle.dcsctp_send_queue.specs.Backlog.{queue_of}
@@ -15,7 +15,7 @@ returns-in_ok-insert-in-Err-clause-ok c =
 pub returns-in_ok-insert-in-Err-clause-ascending : goal.returns-in_ok-insert-in-Err-clause-ascending
 returns-in_ok-insert-in-Err-clause-ascending c =
     rw (c.in_ok-insert-in-Err.ensures.ok, c.new_stream-stream.ensures)
-    (IsAscending-insert c.args.self.now.streams c.in-Err.place (unused c.args.stream_id.0 c.args.self.now.default_priority c.args.self.now.default_threshold) c.in-Err.ensures.ascending c.in-Err.ensures.found)
+    (IsAscending-insert c.args.self.now.streams c.in-Err.place (unused_stream c.args.stream_id.0 c.args.self.now.default_priority c.args.self.now.default_threshold) c.in-Err.ensures.ascending c.in-Err.ensures.found)
 
 pub returns-in_ok-insert-in-Err-clause-can : goal.returns-in_ok-insert-in-Err-clause-can
 returns-in_ok-insert-in-Err-clause-can c can = rw c.in_ok-insert-in-Err.ensures.ok (can_go_on-insert _ _ _ _ can c.in-Err.ensures.found.0)

@@ -1,11 +1,11 @@
 use Rattle.std.proofs.Common.{sym, ap, ◌∙◌}
-use Rattle.dcsctp_send_queue.proofs.QueueLemmas.{found_in-at, found_in-none}
+use Rattle.dcsctp_send_queue.proofs.QueueLemmas.{stream_found-at, stream_found-none}
 use Rattle.dcsctp_send_queue.proofs.send_queue.SendQueue.get_priority.Goals as goal
 
 pub returns-in-Ok : goal.returns-in-Ok
 returns-in-Ok c =
-    rw (← c.self.view_is) (c.priority.ensures ∙ ap (λ s. s.priority) (c.at.ensures ∙ sym (found_in-at _ _ _ _ c.in-Ok.ensures.ascending c.in-Ok.ensures.found)))
+    rw (← c.self.view_is) (c.priority.ensures ∙ ap (λ s. s.priority) (c.at.ensures ∙ sym (stream_found-at _ _ _ _ c.in-Ok.ensures.ascending c.in-Ok.ensures.found)))
 
 pub returns-in-Err : goal.returns-in-Err
 returns-in-Err c =
-    rw (← c.self.view_is) (ap (λ s. s.priority) (sym (found_in-none _ _ _ _ c.in-Err.ensures.found)))
+    rw (← c.self.view_is) (ap (λ s. s.priority) (sym (stream_found-none _ _ _ _ c.in-Err.ensures.found)))

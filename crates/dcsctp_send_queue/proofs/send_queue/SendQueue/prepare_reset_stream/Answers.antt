@@ -1,14 +1,14 @@
 use Rattle.std.proofs.Common.{◌≡◌, ℕ, Result, Ok, Err, OnOk, OnErr, List, ◌++◌, subst}
 use Rattle.dcsctp_api.specs.spec.endpoint.Event.{Event}
-use Rattle.dcsctp_api.specs.spec.queues.OwnResets.{prepared, prepare_events}
+use Rattle.dcsctp_api.specs.spec.queues.OwnResets.{queue_with_prepared, prepare_events}
 use Rattle.dcsctp_api.specs.spec.queues.SendQueue.{SendQueueState}
 use Rattle.dcsctp_send_queue.specs.Backlog.{queue_of}
-use Rattle.dcsctp_send_streams.specs.Telling.{contents, TellsFront}
+use Rattle.dcsctp_send_streams.specs.Telling.{contents, AddsFront}
 use Rattle.dcsctp_send_queue.specs.Preparing.{TriesStream}
 use Rattle.dcsctp_send_queue.proofs.send_queue.SendQueue.prepare_reset_stream.Goals as goal
 
 tries_by : {E : Type 0} (result : Result (Unit {0}) E) (id : ℕ) (old new : SendQueueState) (before after : List (Event (List ℕ)))
-    → OnOk result (new ≡ prepared id old) → OnOk result (after ≡ before ++ prepare_events id old) → OnErr result (TellsFront before (prepare_events id old) after)
+    → OnOk result (new ≡ queue_with_prepared id old) → OnOk result (after ≡ before ++ prepare_events id old) → OnErr result (AddsFront before (prepare_events id old) after)
     → TriesStream id old before result new after
 tries_by (Ok done) id old new before after left told front = record { left = left; tells = told }
 tries_by (Err error) id old new before after left told front = front

@@ -3,7 +3,7 @@ use Rattle.dcsctp_api.specs.types.declared.progress.Change.TheVariants.{Acknowle
 use Rattle.dcsctp_api.specs.spec.queues.Outstanding.{OutstandingState}
 use Rattle.dcsctp_api.specs.types.declared.congestion.Acknowledged.{Acknowledged}
 use Rattle.dcsctp_api.specs.spec.queues.Retransmission.{RetransmissionState, with_items}
-use Rattle.dcsctp_api.specs.spec.queues.Acknowledging.{covered, missed_until, without_first_items, congestion_acknowledgement}
+use Rattle.dcsctp_api.specs.spec.queues.Acknowledging.{covered_items, missed_until, without_first_items, congestion_acknowledgement}
 use Rattle.dcsctp_send_outstanding.proofs.ItemsLemmas.{length-changed_between, length-reported}
 use Rattle.dcsctp_send_retransmission.proofs.QueueLemmas.{length-missed_until, acknowledged_is}
 use Rattle.dcsctp_send_retransmission.proofs.retransmission_queue.RetransmissionQueue.acknowledge.Goals as goal
@@ -85,9 +85,9 @@ returns c =
       was_full = nat_le c.self.inside.congestion.cwnd c.in_flight_bytes.result;
       is_last = c.unacknowledged_items.result == 0;
     } in
-    let is_stage : stage ≡ with_items (covered c.args.count c.args.blocks.now c.args.self.now.outstanding.items) c.args.self.now =
+    let is_stage : stage ≡ with_items (covered_items c.args.count c.args.blocks.now c.args.self.now.outstanding.items) c.args.self.now =
     rw (c.acknowledge_blocks.ensures, c.change_between.ensures, ← c.self.view_is) refl in
-    let is_mid : mid ≡ missed_until c.args.count c.args.limit c.args.newest (with_items (covered c.args.count c.args.blocks.now c.args.self.now.outstanding.items) c.args.self.now) =
+    let is_mid : mid ≡ missed_until c.args.count c.args.limit c.args.newest (with_items (covered_items c.args.count c.args.blocks.now c.args.self.now.outstanding.items) c.args.self.now) =
     c.self-2.view_is ∙ c.count_misses.ensures ∙ ap (missed_until c.args.count c.args.limit c.args.newest) is_stage in
     let is_left : left ≡ without_first_items c.args.count mid = rw c.remove_first.ensures refl in
     let is_ack : ack ≡ congestion_acknowledgement c.args.count c.args.self.now left =

@@ -3,7 +3,7 @@ use Rattle.std.specs.Option.{option_map}
 use Rattle.std.proofs.Common.{subst, ◌≡◌, ◌≤◌, nat_lt, ◌∙◌, length, ap, refl, arith}
 use Rattle.dcsctp_api.specs.spec.queues.Outstanding.{acknowledged_count, tsn_at}
 use Rattle.dcsctp_api.specs.spec.queues.Reports.{MissesUntil}
-use Rattle.dcsctp_api.specs.spec.queues.Acknowledging.{is_recovering, AcknowledgesItems, has_acknowledged, exiting, acknowledged_until, window_settled_at}
+use Rattle.dcsctp_api.specs.spec.queues.Acknowledging.{is_recovering, AcknowledgesItems, has_acknowledged, exiting, acknowledged_until, window_after_settling}
 use Rattle.dcsctp_api.specs.spec.queues.Retransmission.{RetransmissionState}
 use Rattle.dcsctp_send_retransmission.proofs.AnswerLemmas.{sack_answers}
 use Rattle.dcsctp_send_retransmission.proofs.retransmission_queue.RetransmissionQueue.handle_sack.Goals as goal
@@ -33,7 +33,7 @@ returns-clause-turn c =
       missing = rw (← count_is) (subst Misses is_stage (let at_stage : Misses stage = c.miss_limit-limit.ensures in at_stage));
       newest = c.newest_reported-newest.result;
       is_newest = rw (← count_is, ← c.self.view_is) c.newest_reported-newest.ensures;
-      is = rw (← count_is) (c.settle.ensures ∙ ap (window_settled_at c.args.now c.args.a_rwnd c.distance_to-count.result) (c.acknowledge.ensures ∙ (ap (λ (n : Option ℕ). acknowledged_until c.distance_to-count.result c.args.blocks.now c.miss_limit-limit.result n stage) newest_is ∙ ap (acknowledged_until c.distance_to-count.result c.args.blocks.now c.miss_limit-limit.result (option_map (tsn_at c.args.self.now.outstanding) c.newest_reported-newest.result)) is_stage)));
+      is = rw (← count_is) (c.settle.ensures ∙ ap (window_after_settling c.args.now c.args.a_rwnd c.distance_to-count.result) (c.acknowledge.ensures ∙ (ap (λ (n : Option ℕ). acknowledged_until c.distance_to-count.result c.args.blocks.now c.miss_limit-limit.result n stage) newest_is ∙ ap (acknowledged_until c.distance_to-count.result c.args.blocks.now c.miss_limit-limit.result (option_map (tsn_at c.args.self.now.outstanding) c.newest_reported-newest.result)) is_stage)));
     } in
     let counts : nat_lt c.never_acknowledged_items.result c.never_acknowledged_items-before.result ≡ has_acknowledged c.args.self.now c.settle.new.self =
     rw (c.never_acknowledged_items.ensures, c.never_acknowledged_items-before.ensures, ← c.self.view_is, ← c.self-2.view_is) refl in (

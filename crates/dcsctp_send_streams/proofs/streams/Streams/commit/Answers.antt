@@ -2,7 +2,7 @@ use Rattle.std.proofs.Common.{◌<◌, length}
 use Rattle.dcsctp_send_streams.proofs.BytesLemmas.{bytes_set}
 use Rattle.dcsctp_send_streams.proofs.PauseLemmas.{holds_pause, paused_read}
 use Rattle.dcsctp_send_streams.proofs.StreamLemmas.{holds_read, ranked_read}
-use Rattle.dcsctp_send_streams.proofs.NextLemmas.{committed-id}
+use Rattle.dcsctp_send_streams.proofs.NextLemmas.{committed_stream-id}
 use Rattle.dcsctp_send_streams.proofs.streams.Streams.commit.Goals as goal
 
 pub move_turn-requires : goal.move_turn-requires
@@ -20,9 +20,9 @@ invariant_of-self c =
     let lt : c.args.place < length c.self.inside.items = rw c.self.view_is c.requires in
     record {
       ranked = ranked_read _ _ _ _ _ c.args.place _ _ _ _ c.self.invariant.ranked lt c.at_mut-stream.ensures.value c.turn-before.ensures.turn c.turn-after.ensures.turn
-          (rw c.commit.ensures (committed-id _)) c.move_turn.ensures.turns c.move_turn.ensures.capacity;
+          (rw c.commit.ensures (committed_stream-id _)) c.move_turn.ensures.turns c.move_turn.ensures.capacity;
       paused = paused_read _ _ _ c.args.place _ _ _ _ _ c.self.invariant.ranked.ascending c.self.invariant.paused lt c.at_mut-stream.ensures.value c.id-id.ensures
-          c.pause_state-pause_before.ensures (rw c.commit.ensures (committed-id _)) c.pause_state-pause_after.ensures
+          c.pause_state-pause_before.ensures (rw c.commit.ensures (committed_stream-id _)) c.pause_state-pause_after.ensures
           c.move_stream.ensures.pausing c.move_stream.ensures.handed_out c.move_stream.ensures.has_room c.move_stream.ensures.has_more;
       bytes = bytes_set _ c.args.place _ c.self.invariant.bytes c.turn-after.ensures.bytes;
     }

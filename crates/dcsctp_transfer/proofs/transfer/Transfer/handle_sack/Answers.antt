@@ -2,7 +2,7 @@ use Rattle.std.proofs.Common.{◌∙◌, ap, sym, subst, List}
 use Rattle.std.specs.Option.{option_map}
 use Rattle.std.specs.Duration.{as_nanos}
 use Rattle.std.proofs.lemmas.Result.{err_from_is_err_and}
-use Rattle.dcsctp_send_retransmission.specs.wire.CleanBlocks.{blocks_in, AreCleaned}
+use Rattle.dcsctp_send_retransmission.specs.wire.CleanBlocks.{blocks_of_bytes, AreCleaned}
 use Rattle.dcsctp_send_retransmission.specs.wire.declared.chunk.sack.GapAckBlock.{GapAckBlock}
 use Rattle.dcsctp_send_retransmission.specs.spec.queues.Acknowledging.{has_acknowledged}
 use Rattle.dcsctp_send_retransmission.specs.spec.queues.Retransmission.{RetransmissionState}
@@ -41,7 +41,7 @@ returns c =
       is_valid inside.retransmission_queue c.args.sack.now.cumulative_tsn_ack does.0,
       record {
         blocks = c.deref.result.now;
-        cleaned = subst (λ (blocks : List GapAckBlock). AreCleaned (blocks_in c.args.sack.now.gap_ack_blocks.now) blocks) (sym c.deref.ensures.value) c.in_ok-blocks.ensures;
+        cleaned = subst (λ (blocks : List GapAckBlock). AreCleaned (blocks_of_bytes c.args.sack.now.gap_ack_blocks.now) blocks) (sym c.deref.ensures.value) c.in_ok-blocks.ensures;
         left = c.handle_sack.new.self;
         acknowledges = does.1;
         round_trip = trip;

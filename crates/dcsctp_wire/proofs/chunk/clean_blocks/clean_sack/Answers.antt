@@ -1,13 +1,13 @@
 use Rattle.std.proofs.Common.{rules, sym, ◌∙◌}
 use Rattle.std.proofs.lemmas.List.Sorted.{All-permutation, IsNonDecreasingBy-from_sort_by_key, list_any-IsPermutation}
-use Rattle.dcsctp_wire.specs.CleanBlocks.{IsRange, names, blocks_in, AreJoined, AreCleaned}
+use Rattle.dcsctp_wire.specs.CleanBlocks.{IsRange, names, blocks_of_bytes, AreJoined, AreCleaned}
 use Rattle.std.proofs.lemmas.Result.{IfOk-weaker}
 use Rattle.dcsctp_wire.proofs.CleanBlockLemmas.{ranges_kept}
 use Rattle.dcsctp_wire.proofs.chunk.clean_blocks.clean_sack.Goals as goal
 
 pub join_blocks-requires-clause-ranges : goal.join_blocks-requires-clause-ranges
 join_blocks-requires-clause-ranges c =
-    rw c.deref.ensures.value (All-permutation IsRange _ _ c.sort_unstable_by_key.ensures.permutation (rw c.in_ok-blocks.ensures (ranges_kept (blocks_in c.args.sack.now.gap_ack_blocks.now))))
+    rw c.deref.ensures.value (All-permutation IsRange _ _ c.sort_unstable_by_key.ensures.permutation (rw c.in_ok-blocks.ensures (ranges_kept (blocks_of_bytes c.args.sack.now.gap_ack_blocks.now))))
 
 pub join_blocks-requires-clause-ascending : goal.join_blocks-requires-clause-ascending
 join_blocks-requires-clause-ascending c =
@@ -15,7 +15,7 @@ join_blocks-requires-clause-ascending c =
 
 pub returns : goal.returns
 returns c =
-    IfOk-weaker c.join_blocks.result (λ blocks. AreJoined c.deref.result.now blocks.items) (λ blocks. AreCleaned (blocks_in c.args.sack.now.gap_ack_blocks.now) blocks.items)
+    IfOk-weaker c.join_blocks.result (λ blocks. AreJoined c.deref.result.now blocks.items) (λ blocks. AreCleaned (blocks_of_bytes c.args.sack.now.gap_ack_blocks.now) blocks.items)
     (λ blocks joined. record {
       apart = joined.apart;
       same = λ offset.

@@ -3,7 +3,7 @@ use Rattle.dcsctp_core.specs.types.Schedule.{act_content}
 use Rattle.dcsctp_core.specs.types.declared.schedule.Side.TheVariants as sides
 use Rattle.dcsctp_world.specs.Recording.{Recording, recorded_stream}
 use Rattle.dcsctp_world.specs.Shown.{WorldView}
-use Rattle.dcsctp_world.specs.Acts.{Applied, ActRanOutOfMemory}
+use Rattle.dcsctp_world.specs.Acts.{AppliesWithPromises, ActRanOutOfMemory}
 use Rattle.dcsctp_world.specs.Parts.{world_of}
 use Rattle.dcsctp_world.proofs.Applying.{KnownLaws, act_applied, ran_out_in}
 use Rattle.dcsctp_world.proofs.world.World.apply_act.Goals as goal
@@ -25,7 +25,7 @@ returns-in-Ok g c =
       sound = c.sockets_stay_sound.ensures;
       restores = c.restored_sockets_begin_nothing.ensures;
     } in
-    subst (λ (w : WorldView (Recording g.row.R.Denot)). Applied g.R.Rng.stream (act_content c.args.act) c.in-Ok.reply w new) c.self.view_is
+    subst (λ (w : WorldView (Recording g.row.R.Denot)). AppliesWithPromises g.R.Rng.stream (act_content c.args.act) c.in-Ok.reply w new) c.self.view_is
     (act_applied g.R.Rng.stream laws (act_content c.args.act) c.in-Ok.reply c.self.inside.a c.self.inside.b c.perform_and_keep.new.a c.perform_and_keep.new.b
     c.self.inside.acts.items c.perform_and_keep.new.acts.items c.self.inside.failed c.if-self.false c.act_fits.ensures c.self.invariant c.in-Ok.ensures.call c.in-Ok.ensures.whole)
 
@@ -39,5 +39,5 @@ returns-in-Err g c =
 pub invariant_of-self : goal.invariant_of-self
 invariant_of-self g c =
     let new = world_of c.perform_and_keep.new.a c.perform_and_keep.new.b c.perform_and_keep.new.acts.items c.self.inside.failed in
-    let applied : Applied g.R.Rng.stream (act_content c.args.act) c.in-Ok.reply c.args.self.now new = returns-in-Ok g c in
+    let applied : AppliesWithPromises g.R.Rng.stream (act_content c.args.act) c.in-Ok.reply c.args.self.now new = returns-in-Ok g c in
     λ runs. record { is_run = applied.keeps.run; whole = applied.keeps.whole }

@@ -1,7 +1,7 @@
 use Rattle.std.proofs.Common.{Err, [], subst}
 use Rattle.dcsctp_core.specs.types.declared.schedule.Step.{Step}
 use Rattle.dcsctp_core.specs.types.Schedule.{step_content, step_act}
-use Rattle.dcsctp_world.specs.Acts.{Applied, Applies, Ran}
+use Rattle.dcsctp_world.specs.Acts.{AppliesWithPromises, Applies, Ran}
 use Rattle.dcsctp_world.specs.Parts.{world_of}
 use Rattle.dcsctp_world.specs.Recording.{Recording}
 use Rattle.dcsctp_world.specs.Shown.{WorldView}
@@ -19,7 +19,7 @@ pub loop-step-preserved : goal.loop-step-preserved
 loop-step-preserved g c =
     ran_next g.R.Rng.stream c.args.steps.now c.loop-step.step-index c.step-item.result c.in_ok-apply.field-0 c.args.self.now c.loop-step.self c.apply.new.self
     c.loop-step-test.true c.loop-step.invariant
-    (subst (λ (s : Step). Applied g.R.Rng.stream (step_act (step_content s)) c.in_ok-apply.field-0 c.loop-step.self c.apply.new.self) c.step-item.is c.in_ok-apply.ensures)
+    (subst (λ (s : Step). AppliesWithPromises g.R.Rng.stream (step_act (step_content s)) c.in_ok-apply.field-0 c.loop-step.self c.apply.new.self) c.step-item.is c.in_ok-apply.ensures)
 
 pub returns-in_err-apply : goal.returns-in_err-apply
 returns-in_err-apply g c =
