@@ -49,7 +49,7 @@ VERSION := $(shell awk '/define DCSCTP_VERSION_[MP]/ { v = v s $$3; s = "." } EN
     include/dcsctp.h)
 
 TESTS = names calls queries many options events ends kept handover refusals random threads channels \
-    deadlines trace seed checksum
+    channel_texts deadlines trace seed checksum
 EXAMPLES = demo two_sockets two_channels file_transfer channels server load
 WARNINGS = -Wall -Wextra -Wshadow -pedantic -Werror
 COMPILE = $(CC) -std=c11 $(WARNINGS) $(CFLAGS) -Iinclude

@@ -90,7 +90,8 @@ counted "tests in Rattle" rattle_tests "${programs[@]}"
 counted "scripts, each allocation refused" env "PROGRAM=$run" bash scripts/script-refusals.sh
 counted "sockets and worlds, each allocation refused" env "ONLY=$only" bash scripts/refusals.sh "${refused[@]}"
 "${make[@]}" c-programs >"$logs/c-programs.log" 2>&1 || add "C programs" "$logs/c-programs.log" 0 1 "$SECONDS"
-counted "tests in C" each "tests in C" < <(printf "$OUT/tests/%s\n" $TESTS)
+counted "tests in C" each "tests in C" < <(printf "$OUT/tests/%s\n" ${TESTS/channel_texts/})
+counted "texts of data channels" "$OUT/tests/channel_texts"
 counted "header, symbols, C++, cffi" checks check-header check-symbols check-cpp check-cffi
 counted "examples" checks check-examples check-rust
 counted "installed, packed" checks check-install check-dist

@@ -22,6 +22,8 @@ class Model:
             self.read_crate(crate)
         for path in tree.matching(r'examples/[^/]+\.script|tests/c/\w+\.c'):
             self.add(sources.file_item(path, 'cases'), sources.items_of_tests(path) if path.endswith('.c') else [])
+        for path in tree.matching(r'tests/c/channels/\w+\.text'):
+            self.add(sources.file_item(path, 'cases'), sources.items_of_cases(path))
         self.named: dict[str, dict[str, list[Item]]] = collections.defaultdict(dict)  # by kind and name
         self.by_last_name: dict[str, list[Item]] = collections.defaultdict(list)  # functions, without their types
         self.constructors: dict[str, list[Item]] = collections.defaultdict(list)
