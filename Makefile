@@ -49,7 +49,7 @@ VERSION := $(shell awk '/define DCSCTP_VERSION_[MP]/ { v = v s $$3; s = "." } EN
     include/dcsctp.h)
 
 TESTS = names calls queries many options events ends kept handover refusals random threads channels \
-    channel_texts deadlines trace seed checksum
+    channel_texts fuzz_channels deadlines trace seed checksum
 EXAMPLES = demo two_sockets two_channels file_transfer channels server load
 WARNINGS = -Wall -Wextra -Wshadow -pedantic -Werror
 COMPILE = $(CC) -std=c11 $(WARNINGS) $(CFLAGS) -Iinclude
@@ -207,7 +207,7 @@ WRAP = -Wl,--wrap=malloc,--wrap=realloc,--wrap=free
 $(OUT)/tests/%: tests/c/%.c $(wildcard tests/c/*.h) $(HEADERS) $(LIBRARY)
 	@mkdir -p $(OUT)/tests
 	$(COMPILE) $(if $(MARK),-DUNPROVED) $(filter %.c,$^) $(LIBRARY) \
-	    $(if $(filter refusals random costs,$*),$(WRAP)) -pthread -o $@
+	    $(if $(filter refusals random costs fuzz_channels,$*),$(WRAP)) -pthread -o $@
 
 # The server has a store where hiredis is installed.
 STORE := $(shell $(CC) -E -include hiredis/hiredis.h -x c /dev/null >/dev/null 2>&1 && echo -DWITH_STORE -lhiredis)

@@ -569,7 +569,8 @@ int32_t dcsctp_handle_input(dcsctp_socket *socket, const uint8_t *packet, size_t
 int32_t dcsctp_advance_time(dcsctp_socket *socket, uint64_t now) DCSCTP_CHECKED_CALL;
 
 /* Writes the next deadline, by which you must call dcsctp_advance_time: a moment that is never
- * before the current time of the socket, or DCSCTP_NEVER. Error: NO_SOCKET. */
+ * before the current time of the socket, or DCSCTP_NEVER. With channels it may be, until all events
+ * are taken. Error: NO_SOCKET. */
 int32_t dcsctp_poll_timeout(const dcsctp_socket *socket, uint64_t *moment) DCSCTP_CALL;
 
 /* ---- Events --------------------------------------------------------------------------------- */

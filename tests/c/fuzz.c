@@ -3,21 +3,12 @@
  *
  * An input begins with a byte of switches, and with the options of both ends. Then each byte is an
  * operation, and its arguments follow. Zeros are the default options, and missing bytes are zeros.
- *
- * The library isn't compiled for libFuzzer. So what can be seen of it counts as coverage: results,
- * events, texts, and the chunks of packets. */
+ */
+#include "fuzzing.h"
 #include "pair.h"
 #include "refusing.h"
 
 #include <dcsctp_checksum.h>
-
-#define EXPECT(what, is_so)                                                                        \
-    do {                                                                                           \
-        if (!(is_so)) {                                                                            \
-            fprintf(stderr, "%s:%d: %s: %s\n", __FILE__, __LINE__, (what), #is_so);                \
-            abort();                                                                               \
-        }                                                                                          \
-    } while (0)
 
 enum {
     LONGEST_MESSAGE = 70000, /* that is sent */
@@ -29,36 +20,6 @@ enum {
     SNAPSHOT = 1 << 20,
     GUARD = 64           /* bytes on both sides of a buffer */
 };
-
-/* ---- What counts as coverage ---------------------------------------------------------------- */
-
-__attribute__((section("__libfuzzer_extra_counters"))) static uint8_t counters[1 << 13];
-
-static void saw(uint32_t a, uint32_t b, uint32_t c) {
-    uint32_t hash = (a * 31 + b) * 0x9e3779b1u + c * 0x85ebca77u;
-    uint8_t *counter = &counters[(hash ^ hash >> 15) % sizeof counters];
-    *counter = (uint8_t)(*counter + (*counter < 255));
-}
-
-/* ---- The input ------------------------------------------------------------------------------ */
-
-static const uint8_t *input;
-static size_t input_left;
-
-static uint8_t byte(void) {
-    if (input_left == 0)
-        return 0;
-    input_left--;
-    return *input++;
-}
-
-static uint16_t two_bytes(void) {
-    uint16_t high = byte();
-    return (uint16_t)(high << 8 | byte());
-}
-
-/* One of a table's numbers. */
-#define ONE_OF(table) ((table)[byte() % (sizeof(table) / sizeof *(table))])
 
 /* ---- Two ends ------------------------------------------------------------------------------- */
 
