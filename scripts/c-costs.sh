@@ -40,7 +40,7 @@ counted() {
 
 report "bytes of $(basename "$library")" "$(wc -c <"$library")"
 report "code in it, without data" "$(size "$library" | awk 'NR == 2 { print $1 }')"
-while read -r kind rest; do report "heap of a $kind socket" "$rest"; done < <("$folder/costs" heap)
+while IFS=: read -r what heap; do report "heap of $what" "$heap"; done < <("$folder/costs" heap)
 command -v valgrind >/dev/null || { echo "c-costs: no valgrind, so no instructions are counted"; exit 0; }
 for name in $("$folder/costs" names); do counted "$name" "$folder/costs" "$name"; done
 

@@ -1,6 +1,7 @@
 /* What sockets cost, for scripts/c-costs.sh.
  *
- *     costs heap      prints the bytes and blocks of heap of a closed and of a connected socket
+ *     costs heap      prints the bytes and blocks of heap of a closed and of a connected socket, and
+ *                     what one more stream or data channel adds
  *     costs names     prints the names of calls
  *     costs NAME N    makes a call N times, where a connected pair of sockets stands
  *
@@ -145,25 +146,133 @@ static void long_message(void) {
     carry_message(65536);
 }
 
+/* ---- Data channels -------------------------------------------------------------------------- */
+
+static uint64_t channel; /* A's */
+static size_t messages;  /* that B has taken */
+
+/* Hands packets over, until none is left, and takes messages. */
+static void settle_channels(void) {
+    dcsctp_socket *from = &pair.a.socket, *to = &pair.b.socket, *other;
+    dcsctp_channel_event event;
+    size_t length;
+    for (int idle = 0; idle < 2; idle++) {
+        while (dcsctp_channel_poll(from, &event) == 1) {
+            if (event.kind == DCSCTP_CHANNEL_EVENT_SEND_PACKET) {
+                EQUAL("bytes", dcsctp_channel_bytes(from, buffer, sizeof buffer, &length), 0);
+                EQUAL("input", dcsctp_handle_input(to, buffer, length), 0);
+                idle = -1;
+            } else if (event.kind == DCSCTP_CHANNEL_EVENT_MESSAGE) {
+                EQUAL("bytes", dcsctp_channel_bytes(from, buffer, sizeof buffer, &length), 0);
+                messages++;
+            }
+        }
+        other = from;
+        from = to;
+        to = other;
+    }
+}
+
+static void open_channel(void) {
+    const dcsctp_channel_options usual = DCSCTP_CHANNEL_OPTIONS_INIT;
+    EQUAL("open", dcsctp_channel_open(&pair.a.socket, &usual, &channel), DCSCTP_OK);
+}
+
+/* Both ends get channels, and one is opened. */
+static void connect_channels(void) {
+    const dcsctp_channel_limits limits = DCSCTP_CHANNEL_LIMITS_INIT;
+    create_pair(&pair, &options, &options);
+    for (int i = 0; i < 2; i++) {
+        dcsctp_socket *socket = i ? &pair.b.socket : &pair.a.socket;
+        EQUAL("begin", dcsctp_channel_begin(socket, &limits), DCSCTP_OK);
+        EQUAL("role", dcsctp_channel_set_role(socket, !i), DCSCTP_OK);
+    }
+    pass(&pair, 0);
+    EQUAL("connect", dcsctp_connect(&pair.a.socket), DCSCTP_OK);
+    settle_channels();
+    open_channel();
+    settle_channels();
+}
+
+/* The same as carry_message, on a channel. */
+static void carry_on_channel(size_t size) {
+    static const uint8_t zeros[65536];
+    const size_t before = messages;
+    EQUAL("send", dcsctp_channel_send(&pair.a.socket, channel, DCSCTP_CHANNEL_TEXT, zeros, size),
+          DCSCTP_OK);
+    settle_channels();
+    EQUAL("message", messages, before + 1);
+}
+
+static void channel_poll(void) {
+    dcsctp_channel_event event;
+    EQUAL("channel_poll", dcsctp_channel_poll(&pair.a.socket, &event), 0);
+}
+
+static void channel_message(void) {
+    carry_on_channel(1024);
+}
+
+static void long_channel_message(void) {
+    carry_on_channel(65536);
+}
+
+/* What one more open channel adds to an end, by the mean of a thousand. */
+static void print_channel(void) {
+    enum { COUNT = 1000 };
+    connect_channels();
+    const size_t bytes_before = bytes, blocks_before = blocks;
+    for (int i = 0; i < COUNT; i++) {
+        open_channel();
+        settle_channels();
+    }
+    pass(&pair, SECONDS); /* (the last acknowledgement) */
+    settle_channels();
+    printf("one more data channel:%zu bytes in %.2f blocks\n", (bytes - bytes_before) / 2 / COUNT,
+           (double)(blocks - blocks_before) / 2 / COUNT);
+    destroy_pair(&pair);
+}
+
+/* The same of a stream without channels, on which a message went either way. */
+static void print_stream(void) {
+    enum { COUNT = 1000 };
+    connect_pair(&pair, &options, &options);
+    const size_t bytes_before = bytes, blocks_before = blocks;
+    for (uint16_t i = 0; i < COUNT; i++) {
+        EQUAL("send", send_bytes(&pair.a, i, 1), DCSCTP_OK);
+        EQUAL("send", send_bytes(&pair.b, i, 1), DCSCTP_OK);
+        settle(&pair);
+        EQUAL("read", take_messages(&pair.a, 1) + take_messages(&pair.b, 1), 2);
+    }
+    pass(&pair, SECONDS);
+    settle(&pair);
+    printf("one more used stream:%zu bytes in %.2f blocks\n", (bytes - bytes_before) / 2 / COUNT,
+           (double)(blocks - blocks_before) / 2 / COUNT);
+    destroy_pair(&pair);
+}
+
 static const struct {
     const char *name;
     void (*call)(void);
-    uint16_t checksum_offload;
+    uint16_t checksum_offload, has_channels;
 } calls[] = {
-    {"options_init", options_init, 0},
-    {"create_and_destroy", create_and_destroy, 0},
-    {"state", state, 0},
-    {"poll_timeout", poll_timeout, 0},
-    {"advance_time", advance_time, 0},
-    {"poll_event", poll_event, 0},
-    {"event_bytes", event_bytes, 0},
-    {"buffered_amount", buffered_amount, 0},
-    {"get_options", get_options, 0},
-    {"get_metrics", get_metrics, 0},
-    {"message", message, 0},
-    {"message_offload", message, 1},
-    {"long_message", long_message, 0},
-    {"long_message_offload", long_message, 1},
+    {"options_init", options_init, 0, 0},
+    {"create_and_destroy", create_and_destroy, 0, 0},
+    {"state", state, 0, 0},
+    {"poll_timeout", poll_timeout, 0, 0},
+    {"advance_time", advance_time, 0, 0},
+    {"poll_event", poll_event, 0, 0},
+    {"event_bytes", event_bytes, 0, 0},
+    {"buffered_amount", buffered_amount, 0, 0},
+    {"get_options", get_options, 0, 0},
+    {"get_metrics", get_metrics, 0, 0},
+    {"message", message, 0, 0},
+    {"message_offload", message, 1, 0},
+    {"long_message", long_message, 0, 0},
+    {"long_message_offload", long_message, 1, 0},
+    {"channel_poll", channel_poll, 0, 1},
+    {"channel_message", channel_message, 0, 1},
+    {"long_channel_message", long_channel_message, 0, 1},
 };
 
 /* Connects A and B, so that B's event of the INIT ACK is the one that was taken last. */
@@ -177,12 +286,14 @@ static void connect_both(void) {
 
 static int print_heap(void) {
     create_pair(&pair, &options, &options);
-    printf("closed %zu bytes in %zu blocks\n", bytes / 2, blocks / 2);
+    printf("a closed socket:%zu bytes in %zu blocks\n", bytes / 2, blocks / 2);
     dcsctp_destroy(&pair.b.socket);
     dcsctp_destroy(&pair.a.socket);
     connect_pair(&pair, &options, &options);
-    printf("connected %zu bytes in %zu blocks\n", bytes / 2, blocks / 2);
+    printf("a connected socket:%zu bytes in %zu blocks\n", bytes / 2, blocks / 2);
     destroy_pair(&pair);
+    print_stream();
+    print_channel();
     EQUAL("all is freed", blocks, 0);
     return 0;
 }
@@ -200,8 +311,11 @@ int main(int argc, char **argv) {
         if (strcmp(argv[1], calls[i].name) != 0)
             continue;
         options.checksum_offload = calls[i].checksum_offload;
-        connect_both();
-        if (calls[i].call != event_bytes) {
+        if (calls[i].has_channels)
+            connect_channels();
+        else
+            connect_both();
+        if (calls[i].call != event_bytes && !calls[i].has_channels) {
             settle(&pair);
             state();
         }
