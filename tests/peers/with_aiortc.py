@@ -218,6 +218,28 @@ async def sends_a_mebibyte(world):
     await world.until("closed", lambda: world.closed("echo long"))
 
 
+async def sends_sixteen(world):
+    """16 MiB from either end, no more at a time than a buffer takes."""
+    if LOSS:  # (else it takes a minute)
+        return
+    parts = [CHANCE.randbytes(65536) for _ in range(256)]
+    world.ours.open("burst")
+    world.theirs.open("their burst")
+    await world.until("opened", lambda: "burst" in world.theirs.known and "their burst" in world.ours.known)
+    channel, their_channel = world.ours.known["burst"], world.theirs.known["their burst"]
+    for part in parts:
+        await world.until("room", lambda: channel.buffered_amount < 1000000)
+        channel.send(part)
+        await world.until("room", lambda: their_channel.bufferedAmount < 1000000)
+        their_channel.send(part)
+    for got in (world.theirs.got["burst"], world.ours.got["their burst"]):
+        await world.until("16 MiB", lambda got=got: len(got) == len(parts))
+        assert got == parts
+    channel.close()
+    their_channel.close()
+    await world.until("closed", lambda: world.closed("burst", "their burst"))
+
+
 async def abandons_what_is_lost(world):
     world.ours.open("fast", ordered=False, max_retransmits=0)
     world.theirs.open("their fast", ordered=False, maxRetransmits=0)
@@ -254,6 +276,7 @@ async def main():
         opens_again_and_again,
         opens_fifty_at_once,
         sends_a_mebibyte,
+        sends_sixteen,
         abandons_what_is_lost,
         agrees_on_a_stream,
     ):
