@@ -1,0 +1,10 @@
+pub mod Moving
+pub mod Feeding
+pub mod FlushFeeds
+pub mod Named
+pub mod Alike
+pub mod Queueing
+pub mod Preparing
+pub mod Ending
+pub mod FlushSteps
+pub mod SendingRuns

@@ -1,0 +1,10 @@
+//! The laws of this crate.
+
+ghost use Rattle.dcsctp_delivery_epochs.specs.Directions.{DirectionsSendByEpoch};
+
+/// With interleaving what was queued on a stream before its user asked for a reset is sent before the reset, or never,
+/// and what was queued since is sent after it (RFC 6525, section 5.1.2). Of a stream that was open where the
+/// association began it is known at each time for how many messages that is.
+pub fn directions_send_by_epoch()
+    ensures { DirectionsSendByEpoch }
+{}
