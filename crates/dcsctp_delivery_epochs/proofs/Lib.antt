@@ -8,3 +8,7 @@ pub mod Preparing
 pub mod Ending
 pub mod FlushSteps
 pub mod SendingRuns
+pub mod Behind
+pub mod Delivering
+pub mod Performing
+pub mod DeliveringRuns

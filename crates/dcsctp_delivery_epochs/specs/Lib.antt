@@ -1,2 +1,3 @@
 pub mod Sending
 pub mod Directions
+pub mod Cuts

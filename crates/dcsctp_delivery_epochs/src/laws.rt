@@ -1,5 +1,6 @@
 //! The laws of this crate.
 
+ghost use Rattle.dcsctp_delivery_epochs.specs.Cuts.{DirectionsDeliverByEpoch};
 ghost use Rattle.dcsctp_delivery_epochs.specs.Directions.{DirectionsSendByEpoch};
 
 /// With interleaving what was queued on a stream before its user asked for a reset is sent before the reset, or never,
@@ -7,4 +8,12 @@ ghost use Rattle.dcsctp_delivery_epochs.specs.Directions.{DirectionsSendByEpoch}
 /// association began it is known at each time for how many messages that is.
 pub fn directions_send_by_epoch()
     ensures { DirectionsSendByEpoch }
+{}
+
+/// With interleaving each reset of a stream that the receiver performs separates the ordered messages of the stream:
+/// those that were read or are ready then were queued before the reset was asked for, and those that come later since
+/// (RFC 6525, section 5.2.2). A request that is sent again under another number, and performed twice, separates them
+/// twice at the same message.
+pub fn directions_deliver_by_epoch()
+    ensures { DirectionsDeliverByEpoch }
 {}

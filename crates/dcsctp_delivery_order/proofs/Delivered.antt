@@ -7,19 +7,19 @@ use Rattle.dcsctp_delivery_sending.specs.Log.{Message, History}
 use Rattle.dcsctp_delivery_receiving.specs.Ready.{AreDistinct, WereQueued}
 use Rattle.dcsctp_delivery_receiving.proofs.Distinct.{has_left, has_right, has_either}
 use Rattle.dcsctp_delivery_order.specs.Queue.{IsOrderedOn, ComeInOrder, LeaveNoGap}
-use Rattle.dcsctp_delivery_order.specs.Reading.{CountsFromZero}
+use Rattle.dcsctp_delivery_order.specs.Reading.{CountsFromZero, Watch, uncut}
 use Rattle.dcsctp_delivery_order.specs.Gaps.{SendsInTurn}
 use Rattle.dcsctp_delivery_order.specs.Incoming.{IncomingOrdered}
 use Rattle.dcsctp_delivery_order.specs.Delivered.{AreDeliveredInOrder, AreDeliveredWithoutGaps}
 use Rattle.dcsctp_delivery_order.proofs.Gaps.{filled_no_gap}
 use Rattle.dcsctp_delivery_order.proofs.Incoming.{ordered_was_read}
 
-pub read_is_in_order : (gapless : ℕ → Bool) (queued : List Message) (history : History) (quiet : ℕ → Bool) (got : List ℕ) (base : ℕ) (places : List ℕ) (incoming : IncomingModel) (read : List MessageContent)
-    → WereQueued queued places read → AreDistinct places → ((id : ℕ) → CountsFromZero history id) → IncomingOrdered gapless queued history quiet got base places incoming → AreDeliveredInOrder queued read
-read_is_in_order gapless queued history quiet got base places incoming read were once counts o =
+pub read_is_in_order : (watch : ℕ → Watch) (queued : List Message) (history : History) (quiet : ℕ → Bool) (got : List ℕ) (base : ℕ) (places : List ℕ) (incoming : IncomingModel) (read : List MessageContent)
+    → WereQueued queued places read → AreDistinct places → ((id : ℕ) → CountsFromZero history id) → IncomingOrdered watch queued history quiet got base places incoming → AreDeliveredInOrder queued read
+read_is_in_order watch queued history quiet got base places incoming read were once counts o =
     record {
       delivered = record { places = places; were_queued = were; once = once };
-      in_order = λ id. ordered_was_read gapless queued history quiet got base places incoming id (counts id) o;
+      in_order = λ id. ordered_was_read watch queued history quiet got base places incoming id (counts id) o;
     }
 
 module _ (queued : List Message) (id : ℕ) where
@@ -43,12 +43,12 @@ module _ (queued : List Message) (id : ℕ) where
 
 pub read_is_front : (queued : List Message) (history : History) (got : List ℕ) (base : ℕ) (places : List ℕ) (incoming : IncomingModel) (read : List MessageContent)
     → WereQueued queued places read → AreDistinct places → ((id : ℕ) → CountsFromZero history id) → ((id : ℕ) → SendsInTurn queued history id)
-    → IncomingOrdered (λ id. true) queued history (λ id. false) got base places incoming → AreDeliveredWithoutGaps queued read
+    → IncomingOrdered (uncut (λ id. true)) queued history (λ id. false) got base places incoming → AreDeliveredWithoutGaps queued read
 read_is_front queued history got base places incoming read were once counts sends o =
     record {
       ordered = record {
         delivered = record { places = places; were_queued = were; once = once };
-        in_order = λ id. ordered_was_read (λ k. true) queued history (λ k. false) got base places incoming id (counts id) o;
+        in_order = λ id. ordered_was_read (uncut (λ k. true)) queued history (λ k. false) got base places incoming id (counts id) o;
       };
       no_gap = λ id. (
           let s = o.order id (counts id) in

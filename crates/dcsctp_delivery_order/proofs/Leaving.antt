@@ -13,15 +13,16 @@ use Rattle.dcsctp_delivery_receiving.specs.Ready.{IsOn, AreDistinct, WasQueued, 
 use Rattle.dcsctp_delivery_receiving.proofs.Distinct.{appended, has_left, has_right, distinct_with}
 use Rattle.dcsctp_delivery_receiving.proofs.SpentRows.{of_message, IsOfMessage}
 use Rattle.dcsctp_delivery_receiving.proofs.Waiting.{OfStream, both_queued, renamed, wait_spent, Split, split_due}
-use Rattle.dcsctp_delivery_order.specs.Queue.{IsOrderedOn}
+use Rattle.dcsctp_delivery_order.specs.Queue.{IsOrderedOn, AreSeparated}
 use Rattle.dcsctp_delivery_order.specs.Rising.{AscendFrom, DeliversRow, IsAhead, ready_with_part}
 use Rattle.dcsctp_delivery_order.specs.Order.{IsReadAs, IsReadBelow, AreReadAs, AreFilled}
-use Rattle.dcsctp_delivery_order.specs.Reading.{CountsFromZero, IsInReach, OrderedStream}
+use Rattle.dcsctp_delivery_order.specs.Reading.{CountsFromZero, IsInReach, OrderedStream, Watch}
 use Rattle.dcsctp_delivery_order.specs.Incoming.{IsOrderedOrReset}
 use Rattle.dcsctp_delivery_order.proofs.Rising.{parts_deliver_rows}
 use Rattle.dcsctp_delivery_order.proofs.Gaps.{rows_fill}
 use Rattle.dcsctp_delivery_order.proofs.Order.{order_then, read_among, others_stay, others_between}
 use Rattle.dcsctp_delivery_order.proofs.Reading.{numbers_are_fresh, parts_in_reach}
+use Rattle.dcsctp_delivery_order.proofs.Separated.{separated_others, separated_more, read_since}
 
 -- ---- what is due, by its places
 
@@ -48,8 +49,8 @@ pub more_filled : (history : History) (id next : ℕ) (all more : List ℕ) → 
 more_filled history id next all more filled number low less = (let is = filled number low less in record { place = is.place; has = has_left is.place all more is.has; is = is.is })
 
 -- only the next number and what waits matter
-pub alike_ordered : (gapless : Bool) (queued : List Message) (history : History) (id : ℕ) (all waits : List ℕ) (old new : StreamModel) → new.next ≡ old.next → new.waiting ≡ old.waiting → OrderedStream gapless queued history id all waits old → OrderedStream gapless queued history id all waits new
-alike_ordered gapless queued history id all waits old new next waiting o =
+pub alike_ordered : (watch : Watch) (queued : List Message) (history : History) (id : ℕ) (all waits : List ℕ) (old new : StreamModel) → new.next ≡ old.next → new.waiting ≡ old.waiting → OrderedStream watch queued history id all waits old → OrderedStream watch queued history id all waits new
+alike_ordered watch queued history id all waits old new next waiting o =
     record {
       order = record {
         in_order = o.order.in_order;
@@ -59,13 +60,15 @@ alike_ordered gapless queued history id all waits old new next waiting o =
       };
       reach = record { from = (let low = o.reach.from in omega (arith, low, next)); up_to = (let high = o.reach.up_to in omega (arith, high, next)) };
       filled = λ none. subst (λ (k : ℕ). AreFilled history id all k) (sym next) (o.filled none);
+      separated = o.separated;
+      since = o.since;
     }
 
 -- messages of other streams, or unordered ones
-pub others_where : (gapless : Bool) (queued : List Message) (history : History) (quiet : Bool) (id : ℕ) (all waits more : List ℕ) (stream : StreamModel) → ((place : ℕ) → HasEntry place more → IsOrderedOn queued id place → ⊥)
-    → IsOrderedOrReset gapless quiet queued history id all waits stream → IsOrderedOrReset gapless quiet queued history id (all ++ more) waits stream
-others_where gapless queued history false id all waits more stream none o = record { order = others_stay queued history id all waits more stream none o.order; reach = o.reach; filled = λ is. more_filled history id stream.next all more (o.filled is) }
-others_where gapless queued history true id all waits more stream none between = others_between queued history id all more none between
+pub others_where : (watch : Watch) (queued : List Message) (history : History) (quiet : Bool) (id : ℕ) (all waits more : List ℕ) (stream : StreamModel) → ((place : ℕ) → HasEntry place more → IsOrderedOn queued id place → ⊥)
+    → IsOrderedOrReset watch quiet queued history id all waits stream → IsOrderedOrReset watch quiet queued history id (all ++ more) waits stream
+others_where watch queued history false id all waits more stream none o = record { order = others_stay queued history id all waits more stream none o.order; reach = o.reach; filled = λ is. more_filled history id stream.next all more (o.filled is); separated = separated_others queued id watch.cuts all more none o.separated; since = o.since }
+others_where watch queued history true id all waits more stream none between = (others_between queued history id all more none between.0, separated_others queued id watch.cuts all more none between.1)
 
 -- a place on the stream
 abbrev pub IsOnIt : List Message → ℕ → ℕ → Type 0
@@ -77,6 +80,11 @@ one_stream queued id other place (m, at, on) (n, at', on') =
     let both' : Some m ≡ Some n = sym at ∙ at' in
     let same : m ≡ n = cc in
     sym on ∙ ap (λ (x : Message). x.stream) same ∙ on'
+
+pub take_drop : (k : ℕ) (l : List ℕ) → take k l ++ drop k l ≡ l
+take_drop zero l = refl
+take_drop (suc k) [] = refl
+take_drop (suc k) (x ∷ l) = ap (λ (r : List ℕ). x ∷ r) (take_drop k l)
 
 module _ (queued : List Message) (history : History) (got : List ℕ) where
   -- whole messages as they are delivered
@@ -105,7 +113,15 @@ module _ (queued : List Message) (history : History) (got : List ℕ) where
       split_read queued history id id split.front split.back (due next waiting) (not_due next waiting) split.due_queued
       (subst (λ (l : List ℕ). AreReadAs history id l (due next waiting ++ not_due next waiting)) split.parts (subst (λ (l : List WholeModel). AreReadAs history id waits l) (sym (due_all next waiting)) are))
 
-module _ (gapless : Bool) (queued : List Message) (history : History) (got : List ℕ) where
+  pub wait_with : (id p k : ℕ) (whole : WholeModel) (places : List ℕ) (wholes : List WholeModel) → IsQueued queued history.log got (IsOn history id) p whole → WaitQueued queued history got id places wholes
+      → WaitQueued queued history got id (take k places ++ p ∷ drop k places) (take k wholes ++ whole ∷ drop k wholes)
+  wait_with id p zero whole places wholes is wait = (is, wait)
+  wait_with id p (suc k) whole [] [] is wait = (is, tt)
+  wait_with id p (suc k) whole [] (w ∷ wholes) is wait = absurd wait
+  wait_with id p (suc k) whole (q ∷ places) [] is wait = absurd wait
+  wait_with id p (suc k) whole (q ∷ places) (w ∷ wholes) is wait = (wait.0, wait_with id p k whole places wholes is wait.1)
+
+module _ (watch : Watch) (queued : List Message) (history : History) (got : List ℕ) where
   -- These became ready besides, in order: `all` are the places of the messages that were read or are ready, `places` of those
   -- that are ready.
   pub record LeavesOrder (all places : List ℕ) (id : ℕ) (new : StreamModel) (after : List MessageContent) : Type 0 where
@@ -116,10 +132,10 @@ module _ (gapless : Bool) (queued : List Message) (history : History) (got : Lis
     pub once : AreDistinct ((all ++ more) ++ waits)
     pub on : (q : ℕ) → HasEntry q more → IsOnIt queued id q
     pub spent : (q : ℕ) → HasEntry q more → Spent history.log got q
-    pub order : CountsFromZero history id → OrderedStream gapless queued history id (all ++ more) waits new
+    pub order : CountsFromZero history id → OrderedStream watch queued history id (all ++ more) waits new
 
   pub none_left : (all places waits : List ℕ) (id : ℕ) (new : StreamModel) (before after : List MessageContent) → WereQueued queued places before → WaitQueued queued history got id waits new.waiting → AreDistinct (all ++ waits) → after ≡ before
-      → (CountsFromZero history id → OrderedStream gapless queued history id (all ++ []) waits new) → LeavesOrder all places id new after
+      → (CountsFromZero history id → OrderedStream watch queued history id (all ++ []) waits new) → LeavesOrder all places id new after
   none_left all places waits id new before after were wait once same order =
       record {
         more = [];
@@ -134,7 +150,7 @@ module _ (gapless : Bool) (queued : List Message) (history : History) (got : Lis
 
   one_left : (all places waits : List ℕ) (on id p : ℕ) (whole : WholeModel) (new : StreamModel) (before after : List MessageContent) → id ≡ on → WereQueued queued places before → WaitQueued queued history got id waits new.waiting
       → IsQueued queued history.log got (OfStream id) p whole → AreDistinct (all ++ waits) → (HasEntry p (all ++ waits) → ⊥) → after ≡ before ++ delivered_as on whole ∷ []
-      → (CountsFromZero history id → OrderedStream gapless queued history id (all ++ p ∷ []) waits new) → LeavesOrder all places id new after
+      → (CountsFromZero history id → OrderedStream watch queued history id (all ++ p ∷ []) waits new) → LeavesOrder all places id new after
   one_left all places waits on id p whole new before after same were wait is once fresh e order =
       record {
         more = p ∷ [];
@@ -148,23 +164,10 @@ module _ (gapless : Bool) (queued : List Message) (history : History) (got : Lis
         order = order;
       }
 
-  pub take_drop : (k : ℕ) (l : List ℕ) → take k l ++ drop k l ≡ l
-  take_drop zero l = refl
-  take_drop (suc k) [] = refl
-  take_drop (suc k) (x ∷ l) = ap (λ (r : List ℕ). x ∷ r) (take_drop k l)
-
-  pub wait_with : (id p k : ℕ) (whole : WholeModel) (places : List ℕ) (wholes : List WholeModel) → IsQueued queued history.log got (IsOn history id) p whole → WaitQueued queued history got id places wholes
-      → WaitQueued queued history got id (take k places ++ p ∷ drop k places) (take k wholes ++ whole ∷ drop k wholes)
-  wait_with id p zero whole places wholes is wait = (is, wait)
-  wait_with id p (suc k) whole [] [] is wait = (is, tt)
-  wait_with id p (suc k) whole [] (w ∷ wholes) is wait = absurd wait
-  wait_with id p (suc k) whole (q ∷ places) [] is wait = absurd wait
-  wait_with id p (suc k) whole (q ∷ places) (w ∷ wholes) is wait = (wait.0, wait_with id p k whole places wholes is wait.1)
-
   -- ---- an ordered part
 
   module _ (all places waits : List ℕ) (id p : ℕ) (part : PartModel) (old new : StreamModel) (before after : List MessageContent) (taken : Taken) (same : id ≡ old.id) (were : WereQueued queued places before)
-      (wait : WaitQueued queued history got id waits old.waiting) (once : AreDistinct (all ++ waits)) (fresh : HasEntry p (all ++ waits) → ⊥) (ordered : CountsFromZero history id → OrderedStream gapless queued history id all waits old)
+      (wait : WaitQueued queued history got id waits old.waiting) (once : AreDistinct (all ++ waits)) (fresh : HasEntry p (all ++ waits) → ⊥) (ordered : CountsFromZero history id → OrderedStream watch queued history id all waits old)
       (reads : CountsFromZero history id → IsReadAs history id p part.number) where
     whole_left : (whole : WholeModel) → whole.number ≡ part.number → (b : Bool) → after ≡ (if b then before ++ ready_with old whole else before) → MatchBool b (new.waiting ≡ not_due (next_after old.next whole) old.waiting) (WaitsAmong whole old.waiting new.waiting)
         → IsQueued queued history.log got (IsOn history id) p whole → (CountsFromZero history id → DeliversRow old before new after (if b then whole ∷ due (next_after old.next whole) old.waiting else []))
@@ -196,6 +199,10 @@ module _ (gapless : Bool) (queued : List Message) (history : History) (got : Lis
                 reach = reach counts;
                 filled = λ none. rows_fill history id old.next new.next all (p ∷ split.front) (whole ∷ due (next_after old.next whole) old.waiting)
                     (subst (λ (k : ℕ). IsReadAs history id p k) (sym number) (reads counts), halves.0) (rises counts).row ((ordered counts).filled none);
+                separated = separated_more queued id watch.cuts all (p ∷ split.front)
+                    (read_since history id watch.cuts (ordered counts).since old.next new.next (p ∷ split.front) (whole ∷ due (next_after old.next whole) old.waiting) (ordered counts).reach.from
+                    (subst (λ (k : ℕ). IsReadAs history id p k) (sym number) (reads counts), halves.0) (rises counts).rising.rise) (ordered counts).separated;
+                since = (ordered counts).since;
               }
               );
         }
@@ -203,7 +210,7 @@ module _ (gapless : Bool) (queued : List Message) (history : History) (got : Lis
         let whole_waits : take among.at waits ++ drop among.at waits ≡ waits = take_drop among.at waits in
         let split_all : (all ++ take among.at waits) ++ drop among.at waits ≡ all ++ waits = appended all (take among.at waits) (drop among.at waits) ∙ ap (λ (l : List ℕ). all ++ l) whole_waits in
         none_left all places (take among.at waits ++ p ∷ drop among.at waits) id new before after were
-        (subst (λ (l : List WholeModel). WaitQueued queued history got id (take among.at waits ++ p ∷ drop among.at waits) l) (sym among.waiting) (wait_with id p among.at whole waits old.waiting is wait))
+        (subst (λ (l : List WholeModel). WaitQueued queued history got id (take among.at waits ++ p ∷ drop among.at waits) l) (sym among.waiting) (wait_with queued history got id p among.at whole waits old.waiting is wait))
         (subst (λ (l : List ℕ). AreDistinct l) (appended all (take among.at waits) (p ∷ drop among.at waits))
         (distinct_with p (all ++ take among.at waits) (drop among.at waits) (subst (λ (l : List ℕ). AreDistinct l) (sym split_all) once) (λ h. fresh (subst (λ (l : List ℕ). HasEntry p l) split_all h))))
         e
@@ -213,6 +220,8 @@ module _ (gapless : Bool) (queued : List Message) (history : History) (got : Lis
               (read_among history id p among.at whole waits old.waiting (subst (λ (k : ℕ). IsReadAs history id p k) (sym number) (reads counts)) (ordered counts).order.waiting));
           reach = reach counts;
           filled = λ none. rows_fill history id old.next new.next all [] [] tt (rises counts).row ((ordered counts).filled none);
+          separated = subst (λ (l : List ℕ). AreSeparated queued id watch.cuts l) (sym (append-nil all)) (ordered counts).separated;
+          since = (ordered counts).since;
         })
 
     by_outcome : (outcome : Assembly) → OrderedOutcome part old before outcome taken new after → IsOfMessage part.number outcome → MakesQueued queued history.log got (IsOn history id) p outcome
@@ -224,6 +233,8 @@ module _ (gapless : Bool) (queued : List Message) (history : History) (got : Lis
               (subst (λ (s : StreamModel). AreReadAs history id waits s.waiting) (sym does.0) (ordered counts).order.waiting);
           reach = reach counts;
           filled = λ none. rows_fill history id old.next new.next all [] [] tt (rises counts).row ((ordered counts).filled none);
+          separated = subst (λ (l : List ℕ). AreSeparated queued id watch.cuts l) (sym (append-nil all)) (ordered counts).separated;
+          since = (ordered counts).since;
         })
     by_outcome part_kept does of makes rises reach =
         none_left all places waits id new before after were (subst (λ (l : List WholeModel). WaitQueued queued history got id waits l) (sym does.1) wait) once does.2
@@ -232,6 +243,8 @@ module _ (gapless : Bool) (queued : List Message) (history : History) (got : Lis
               (subst (λ (l : List WholeModel). AreReadAs history id waits l) (sym does.1) (ordered counts).order.waiting);
           reach = reach counts;
           filled = λ none. rows_fill history id old.next new.next all [] [] tt (rises counts).row ((ordered counts).filled none);
+          separated = subst (λ (l : List ℕ). AreSeparated queued id watch.cuts l) (sym (append-nil all)) (ordered counts).separated;
+          since = (ordered counts).since;
         })
     by_outcome (message_whole whole) does of makes rises reach = whole_left whole of (whole.number == old.next) does.ready does.waiting makes rises reach
 
@@ -248,12 +261,15 @@ module _ (gapless : Bool) (queued : List Message) (history : History) (got : Lis
 
   pub apart_left : (all places waits : List ℕ) (on id p : ℕ) (part : PartModel) (new : StreamModel) (before after : List MessageContent) (outcome : Assembly) (taken : Taken) → id ≡ on
       → WereQueued queued places before → WaitQueued queued history got id waits new.waiting → MakesQueued queued history.log got (OfStream id) p outcome → AreDistinct (all ++ waits) → (HasEntry p (all ++ waits) → ⊥)
-      → (CountsFromZero history id → OrderedStream gapless queued history id all waits new) → (CountsFromZero history id → IsOrderedOn queued id p → ⊥)
+      → (CountsFromZero history id → OrderedStream watch queued history id all waits new) → (CountsFromZero history id → IsOrderedOn queued id p → ⊥)
       → UnorderedOutcome part (delivered_as on) before outcome taken after → LeavesOrder all places id new after
   apart_left all places waits on id p part new before after outcome taken same were wait makes once fresh ordered other does = go outcome makes does
     where
-      none_more : CountsFromZero history id → OrderedStream gapless queued history id (all ++ []) waits new
-      none_more counts = subst (λ (l : List ℕ). OrderedStream gapless queued history id l waits new) (sym (append-nil all)) (ordered counts)
+      none_more : CountsFromZero history id → OrderedStream watch queued history id (all ++ []) waits new
+      none_more counts = subst (λ (l : List ℕ). OrderedStream watch queued history id l waits new) (sym (append-nil all)) (ordered counts)
+
+      not_ordered : CountsFromZero history id → (place : ℕ) → HasEntry place (p ∷ []) → IsOrderedOn queued id place → ⊥
+      not_ordered counts place h is = elim h [ inl e ↦ other counts (subst (λ (k : ℕ). IsOrderedOn queued id k) e is) | inr t ↦ absurd t ]
 
       go : (outcome : Assembly) → MakesQueued queued history.log got (OfStream id) p outcome → UnorderedOutcome part (delivered_as on) before outcome taken after → LeavesOrder all places id new after
       go part_dropped makes' does' = none_left all places waits id new before after were wait once does'.0 none_more
@@ -261,7 +277,9 @@ module _ (gapless : Bool) (queued : List Message) (history : History) (got : Lis
       go (message_whole whole) makes' does' =
           one_left all places waits on id p whole new before after same were wait makes' once fresh does'.0
           (λ counts. record {
-            order = others_stay queued history id all waits (p ∷ []) new (λ place h is. elim h [ inl e ↦ other counts (subst (λ (k : ℕ). IsOrderedOn queued id k) e is) | inr t ↦ absurd t ]) (ordered counts).order;
+            order = others_stay queued history id all waits (p ∷ []) new (not_ordered counts) (ordered counts).order;
             reach = (ordered counts).reach;
             filled = λ is. more_filled history id new.next all (p ∷ []) ((ordered counts).filled is);
+            separated = separated_others queued id watch.cuts all (p ∷ []) (not_ordered counts) (ordered counts).separated;
+            since = (ordered counts).since;
           })

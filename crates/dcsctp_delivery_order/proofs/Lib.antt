@@ -6,6 +6,7 @@ pub mod Reach
 pub mod PlainTurns
 pub mod PlainRows
 pub mod Gaps
+pub mod Separated
 pub mod Leaving
 pub mod Ready
 pub mod Skipping

@@ -164,10 +164,10 @@ module _ (queued : List Message) (history : History) (cut : IsLogOfPieces queued
             (subst (λ (l : List WholeModel). AreReadAs (with_turns history) id split.back l) (sym left) halves.1);
       }
   whole_left whole number false e among is' delivers =
-      let whole_waits : take among.at waits ++ drop among.at waits ≡ waits = take_drop true queued history now among.at waits in
+      let whole_waits : take among.at waits ++ drop among.at waits ≡ waits = take_drop among.at waits in
       let split_all : (all ++ take among.at waits) ++ drop among.at waits ≡ all ++ waits = appended all (take among.at waits) (drop among.at waits) ∙ ap (λ (l : List ℕ). all ++ l) whole_waits in
       none_left queued history now base all places (take among.at waits ++ f.place ∷ drop among.at waits) id new before after were
-      (subst (λ (l : List WholeModel). WaitQueued queued history now id (take among.at waits ++ f.place ∷ drop among.at waits) l) (sym among.waiting) (wait_with true queued history now id f.place among.at whole waits old.waiting is' wait))
+      (subst (λ (l : List WholeModel). WaitQueued queued history now id (take among.at waits ++ f.place ∷ drop among.at waits) l) (sym among.waiting) (wait_with queued history now id f.place among.at whole waits old.waiting is' wait))
       (subst (λ (l : List ℕ). AreDistinct l) (appended all (take among.at waits) (f.place ∷ drop among.at waits))
       (distinct_with f.place (all ++ take among.at waits) (drop among.at waits) (subst (λ (l : List ℕ). AreDistinct l) (sym split_all) once) (λ h. fresh (subst (λ (l : List ℕ). HasEntry f.place l) split_all h))))
       e

@@ -33,6 +33,7 @@ use Rattle.dcsctp_delivery_order.specs.Incoming.{NoneLimitedOn}
 use Rattle.dcsctp_delivery_order.specs.Received.{HasReceivedInOrder}
 use Rattle.dcsctp_delivery_order.proofs.Ending.{quiet_with, ends_in_order}
 use Rattle.dcsctp_delivery_order.proofs.Taken.{received_later}
+use Rattle.dcsctp_delivery_order.specs.Reading.{Watch, ComeSince}
 
 -- The stream is handed out, all its pieces came before a reset up to which all was received, and it is clear.
 pub record IsSilent (history : History) (first cumulative : ℕ) (streams : List Stream) (reassembly : ReassemblyState) (id : ℕ) : Type 0 where
@@ -45,17 +46,17 @@ abbrev pub AreSilent : (ℕ → Bool) → History → ℕ → ℕ → List Strea
 AreSilent quiet history first cumulative streams reassembly = (id : ℕ) → quiet id ≡ true → IsSilent history first cumulative streams reassembly id
 
 -- What was read was queued, and what was received is in order. `streams` are those of the sender's queue.
-pub record Arrives (gapless : ℕ → Bool) (first : ℕ) (history : History) (queued : List Message) (read : List MessageContent) (tracker : TrackerState) (reassembly : ReassemblyState) (streams : List Stream) : Type 0 where
+pub record Arrives (watch : ℕ → Watch) (first : ℕ) (history : History) (queued : List Message) (read : List MessageContent) (tracker : TrackerState) (reassembly : ReassemblyState) (streams : List Stream) : Type 0 where
   pub places : List ℕ
   pub were : WereQueued queued places read
   pub once : AreDistinct places
   pub quiet : ℕ → Bool
-  pub received : HasReceivedInOrder gapless queued history quiet first places tracker reassembly
+  pub received : HasReceivedInOrder watch queued history quiet first places tracker reassembly
   pub silent : AreSilent quiet history first tracker.cumulative streams reassembly
 
 -- ---- the history continues
 
-module _ (gapless : ℕ → Bool) (first : ℕ) (history later : History) (before after : List Stream) (out left : ℕ) (c : Continues history later before after out left) where
+module _ (watch : ℕ → Watch) (first : ℕ) (history later : History) (before after : List Stream) (out left : ℕ) (c : Continues history later before after out left) where
   silent_later : (quiet : ℕ → Bool) (cumulative : ℕ) (reassembly : ReassemblyState) → AreSilent quiet history first cumulative before reassembly → AreSilent quiet later first cumulative after reassembly
   silent_later quiet cumulative reassembly silent id is =
       let q = silent id is in
@@ -72,9 +73,9 @@ module _ (gapless : ℕ → Bool) (first : ℕ) (history later : History) (befor
         clear = q.clear;
       }
 
-  pub arrives_later : (queued more : List Message) (read : List MessageContent) (tracker : TrackerState) (reassembly : ReassemblyState) → Arrives gapless first history queued read tracker reassembly before
-      → Arrives gapless first later (more ++ queued) read tracker reassembly after
-  arrives_later queued more read tracker reassembly a =
+  pub arrives_later : (queued more : List Message) (read : List MessageContent) (tracker : TrackerState) (reassembly : ReassemblyState) → (a : Arrives watch first history queued read tracker reassembly before)
+      → ((id : ℕ) → a.quiet id ≡ false → ComeSince history id (watch id).cuts → ComeSince later id (watch id).cuts) → Arrives watch first later (more ++ queued) read tracker reassembly after
+  arrives_later queued more read tracker reassembly a fresh =
       record {
         places = a.places;
         were = were_more queued more a.places read a.were;
@@ -82,7 +83,7 @@ module _ (gapless : ℕ → Bool) (first : ℕ) (history later : History) (befor
         quiet = a.quiet;
         received = received_later queued more history later
             (record { stays = stays; current = λ n f at is. subst (λ (floors : ℕ → Bool → ℕ). floors f.message.stream f.message.is_unordered ≤ f.mid) (sym c.floors) is; longer = longer; marks = c.marks })
-            (record { stays = stays; floors = c.floors }) a.quiet a.places read a.were gapless first tracker reassembly a.received;
+            (record { stays = stays; floors = c.floors }) a.quiet a.places read a.were watch fresh first tracker reassembly a.received;
         silent = silent_later a.quiet tracker.cumulative reassembly a.silent;
       }
     where
@@ -103,7 +104,7 @@ named_new : (id : ℕ) (streams : List ℕ) (old between : IncomingModel) → na
 named_new id [] old between named resets = resets.streams id
 named_new id (one ∷ others) old between named resets = resets.streams id ∙ rw named refl
 
-module _ (gapless : ℕ → Bool) (first : ℕ) (old : Direction) (small : first < 2 ^ 32) (s : Stands first old) (free : NoneLimitedOn gapless s.history.log) (little : length s.history.log < 2 ^ 31) (interleaved : old.queues.queue.is_interleaved ≡ true)
+module _ (watch : ℕ → Watch) (first : ℕ) (old : Direction) (small : first < 2 ^ 32) (s : Stands first old) (free : NoneLimitedOn watch s.history.log) (little : length s.history.log < 2 ^ 31) (interleaved : old.queues.queue.is_interleaved ≡ true)
     (newest : BegunReset) (earlier : List BegunReset) (new : ReassemblyState) (asks : old.asking.requests ≡ newest ∷ earlier) (some : 0 < old.asking.out) (named : NamedAreOut s.history old.asking.out old.queues.queue.streams)
     (reached : is_reset_reached newest.reset old.tracker ≡ true) (own : IsOwn newest.reset old.reassembly.deferral) (leaves : EndsDeferral newest.reset.streams old.reassembly new) where
   abbrev m : IsNewest s.history.marks newest
@@ -143,14 +144,14 @@ module _ (gapless : ℕ → Bool) (first : ℕ) (old : Direction) (small : first
       none_kept s.history first id m.mark (known_kinds first old small s interleaved) few has within o.names o.below old.reassembly.deferral (s.queues.marks m.mark has).last
       (subst (λ (b : BegunReset). IsOwn b.reset old.reassembly.deferral) (sym m.begins) own) all.forwards
 
-  pub performing_arrives : Arrives gapless first s.history old.queued old.read old.tracker old.reassembly old.queues.queue.streams → Arrives gapless first s.history old.queued old.read old.tracker new old.queues.queue.streams
+  pub performing_arrives : Arrives watch first s.history old.queued old.read old.tracker old.reassembly old.queues.queue.streams → Arrives watch first s.history old.queued old.read old.tracker new old.queues.queue.streams
   performing_arrives a =
       record {
         places = a.places;
         were = a.were;
         once = a.once;
         quiet = quiet_with a.quiet newest.reset.streams;
-        received = ends_in_order gapless old.queued s.history first s.queues.cut (known_log first old small s little) few free a.places a.quiet newest.reset.streams old.tracker old.reassembly new
+        received = ends_in_order watch old.queued s.history first s.queues.cut (known_log first old small s little) few free a.places a.quiet newest.reset.streams old.tracker old.reassembly new
             (λ id is. elim (either_quiet (a.quiet id) (names_stream newest.reset.streams id) is) [ inl was ↦ (a.silent id was).clear.none | inr names ↦ no_data id (out id names) ])
             (λ id is. elim (either_quiet (a.quiet id) (names_stream newest.reset.streams id) is) [ inl was ↦ (a.silent id was).clear.kept | inr names ↦ no_skips id (out id names) ])
             all.forwards a.received leaves;
@@ -165,3 +166,12 @@ module _ (gapless : ℕ → Bool) (first : ℕ) (old : Direction) (small : first
               })
         ];
       }
+
+  or_true : (a : Bool) → (a || true) ≡ true
+  or_true true = refl
+  or_true false = refl
+
+  -- The streams that it names are quiet then.
+  pub performed_quiet : (a : Arrives watch first s.history old.queued old.read old.tracker old.reassembly old.queues.queue.streams) (id : ℕ) → names_stream newest.reset.streams id ≡ true → (performing_arrives a).quiet id ≡ true
+  unfolding performing_arrives
+  performed_quiet a id names = ap (λ (b : Bool). a.quiet id || b) names ∙ or_true (a.quiet id)

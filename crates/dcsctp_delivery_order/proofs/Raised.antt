@@ -16,10 +16,10 @@ use Rattle.dcsctp_delivery_receiving.specs.Clear.{IsClear, IsOver, Unsent}
 use Rattle.dcsctp_delivery_receiving.specs.Ready.{WaitQueued, HoldsIncoming}
 use Rattle.dcsctp_delivery_receiving.proofs.Raising.{KeptOr, kept_or_clear, holds_keeps, defers_keeps}
 use Rattle.dcsctp_delivery_order.specs.Order.{IsSentAs, AreReadAs}
-use Rattle.dcsctp_delivery_order.specs.Reading.{CountsFromZero, OrderedStream}
+use Rattle.dcsctp_delivery_order.specs.Reading.{CountsFromZero, OrderedStream, Watch}
 use Rattle.dcsctp_delivery_order.specs.Incoming.{IsOrderedOrReset, IncomingOrdered}
 use Rattle.dcsctp_delivery_order.specs.Received.{none_quiet, ReassemblesInOrder, none_handled, some_handled, HasReceivedInOrder}
-use Rattle.dcsctp_delivery_order.proofs.Incoming.{quiet_where}
+use Rattle.dcsctp_delivery_order.proofs.Incoming.{quiet_where, separated_where}
 use Rattle.dcsctp_delivery_order.proofs.Order.{resets_stay}
 use Rattle.dcsctp_delivery_order.proofs.Received.{loud_by}
 use Rattle.dcsctp_delivery_order.proofs.Unsent.{unsent_ordered}
@@ -39,8 +39,8 @@ module _ (queued : List Message) (history : History) (floors : ℕ → Bool → 
   read_now (p ∷ places) [] are = absurd are
   read_now (p ∷ places) (w ∷ wholes) are = (record { mid = are.0.mid; sent = sent_now p are.0.mid are.0.sent; counted = (let counted = are.0.counted in omega (arith, counted, same)) }, read_now places wholes are.1)
 
-  ordered_now : (gapless : Bool) (all waits : List ℕ) (stream : StreamModel) → OrderedStream gapless queued history id all waits stream → OrderedStream gapless queued now id all waits stream
-  ordered_now gapless all waits stream o =
+  ordered_now : (watch : Watch) (all waits : List ℕ) (stream : StreamModel) → OrderedStream watch queued history id all waits stream → OrderedStream watch queued now id all waits stream
+  ordered_now watch all waits stream o =
       record {
         order = record {
           in_order = o.order.in_order;
@@ -57,11 +57,13 @@ module _ (queued : List Message) (history : History) (floors : ℕ → Bool → 
               is = record { mid = has.is.mid; sent = sent_now has.place has.is.mid has.is.sent; counted = (let counted = has.is.counted in omega (arith, counted, same)) };
             }
             );
+        separated = o.separated;
+        since = λ cut has n f at on is high. o.since cut has n f at on is (omega (arith, high, same));
       }
 
 -- ---- all streams
 
-module _ (gapless : ℕ → Bool) (queued : List Message) (history : History) (streams : List Stream) (cut : IsLogOfPieces queued history.log) (kinds : AreOfKind true history.log) (counts : (id : ℕ) → CountsFromZero history id) (quiet : ℕ → Bool)
+module _ (watch : ℕ → Watch) (queued : List Message) (history : History) (streams : List Stream) (cut : IsLogOfPieces queued history.log) (kinds : AreOfKind true history.log) (counts : (id : ℕ) → CountsFromZero history id) (quiet : ℕ → Bool)
     (silent : (id : ℕ) → quiet id ≡ true → is_handed_out (stream_named id streams).pause ≡ true) (first cumulative : ℕ) (reassembly : ReassemblyState)
     (out : (id : ℕ) → is_handed_out (stream_named id streams).pause ≡ true → Unsent history.log id ⊎ (IsOver history first cumulative id × IsClear id reassembly)) where
   abbrev raised : History
@@ -85,7 +87,7 @@ module _ (gapless : ℕ → Bool) (queued : List Message) (history : History) (s
       let few = (counts id).few n f at on ordered in
       subst (λ (b : Bool). f.mid < (if b then 2 ^ 32 * (history.floors id false + length history.log + 1) else history.floors id false)) (sym handed) (omega (arith, few))
 
-  ordered_raised : (got : List ℕ) (base : ℕ) (read : List ℕ) → IncomingOrdered gapless queued history quiet got base read reassembly.incoming → IncomingOrdered gapless queued raised none_quiet got base read reassembly.incoming
+  ordered_raised : (got : List ℕ) (base : ℕ) (read : List ℕ) → IncomingOrdered watch queued history quiet got base read reassembly.incoming → IncomingOrdered watch queued raised none_quiet got base read reassembly.incoming
   unfolding holds_raised holds_keeps
   ordered_raised got base read o =
       record {
@@ -93,31 +95,34 @@ module _ (gapless : ℕ → Bool) (queued : List Message) (history : History) (s
         order = λ id anew. by_pause id (is_handed_out (stream_named id streams).pause) refl;
       }
     where
-      renewed : (id : ℕ) → is_handed_out (stream_named id streams).pause ≡ true → IsClear id reassembly → OrderedStream (gapless id) queued raised id (read ++ o.holds.places) (o.holds.waits id) (stream_on id reassembly.incoming.streams)
+      renewed : (id : ℕ) → is_handed_out (stream_named id streams).pause ≡ true → IsClear id reassembly → OrderedStream (watch id) queued raised id (read ++ o.holds.places) (o.holds.waits id) (stream_on id reassembly.incoming.streams)
       renewed id handed clear =
           let none : o.holds.waits id ≡ [] = no_waits got id (o.holds.waits id) (subst (λ (s : StreamModel). WaitQueued queued history got id (o.holds.waits id) s.waiting) clear.stream (o.holds.streams_hold id).wait) in
-          let between = quiet_where (gapless id) queued history (quiet id) id (read ++ o.holds.places) (o.holds.waits id) (stream_on id reassembly.incoming.streams) (o.order id (counts id)) in
-          subst (λ (l : List ℕ). OrderedStream (gapless id) queued raised id (read ++ o.holds.places) l (stream_on id reassembly.incoming.streams)) (sym none)
-          (subst (λ (s : StreamModel). OrderedStream (gapless id) queued raised id (read ++ o.holds.places) [] s) (sym clear.stream)
+          let between = quiet_where (watch id) queued history (quiet id) id (read ++ o.holds.places) (o.holds.waits id) (stream_on id reassembly.incoming.streams) (o.order id (counts id)) in
+          subst (λ (l : List ℕ). OrderedStream (watch id) queued raised id (read ++ o.holds.places) l (stream_on id reassembly.incoming.streams)) (sym none)
+          (subst (λ (s : StreamModel). OrderedStream (watch id) queued raised id (read ++ o.holds.places) [] s) (sym clear.stream)
           (record {
             order = resets_stay queued history id (read ++ o.holds.places) raised.floors (above id handed) between;
             reach = record { from = omega arith; up_to = omega arith };
             filled = λ is number low less. absurd (omega (arith, low, less));
+            separated = separated_where (watch id) queued history (quiet id) id (read ++ o.holds.places) (o.holds.waits id) (stream_on id reassembly.incoming.streams) (o.order id (counts id));
+            since = λ cut has n f at on is high. absurd (let low = above id handed n f at on is in omega (arith, low, high));
           }))
 
-      by_pause : (id : ℕ) (b : Bool) → is_handed_out (stream_named id streams).pause ≡ b → OrderedStream (gapless id) queued raised id (read ++ o.holds.places) (o.holds.waits id) (stream_on id reassembly.incoming.streams)
+      by_pause : (id : ℕ) (b : Bool) → is_handed_out (stream_named id streams).pause ≡ b → OrderedStream (watch id) queued raised id (read ++ o.holds.places) (o.holds.waits id) (stream_on id reassembly.incoming.streams)
       by_pause id true handed = elim (out id handed) [
-        | inl none ↦ unsent_ordered queued raised id cut kinds none (gapless id) got base read reassembly.incoming (holds_raised got base read o.holds)
+        | inl none ↦ unsent_ordered queued raised id cut kinds none (watch id) got base read reassembly.incoming (holds_raised got base read o.holds)
+            (separated_where (watch id) queued history (quiet id) id (read ++ o.holds.places) (o.holds.waits id) (stream_on id reassembly.incoming.streams) (o.order id (counts id)))
         | inr c ↦ renewed id handed c.1
       ]
       by_pause id false shut =
           let loud : quiet id ≡ false = loud_by quiet id (λ is. (let clash : true ≡ false = sym (silent id is) ∙ shut in cc)) in
           let same : raised.floors id false ≡ history.floors id false =
           subst (λ (b : Bool). (if b then 2 ^ 32 * (history.floors id false + length history.log + 1) else history.floors id false) ≡ history.floors id false) (sym shut) refl in
-          ordered_now queued history raised.floors id same (gapless id) (read ++ o.holds.places) (o.holds.waits id) (stream_on id reassembly.incoming.streams)
-          (subst (λ (b : Bool). IsOrderedOrReset (gapless id) b queued history id (read ++ o.holds.places) (o.holds.waits id) (stream_on id reassembly.incoming.streams)) loud (o.order id (counts id)))
+          ordered_now queued history raised.floors id same (watch id) (read ++ o.holds.places) (o.holds.waits id) (stream_on id reassembly.incoming.streams)
+          (subst (λ (b : Bool). IsOrderedOrReset (watch id) b queued history id (read ++ o.holds.places) (o.holds.waits id) (stream_on id reassembly.incoming.streams)) loud (o.order id (counts id)))
 
-  pub raised_in_order : (read : List ℕ) (tracker : TrackerState) → HasReceivedInOrder gapless queued history quiet first read tracker reassembly → HasReceivedInOrder gapless queued raised none_quiet first read tracker reassembly
+  pub raised_in_order : (read : List ℕ) (tracker : TrackerState) → HasReceivedInOrder watch queued history quiet first read tracker reassembly → HasReceivedInOrder watch queued raised none_quiet first read tracker reassembly
   raised_in_order read tracker r =
       record {
         taken = r.taken;
@@ -132,6 +137,6 @@ module _ (gapless : ℕ → Bool) (queued : List Message) (history : History) (s
         defers = defers_keeps queued history streams first r.later (waiting_of reassembly.deferral) (λ id. elim (kept id) [ inl keep ↦ inl keep | inr c ↦ inr c.1.none ]) r.defers;
       }
     where
-      go : ReassemblesInOrder gapless queued history quiet first r.got read reassembly.incoming → ReassemblesInOrder gapless queued raised none_quiet first r.got read reassembly.incoming
+      go : ReassemblesInOrder watch queued history quiet first r.got read reassembly.incoming → ReassemblesInOrder watch queued raised none_quiet first r.got read reassembly.incoming
       go (none_handled none last empty) = none_handled none last (λ base. ordered_raised [] base read (empty base))
       go (some_handled base is holds) = some_handled base is (ordered_raised r.got base read holds)

@@ -25,7 +25,7 @@ use Rattle.std.specs.Prelude.{Some}
 use Rattle.std.proofs.lemmas.List.{append-nil}
 use Rattle.dcsctp_delivery_order.specs.Queue.{IsOrderedOn}
 use Rattle.dcsctp_delivery_order.specs.Order.{IsReadAs}
-use Rattle.dcsctp_delivery_order.specs.Reading.{CountsFromZero, OrderedStream}
+use Rattle.dcsctp_delivery_order.specs.Reading.{CountsFromZero, OrderedStream, Watch}
 use Rattle.dcsctp_delivery_order.specs.Incoming.{IsOrderedOrReset, HoldsOrdered, IncomingOrdered}
 use Rattle.dcsctp_delivery_order.proofs.Leaving.{others_where}
 use Rattle.dcsctp_delivery_order.proofs.Reading.{mids_are_read, numbers_are_fresh}
@@ -33,9 +33,9 @@ use Rattle.dcsctp_delivery_order.proofs.Leaving.{IsOnIt, one_stream, wait_on_it,
 
 -- ---- a chunk
 
-module _ (gapless : ℕ → Bool) (queued : List Message) (history : History) (quiet : ℕ → Bool) (cut : IsLogOfPieces queued history.log) (told : IsUnambiguous history) (got : List ℕ) (base : ℕ) (read : List ℕ) where
+module _ (watch : ℕ → Watch) (queued : List Message) (history : History) (quiet : ℕ → Bool) (cut : IsLogOfPieces queued history.log) (told : IsUnambiguous history) (got : List ℕ) (base : ℕ) (read : List ℕ) where
   module _ (tsn_number : ℕ) (chunk : ChunkModel) (bears : BearsPiece history base tsn_number chunk) (is_new : HasEntry bears.offset got → ⊥) (aloud : quiet chunk.stream ≡ false) (streams : ℕ → StreamModel) (unordered : List RunModel) (ready : List MessageContent)
-      (o : HoldsOrdered gapless queued history quiet got base read streams unordered ready) where
+      (o : HoldsOrdered watch queued history quiet got base read streams unordered ready) where
     all : List ℕ
     all = read ++ o.holds.places
 
@@ -59,16 +59,16 @@ module _ (gapless : ℕ → Bool) (queued : List Message) (history : History) (q
 
     -- other streams stay in order
     others_then : (id other : ℕ) (more : List ℕ) → ((q : ℕ) → HasEntry q more → IsOnIt queued id q) → other ≢ id → CountsFromZero history other
-        → IsOrderedOrReset (gapless other) (quiet other) queued history other (read ++ (o.holds.places ++ more)) (o.holds.waits other) (streams other)
+        → IsOrderedOrReset (watch other) (quiet other) queued history other (read ++ (o.holds.places ++ more)) (o.holds.waits other) (streams other)
     unfolding all
     others_then id other more on ne counts =
-        subst (λ (l : List ℕ). IsOrderedOrReset (gapless other) (quiet other) queued history other l (o.holds.waits other) (streams other)) (all_then more)
-        (others_where (gapless other) queued history (quiet other) other all (o.holds.waits other) more (streams other) (λ place h is. ne (sym (one_stream queued id other place (on place h) (is.message, is.at, is.stream)))) (o.order other counts))
+        subst (λ (l : List ℕ). IsOrderedOrReset (watch other) (quiet other) queued history other l (o.holds.waits other) (streams other)) (all_then more)
+        (others_where (watch other) queued history (quiet other) other all (o.holds.waits other) more (streams other) (λ place h is. ne (sym (one_stream queued id other place (on place h) (is.message, is.at, is.stream)))) (o.order other counts))
 
     -- the invariant once its stream is left so
     holds_then : (id : ℕ) → quiet id ≡ false → (later : ℕ → StreamModel) (runs : List RunModel) (after : List MessageContent) → StreamRows history now base id (later id)
-        → AreRows history.log now (unordered_base base) IsOfStream runs → ((other : ℕ) → other ≢ id → later other ≡ streams other) → LeavesOrder (gapless id) queued history now all o.holds.places id (later id) after
-        → HoldsOrdered gapless queued history quiet now base read later runs after
+        → AreRows history.log now (unordered_base base) IsOfStream runs → ((other : ℕ) → other ≢ id → later other ≡ streams other) → LeavesOrder (watch id) queued history now all o.holds.places id (later id) after
+        → HoldsOrdered watch queued history quiet now base read later runs after
     unfolding all
     holds_then id loud later runs after rows apart others leaves =
         record {
@@ -102,24 +102,24 @@ module _ (gapless : ℕ → Bool) (queued : List Message) (history : History) (q
           };
           order = λ other counts. elim (decide other id) [
             | inl e ↦
-                subst (λ (k : ℕ). IsOrderedOrReset (gapless k) (quiet k) queued history k (read ++ (o.holds.places ++ leaves.more)) (table_with id leaves.waits o.holds.waits k) (later k)) (sym e)
-                (subst (λ (l : List ℕ). IsOrderedOrReset (gapless id) (quiet id) queued history id (read ++ (o.holds.places ++ leaves.more)) l (later id)) (sym (set_same id leaves.waits o.holds.waits))
-                (subst (λ (b : Bool). IsOrderedOrReset (gapless id) b queued history id (read ++ (o.holds.places ++ leaves.more)) leaves.waits (later id)) (sym loud)
-                (subst (λ (l : List ℕ). OrderedStream (gapless id) queued history id l leaves.waits (later id)) (all_then leaves.more) (leaves.order (subst (λ (k : ℕ). CountsFromZero history k) e counts)))))
+                subst (λ (k : ℕ). IsOrderedOrReset (watch k) (quiet k) queued history k (read ++ (o.holds.places ++ leaves.more)) (table_with id leaves.waits o.holds.waits k) (later k)) (sym e)
+                (subst (λ (l : List ℕ). IsOrderedOrReset (watch id) (quiet id) queued history id (read ++ (o.holds.places ++ leaves.more)) l (later id)) (sym (set_same id leaves.waits o.holds.waits))
+                (subst (λ (b : Bool). IsOrderedOrReset (watch id) b queued history id (read ++ (o.holds.places ++ leaves.more)) leaves.waits (later id)) (sym loud)
+                (subst (λ (l : List ℕ). OrderedStream (watch id) queued history id l leaves.waits (later id)) (all_then leaves.more) (leaves.order (subst (λ (k : ℕ). CountsFromZero history k) e counts)))))
             | inr ne ↦
-                subst (λ (l : List ℕ). IsOrderedOrReset (gapless other) (quiet other) queued history other (read ++ (o.holds.places ++ leaves.more)) l (later other)) (sym (set_other id other leaves.waits o.holds.waits ne))
-                (subst (λ (s : StreamModel). IsOrderedOrReset (gapless other) (quiet other) queued history other (read ++ (o.holds.places ++ leaves.more)) (o.holds.waits other) s) (sym (others other ne))
+                subst (λ (l : List ℕ). IsOrderedOrReset (watch other) (quiet other) queued history other (read ++ (o.holds.places ++ leaves.more)) l (later other)) (sym (set_other id other leaves.waits o.holds.waits ne))
+                (subst (λ (s : StreamModel). IsOrderedOrReset (watch other) (quiet other) queued history other (read ++ (o.holds.places ++ leaves.more)) (o.holds.waits other) s) (sym (others other ne))
                 (others_then id other leaves.more leaves.on ne counts))
           ];
         }
 
     -- its stream is in order, and stays so where nothing changes
-    here_order : CountsFromZero history chunk.stream → OrderedStream (gapless chunk.stream) queued history chunk.stream all (o.holds.waits chunk.stream) (streams chunk.stream)
+    here_order : CountsFromZero history chunk.stream → OrderedStream (watch chunk.stream) queued history chunk.stream all (o.holds.waits chunk.stream) (streams chunk.stream)
     unfolding all
-    here_order counts = subst (λ (b : Bool). IsOrderedOrReset (gapless chunk.stream) b queued history chunk.stream all (o.holds.waits chunk.stream) (streams chunk.stream)) aloud (o.order chunk.stream counts)
+    here_order counts = subst (λ (b : Bool). IsOrderedOrReset (watch chunk.stream) b queued history chunk.stream all (o.holds.waits chunk.stream) (streams chunk.stream)) aloud (o.order chunk.stream counts)
 
-    same_order : (later : StreamModel) → later.next ≡ (streams chunk.stream).next → later.waiting ≡ (streams chunk.stream).waiting → CountsFromZero history chunk.stream → OrderedStream (gapless chunk.stream) queued history chunk.stream all (o.holds.waits chunk.stream) later
-    same_order later next waiting counts = alike_ordered (gapless chunk.stream) queued history chunk.stream all (o.holds.waits chunk.stream) (streams chunk.stream) later next waiting (here_order counts)
+    same_order : (later : StreamModel) → later.next ≡ (streams chunk.stream).next → later.waiting ≡ (streams chunk.stream).waiting → CountsFromZero history chunk.stream → OrderedStream (watch chunk.stream) queued history chunk.stream all (o.holds.waits chunk.stream) later
+    same_order later next waiting counts = alike_ordered (watch chunk.stream) queued history chunk.stream all (o.holds.waits chunk.stream) (streams chunk.stream) later next waiting (here_order counts)
 
     is_data : CountsFromZero history chunk.stream → bears.piece.is_interleaved ≡ false → ⊥
     is_data counts kind = (let clash : true ≡ false = sym (counts.kinds bears.offset bears.piece bears.at) ∙ kind in absurd (cc))
@@ -144,20 +144,20 @@ module _ (gapless : ℕ → Bool) (queued : List Message) (history : History) (q
 
     -- nothing changes
     passed : (later : ℕ → StreamModel) (runs : List RunModel) (after : List MessageContent) → runs ≡ unordered → ((other : ℕ) → other ≢ chunk.stream → later other ≡ streams other)
-        → later chunk.stream ≡ streams chunk.stream → after ≡ ready → HoldsOrdered gapless queued history quiet now base read later runs after
+        → later chunk.stream ≡ streams chunk.stream → after ≡ ready → HoldsOrdered watch queued history quiet now base read later runs after
     unfolding all
     passed later runs after kept others same same' =
         holds_then chunk.stream aloud later runs after (subst (λ (s : StreamModel). StreamRows history now base chunk.stream s) (sym same) here_rows) (rows_kept runs kept) others
-        (none_left (gapless chunk.stream) queued history now all o.holds.places (o.holds.waits chunk.stream) chunk.stream (later chunk.stream) ready after o.holds.were_queued
+        (none_left (watch chunk.stream) queued history now all o.holds.places (o.holds.waits chunk.stream) chunk.stream (later chunk.stream) ready after o.holds.were_queued
         (subst (λ (s : StreamModel). WaitQueued queued history now chunk.stream (o.holds.waits chunk.stream) s.waiting) (sym same) here_wait) (o.holds.once chunk.stream) same'
-        (λ counts. subst (λ (l : List ℕ). OrderedStream (gapless chunk.stream) queued history chunk.stream l (o.holds.waits chunk.stream) (later chunk.stream)) (sym (append-nil all))
+        (λ counts. subst (λ (l : List ℕ). OrderedStream (watch chunk.stream) queued history chunk.stream l (o.holds.waits chunk.stream) (later chunk.stream)) (sym (append-nil all))
         (same_order (later chunk.stream) (ap (λ (s : StreamModel). s.next) same) (ap (λ (s : StreamModel). s.waiting) same) counts)))
 
     -- an ordered chunk
     ahead : (place number : ℕ) (later : ℕ → StreamModel) (runs : List RunModel) (after : List MessageContent) (taken : Taken) → IsPiecePlaced (ordered_base base) bears.offset bears.piece number place → IsOn history chunk.stream bears.piece number
         → (CountsFromZero history chunk.stream → IsReadAs history chunk.stream bears.piece.place number) → (CountsFromZero history chunk.stream → (streams chunk.stream).next ≤ number)
         → runs ≡ unordered → ((other : ℕ) → other ≢ chunk.stream → later other ≡ streams other)
-        → TakesAhead (data_part chunk place number) (streams chunk.stream) ready taken (later chunk.stream) after → HoldsOrdered gapless queued history quiet now base read later runs after
+        → TakesAhead (data_part chunk place number) (streams chunk.stream) ready taken (later chunk.stream) after → HoldsOrdered watch queued history quiet now base read later runs after
     unfolding all here
     ahead place number later runs after taken placed named reads from kept others takes = go (is_number_waiting number (streams chunk.stream).waiting) refl
       where
@@ -172,7 +172,7 @@ module _ (gapless : ℕ → Bool) (queued : List Message) (history : History) (q
             let clash : true ≡ false = sym e ∙ ahead_of.fresh in
             absurd (cc)
 
-        go : (b : Bool) → is_number_waiting number (streams chunk.stream).waiting ≡ b → HoldsOrdered gapless queued history quiet now base read later runs after
+        go : (b : Bool) → is_number_waiting number (streams chunk.stream).waiting ≡ b → HoldsOrdered watch queued history quiet now base read later runs after
         go false e =
             let does = takes.fresh e in
             let rows = stay_rows queued history.log cut (one_kind history told) got (ordered_base base) (IsOn history chunk.stream) (λ m n f g k. tells_as history told false chunk.stream m n f g k) (data_part chunk place number) (streams chunk.stream).ordered (later chunk.stream).ordered does.outcome part here.rows.ordered does.parts in
@@ -184,7 +184,7 @@ module _ (gapless : ℕ → Bool) (queued : List Message) (history : History) (q
               next = ordered_reads queued history now chunk.stream bears.piece.place (o.holds.waits chunk.stream) (data_part chunk place number) (streams chunk.stream) (later chunk.stream) ready after does.outcome taken here_wait rows.1 does.does here.rows.next;
               last = subst (λ (k : ℕ). ReadsMids history chunk.stream true k) (sym does.unordered.0) here.rows.last;
             }) (rows_kept runs kept) others
-            (ordered_left (gapless chunk.stream) queued history now all o.holds.places (o.holds.waits chunk.stream) chunk.stream bears.piece.place (data_part chunk place number) (streams chunk.stream) (later chunk.stream) ready after taken
+            (ordered_left (watch chunk.stream) queued history now all o.holds.places (o.holds.waits chunk.stream) chunk.stream bears.piece.place (data_part chunk place number) (streams chunk.stream) (later chunk.stream) ready after taken
             (sym here.rows.is) o.holds.were_queued here_wait (o.holds.once chunk.stream) (fresh chunk.stream) here_order reads does rows.1 from)
         go true e =
             let does = takes.repeated e in
@@ -197,7 +197,7 @@ module _ (gapless : ℕ → Bool) (queued : List Message) (history : History) (q
               next = subst (λ (k : ℕ). ReadsMids history chunk.stream false k) (sym does.others.1) here.rows.next;
               last = subst (λ (k : ℕ). ReadsMids history chunk.stream true k) (sym does.last) here.rows.last;
             }) (rows_kept runs kept) others
-            (apart_left (gapless chunk.stream) queued history now all o.holds.places (o.holds.waits chunk.stream) (streams chunk.stream).id chunk.stream bears.piece.place (data_part chunk place number) (later chunk.stream) ready after does.ordered.outcome taken
+            (apart_left (watch chunk.stream) queued history now all o.holds.places (o.holds.waits chunk.stream) (streams chunk.stream).id chunk.stream bears.piece.place (data_part chunk place number) (later chunk.stream) ready after does.ordered.outcome taken
             (sym here.rows.is) o.holds.were_queued (subst (λ (l : List WholeModel). WaitQueued queued history now chunk.stream (o.holds.waits chunk.stream) l) (sym does.others.2) here_wait)
             (renamed queued history now (IsOn history chunk.stream) (OfStream chunk.stream) (λ f k named'. named'.0) bears.piece.place does.ordered.outcome rows.1) (o.holds.once chunk.stream) (fresh chunk.stream)
             (same_order (later chunk.stream) does.others.1 does.others.2) (λ counts on. never counts e) does.ordered.does)
@@ -205,7 +205,7 @@ module _ (gapless : ℕ → Bool) (queued : List Message) (history : History) (q
     -- one of I-DATA
     in_order : (place number : ℕ) (later : ℕ → StreamModel) (runs : List RunModel) (after : List MessageContent) (taken : Taken) → IsPiecePlaced (ordered_base base) bears.offset bears.piece number place → IsOn history chunk.stream bears.piece number
         → (CountsFromZero history chunk.stream → IsReadAs history chunk.stream bears.piece.place number) → runs ≡ unordered → ((other : ℕ) → other ≢ chunk.stream → later other ≡ streams other)
-        → TakesInOrder (data_part chunk place number) (streams chunk.stream) ready taken (later chunk.stream) after → HoldsOrdered gapless queued history quiet now base read later runs after
+        → TakesInOrder (data_part chunk place number) (streams chunk.stream) ready taken (later chunk.stream) after → HoldsOrdered watch queued history quiet now base read later runs after
     in_order place number later runs after taken placed named reads kept others takes =
         elim (leb_tells (streams chunk.stream).next number) [
           | inl e ↦ ahead place number later runs after taken placed named reads (λ counts. e.1) kept others (takes.ahead e.1)
@@ -223,7 +223,7 @@ module _ (gapless : ℕ → Bool) (queued : List Message) (history : History) (q
     -- an unordered one of I-DATA
     out_of_order : (place number : ℕ) (later : ℕ → StreamModel) (runs : List RunModel) (after : List MessageContent) (taken : Taken) → IsPiecePlaced (ordered_base base) bears.offset bears.piece number place → IsApart history chunk.stream bears.piece number
         → bears.piece.message.is_unordered ≡ true → ReadsMids history chunk.stream true number → runs ≡ unordered → ((other : ℕ) → other ≢ chunk.stream → later other ≡ streams other)
-        → TakesOutOfOrder (data_part chunk place number) (streams chunk.stream) ready taken (later chunk.stream) after → HoldsOrdered gapless queued history quiet now base read later runs after
+        → TakesOutOfOrder (data_part chunk place number) (streams chunk.stream) ready taken (later chunk.stream) after → HoldsOrdered watch queued history quiet now base read later runs after
     unfolding all here
     out_of_order place number later runs after taken placed named unordered_is reads kept others takes =
         let part : IsPart history.log (ordered_base base) (IsApart history chunk.stream) (data_part chunk place number) = part_of history base (ordered_base base) (IsApart history chunk.stream) tsn_number place number chunk bears placed named in
@@ -236,7 +236,7 @@ module _ (gapless : ℕ → Bool) (queued : List Message) (history : History) (q
           next = subst (λ (k : ℕ). ReadsMids history chunk.stream false k) (sym takes.others.1) here.rows.next;
           last = subst (λ (k : ℕ). ReadsMids history chunk.stream true k) (sym takes.last) reads;
         }) (rows_kept runs kept) others
-        (apart_left (gapless chunk.stream) queued history now all o.holds.places (o.holds.waits chunk.stream) (streams chunk.stream).id chunk.stream bears.piece.place (data_part chunk place number) (later chunk.stream) ready after takes.unordered.outcome taken
+        (apart_left (watch chunk.stream) queued history now all o.holds.places (o.holds.waits chunk.stream) (streams chunk.stream).id chunk.stream bears.piece.place (data_part chunk place number) (later chunk.stream) ready after takes.unordered.outcome taken
         (sym here.rows.is) o.holds.were_queued (subst (λ (l : List WholeModel). WaitQueued queued history now chunk.stream (o.holds.waits chunk.stream) l) (sym takes.others.2) here_wait)
         (renamed queued history now (IsApart history chunk.stream) (OfStream chunk.stream) (λ f k named'. named'.0) bears.piece.place takes.unordered.outcome rows.1) (o.holds.once chunk.stream) (fresh chunk.stream)
         (same_order (later chunk.stream) takes.others.1 takes.others.2) (λ counts on. not_ordered unordered_is on) takes.unordered.does)
@@ -249,16 +249,16 @@ module _ (gapless : ℕ → Bool) (queued : List Message) (history : History) (q
         record { offset = makes.offset; head = makes.head; at = makes.at; is = makes.is; queued_at = makes.queued_at; number = makes.number.0 ∙ of ∙ same; ppid = makes.ppid; payload = makes.payload; spent = makes.spent }
 
     unordered_chunk : (later : ℕ → StreamModel) (runs : List RunModel) (after : List MessageContent) (outcome : Assembly) (taken : Taken) → bears.piece.is_interleaved ≡ false → later ≡ streams → AreRows history.log now (unordered_base base) IsOfStream runs
-        → MakesQueued queued history.log now (OfStream chunk.stream) bears.piece.place outcome → UnorderedOutcome (data_part chunk tsn_number chunk.stream) (delivered_as chunk.stream) ready outcome taken after → HoldsOrdered gapless queued history quiet now base read later runs after
+        → MakesQueued queued history.log now (OfStream chunk.stream) bears.piece.place outcome → UnorderedOutcome (data_part chunk tsn_number chunk.stream) (delivered_as chunk.stream) ready outcome taken after → HoldsOrdered watch queued history quiet now base read later runs after
     unfolding all
     unordered_chunk later runs after outcome taken kind same rows makes does =
-        subst (λ (f : ℕ → StreamModel). HoldsOrdered gapless queued history quiet now base read f runs after) (sym same)
+        subst (λ (f : ℕ → StreamModel). HoldsOrdered watch queued history quiet now base read f runs after) (sym same)
         (holds_then chunk.stream aloud streams runs after here_rows rows (λ other ne. refl)
-        (apart_left (gapless chunk.stream) queued history now all o.holds.places (o.holds.waits chunk.stream) chunk.stream chunk.stream bears.piece.place (data_part chunk tsn_number chunk.stream) (streams chunk.stream) ready after outcome taken
+        (apart_left (watch chunk.stream) queued history now all o.holds.places (o.holds.waits chunk.stream) chunk.stream chunk.stream bears.piece.place (data_part chunk tsn_number chunk.stream) (streams chunk.stream) ready after outcome taken
         refl o.holds.were_queued here_wait makes (o.holds.once chunk.stream) (fresh chunk.stream) (same_order (streams chunk.stream) refl refl) (λ counts on. is_data counts kind) does))
 
   by_numbering : (tsn_number : ℕ) (numbering : Numbering) (chunk : ChunkModel) (old new : IncomingModel) → chunk.numbering ≡ numbering
-      → (bears : BearsPiece history base tsn_number chunk) → IsNumbered bears.piece numbering → (HasEntry bears.offset got → ⊥) → quiet chunk.stream ≡ false → IncomingOrdered gapless queued history quiet got base read old → TakesChunk tsn_number numbering chunk old new → IncomingOrdered gapless queued history quiet (bears.offset ∷ got) base read new
+      → (bears : BearsPiece history base tsn_number chunk) → IsNumbered bears.piece numbering → (HasEntry bears.offset got → ⊥) → quiet chunk.stream ≡ false → IncomingOrdered watch queued history quiet got base read old → TakesChunk tsn_number numbering chunk old new → IncomingOrdered watch queued history quiet (bears.offset ∷ got) base read new
   by_numbering tsn_number (Ordered ssn) chunk old new is bears numbered is_new aloud o takes =
       let number : ℕ = short_number_from (stream_on chunk.stream old.streams).next ssn in
       let does : TakesAhead (data_part chunk (fragment_place number tsn_number) number) (stream_on chunk.stream old.streams) old.ready takes.taken (stream_on chunk.stream new.streams) new.ready =
@@ -287,7 +287,7 @@ module _ (gapless : ℕ → Bool) (queued : List Message) (history : History) (q
       reads : CountsFromZero history chunk.stream → IsReadAs history chunk.stream bears.piece.place (number_near (stream_on chunk.stream old.streams).next mid)
       reads counts =
           subst (λ (k : ℕ). IsReadAs history chunk.stream bears.piece.place (number_near (stream_on chunk.stream old.streams).next k)) (sym numbered.2)
-          (mids_are_read history chunk.stream bears.offset bears.piece (stream_on chunk.stream old.streams) counts (subst (λ (b : Bool). IsOrderedOrReset (gapless chunk.stream) b queued history chunk.stream (read ++ o.holds.places) (o.holds.waits chunk.stream) (stream_on chunk.stream old.streams)) aloud (o.order chunk.stream counts)).reach (record { at = bears.at; stream = sym bears.stream; ordered = numbered.1; current = bears.current numbered.0 }))
+          (mids_are_read history chunk.stream bears.offset bears.piece (stream_on chunk.stream old.streams) counts (subst (λ (b : Bool). IsOrderedOrReset (watch chunk.stream) b queued history chunk.stream (read ++ o.holds.places) (o.holds.waits chunk.stream) (stream_on chunk.stream old.streams)) aloud (o.order chunk.stream counts)).reach (record { at = bears.at; stream = sym bears.stream; ordered = numbered.1; current = bears.current numbered.0 }))
   by_numbering tsn_number (InterleavedUnordered mid fsn) chunk old new is bears numbered is_new aloud o takes =
       let last : ℕ = (stream_on chunk.stream old.streams).last_unordered in
       let named = named_so history base told tsn_number mid true chunk bears last numbered.0 numbered.1 numbered.2 (o.holds.streams_hold chunk.stream).rows.last in
@@ -296,10 +296,10 @@ module _ (gapless : ℕ → Bool) (queued : List Message) (history : History) (q
       out_of_order tsn_number chunk bears is_new aloud (λ id. stream_on id old.streams) old.unordered old.ready o (fragment_place (number_near last mid) fsn) (number_near last mid) (λ id. stream_on id new.streams) new.unordered new.ready takes.taken
       (apart_placed history base tsn_number (number_near last mid) fsn chunk bears numbered.0 numbered.3) (sym bears.stream, named.0) numbered.1 named.1 takes.unordered takes.others does
 
-pub ready_in_order : (gapless : ℕ → Bool) (queued : List Message) (history : History) (quiet : ℕ → Bool) → IsLogOfPieces queued history.log → IsUnambiguous history
+pub ready_in_order : (watch : ℕ → Watch) (queued : List Message) (history : History) (quiet : ℕ → Bool) → IsLogOfPieces queued history.log → IsUnambiguous history
     → (got : List ℕ) (base tsn : ℕ) (read : List ℕ) (chunk : ChunkModel) (old new : IncomingModel)
     → (bears : BearsPiece history base (number_near old.last_tsn_number tsn) chunk) → (HasEntry bears.offset got → ⊥) → quiet chunk.stream ≡ false
-    → IncomingOrdered gapless queued history quiet got base read old → TakesIncomingChunk tsn chunk old new
-    → IncomingOrdered gapless queued history quiet (bears.offset ∷ got) base read new
-ready_in_order gapless queued history quiet cut told got base tsn read chunk old new bears is_new aloud o takes =
-    by_numbering gapless queued history quiet cut told got base read (number_near old.last_tsn_number tsn) chunk.numbering chunk old new refl bears bears.numbered is_new aloud o takes.takes
+    → IncomingOrdered watch queued history quiet got base read old → TakesIncomingChunk tsn chunk old new
+    → IncomingOrdered watch queued history quiet (bears.offset ∷ got) base read new
+ready_in_order watch queued history quiet cut told got base tsn read chunk old new bears is_new aloud o takes =
+    by_numbering watch queued history quiet cut told got base read (number_near old.last_tsn_number tsn) chunk.numbering chunk old new refl bears bears.numbered is_new aloud o takes.takes

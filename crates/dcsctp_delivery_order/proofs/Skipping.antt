@@ -21,14 +21,15 @@ use Rattle.dcsctp_delivery_receiving.proofs.Reading.{reads_moved, reads_past, re
 use Rattle.dcsctp_delivery_receiving.proofs.Waiting.{both_queued, wait_spent, split_due}
 use Rattle.dcsctp_delivery_order.specs.Rising.{DeliversRising}
 use Rattle.dcsctp_delivery_order.specs.Order.{IsReadAs, AreReadAs}
-use Rattle.dcsctp_delivery_order.specs.Reading.{CountsFromZero, IsInReach, OrderedStream}
+use Rattle.dcsctp_delivery_order.specs.Reading.{CountsFromZero, IsInReach, OrderedStream, Watch}
 use Rattle.dcsctp_delivery_order.specs.Incoming.{IsOrderedOrReset, NoneIsQuiet, HoldsOrdered, IncomingOrdered, NoneLimitedOn}
 use Rattle.dcsctp_delivery_order.proofs.Rising.{skips_deliver_rising}
 use Rattle.dcsctp_delivery_order.proofs.Order.{order_then}
 use Rattle.dcsctp_delivery_order.proofs.Reading.{mids_are_read, skips_in_reach}
 use Rattle.dcsctp_delivery_order.proofs.Leaving.{others_where, one_stream, wait_on_it, split_ordered, LeavesOrder, none_left, alike_ordered}
+use Rattle.dcsctp_delivery_order.proofs.Separated.{separated_more, read_since}
 
-module _ (gapless : ℕ → Bool) (queued : List Message) (history : History) (free : NoneLimitedOn gapless history.log) (quiet : ℕ → Bool) (got : List ℕ) (base : ℕ) (read : List ℕ) where
+module _ (watch : ℕ → Watch) (queued : List Message) (history : History) (free : NoneLimitedOn watch history.log) (quiet : ℕ → Bool) (got : List ℕ) (base : ℕ) (read : List ℕ) where
   rows_filter : (from : ℕ → ℕ) (Named : Piece → ℕ → Type 0) (test : RunModel → Bool) (runs : List RunModel) → AreRows history.log got from Named runs → AreRows history.log got from Named (filter test runs)
   rows_filter from Named test [] are = tt
   rows_filter from Named test (r ∷ runs) are = go (test r) (rows_filter from Named test runs are.1)
@@ -46,8 +47,8 @@ module _ (gapless : ℕ → Bool) (queued : List Message) (history : History) (f
       go false rest = are
 
   -- streams that are the same
-  holds_same : (streams others : ℕ → StreamModel) (unordered : List RunModel) (ready : List MessageContent) → ((id : ℕ) → others id ≡ streams id) → HoldsOrdered gapless queued history quiet got base read streams unordered ready
-      → HoldsOrdered gapless queued history quiet got base read others unordered ready
+  holds_same : (streams others : ℕ → StreamModel) (unordered : List RunModel) (ready : List MessageContent) → ((id : ℕ) → others id ≡ streams id) → HoldsOrdered watch queued history quiet got base read streams unordered ready
+      → HoldsOrdered watch queued history quiet got base read others unordered ready
   holds_same streams others unordered ready same o =
       record {
         holds = record {
@@ -59,13 +60,13 @@ module _ (gapless : ℕ → Bool) (queued : List Message) (history : History) (f
           spent = o.holds.spent;
           once = o.holds.once;
         };
-        order = λ id counts. subst (λ (s : StreamModel). IsOrderedOrReset (gapless id) (quiet id) queued history id (read ++ o.holds.places) (o.holds.waits id) s) (sym (same id)) (o.order id counts);
+        order = λ id counts. subst (λ (s : StreamModel). IsOrderedOrReset (watch id) (quiet id) queued history id (read ++ o.holds.places) (o.holds.waits id) s) (sym (same id)) (o.order id counts);
       }
 
   -- one stream is left so
-  holds_left : (id : ℕ) → quiet id ≡ false → (streams later : ℕ → StreamModel) (unordered : List RunModel) (ready after : List MessageContent) (o : HoldsOrdered gapless queued history quiet got base read streams unordered ready)
+  holds_left : (id : ℕ) → quiet id ≡ false → (streams later : ℕ → StreamModel) (unordered : List RunModel) (ready after : List MessageContent) (o : HoldsOrdered watch queued history quiet got base read streams unordered ready)
       → StreamRows history got base id (later id) → ((other : ℕ) → other ≢ id → later other ≡ streams other)
-      → LeavesOrder (gapless id) queued history got (read ++ o.holds.places) o.holds.places id (later id) after → HoldsOrdered gapless queued history quiet got base read later unordered after
+      → LeavesOrder (watch id) queued history got (read ++ o.holds.places) o.holds.places id (later id) after → HoldsOrdered watch queued history quiet got base read later unordered after
   holds_left id loud streams later unordered ready after o rows others leaves =
       record {
         holds = record {
@@ -97,32 +98,32 @@ module _ (gapless : ℕ → Bool) (queued : List Message) (history : History) (f
         };
         order = λ other counts. elim (decide other id) [
           | inl e ↦
-              subst (λ (k : ℕ). IsOrderedOrReset (gapless k) (quiet k) queued history k (read ++ (o.holds.places ++ leaves.more)) (table_with id leaves.waits o.holds.waits k) (later k)) (sym e)
-              (subst (λ (l : List ℕ). IsOrderedOrReset (gapless id) (quiet id) queued history id (read ++ (o.holds.places ++ leaves.more)) l (later id)) (sym (set_same id leaves.waits o.holds.waits))
-              (subst (λ (b : Bool). IsOrderedOrReset (gapless id) b queued history id (read ++ (o.holds.places ++ leaves.more)) leaves.waits (later id)) (sym loud)
-              (subst (λ (l : List ℕ). OrderedStream (gapless id) queued history id l leaves.waits (later id)) (appended read o.holds.places leaves.more) (leaves.order (subst (λ (k : ℕ). CountsFromZero history k) e counts)))))
+              subst (λ (k : ℕ). IsOrderedOrReset (watch k) (quiet k) queued history k (read ++ (o.holds.places ++ leaves.more)) (table_with id leaves.waits o.holds.waits k) (later k)) (sym e)
+              (subst (λ (l : List ℕ). IsOrderedOrReset (watch id) (quiet id) queued history id (read ++ (o.holds.places ++ leaves.more)) l (later id)) (sym (set_same id leaves.waits o.holds.waits))
+              (subst (λ (b : Bool). IsOrderedOrReset (watch id) b queued history id (read ++ (o.holds.places ++ leaves.more)) leaves.waits (later id)) (sym loud)
+              (subst (λ (l : List ℕ). OrderedStream (watch id) queued history id l leaves.waits (later id)) (appended read o.holds.places leaves.more) (leaves.order (subst (λ (k : ℕ). CountsFromZero history k) e counts)))))
           | inr ne ↦
-              subst (λ (l : List ℕ). IsOrderedOrReset (gapless other) (quiet other) queued history other (read ++ (o.holds.places ++ leaves.more)) l (later other)) (sym (set_other id other leaves.waits o.holds.waits ne))
-              (subst (λ (s : StreamModel). IsOrderedOrReset (gapless other) (quiet other) queued history other (read ++ (o.holds.places ++ leaves.more)) (o.holds.waits other) s) (sym (others other ne))
-              (subst (λ (l : List ℕ). IsOrderedOrReset (gapless other) (quiet other) queued history other l (o.holds.waits other) (streams other)) (appended read o.holds.places leaves.more)
-              (others_where (gapless other) queued history (quiet other) other (read ++ o.holds.places) (o.holds.waits other) leaves.more (streams other)
+              subst (λ (l : List ℕ). IsOrderedOrReset (watch other) (quiet other) queued history other (read ++ (o.holds.places ++ leaves.more)) l (later other)) (sym (set_other id other leaves.waits o.holds.waits ne))
+              (subst (λ (s : StreamModel). IsOrderedOrReset (watch other) (quiet other) queued history other (read ++ (o.holds.places ++ leaves.more)) (o.holds.waits other) s) (sym (others other ne))
+              (subst (λ (l : List ℕ). IsOrderedOrReset (watch other) (quiet other) queued history other l (o.holds.waits other) (streams other)) (appended read o.holds.places leaves.more)
+              (others_where (watch other) queued history (quiet other) other (read ++ o.holds.places) (o.holds.waits other) leaves.more (streams other)
               (λ place h is. ne (sym (one_stream queued id other place (leaves.on place h) (is.message, is.at, is.stream)))) (o.order other counts))))
         ];
       }
 
-  -- a stream on which that leads to something false isn't gapless
-  with_gaps : (id : ℕ) → (gapless id ≡ true → ⊥) → gapless id ≡ false
-  with_gaps id never = go (gapless id) refl
+  -- a stream on which that leads to something false isn't watch
+  with_gaps : (id : ℕ) → ((watch id).is_gapless ≡ true → ⊥) → (watch id).is_gapless ≡ false
+  with_gaps id never = go (watch id).is_gapless refl
     where
-      go : (b : Bool) → gapless id ≡ b → gapless id ≡ false
+      go : (b : Bool) → (watch id).is_gapless ≡ b → (watch id).is_gapless ≡ false
       go true is = absurd (never is)
       go false is = is
 
   -- what is due becomes ready
-  leaves_due : (all places waits : List ℕ) (id next : ℕ) (stream new : StreamModel) (before : List MessageContent) → (CountsFromZero history id → gapless id ≡ false) → StreamHolds queued history got base id waits stream → WereQueued queued places before → AreDistinct (all ++ waits)
-      → new.waiting ≡ not_due next stream.waiting → (CountsFromZero history id → OrderedStream (gapless id) queued history id all waits stream)
+  leaves_due : (all places waits : List ℕ) (id next : ℕ) (stream new : StreamModel) (before : List MessageContent) → (CountsFromZero history id → (watch id).is_gapless ≡ false) → StreamHolds queued history got base id waits stream → WereQueued queued places before → AreDistinct (all ++ waits)
+      → new.waiting ≡ not_due next stream.waiting → (CountsFromZero history id → OrderedStream (watch id) queued history id all waits stream)
       → (CountsFromZero history id → DeliversRising stream before new (before ++ map (delivered_as stream.id) (due next stream.waiting)) (due next stream.waiting)) → (CountsFromZero history id → IsInReach new)
-      → LeavesOrder (gapless id) queued history got all places id new (before ++ map (delivered_as stream.id) (due next stream.waiting))
+      → LeavesOrder (watch id) queued history got all places id new (before ++ map (delivered_as stream.id) (due next stream.waiting))
   leaves_due all places waits id next stream new before skips holds were once left ordered rises reach =
       let split = split_due queued history got id next waits stream.waiting holds.wait in
       record {
@@ -141,13 +142,16 @@ module _ (gapless : ℕ → Bool) (queued : List Message) (history : History) (f
                   halves.0 (subst (λ (l : List WholeModel). AreReadAs history id split.back l) (sym left) halves.1);
               reach = reach counts;
               filled = λ none. absurd (let clash : true ≡ false = sym none ∙ skips counts in cc);
+              separated = separated_more queued id (watch id).cuts all split.front
+                  (read_since history id (watch id).cuts (ordered counts).since stream.next new.next split.front (due next stream.waiting) (ordered counts).reach.from halves.0 (rises counts).rise) (ordered counts).separated;
+              since = (ordered counts).since;
             }
             );
       }
 
   skipped_leaves : (passed : ℕ) (all places waits : List ℕ) (entry : SkippedTo) (stream : StreamModel) (before : List MessageContent) → NamesCurrent history passed entry → StreamHolds queued history got base (skipped_stream entry) waits stream
-      → WereQueued queued places before → AreDistinct (all ++ waits) → (CountsFromZero history (skipped_stream entry) → OrderedStream (gapless (skipped_stream entry)) queued history (skipped_stream entry) all waits stream)
-      → LeavesOrder (gapless (skipped_stream entry)) queued history got all places (skipped_stream entry) (stream_after_skip entry stream) (before ++ skip_deliveries entry stream)
+      → WereQueued queued places before → AreDistinct (all ++ waits) → (CountsFromZero history (skipped_stream entry) → OrderedStream (watch (skipped_stream entry)) queued history (skipped_stream entry) all waits stream)
+      → LeavesOrder (watch (skipped_stream entry)) queued history got all places (skipped_stream entry) (stream_after_skip entry stream) (before ++ skip_deliveries entry stream)
   skipped_leaves passed all places waits (Ssn on ssn) stream before (skips, current) holds were once ordered =
       leaves_due all places waits on.0 (next_past (short_number_near stream.next ssn) stream.next) stream (stream_after_skip (Ssn on ssn) stream) before
       (λ counts. absurd (let clash : true ≡ false = sym (counts.kinds skips.number skips.piece skips.at) ∙ skips.kind in cc)) holds were once refl ordered
@@ -155,16 +159,16 @@ module _ (gapless : ℕ → Bool) (queued : List Message) (history : History) (f
       (λ counts. absurd (let clash : true ≡ false = sym (counts.kinds skips.number skips.piece skips.at) ∙ skips.kind in cc))
   skipped_leaves passed all places waits (Mid on false mid) stream before (skips, current) holds were once ordered =
       leaves_due all places waits on.0 (next_past (number_near stream.next mid) stream.next) stream (stream_after_skip (Mid on false mid) stream) before
-      (λ counts. with_gaps on.0 (λ is. (let no : false ≡ true = sym (free skips.number skips.piece skips.at (ap gapless (sym skips.stream) ∙ is)) ∙ skips.limited in cc))) holds were once refl ordered
+      (λ counts. with_gaps on.0 (λ is. (let no : false ≡ true = sym (free skips.number skips.piece skips.at (ap (λ (k : ℕ). (watch k).is_gapless) (sym skips.stream) ∙ is)) ∙ skips.limited in cc))) holds were once refl ordered
       (λ counts. skips_deliver_rising (Mid on false mid) stream before (ordered counts).order.ahead)
       (λ counts. skips_in_reach queued history on.0 skips.piece.place mid all waits on stream counts (ordered counts).order
       (subst (λ (k : ℕ). IsReadAs history on.0 skips.piece.place (number_near stream.next k)) (sym skips.is)
       (mids_are_read history on.0 skips.number skips.piece stream counts (ordered counts).reach (record { at = skips.at; stream = sym skips.stream; ordered = sym skips.unordered; current = current })))
       (ordered counts).reach)
   skipped_leaves passed all places waits (Mid on true mid) stream before (skips, current) holds were once ordered =
-      none_left (gapless on.0) queued history got all places waits on.0 (stream_after_skip (Mid on true mid) stream) before (before ++ []) were holds.wait once (append-nil before)
-      (λ counts. subst (λ (l : List ℕ). OrderedStream (gapless on.0) queued history on.0 l waits (stream_after_skip (Mid on true mid) stream)) (sym (append-nil all))
-      (alike_ordered (gapless on.0) queued history on.0 all waits stream (stream_after_skip (Mid on true mid) stream) refl refl (ordered counts)))
+      none_left (watch on.0) queued history got all places waits on.0 (stream_after_skip (Mid on true mid) stream) before (before ++ []) were holds.wait once (append-nil before)
+      (λ counts. subst (λ (l : List ℕ). OrderedStream (watch on.0) queued history on.0 l waits (stream_after_skip (Mid on true mid) stream)) (sym (append-nil all))
+      (alike_ordered (watch on.0) queued history on.0 all waits stream (stream_after_skip (Mid on true mid) stream) refl refl (ordered counts)))
 
   skipped_rows : (passed : ℕ) (entry : SkippedTo) (waits : List ℕ) (stream : StreamModel) → NamesCurrent history passed entry → StreamHolds queued history got base (skipped_stream entry) waits stream → StreamRows history got base (skipped_stream entry) (stream_after_skip entry stream)
   skipped_rows passed (Ssn id ssn) waits stream (skips, current) holds =
@@ -207,8 +211,8 @@ module _ (gapless : ℕ → Bool) (queued : List Message) (history : History) (f
       go true e = absurd (cc)
       go false e = refl
 
-  one_skipped : (passed : ℕ) (entry : SkippedTo) (streams : ℕ → StreamModel) (unordered : List RunModel) (ready : List MessageContent) → HoldsOrdered gapless queued history quiet got base read streams unordered ready
-      → quiet (skipped_stream entry) ≡ false → NamesCurrent history passed entry → HoldsOrdered gapless queued history quiet got base read (λ id. skipped_on entry id (streams id)) unordered (ready ++ skip_deliveries entry (streams (skipped_stream entry)))
+  one_skipped : (passed : ℕ) (entry : SkippedTo) (streams : ℕ → StreamModel) (unordered : List RunModel) (ready : List MessageContent) → HoldsOrdered watch queued history quiet got base read streams unordered ready
+      → quiet (skipped_stream entry) ≡ false → NamesCurrent history passed entry → HoldsOrdered watch queued history quiet got base read (λ id. skipped_on entry id (streams id)) unordered (ready ++ skip_deliveries entry (streams (skipped_stream entry)))
   one_skipped passed entry streams unordered ready o loud names =
       let id : ℕ = skipped_stream entry in
       let here : StreamHolds queued history got base id (o.holds.waits id) (streams id) = o.holds.streams_hold id in
@@ -216,15 +220,15 @@ module _ (gapless : ℕ → Bool) (queued : List Message) (history : History) (f
       holds_left id loud streams (λ other. skipped_on entry other (streams other)) unordered ready (ready ++ skip_deliveries entry (streams id)) o
       (subst (λ (s : StreamModel). StreamRows history got base id s) (sym is) (skipped_rows passed entry (o.holds.waits id) (streams id) names here))
       (λ other ne. on_others entry other (streams other) ne)
-      (subst (λ (s : StreamModel). LeavesOrder (gapless id) queued history got (read ++ o.holds.places) o.holds.places id s (ready ++ skip_deliveries entry (streams id))) (sym is)
+      (subst (λ (s : StreamModel). LeavesOrder (watch id) queued history got (read ++ o.holds.places) o.holds.places id s (ready ++ skip_deliveries entry (streams id))) (sym is)
       (skipped_leaves passed (read ++ o.holds.places) o.holds.places (o.holds.waits id) entry (streams id) ready names here o.holds.were_queued (o.holds.once id)
-      (λ counts. subst (λ (b : Bool). IsOrderedOrReset (gapless id) b queued history id (read ++ o.holds.places) (o.holds.waits id) (streams id)) loud (o.order id counts))))
+      (λ counts. subst (λ (b : Bool). IsOrderedOrReset (watch id) b queued history id (read ++ o.holds.places) (o.holds.waits id) (streams id)) loud (o.order id counts))))
 
-  all_skipped : (entries : List SkippedTo) (streams : ℕ → StreamModel) (unordered : List RunModel) (ready : List MessageContent) → HoldsOrdered gapless queued history quiet got base read streams unordered ready
-      → AreNamed history entries → NoneIsQuiet quiet entries → HoldsOrdered gapless queued history quiet got base read (λ id. stream_skipping entries id (streams id)) unordered (ready ++ deliveries_of_skips entries streams)
-  all_skipped [] streams unordered ready holds names loud = subst (λ (l : List MessageContent). HoldsOrdered gapless queued history quiet got base read streams unordered l) (sym (append-nil ready)) holds
+  all_skipped : (entries : List SkippedTo) (streams : ℕ → StreamModel) (unordered : List RunModel) (ready : List MessageContent) → HoldsOrdered watch queued history quiet got base read streams unordered ready
+      → AreNamed history entries → NoneIsQuiet quiet entries → HoldsOrdered watch queued history quiet got base read (λ id. stream_skipping entries id (streams id)) unordered (ready ++ deliveries_of_skips entries streams)
+  all_skipped [] streams unordered ready holds names loud = subst (λ (l : List MessageContent). HoldsOrdered watch queued history quiet got base read streams unordered l) (sym (append-nil ready)) holds
   all_skipped (entry ∷ entries) streams unordered ready holds names loud =
-      subst (λ (l : List MessageContent). HoldsOrdered gapless queued history quiet got base read (λ id. stream_skipping (entry ∷ entries) id (streams id)) unordered l)
+      subst (λ (l : List MessageContent). HoldsOrdered watch queued history quiet got base read (λ id. stream_skipping (entry ∷ entries) id (streams id)) unordered l)
       (messages_appended ready (skip_deliveries entry (streams (skipped_stream entry))) (deliveries_of_skips entries (λ id. skipped_on entry id (streams id))))
       (all_skipped entries (λ id. skipped_on entry id (streams id)) unordered (ready ++ skip_deliveries entry (streams (skipped_stream entry))) (one_skipped names.0.0 entry streams unordered ready holds loud.0 names.0.1) names.1 loud.1)
     where
@@ -233,18 +237,18 @@ module _ (gapless : ℕ → Bool) (queued : List Message) (history : History) (f
       messages_appended (x ∷ xs) ys zs = ap (λ (l : List MessageContent). x ∷ l) (messages_appended xs ys zs)
 
   -- the runs of unordered messages are others
-  apart_rows : (streams : ℕ → StreamModel) (unordered others : List RunModel) (ready : List MessageContent) → HoldsOrdered gapless queued history quiet got base read streams unordered ready → AreRows history.log got (unordered_base base) IsOfStream others
-      → HoldsOrdered gapless queued history quiet got base read streams others ready
+  apart_rows : (streams : ℕ → StreamModel) (unordered others : List RunModel) (ready : List MessageContent) → HoldsOrdered watch queued history quiet got base read streams unordered ready → AreRows history.log got (unordered_base base) IsOfStream others
+      → HoldsOrdered watch queued history quiet got base read streams others ready
   apart_rows streams unordered others ready holds rows =
       record {
         holds = record { waits = holds.holds.waits; streams_hold = holds.holds.streams_hold; rows = rows; places = holds.holds.places; were_queued = holds.holds.were_queued; spent = holds.holds.spent; once = holds.holds.once };
         order = holds.order;
       }
 
-  pub skipping_in_order : (tsn : ℕ) (entries : List SkippedTo) (old new : IncomingModel) → AreNamed history entries → NoneIsQuiet quiet entries → IncomingOrdered gapless queued history quiet got base read old → MovesOn tsn entries old new → IncomingOrdered gapless queued history quiet got base read new
+  pub skipping_in_order : (tsn : ℕ) (entries : List SkippedTo) (old new : IncomingModel) → AreNamed history entries → NoneIsQuiet quiet entries → IncomingOrdered watch queued history quiet got base read old → MovesOn tsn entries old new → IncomingOrdered watch queued history quiet got base read new
   skipping_in_order tsn entries old new names loud holds moves =
       let skipped_all = all_skipped entries (λ id. stream_on id old.streams) old.unordered old.ready holds names loud in
       let rows : AreRows history.log got (unordered_base base) IsOfStream new.unordered = subst (λ (l : List RunModel). AreRows history.log got (unordered_base base) IsOfStream l) (sym moves.unordered) (rows_behind (unordered_base base) IsOfStream (number_near old.last_tsn_number tsn) old.unordered holds.holds.rows) in
-      subst (λ (l : List MessageContent). HoldsOrdered gapless queued history quiet got base read (λ id. stream_on id new.streams) new.unordered l) (sym moves.ready)
+      subst (λ (l : List MessageContent). HoldsOrdered watch queued history quiet got base read (λ id. stream_on id new.streams) new.unordered l) (sym moves.ready)
       (apart_rows (λ id. stream_on id new.streams) old.unordered new.unordered (old.ready ++ deliveries_of_skips entries (λ id. stream_on id old.streams))
       (holds_same (λ id. stream_skipping entries id (stream_on id old.streams)) (λ id. stream_on id new.streams) old.unordered (old.ready ++ deliveries_of_skips entries (λ id. stream_on id old.streams)) moves.streams skipped_all) rows)

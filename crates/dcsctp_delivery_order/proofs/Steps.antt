@@ -1,6 +1,6 @@
 -- Each step of a direction that ends no reset leaves what was received in order; and so does the end
 -- of a reset.
-use Rattle.std.proofs.Common.{◌≡◌, ℕ, Bool, zero, suc, true, false, ◌<◌, ◌≤◌, ◌+◌, ◌-◌, ◌%◌, ◌^◌, List, [], ◌∷◌, ◌++◌, length, sym, ◌∙◌, arith, subst, inl, inr}
+use Rattle.std.proofs.Common.{◌≡◌, ℕ, zero, suc, true, false, ◌<◌, ◌≤◌, ◌+◌, ◌-◌, ◌%◌, ◌^◌, List, [], ◌∷◌, ◌++◌, length, sym, ◌∙◌, arith, subst, inl, inr}
 use Rattle.std.specs.Prelude.{◌⊎◌}
 use Rattle.std.proofs.lemmas.List.{append-nil}
 use Rattle.dcsctp_spec_lemmas.specs.types.declared.arrivals.SkippedTo.{SkippedTo}
@@ -30,7 +30,7 @@ use Rattle.dcsctp_delivery_directions.proofs.Continuing.{NamedAreOut, EndsNone, 
 use Rattle.dcsctp_delivery_directions.proofs.Queued.{is_over}
 use Rattle.dcsctp_delivery_directions.proofs.Receiving.{known_log, known_few, known_kinds, received_at, clears}
 use Rattle.dcsctp_delivery_directions.proofs.Standing.{Arrived, Stands, content_said, packet_said}
-use Rattle.dcsctp_delivery_order.specs.Reading.{CountsFromZero}
+use Rattle.dcsctp_delivery_order.specs.Reading.{CountsFromZero, Watch}
 use Rattle.dcsctp_delivery_order.specs.Incoming.{NoneLimitedOn}
 use Rattle.dcsctp_delivery_order.specs.Received.{none_quiet, HasReceivedInOrder}
 use Rattle.dcsctp_delivery_order.proofs.Follows.{counts_from_zero}
@@ -39,13 +39,13 @@ use Rattle.dcsctp_delivery_order.proofs.Raised.{raised_in_order}
 use Rattle.dcsctp_delivery_order.proofs.Received.{tracked_in_order, deferring_in_order, received_in_order, forwarded_in_order, nothing_in_order}
 use Rattle.dcsctp_delivery_order.proofs.Taken.{takes_in_order}
 
-module _ (gapless : ℕ → Bool) (first : ℕ) (old : Direction) (small : first < 2 ^ 32) (s : Stands first old) (free : NoneLimitedOn gapless s.history.log) (little : length s.history.log < 2 ^ 31) (interleaved : old.queues.queue.is_interleaved ≡ true) where
+module _ (watch : ℕ → Watch) (first : ℕ) (old : Direction) (small : first < 2 ^ 32) (s : Stands first old) (free : NoneLimitedOn watch s.history.log) (little : length s.history.log < 2 ^ 31) (interleaved : old.queues.queue.is_interleaved ≡ true) where
   abbrev arrived : Arrived first s.history old
   arrived = s.arrived little
 
   -- what holds before the step, and after it with this tracker and this reassembly queue
   abbrev ArrivesWith : TrackerState → ReassemblyState → Type 0
-  ArrivesWith tracker reassembly = Arrives gapless first s.history old.queued old.read tracker reassembly old.queues.queue.streams
+  ArrivesWith tracker reassembly = Arrives watch first s.history old.queued old.read tracker reassembly old.queues.queue.streams
 
   -- ---- what is received
 
@@ -56,7 +56,7 @@ module _ (gapless : ℕ → Bool) (first : ℕ) (old : Direction) (small : first
     whole : HasReceived old.queued s.history first arrived.places theirs.tracker theirs.reassembly
     whole = received_at first old small s theirs new same same' arrived
 
-    arrived_so : HasReceivedInOrder gapless old.queued s.history before.quiet first before.places new.tracker new.reassembly → theirs.tracker.cumulative ≤ new.tracker.cumulative
+    arrived_so : HasReceivedInOrder watch old.queued s.history before.quiet first before.places new.tracker new.reassembly → theirs.tracker.cumulative ≤ new.tracker.cumulative
         → ((id : ℕ) → IsOver s.history first theirs.tracker.cumulative id → IsClear id theirs.reassembly → IsClear id new.reassembly) → ArrivesWith new.tracker new.reassembly
     arrived_so received up stays =
         record {
@@ -79,7 +79,7 @@ module _ (gapless : ℕ → Bool) (first : ℕ) (old : Direction) (small : first
     data_arrives offset arrival carries does =
         let few = known_few first old small s little in
         arrived_so
-        (received_in_order gapless old.queued s.history first s.queues.cut (known_log first old small s little) few free before.quiet before.places offset arrival theirs new carries whole.old (λ id is. (before.silent id is).over) before.received does)
+        (received_in_order watch old.queued s.history first s.queues.cut (known_log first old small s little) few free before.quiet before.places offset arrival theirs new carries whole.old (λ id is. (before.silent id is).over) before.received does)
         (received_grows arrival theirs new does)
         (λ id over clear. clear_through_data old.queued s.history first id arrived.places offset arrival theirs new few whole over carries clear does)
 
@@ -88,11 +88,11 @@ module _ (gapless : ℕ → Bool) (first : ℕ) (old : Direction) (small : first
         arrived_so (go passed.passed passed.below passed.is skip) (forward_grows tsn entries theirs new does)
         (clears first old small s theirs new same same' tsn entries does passed.passed passed.below passed.is skip little arrived (known_kinds first old small s interleaved))
       where
-        go : (k : ℕ) → k ≤ length s.history.log → tsn ≡ (first + k + (2 ^ 32 - 1)) % 2 ^ 32 → SkipAll s.history k entries → HasReceivedInOrder gapless old.queued s.history before.quiet first before.places new.tracker new.reassembly
+        go : (k : ℕ) → k ≤ length s.history.log → tsn ≡ (first + k + (2 ^ 32 - 1)) % 2 ^ 32 → SkipAll s.history k entries → HasReceivedInOrder watch old.queued s.history before.quiet first before.places new.tracker new.reassembly
         go zero below is skip =
-            nothing_in_order gapless old.queued s.history first s.queues.cut (known_log first old small s little) (known_few first old small s little) free before.quiet before.places tsn entries theirs new is before.received does
+            nothing_in_order watch old.queued s.history first s.queues.cut (known_log first old small s little) (known_few first old small s little) free before.quiet before.places tsn entries theirs new is before.received does
         go (suc k) below is skip =
-            forwarded_in_order gapless old.queued s.history first s.queues.cut (known_log first old small s little) (known_few first old small s little) free before.quiet before.places tsn entries theirs new
+            forwarded_in_order watch old.queued s.history first s.queues.cut (known_log first old small s little) (known_few first old small s little) free before.quiet before.places tsn entries theirs new
             (record { offset = k; below = omega (arith, below); is = is ∙ omega arith }) (subst (λ (j : ℕ). SkipAll s.history j entries) (omega arith) skip) (known_kinds first old small s interleaved) whole.old
             (λ id is. (before.silent id is).over) before.received does
 
@@ -104,9 +104,9 @@ module _ (gapless : ℕ → Bool) (first : ℕ) (old : Direction) (small : first
 
   pub arrives_on : (direction : Direction) (step : DirectionStep old direction) → EndsNone old direction step → NamedAreOut s.history old.asking.out old.queues.queue.streams
       → (old.asking.is_performed ≡ false → (old.asking.requests ≡ []) ⊎ (0 < old.asking.out)) → ArrivesWith old.tracker old.reassembly
-      → Arrives gapless first s.history direction.queued direction.read direction.tracker direction.reassembly old.queues.queue.streams
+      → Arrives watch first s.history direction.queued direction.read direction.tracker direction.reassembly old.queues.queue.streams
   arrives_on _ (queues now sending fits some) ends named unended a =
-      arrives_later gapless first s.history s.history old.queues.queue.streams old.queues.queue.streams 0 0 (continues_same s.history old.queues.queue.streams 0) old.queued (message_of sending ∷ []) old.read old.tracker old.reassembly a
+      arrives_later watch first s.history s.history old.queues.queue.streams old.queues.queue.streams 0 0 (continues_same s.history old.queues.queue.streams 0) old.queued (message_of sending ∷ []) old.read old.tracker old.reassembly a (λ id loud since. since)
   arrives_on _ (sets setting fits) ends named unended a = a
   arrives_on _ (prepares ids fit kept) ends named unended a = a
   arrives_on _ (commits go_on) ends named unended a = absurd ends
@@ -140,7 +140,7 @@ module _ (gapless : ℕ → Bool) (first : ℕ) (old : Direction) (small : first
         were = a.were;
         once = a.once;
         quiet = a.quiet;
-        received = tracked_in_order gapless old.queued s.history a.quiet first a.places old.tracker new old.reassembly cumulative ranges a.received;
+        received = tracked_in_order watch old.queued s.history a.quiet first a.places old.tracker new old.reassembly cumulative ranges a.received;
         silent = subst (λ (k : ℕ). AreSilent a.quiet s.history first k old.queues.queue.streams old.reassembly) (sym cumulative) a.silent;
       }
   arrives_on _ (defers last_tsn streams some) ends named unended a =
@@ -149,16 +149,16 @@ module _ (gapless : ℕ → Bool) (first : ℕ) (old : Direction) (small : first
         were = a.were;
         once = a.once;
         quiet = a.quiet;
-        received = deferring_in_order gapless old.queued s.history a.quiet first a.places last_tsn streams old.tracker old.reassembly a.received;
+        received = deferring_in_order watch old.queued s.history a.quiet first a.places last_tsn streams old.tracker old.reassembly a.received;
         silent = λ id is. (let q = a.silent id is in record { handed = q.handed; over = q.over; clear = (clear_through_rest id old.reassembly q.clear).0 last_tsn streams });
       }
   arrives_on _ (performs newest earlier new asks unknown reached own leaves) ends named unended a =
-      performing_arrives gapless first old small s free little interleaved newest earlier new asks (one_out newest earlier asks (unended (unknown interleaved))) named reached own leaves a
+      performing_arrives watch first old small s free little interleaved newest earlier new asks (one_out newest earlier asks (unended (unknown interleaved))) named reached own leaves a
   arrives_on _ (performs_earlier newest earlier new asks unknown reached own leaves) ends named unended a =
-      performing_arrives gapless first old small s free little interleaved newest earlier new asks (one_out newest earlier asks (unended (unknown interleaved))) named reached own leaves a
+      performing_arrives watch first old small s free little interleaved newest earlier new asks (one_out newest earlier asks (unended (unknown interleaved))) named reached own leaves a
   arrives_on _ (resets streams new unmixed some leaves) ends named unended a = absurd (let clash : true ≡ false = sym interleaved ∙ unmixed in cc)
   arrives_on _ (takes message messages ready) ends named unended a =
-      let t = takes_in_order gapless old.queued s.history a.quiet first a.places old.tracker old.reassembly message messages ready a.received in
+      let t = takes_in_order watch old.queued s.history a.quiet first a.places old.tracker old.reassembly message messages ready a.received in
       record {
         places = a.places ++ t.place ∷ [];
         were = both_queued old.queued a.places (t.place ∷ []) old.read (message ∷ []) a.were (t.was, tt);
@@ -171,7 +171,7 @@ module _ (gapless : ℕ → Bool) (first : ℕ) (old : Direction) (small : first
   -- ---- a reset ends
 
   pub committing_arrives : old.asking.out ≤ 1 → old.asking.is_performed ≡ true → ((id : ℕ) → s.history.floors id false % 2 ^ 32 ≡ 0) → ArrivesWith old.tracker old.reassembly
-      → Arrives gapless first (floors_raised old.queues.queue.streams s.history) old.queued old.read old.tracker old.reassembly (queue_committed old.queues.queue).streams
+      → Arrives watch first (floors_raised old.queues.queue.streams s.history) old.queued old.read old.tracker old.reassembly (queue_committed old.queues.queue).streams
   committing_arrives one performed at_zero a =
       let kinds = known_kinds first old small s interleaved in
       let counts : ((id : ℕ) → CountsFromZero s.history id) = λ id. counts_from_zero old.queued s.history id s.queues.cut (known_log first old small s little) kinds (at_zero id) in
@@ -180,7 +180,7 @@ module _ (gapless : ℕ → Bool) (first : ℕ) (old : Direction) (small : first
         were = a.were;
         once = a.once;
         quiet = none_quiet;
-        received = raised_in_order gapless old.queued s.history old.queues.queue.streams s.queues.cut kinds counts a.quiet (λ id is. (a.silent id is).handed) first old.tracker.cumulative old.reassembly
+        received = raised_in_order watch old.queued s.history old.queues.queue.streams s.queues.cut kinds counts a.quiet (λ id is. (a.silent id is).handed) first old.tracker.cumulative old.reassembly
             (is_over first old s one (arrived.cleared interleaved performed)) a.places old.tracker a.received;
         silent = λ id is. absurd (cc);
       }

@@ -36,7 +36,7 @@ use Rattle.dcsctp_delivery_directions.proofs.Steps.{stepped, more_queued}
 use Rattle.dcsctp_delivery_order.specs.Delivered.{AreDeliveredWithoutGaps}
 use Rattle.dcsctp_delivery_order.specs.Gaps.{SendsInTurn}
 use Rattle.dcsctp_delivery_order.specs.Incoming.{IncomingOrdered, IsOrderedOrReset, NoneLimitedOn}
-use Rattle.dcsctp_delivery_order.specs.Reading.{CountsFromZero, OrderedStream}
+use Rattle.dcsctp_delivery_order.specs.Reading.{CountsFromZero, OrderedStream, uncut}
 use Rattle.dcsctp_delivery_order.specs.Received.{none_quiet, ReassemblesInOrder, none_handled, some_handled}
 use Rattle.dcsctp_delivery_order.specs.Streams.{NoneLostOn, CurrentOn, AreDeliveredByStream}
 use Rattle.dcsctp_delivery_order.proofs.Beginning.{waits_from}
@@ -61,7 +61,7 @@ abbrev AreKept : (ℕ → Bool) → Beginning → Type 0
 AreKept gapless beginning = (id : ℕ) → gapless id ≡ true → beginning.keeps id ≡ true
 
 -- So none that was sent on them may be.
-free_on : (gapless : ℕ → Bool) (queued : List Message) (log : List Slot) → IsLogOfPieces queued log → AreFree gapless queued → NoneLimitedOn gapless log
+free_on : (gapless : ℕ → Bool) (queued : List Message) (log : List Slot) → IsLogOfPieces queued log → AreFree gapless queued → NoneLimitedOn (uncut gapless) log
 free_on gapless queued log cut are n f at on = unlimited_on_at f.message.stream queued f.place f.message (are f.message.stream on) (cut.pieces n f at).at refl
 
 -- A stream that is kept isn't among those that are prepared to be reset.
@@ -218,7 +218,7 @@ record GoesOnGapless (gapless : ℕ → Bool) (first : ℕ) (direction : Directi
   current : direction.queues.queue.is_interleaved ≡ true → (id : ℕ) → gapless id ≡ true → CurrentOn id stands.history
   lost : direction.queues.queue.is_interleaved ≡ true → (id : ℕ) → gapless id ≡ true → NoneLostOn id direction.queued stands.history.log direction.queues.queue.streams
   arrives : length stands.history.log < 2 ^ 31 → direction.queues.queue.is_interleaved ≡ true → direction.beginning.from_zero ≡ true
-      → Arrives gapless first stands.history direction.queued direction.read direction.tracker direction.reassembly direction.queues.queue.streams
+      → Arrives (uncut gapless) first stands.history direction.queued direction.read direction.tracker direction.reassembly direction.queues.queue.streams
 
 -- They were kept before a step, and none of them had limits.
 kept_before : (gapless : ℕ → Bool) (old direction : Direction) → DirectionStep old direction → AreKept gapless direction.beginning → AreKept gapless old.beginning
@@ -263,7 +263,7 @@ gapless_goes_on gapless first old small g direction few are step kept ends =
     let s = stepped first old small g.stands direction few step in
     let c : Continues g.stands.history s.history old.queues.queue.streams direction.queues.queue.streams old.asking.out direction.asking.out = step_continues first old small g.stands direction few step ends in
     let k = step_keeps old direction step ends in
-    let free : NoneLimitedOn gapless g.stands.history.log = free_on gapless old.queued g.stands.history.log g.stands.queues.cut (free_before gapless old direction step are) in
+    let free : NoneLimitedOn (uncut gapless) g.stands.history.log = free_on gapless old.queued g.stands.history.log g.stands.queues.cut (free_before gapless old direction step are) in
     record {
       stands = s;
       named = c.named g.named;
@@ -281,8 +281,9 @@ gapless_goes_on gapless first old small g direction few are step kept ends =
           let sizes : length s.history.log ≡ length (c.more ++ g.stands.history.log) = ap (λ (l : List Slot). length l) c.log in
           let before : length g.stands.history.log < 2 ^ 31 = omega (arith, little, sizes, length-append c.more g.stands.history.log) in
           let was : old.queues.queue.is_interleaved ≡ true = sym k.kind ∙ interleaved in
-          arrives_later gapless first g.stands.history s.history old.queues.queue.streams direction.queues.queue.streams old.asking.out direction.asking.out c direction.queued [] direction.read direction.tracker direction.reassembly
-          (arrives_on gapless first old small g.stands free before was direction step ends g.named (g.unended was) (g.arrives before was (sym k.start ∙ from)))
+          arrives_later (uncut gapless) first g.stands.history s.history old.queues.queue.streams direction.queues.queue.streams old.asking.out direction.asking.out c direction.queued [] direction.read direction.tracker direction.reassembly
+          (arrives_on (uncut gapless) first old small g.stands free before was direction step ends g.named (g.unended was) (g.arrives before was (sym k.start ∙ from)))
+          (λ id loud since cut has. absurd has)
           );
     }
 
@@ -299,7 +300,7 @@ gapless_steps : (gapless : ℕ → Bool) (first : ℕ) (old : Direction) → fir
     → DirectionStep old direction → AreKept gapless old.beginning → GoesOnGapless gapless first direction
 gapless_steps gapless first old small g _ few are (commits go_on) kept =
     let s = stepped first old small g.stands _ few (commits go_on) in
-    let free : NoneLimitedOn gapless g.stands.history.log = free_on gapless old.queued g.stands.history.log g.stands.queues.cut are in
+    let free : NoneLimitedOn (uncut gapless) g.stands.history.log = free_on gapless old.queued g.stands.history.log g.stands.queues.cut are in
     let raises : old.queues.queue.is_interleaved ≡ true → s.history ≡ floors_raised old.queues.queue.streams g.stands.history = ended_raises first old small g.stands few go_on in
     record {
       stands = s;
@@ -314,8 +315,8 @@ gapless_steps gapless first old small g _ few are (commits go_on) kept =
           step_keeps_on id first old g.stands _ (commits go_on) (kept id is) (are id is) s [] (ap (λ (h : History). h.log) (raises interleaved)) (g.lost interleaved id is);
       arrives = λ little interleaved from. (
           let before : length g.stands.history.log < 2 ^ 31 = subst (λ (h : History). length h.log < 2 ^ 31) (raises interleaved) little in
-          subst (λ (h : History). Arrives gapless first h old.queued old.read old.tracker old.reassembly (queue_committed old.queues.queue).streams) (sym (raises interleaved))
-          (committing_arrives gapless first old small g.stands free before interleaved (go_on interleaved).0 (go_on interleaved).1 (g.zero interleaved from) (g.arrives before interleaved from))
+          subst (λ (h : History). Arrives (uncut gapless) first h old.queued old.read old.tracker old.reassembly (queue_committed old.queues.queue).streams) (sym (raises interleaved))
+          (committing_arrives (uncut gapless) first old small g.stands free before interleaved (go_on interleaved).0 (go_on interleaved).1 (g.zero interleaved from) (g.arrives before interleaved from))
           );
     }
 gapless_steps gapless first old small g _ few are (rolls_back unmixed) kept =
@@ -418,24 +419,24 @@ gapless_of direction id = direction.beginning.keeps id && are_unlimited_on id di
 module _ (direction : Direction) (history : History) (counts : (id : ℕ) → CountsFromZero history id)
     (turns : (id : ℕ) → gapless_of direction id ≡ true → SendsInTurn direction.queued history id) where
   read_gapless : (quiet : ℕ → Bool) → ((id : ℕ) → gapless_of direction id ≡ true → quiet id ≡ false) → (got : List ℕ) (base : ℕ) (places : List ℕ) → WereQueued direction.queued places direction.read → AreDistinct places
-      → IncomingOrdered (gapless_of direction) direction.queued history quiet got base places direction.reassembly.incoming → AreDeliveredByStream direction.beginning.keeps direction.queued direction.read
+      → IncomingOrdered (uncut (gapless_of direction)) direction.queued history quiet got base places direction.reassembly.incoming → AreDeliveredByStream direction.beginning.keeps direction.queued direction.read
   read_gapless quiet loud got base places were once o =
       record {
         ordered = record {
           delivered = record { places = places; were_queued = were; once = once };
-          in_order = λ id. ordered_was_read (gapless_of direction) direction.queued history quiet got base places direction.reassembly.incoming id (counts id) o;
+          in_order = λ id. ordered_was_read (uncut (gapless_of direction)) direction.queued history quiet got base places direction.reassembly.incoming id (counts id) o;
         };
         no_gap = λ id kept are. (
             let is : gapless_of direction id ≡ true = rw kept (so_unlimited id direction.queued are) in
-            let here : OrderedStream (gapless_of direction id) direction.queued history id (places ++ o.holds.places) (o.holds.waits id) (stream_on id direction.reassembly.incoming.streams) =
-            subst (λ (b : Bool). IsOrderedOrReset (gapless_of direction id) b direction.queued history id (places ++ o.holds.places) (o.holds.waits id) (stream_on id direction.reassembly.incoming.streams)) (loud id is) (o.order id (counts id)) in
+            let here : OrderedStream (uncut (gapless_of direction) id) direction.queued history id (places ++ o.holds.places) (o.holds.waits id) (stream_on id direction.reassembly.incoming.streams) =
+            subst (λ (b : Bool). IsOrderedOrReset (uncut (gapless_of direction) id) b direction.queued history id (places ++ o.holds.places) (o.holds.waits id) (stream_on id direction.reassembly.incoming.streams)) (loud id is) (o.order id (counts id)) in
             no_gap_front direction.queued id places o.holds.places here.order.in_order
             (filled_no_gap direction.queued history id (places ++ o.holds.places) (o.holds.waits id) (stream_on id direction.reassembly.incoming.streams) (counts id) (turns id is) here.order (here.filled is))
             );
       }
 
   read_so : (quiet : ℕ → Bool) → ((id : ℕ) → gapless_of direction id ≡ true → quiet id ≡ false) → (first : ℕ) (got places : List ℕ) → WereQueued direction.queued places direction.read → AreDistinct places
-      → ReassemblesInOrder (gapless_of direction) direction.queued history quiet first got places direction.reassembly.incoming → AreDeliveredByStream direction.beginning.keeps direction.queued direction.read
+      → ReassemblesInOrder (uncut (gapless_of direction)) direction.queued history quiet first got places direction.reassembly.incoming → AreDeliveredByStream direction.beginning.keeps direction.queued direction.read
   read_so quiet loud first got places were once (none_handled none last empty) = read_gapless quiet loud [] 0 places were once (empty 0)
   read_so quiet loud first got places were once (some_handled base at holds) = read_gapless quiet loud got base places were once holds
 

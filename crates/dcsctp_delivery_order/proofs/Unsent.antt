@@ -12,10 +12,10 @@ use Rattle.dcsctp_delivery_sending.specs.Numbers.{AreOfKind}
 use Rattle.dcsctp_delivery_receiving.specs.Clear.{Unsent}
 use Rattle.dcsctp_delivery_receiving.specs.Ready.{WaitQueued, IsNear, fresh, near, HoldsIncoming}
 use Rattle.dcsctp_delivery_receiving.specs.Received.{Reassembles, untouched, placed, HasReceived}
-use Rattle.dcsctp_delivery_order.specs.Queue.{IsOrderedOn}
+use Rattle.dcsctp_delivery_order.specs.Queue.{IsOrderedOn, AreSeparated}
 use Rattle.dcsctp_delivery_order.specs.Order.{AreReadAs}
 use Rattle.dcsctp_delivery_order.specs.Rising.{AscendFrom}
-use Rattle.dcsctp_delivery_order.specs.Reading.{OrderedStream}
+use Rattle.dcsctp_delivery_order.specs.Reading.{OrderedStream, Watch, uncut}
 use Rattle.dcsctp_delivery_order.specs.Incoming.{IncomingOrdered}
 use Rattle.dcsctp_delivery_order.specs.Received.{none_quiet, ReassemblesInOrder, none_handled, some_handled, HasReceivedInOrder}
 use Rattle.dcsctp_delivery_order.proofs.Order.{in_order_none}
@@ -31,9 +31,9 @@ module _ (queued : List Message) (history : History) (id : ℕ) (cut : IsLogOfPi
   none_wait got (p ∷ waits) [] wait next = absurd wait
   none_wait got (p ∷ waits) (w ∷ waiting) wait next = absurd (none wait.0.offset wait.0.head wait.0.at wait.0.number.0)
 
-  pub unsent_ordered : (gapless : Bool) (got : List ℕ) (base : ℕ) (read : List ℕ) (incoming : IncomingModel) (holds : HoldsIncoming queued history got base read incoming)
-      → OrderedStream gapless queued history id (read ++ holds.places) (holds.waits id) (stream_on id incoming.streams)
-  unsent_ordered gapless got base read incoming holds =
+  pub unsent_ordered : (watch : Watch) (got : List ℕ) (base : ℕ) (read : List ℕ) (incoming : IncomingModel) (holds : HoldsIncoming queued history got base read incoming) → AreSeparated queued id watch.cuts (read ++ holds.places)
+      → OrderedStream watch queued history id (read ++ holds.places) (holds.waits id) (stream_on id incoming.streams)
+  unsent_ordered watch got base read incoming holds separated =
       let here = holds.streams_hold id in
       let stream : StreamModel = stream_on id incoming.streams in
       let waits = none_wait got (holds.waits id) stream.waiting here.wait (stream.next + 1) in
@@ -43,6 +43,8 @@ module _ (queued : List Message) (history : History) (id : ℕ) (cut : IsLogOfPi
         order = record { in_order = in_order_none queued id (read ++ holds.places) elsewhere; below = λ place has on. absurd (elsewhere place has on); waiting = waits.0; ahead = waits.1 };
         reach = record { from = omega (arith, next); up_to = omega (arith, next) };
         filled = λ is number low less. absurd (omega (arith, next, low, less));
+        separated = separated;
+        since = λ cut has n f at on. absurd (none n f at on);
       }
     where
       elsewhere : (p : ℕ) → HasEntry p (read ++ holds.places) → IsOrderedOn queued id p → ⊥
@@ -68,19 +70,19 @@ module _ (queued : List Message) (history : History) (empty : history.log ≡ []
         shuts = λ n f at. absurd (nowhere n (Some f) at);
       }
 
-  holds_none : (gapless : ℕ → Bool) (got : List ℕ) (base : ℕ) (read : List ℕ) (incoming : IncomingModel) → HoldsIncoming queued history got base read incoming → IncomingOrdered gapless queued history none_quiet got base read incoming
+  holds_none : (gapless : ℕ → Bool) (got : List ℕ) (base : ℕ) (read : List ℕ) (incoming : IncomingModel) → HoldsIncoming queued history got base read incoming → IncomingOrdered (uncut gapless) queued history none_quiet got base read incoming
   holds_none gapless got base read incoming holds =
       record {
         holds = holds;
-        order = λ id counts. unsent_ordered queued history id no_cut (λ n f at. absurd (nowhere n (Some f) at)) (λ n f at on. absurd (nowhere n (Some f) at)) (gapless id) got base read incoming holds;
+        order = λ id counts. unsent_ordered queued history id no_cut (λ n f at. absurd (nowhere n (Some f) at)) (λ n f at on. absurd (nowhere n (Some f) at)) (uncut gapless id) got base read incoming holds (λ cut has. absurd has);
       }
 
-  pub reassembles_none : (gapless : ℕ → Bool) (first : ℕ) (got read : List ℕ) (incoming : IncomingModel) → Reassembles queued history first got read incoming → ReassemblesInOrder gapless queued history none_quiet first got read incoming
+  pub reassembles_none : (gapless : ℕ → Bool) (first : ℕ) (got read : List ℕ) (incoming : IncomingModel) → Reassembles queued history first got read incoming → ReassemblesInOrder (uncut gapless) queued history none_quiet first got read incoming
   reassembles_none gapless first got read incoming (untouched none' last empty') = none_handled none' last (λ base. holds_none gapless [] base read incoming (empty' base))
   reassembles_none gapless first got read incoming (placed base is holds) = some_handled base is (holds_none gapless got base read incoming holds)
 
   pub received_none : (gapless : ℕ → Bool) (first : ℕ) (read : List ℕ) (tracker : TrackerState) (reassembly : ReassemblyState) → HasReceived queued history first read tracker reassembly
-      → HasReceivedInOrder gapless queued history none_quiet first read tracker reassembly
+      → HasReceivedInOrder (uncut gapless) queued history none_quiet first read tracker reassembly
   received_none gapless first read tracker reassembly r =
       record {
         taken = r.taken;

@@ -8,7 +8,7 @@ use Rattle.dcsctp_delivery_sending.specs.Log.{Message, History}
 use Rattle.dcsctp_delivery_receiving.specs.Ready.{AreDistinct, WereQueued}
 use Rattle.dcsctp_delivery_directions.specs.Directions.{AreDelivered}
 use Rattle.dcsctp_delivery_order.specs.Queue.{ComeInOrder, LeaveNoGap}
-use Rattle.dcsctp_delivery_order.specs.Reading.{CountsFromZero}
+use Rattle.dcsctp_delivery_order.specs.Reading.{CountsFromZero, Watch, uncut}
 use Rattle.dcsctp_delivery_order.specs.Gaps.{SendsInTurn}
 use Rattle.dcsctp_delivery_order.specs.Incoming.{IncomingOrdered}
 
@@ -25,8 +25,8 @@ pub record AreDeliveredWithoutGaps (queued : List Message) (read : List MessageC
 -- Messages are read in order where the numbers of each stream begin at 0.
 abbrev pub ReadIsInOrder : Type 0
 ReadIsInOrder =
-    (gapless : ℕ → Bool) (queued : List Message) (history : History) (quiet : ℕ → Bool) (got : List ℕ) (base : ℕ) (places : List ℕ) (incoming : IncomingModel) (read : List MessageContent)
-    → WereQueued queued places read → AreDistinct places → ((id : ℕ) → CountsFromZero history id) → IncomingOrdered gapless queued history quiet got base places incoming
+    (watch : ℕ → Watch) (queued : List Message) (history : History) (quiet : ℕ → Bool) (got : List ℕ) (base : ℕ) (places : List ℕ) (incoming : IncomingModel) (read : List MessageContent)
+    → WereQueued queued places read → AreDistinct places → ((id : ℕ) → CountsFromZero history id) → IncomingOrdered watch queued history quiet got base places incoming
     → AreDeliveredInOrder queued read
 
 -- They are read without gaps where besides nothing is skipped or reset, and messages are sent in turn.
@@ -34,4 +34,4 @@ abbrev pub ReadIsWithoutGaps : Type 0
 ReadIsWithoutGaps =
     (queued : List Message) (history : History) (got : List ℕ) (base : ℕ) (places : List ℕ) (incoming : IncomingModel) (read : List MessageContent)
     → WereQueued queued places read → AreDistinct places → ((id : ℕ) → CountsFromZero history id) → ((id : ℕ) → SendsInTurn queued history id)
-    → IncomingOrdered (λ id. true) queued history (λ id. false) got base places incoming → AreDeliveredWithoutGaps queued read
+    → IncomingOrdered (uncut (λ id. true)) queued history (λ id. false) got base places incoming → AreDeliveredWithoutGaps queued read

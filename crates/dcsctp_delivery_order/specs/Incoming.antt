@@ -13,78 +13,78 @@ use Rattle.dcsctp_delivery_sending.specs.Places.{HasEntry, at_place}
 use Rattle.dcsctp_delivery_sending.specs.Log.{Message, Piece, Slot, History, IsLogOfPieces}
 use Rattle.dcsctp_delivery_sending.specs.Numbers.{IsUnambiguous}
 use Rattle.dcsctp_delivery_receiving.specs.Ready.{HoldsAll, WasQueued, WereQueued, BearsPiece, AreNamed}
-use Rattle.dcsctp_delivery_order.specs.Queue.{ComeInOrder}
+use Rattle.dcsctp_delivery_order.specs.Queue.{ComeInOrder, AreSeparated}
 use Rattle.dcsctp_delivery_order.specs.Order.{IsBetweenResets}
-use Rattle.dcsctp_delivery_order.specs.Reading.{CountsFromZero, OrderedStream}
+use Rattle.dcsctp_delivery_order.specs.Reading.{CountsFromZero, OrderedStream, Watch, uncut, ComeSince}
 
 -- The stream is in order; or it was reset, and its messages aren't numbered from 0 yet.
-abbrev pub IsOrderedOrReset : Bool → Bool → List Message → History → ℕ → List ℕ → List ℕ → StreamModel → Type 0
-IsOrderedOrReset gapless false queued history id all waits stream = OrderedStream gapless queued history id all waits stream
-IsOrderedOrReset gapless true queued history id all waits stream = IsBetweenResets queued history id all
+abbrev pub IsOrderedOrReset : Watch → Bool → List Message → History → ℕ → List ℕ → List ℕ → StreamModel → Type 0
+IsOrderedOrReset watch false queued history id all waits stream = OrderedStream watch queued history id all waits stream
+IsOrderedOrReset watch true queued history id all waits stream = IsBetweenResets queued history id all × AreSeparated queued id watch.cuts all
 
--- All that is held was queued, and the streams whose numbers begin at 0 are in order. `gapless` are the
--- streams of which nothing was skipped.
+-- All that is held was queued, and the streams whose numbers begin at 0 are in order. `watch` is what is
+-- watched of each.
 -- `quiet` are the streams that were reset, and on which nothing comes before their messages are numbered from 0 again.
-pub record HoldsOrdered (gapless : ℕ → Bool) (queued : List Message) (history : History) (quiet : ℕ → Bool) (got : List ℕ) (base : ℕ) (read : List ℕ) (streams : ℕ → StreamModel) (unordered : List RunModel) (ready : List MessageContent) : Type 0 where
+pub record HoldsOrdered (watch : ℕ → Watch) (queued : List Message) (history : History) (quiet : ℕ → Bool) (got : List ℕ) (base : ℕ) (read : List ℕ) (streams : ℕ → StreamModel) (unordered : List RunModel) (ready : List MessageContent) : Type 0 where
   pub holds : HoldsAll queued history got base read streams unordered ready
-  pub order : (id : ℕ) → CountsFromZero history id → IsOrderedOrReset (gapless id) (quiet id) queued history id (read ++ holds.places) (holds.waits id) (streams id)
+  pub order : (id : ℕ) → CountsFromZero history id → IsOrderedOrReset (watch id) (quiet id) queued history id (read ++ holds.places) (holds.waits id) (streams id)
 
 -- This holds for the received messages of an association.
-abbrev pub IncomingOrdered : (ℕ → Bool) → List Message → History → (ℕ → Bool) → List ℕ → ℕ → List ℕ → IncomingModel → Type 0
-IncomingOrdered gapless queued history quiet got base read incoming =
-    HoldsOrdered gapless queued history quiet got base read (λ id. stream_on id incoming.streams) incoming.unordered incoming.ready
+abbrev pub IncomingOrdered : (ℕ → Watch) → List Message → History → (ℕ → Bool) → List ℕ → ℕ → List ℕ → IncomingModel → Type 0
+IncomingOrdered watch queued history quiet got base read incoming =
+    HoldsOrdered watch queued history quiet got base read (λ id. stream_on id incoming.streams) incoming.unordered incoming.ready
 
 -- It holds of an association that was just begun.
 abbrev pub BeginningInOrder : Type 0
-BeginningInOrder = (gapless : ℕ → Bool) (queued : List Message) (history : History) (quiet : ℕ → Bool) (base : ℕ) → IncomingOrdered gapless queued history quiet [] base [] nothing
+BeginningInOrder = (gapless : ℕ → Bool) (queued : List Message) (history : History) (quiet : ℕ → Bool) (base : ℕ) → IncomingOrdered (uncut gapless) queued history quiet [] base [] nothing
 
 -- A chunk whose TSN is new, and that carries the piece of its TSN, leaves it so.
 abbrev pub ReadyInOrder : Type 0
 ReadyInOrder =
-    (gapless : ℕ → Bool) (queued : List Message) (history : History) (quiet : ℕ → Bool) → IsLogOfPieces queued history.log → IsUnambiguous history
+    (watch : ℕ → Watch) (queued : List Message) (history : History) (quiet : ℕ → Bool) → IsLogOfPieces queued history.log → IsUnambiguous history
     → (got : List ℕ) (base tsn : ℕ) (read : List ℕ) (chunk : ChunkModel) (old new : IncomingModel)
     → (bears : BearsPiece history base (number_near old.last_tsn_number tsn) chunk) → (HasEntry bears.offset got → ⊥) → quiet chunk.stream ≡ false
-    → IncomingOrdered gapless queued history quiet got base read old → TakesIncomingChunk tsn chunk old new
-    → IncomingOrdered gapless queued history quiet (bears.offset ∷ got) base read new
+    → IncomingOrdered watch queued history quiet got base read old → TakesIncomingChunk tsn chunk old new
+    → IncomingOrdered watch queued history quiet (bears.offset ∷ got) base read new
 
 -- None of these entries skips a message of a quiet stream.
 abbrev pub NoneIsQuiet : (ℕ → Bool) → List SkippedTo → Type 0
 NoneIsQuiet quiet entries = AllByRecursion (λ entry. quiet (skipped_stream entry) ≡ false) entries
 
 -- No message that was sent on these streams may be abandoned (RFC 3758).
-abbrev pub NoneLimitedOn : (ℕ → Bool) → List Slot → Type 0
-NoneLimitedOn gapless log = (n : ℕ) (f : Piece) → at_place n log ≡ Some (Some f) → gapless f.message.stream ≡ true → f.message.is_limited ≡ false
+abbrev pub NoneLimitedOn : (ℕ → Watch) → List Slot → Type 0
+NoneLimitedOn watch log = (n : ℕ) (f : Piece) → at_place n log ≡ Some (Some f) → (watch f.message.stream).is_gapless ≡ true → f.message.is_limited ≡ false
 
 -- So does an I-FORWARD-TSN, whatever it skips of what was sent on other streams than those,
 abbrev pub SkippingInOrder : Type 0
 SkippingInOrder =
-    (gapless : ℕ → Bool) (queued : List Message) (history : History) (quiet : ℕ → Bool) (got : List ℕ) (base tsn : ℕ) (read : List ℕ) (entries : List SkippedTo) (old new : IncomingModel)
-    → NoneLimitedOn gapless history.log → AreNamed history entries → NoneIsQuiet quiet entries → IncomingOrdered gapless queued history quiet got base read old → MovesOn tsn entries old new → IncomingOrdered gapless queued history quiet got base read new
+    (watch : ℕ → Watch) (queued : List Message) (history : History) (quiet : ℕ → Bool) (got : List ℕ) (base tsn : ℕ) (read : List ℕ) (entries : List SkippedTo) (old new : IncomingModel)
+    → NoneLimitedOn watch history.log → AreNamed history entries → NoneIsQuiet quiet entries → IncomingOrdered watch queued history quiet got base read old → MovesOn tsn entries old new → IncomingOrdered watch queued history quiet got base read new
 
 -- and a reset of streams. They are quiet from then on.
 abbrev pub ResettingInOrder : Type 0
 ResettingInOrder =
-    (gapless : ℕ → Bool) (queued : List Message) (history : History) (quiet : ℕ → Bool) (got : List ℕ) (base : ℕ) (read streams : List ℕ) (old new : IncomingModel)
-    → IncomingOrdered gapless queued history quiet got base read old → ResetsStreams streams old new → IncomingOrdered gapless queued history (λ id. quiet id || names_stream streams id) got base read new
+    (watch : ℕ → Watch) (queued : List Message) (history : History) (quiet : ℕ → Bool) (got : List ℕ) (base : ℕ) (read streams : List ℕ) (old new : IncomingModel)
+    → IncomingOrdered watch queued history quiet got base read old → ResetsStreams streams old new → IncomingOrdered watch queued history (λ id. quiet id || names_stream streams id) got base read new
 
 -- The message that the user reads was queued, and wasn't read before.
-pub record ReadsInOrder (gapless : ℕ → Bool) (queued : List Message) (history : History) (quiet : ℕ → Bool) (got : List ℕ) (base : ℕ) (read : List ℕ) (incoming : IncomingModel) (message : MessageContent) (messages : List MessageContent) : Type 0 where
+pub record ReadsInOrder (watch : ℕ → Watch) (queued : List Message) (history : History) (quiet : ℕ → Bool) (got : List ℕ) (base : ℕ) (read : List ℕ) (incoming : IncomingModel) (message : MessageContent) (messages : List MessageContent) : Type 0 where
   pub place : ℕ
   pub was : WasQueued queued place message
   pub fresh : HasEntry place read → ⊥
-  pub ordered : IncomingOrdered gapless queued history quiet got base (read ++ place ∷ []) (record incoming { ready = messages })
+  pub ordered : IncomingOrdered watch queued history quiet got base (read ++ place ∷ []) (record incoming { ready = messages })
 
 -- This holds for the first that is ready.
 abbrev pub TakingInOrder : Type 0
 TakingInOrder =
-    (gapless : ℕ → Bool) (queued : List Message) (history : History) (quiet : ℕ → Bool) (got : List ℕ) (base : ℕ) (read : List ℕ) (incoming : IncomingModel) (message : MessageContent) (messages : List MessageContent)
-    → incoming.ready ≡ message ∷ messages → IncomingOrdered gapless queued history quiet got base read incoming → ReadsInOrder gapless queued history quiet got base read incoming message messages
+    (watch : ℕ → Watch) (queued : List Message) (history : History) (quiet : ℕ → Bool) (got : List ℕ) (base : ℕ) (read : List ℕ) (incoming : IncomingModel) (message : MessageContent) (messages : List MessageContent)
+    → incoming.ready ≡ message ∷ messages → IncomingOrdered watch queued history quiet got base read incoming → ReadsInOrder watch queued history quiet got base read incoming message messages
 
 -- What was read of a stream's ordered messages was queued in the order of reading.
 abbrev pub OrderedWasRead : Type 0
 OrderedWasRead =
-    (gapless : ℕ → Bool) (queued : List Message) (history : History) (quiet : ℕ → Bool) (got : List ℕ) (base : ℕ) (read : List ℕ) (incoming : IncomingModel) (id : ℕ) → CountsFromZero history id
-    → IncomingOrdered gapless queued history quiet got base read incoming → ComeInOrder queued id read
+    (watch : ℕ → Watch) (queued : List Message) (history : History) (quiet : ℕ → Bool) (got : List ℕ) (base : ℕ) (read : List ℕ) (incoming : IncomingModel) (id : ℕ) → CountsFromZero history id
+    → IncomingOrdered watch queued history quiet got base read incoming → ComeInOrder queued id read
 
 -- The later history has all TSNs of the earlier one, and no floor was raised.
 pub record IsWithin (history later : History) : Type 0 where
@@ -94,6 +94,6 @@ pub record IsWithin (history later : History) : Type 0 where
 -- The peer may queue more, assign more TSNs and begin resets: the stream is in order as before.
 abbrev pub GrowingInOrder : Type 0
 GrowingInOrder =
-    (gapless : Bool) (queued more : List Message) (history later : History) (quiet : Bool) (id : ℕ) (all waits : List ℕ) (contents : List MessageContent) (stream : StreamModel)
-    → IsWithin history later → WereQueued queued all contents → CountsFromZero later id → (CountsFromZero history id → IsOrderedOrReset gapless quiet queued history id all waits stream)
-    → IsOrderedOrReset gapless quiet (more ++ queued) later id all waits stream
+    (watch : Watch) (queued more : List Message) (history later : History) (quiet : Bool) (id : ℕ) (all waits : List ℕ) (contents : List MessageContent) (stream : StreamModel)
+    → IsWithin history later → (quiet ≡ false → ComeSince history id watch.cuts → ComeSince later id watch.cuts) → WereQueued queued all contents → CountsFromZero later id → (CountsFromZero history id → IsOrderedOrReset watch quiet queued history id all waits stream)
+    → IsOrderedOrReset watch quiet (more ++ queued) later id all waits stream

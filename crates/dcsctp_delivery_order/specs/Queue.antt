@@ -1,6 +1,6 @@
 -- The order in which ordered messages of a stream were queued, and the numbers of what was sent of
 -- them (RFC 9260, section 6.6; RFC 8260, section 2.1).
-use Rattle.std.specs.Prelude.{◌≡◌, ◌<◌, ◌+◌, ◌^◌, ℕ, true, false, Some, List, [], ◌∷◌, length}
+use Rattle.std.specs.Prelude.{◌≡◌, ◌<◌, ◌≤◌, ◌+◌, ◌^◌, ℕ, zero, suc, true, false, Some, List, [], ◌∷◌, length}
 use Rattle.dcsctp_spec_lemmas.specs.spec.endpoint.Event.{Event}
 use Rattle.dcsctp_spec_lemmas.specs.spec.queues.SendQueue.{SendQueueState}
 use Rattle.dcsctp_spec_lemmas.specs.spec.queues.Sending.{Fragment, TakesFragment}
@@ -28,6 +28,24 @@ ComeInOrder queued id (place ∷ places) =
 abbrev pub LeaveNoGap : List Message → ℕ → List ℕ → Type 0
 LeaveNoGap queued id places =
     (earlier later : ℕ) → HasEntry later places → IsOrderedOn queued id later → IsOrderedOn queued id earlier → earlier < later → HasEntry earlier places
+
+-- ---- resets of the stream that were performed
+
+-- A reset of a stream that its receiver has performed: how many messages were read or ready then, of all streams, and how many
+-- were queued when it was asked for.
+pub record Cut : Type 0 where
+  pub index : ℕ
+  pub place : ℕ
+
+-- Of the ordered messages of the stream the first ones, up to this index, were queued before this place, and none of the others.
+abbrev pub Separates : List Message → ℕ → ℕ → ℕ → List ℕ → Type 0
+Separates queued id index bound [] = Unit {0}
+Separates queued id zero bound (place ∷ places) = (IsOrderedOn queued id place → bound ≤ place) × Separates queued id zero bound places
+Separates queued id (suc index) bound (place ∷ places) = (IsOrderedOn queued id place → place < bound) × Separates queued id index bound places
+
+-- Each of these resets separates them.
+abbrev pub AreSeparated : List Message → ℕ → List Cut → List ℕ → Type 0
+AreSeparated queued id cuts places = (cut : Cut) → HasEntry cut cuts → (cut.index ≤ length places) × Separates queued id cut.index cut.place places
 
 -- ---- what the log of a sender has
 

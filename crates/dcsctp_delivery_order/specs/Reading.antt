@@ -1,6 +1,6 @@
 -- Message identifiers of ordered messages are read right, and tell them apart (RFC 8260, section
 -- 2.1), where the numbers of their stream begin at 0.
-use Rattle.std.specs.Prelude.{◌≡◌, ◌<◌, ◌≤◌, ◌+◌, ◌%◌, ◌^◌, ℕ, true, false, Some, List, Bool}
+use Rattle.std.specs.Prelude.{◌≡◌, ◌<◌, ◌≤◌, ◌+◌, ◌%◌, ◌^◌, ℕ, true, false, Some, List, [], Bool}
 use Rattle.dcsctp_spec_lemmas.specs.types.queues.Messages.{MessageContent}
 use Rattle.dcsctp_spec_lemmas.specs.types.declared.arrivals.Taken.{Taken}
 use Rattle.dcsctp_spec_lemmas.specs.types.declared.ids.StreamId.{StreamId}
@@ -11,7 +11,7 @@ use Rattle.dcsctp_spec_lemmas.specs.spec.queues.IncomingStreams.{StreamModel, Ta
 use Rattle.dcsctp_delivery_sending.specs.Places.{HasEntry, at_place}
 use Rattle.dcsctp_delivery_sending.specs.Log.{Message, Piece, History}
 use Rattle.dcsctp_delivery_sending.specs.Numbers.{AreOfKind, IsCurrent}
-use Rattle.dcsctp_delivery_order.specs.Queue.{FollowsOn}
+use Rattle.dcsctp_delivery_order.specs.Queue.{FollowsOn, Cut, AreSeparated}
 use Rattle.dcsctp_delivery_order.specs.Rising.{IsAhead}
 use Rattle.dcsctp_delivery_order.specs.Order.{IsReadAs, StreamInOrder, AreFilled}
 
@@ -30,11 +30,28 @@ pub record IsInReach (stream : StreamModel) : Type 0 where
   pub from : 2 ^ 32 ≤ stream.next
   pub up_to : stream.next ≤ 2 ^ 32 + 2 ^ 31
 
--- The stream is in order, with its next number in reach, and without a gap if none was skipped.
-pub record OrderedStream (gapless : Bool) (queued : List Message) (history : History) (id : ℕ) (all waits : List ℕ) (stream : StreamModel) : Type 0 where
+-- What is watched of a stream: was nothing skipped of it, and which resets of it were performed?
+pub record Watch : Type 0 where
+  pub is_gapless : Bool
+  pub cuts : List Cut
+
+-- no reset was performed
+abbrev pub uncut : (ℕ → Bool) → ℕ → Watch
+uncut gapless id = record { is_gapless = gapless id; cuts = [] }
+
+-- What was sent on the stream since its last reset was queued after each of these was asked for.
+abbrev pub ComeSince : History → ℕ → List Cut → Type 0
+ComeSince history id cuts =
+    (cut : Cut) → HasEntry cut cuts → (n : ℕ) (f : Piece) → at_place n history.log ≡ Some (Some f) → f.message.stream ≡ id → f.message.is_unordered ≡ false → history.floors id false ≤ f.mid → cut.place ≤ f.place
+
+-- The stream is in order, with its next number in reach, and without a gap if none was skipped. Each reset of it that was performed
+-- separates its messages, and what comes next was queued since.
+pub record OrderedStream (watch : Watch) (queued : List Message) (history : History) (id : ℕ) (all waits : List ℕ) (stream : StreamModel) : Type 0 where
   pub order : StreamInOrder queued history id all waits stream
   pub reach : IsInReach stream
-  pub filled : gapless ≡ true → AreFilled history id all stream.next
+  pub filled : watch.is_gapless ≡ true → AreFilled history id all stream.next
+  pub separated : AreSeparated queued id watch.cuts all
+  pub since : ComeSince history id watch.cuts
 
 -- The piece is one of an ordered message of the stream that was sent since the last reset of that.
 pub record IsSince (history : History) (id offset : ℕ) (piece : Piece) : Type 0 where

@@ -10,6 +10,7 @@ use Rattle.dcsctp_delivery_receiving.specs.Ready.{AreDistinct}
 use Rattle.dcsctp_delivery_receiving.specs.Received.{CountsFromBase, DefersData}
 use Rattle.dcsctp_delivery_receiving.specs.Tracked.{Tracks}
 use Rattle.dcsctp_delivery_order.specs.Incoming.{IncomingOrdered}
+use Rattle.dcsctp_delivery_order.specs.Reading.{Watch}
 
 -- no stream is between a reset and new numbers
 abbrev pub none_quiet : ℕ → Bool
@@ -23,20 +24,19 @@ all_gapless id = true
 abbrev pub none_gapless : ℕ → Bool
 none_gapless id = false
 
--- No TSN was handled yet; or the number of the first is known, and all that is held is in order. `gapless` are the
--- streams of which nothing was skipped.
+-- No TSN was handled yet; or the number of the first is known, and all that is held is in order.
 pub data ReassemblesInOrder
-    (gapless : ℕ → Bool) (queued : List Message) (history : History) (quiet : ℕ → Bool) (first : ℕ) (got read : List ℕ) (incoming : IncomingModel) : Type 0 where
+    (watch : ℕ → Watch) (queued : List Message) (history : History) (quiet : ℕ → Bool) (first : ℕ) (got read : List ℕ) (incoming : IncomingModel) : Type 0 where
   none_handled : got ≡ [] → incoming.last_tsn_number ≡ 2 ^ 32
-      → ((base : ℕ) → IncomingOrdered gapless queued history quiet [] base read incoming) → ReassemblesInOrder gapless queued history quiet first got read incoming
+      → ((base : ℕ) → IncomingOrdered watch queued history quiet [] base read incoming) → ReassemblesInOrder watch queued history quiet first got read incoming
   some_handled : (base : ℕ) → CountsFromBase first base incoming.last_tsn_number
-      → IncomingOrdered gapless queued history quiet got base read incoming → ReassemblesInOrder gapless queued history quiet first got read incoming
+      → IncomingOrdered watch queued history quiet got base read incoming → ReassemblesInOrder watch queued history quiet first got read incoming
 
 -- All that an association has received in order whose peer has this log. Messages of other streams may have been skipped. `taken` has the offsets
 -- that the tracker knows, `got` those that the reassembly queue has handled, and `later` those that wait for the end of a deferred
 -- reset.
 pub record HasReceivedInOrder
-    (gapless : ℕ → Bool) (queued : List Message) (history : History) (quiet : ℕ → Bool) (first : ℕ) (read : List ℕ) (tracker : TrackerState) (reassembly : ReassemblyState) : Type 0 where
+    (watch : ℕ → Watch) (queued : List Message) (history : History) (quiet : ℕ → Bool) (first : ℕ) (read : List ℕ) (tracker : TrackerState) (reassembly : ReassemblyState) : Type 0 where
   pub taken : List ℕ
   pub got : List ℕ
   pub later : List ℕ
@@ -45,5 +45,5 @@ pub record HasReceivedInOrder
   pub later_taken : (k : ℕ) → HasEntry k later → HasEntry k taken
   pub apart : (k : ℕ) → HasEntry k later → HasEntry k got → ⊥
   pub distinct : AreDistinct later
-  pub holds : ReassemblesInOrder gapless queued history quiet first got read reassembly.incoming
+  pub holds : ReassemblesInOrder watch queued history quiet first got read reassembly.incoming
   pub defers : DefersData history first later (waiting_of reassembly.deferral)
