@@ -38,16 +38,20 @@ pub record Replied (v there : View) (p q : Pair) (made tie : ℕ) (before : List
   pub takes : (turns : List Transition) → HandleInput there.endpoint (echo_packet v.endpoint.options (given_by v p q made tie)) turns
       → Establishes there.endpoint (given_by v p q made tie) turns
 
--- At the end of the run both are linked, and each has told OnConnected once since.
-pub record Joined (side : Side) (options : Both Options) (run : List PerformedAct) (v w : View) : Type 0 where
+-- At the end of the run both are linked, and have told OnConnected that often.
+pub record JoinedBy (side : Side) (options : Both Options) (run : List PerformedAct) (v w : View) (m n : ℕ) : Type 0 where
   pub here : View
   pub there : View
   pub at : AtOf side options run here there
   pub p : Pair
   pub q : Pair
   pub linked : AreLinked here.endpoint there.endpoint v.endpoint.options w.endpoint.options p q
-  pub told_here : here.told ≡ suc v.told
-  pub told_there : there.told ≡ suc w.told
+  pub told_here : here.told ≡ m
+  pub told_there : there.told ≡ n
+
+-- each once since
+abbrev pub Joined : Side → Both Options → List PerformedAct → View → View → Type 0
+Joined side options run v w = JoinedBy side options run v w (suc v.told) (suc w.told)
 
 -- ---- the sides in turn
 

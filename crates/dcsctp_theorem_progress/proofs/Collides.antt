@@ -25,7 +25,7 @@ use Rattle.dcsctp_theorem_sockets.proofs.HandshakeReads.{counted_at, delivered, 
 use Rattle.dcsctp_theorem_sockets.proofs.HandshakeTurns.{HandshakeLaws, Good, taken_as, same_tag}
 use Rattle.dcsctp_theorem_sockets.proofs.Idle.{OwesNothing}
 use Rattle.dcsctp_theorem_sockets.proofs.Sendable.{ack_sendable}
-use Rattle.dcsctp_theorem_progress.proofs.Echoes.{echo_is_taken, echo_packet, last_admitted}
+use Rattle.dcsctp_theorem_progress.proofs.Echoes.{echo_is_taken, echo_packet, own_bytes, last_admitted}
 use Rattle.dcsctp_theorem_progress.proofs.Cookies.{same_case, whatever_age}
 
 -- ---- COOKIE ECHO
@@ -52,7 +52,7 @@ opens law f a cookie held echoed turns is peer asks idle owes fitting good_a goo
     let after : Endpoint = connected_after c cookie.maker held in
     let core : Core = cookie_echoed cookie.maker held echoed in
     let h : Taken f cookie.maker.tag (cookie_echo bytes) turns =
-    taken law.wire f a true cookie.maker.tag (cookie_echo bytes) turns (echo_is_taken a f.options cookie good_a fitting.names.maker port)
+    taken law.wire f a true cookie.maker.tag (cookie_echo bytes) turns (echo_is_taken a f.options cookie bytes good_a (own_bytes law cookie fitting) port)
     (ap (λ (x : Core). admits x (record { tag = cookie.maker.tag; contents = cookie_echo bytes ∷ [] })) is) asks
     (λ e o rests. subst (λ (x : Core). BeginTurn e x false o) is rests) input in
     let word : ℕ = h.comes.0 in

@@ -1,5 +1,6 @@
 -- INIT ACK, COOKIE ECHO and COOKIE ACK at any socket in which nothing waits.
 use Rattle.std.proofs.Common.{◌≡◌, ◌≤◌, ℕ, Bool, true, false, cond, eqb, None, Some, List, [], ◌∷◌, ◌⊎◌, ◌≢◌, inl, Result, Ok, refl, sym, subst, ap, ◌∙◌, arith}
+use Rattle.dcsctp_spec_lemmas.specs.wire.ReadsBack.{FitsEcho}
 use Rattle.dcsctp_spec_lemmas.specs.types.declared.association.Pair.{Pair}
 use Rattle.dcsctp_spec_lemmas.specs.types.declared.association.Held.{Held}
 use Rattle.dcsctp_spec_lemmas.specs.types.declared.options.Options.{Options}
@@ -95,9 +96,22 @@ establishing e cookie tie =
     with_effects_first (holds (identity_of cookie.maker held) ∷ connects (identity_of cookie.maker held) ∷ [])
     (sends (endpoint_established e cookie (queues_kept e cookie) tie) (U64 tie ∷ []) (connected ∷ []) (acknowledgement e.options cookie))
 
-pub record Establishes (e : Endpoint) (cookie : Cookie) (turns : List Transition) : Type 0 where
+-- These bytes read as the cookie, and may be sent.
+pub record Spells (bytes : List ℕ) (cookie : Cookie) : Type 0 where
+  pub reads : cookie_of_bytes bytes ≡ Ok cookie
+  pub fits : FitsEcho bytes
+  pub own : FitsPair cookie.maker
+
+pub own_bytes : HandshakeLaws → (cookie : Cookie) → FitsCookie cookie → Spells (cookie_bytes cookie) cookie
+own_bytes law cookie fits =
+    record { reads = law.cookies cookie fits; fits = record { len_fits = omega (arith, length_of_cookie cookie); cookie_in_bytes = in_cookie cookie }; own = fits.names.maker }
+
+pub record EstablishesBy (e : Endpoint) (cookie : Cookie) (bytes : List ℕ) (turns : List Transition) : Type 0 where
   pub tie : ℕ
-  pub only : turns ≡ delivered e cookie.maker.tag (cookie_echo (cookie_bytes cookie)) (establishing (counted_at e) cookie tie)
+  pub only : turns ≡ delivered e cookie.maker.tag (cookie_echo bytes) (establishing (counted_at e) cookie tie)
+
+abbrev pub Establishes : Endpoint → Cookie → List Transition → Type 0
+Establishes e cookie turns = EstablishesBy e cookie (cookie_bytes cookie) turns
 
 -- A cookie that isn't spent makes an association where there is none.
 pub new_case : (e : Endpoint) (cookie : Cookie) → is_spent e closed cookie.maker.tag cookie ≡ false → resolved_now e closed cookie.maker.tag cookie ≡ establish_new
@@ -111,36 +125,38 @@ establish_sends e cookie tie good =
     ap (λ (x : Bool). with_effects_first (holds (identity_of cookie.maker held) ∷ connects (identity_of cookie.maker held) ∷ [])
     (cond x (sends after (U64 tie ∷ []) (connected ∷ []) (acknowledgement e.options cookie)) (quiet after (U64 tie ∷ []) (connected ∷ [])))) good.allow.burst
 
-pub echo_is_taken : (a b : Options) (cookie : Cookie) → Good a → FitsPair cookie.maker → a.remote_port ≡ b.local_port → IsTaken b a true cookie.maker.tag (cookie_echo (cookie_bytes cookie))
-echo_is_taken a b cookie good own port =
+pub echo_is_taken : (a b : Options) (cookie : Cookie) (bytes : List ℕ) → Good a → Spells bytes cookie → a.remote_port ≡ b.local_port → IsTaken b a true cookie.maker.tag (cookie_echo bytes)
+echo_is_taken a b cookie bytes good spells port =
     record {
       fits = good.fits;
-      sendable = record { tag = own.tag; contents = (echo_sendable (cookie_bytes cookie) (record { len_fits = omega (arith, length_of_cookie cookie); cookie_in_bytes = in_cookie cookie }), tt) };
+      sendable = record { tag = spells.own.tag; contents = (echo_sendable bytes spells.fits, tt) };
       minima = tt;
       to_this_port = sym port;
       checked = inl refl;
     }
 
--- the packet of the COOKIE ECHO
+-- the packet of the COOKIE ECHO, with these bytes
+abbrev pub bytes_packet : Options → Cookie → List ℕ → List ℕ
+bytes_packet a cookie bytes = emission_bytes (ports_of a) (echo_emission cookie.maker.tag bytes)
+
 abbrev pub echo_packet : Options → Cookie → List ℕ
-echo_packet a cookie = emission_bytes (ports_of a) (echo_emission cookie.maker.tag (cookie_bytes cookie))
+echo_packet a cookie = bytes_packet a cookie (cookie_bytes cookie)
 
 -- A socket that knows no peer is established by its own cookie.
-establishes_in : HandshakeLaws → (e : Endpoint) (at : Core) (a : Options) (cookie : Cookie) (turns : List Transition) → e.core ≡ at → awaits_opening e e.core ≡ false
-    → resolved_now (counted_at e) at cookie.maker.tag cookie ≡ establish_new → ((f : Endpoint) (o : Outcome) → BeginTurn f at false o → o ≡ still f) → FitsCookie cookie
+establishes_in : HandshakeLaws → (e : Endpoint) (at : Core) (a : Options) (cookie : Cookie) (bytes : List ℕ) (turns : List Transition) → e.core ≡ at → awaits_opening e e.core ≡ false
+    → resolved_now (counted_at e) at cookie.maker.tag cookie ≡ establish_new → ((f : Endpoint) (o : Outcome) → BeginTurn f at false o → o ≡ still f) → Spells bytes cookie
     → ((word : ℕ) → IsIdle (endpoint_established (counted_at e) cookie (queues_kept (counted_at e) cookie) word))
     → Good a → Good e.options → a.remote_port ≡ e.options.local_port
-    → HandleInput e (echo_packet a cookie) turns → Establishes e cookie turns
-establishes_in law e at a cookie turns is asks case_is begins fits idle good_a good_b port input =
-    let bytes : List ℕ = cookie_bytes cookie in
+    → HandleInput e (bytes_packet a cookie bytes) turns → EstablishesBy e cookie bytes turns
+establishes_in law e at a cookie bytes turns is asks case_is begins spells idle good_a good_b port input =
     let c : Endpoint = counted_at e in
     let h : Taken e cookie.maker.tag (cookie_echo bytes) turns =
-    taken law.wire e a true cookie.maker.tag (cookie_echo bytes) turns (echo_is_taken a e.options cookie good_a fits.names.maker port)
+    taken law.wire e a true cookie.maker.tag (cookie_echo bytes) turns (echo_is_taken a e.options cookie bytes good_a spells port)
     (ap (λ (core : Core). admits core (record { tag = cookie.maker.tag; contents = cookie_echo bytes ∷ [] })) is) asks
     (λ f o rests. begins f o (subst (λ (core : Core). BeginTurn f core false o) is rests)) input in
     let word : ℕ = h.comes.0 in
     let flush : FlushKind = flush_answered h.comes.1 in
-    let reads : cookie_of_bytes bytes ≡ Ok cookie = law.cookies cookie fits in
+    let reads : cookie_of_bytes bytes ≡ Ok cookie = spells.reads in
     let at_core : EchoedAnswers c at cookie.maker.tag (cookie_of_bytes bytes) word h.comes.1 = subst (λ (core : Core). EchoedAnswers c core cookie.maker.tag (cookie_of_bytes bytes) word h.comes.1) is h.comes.2 in
     let allowed : EstablishAnswers c cookie (queues_kept c cookie) word h.comes.1 =
     subst (λ (case : Resolution). ResolvedAnswers c cookie at word case h.comes.1) case_is
@@ -154,13 +170,21 @@ establishes_in law e at a cookie turns is asks case_is begins fits idle good_a g
     record { tie = word; only = taken_as e cookie.maker.tag (cookie_echo bytes) turns h _ (o ∙ establish_sends c cookie word good_b) refl (refl, refl) }
 
 -- A closed socket
+pub establishes_by : HandshakeLaws → (e : Endpoint) (a : Options) (cookie : Cookie) (bytes : List ℕ) (turns : List Transition) → e.core ≡ closed
+    → is_spent e closed cookie.maker.tag cookie ≡ false → Spells bytes cookie
+    → ((word : ℕ) → IsIdle (endpoint_established (counted_at e) cookie (queues_kept (counted_at e) cookie) word))
+    → Good a → Good e.options → a.remote_port ≡ e.options.local_port
+    → HandleInput e (bytes_packet a cookie bytes) turns → EstablishesBy e cookie bytes turns
+establishes_by law e a cookie bytes turns is unspent spells idle good_a good_b port input =
+    establishes_in law e closed a cookie bytes turns is (ap (awaits_opening e) is) (new_case (counted_at e) cookie unspent) (λ f o begin. begin) spells idle good_a good_b port input
+
 pub establishes : HandshakeLaws → (e : Endpoint) (a : Options) (cookie : Cookie) (turns : List Transition) → e.core ≡ closed
     → is_spent e closed cookie.maker.tag cookie ≡ false → FitsCookie cookie
     → ((word : ℕ) → IsIdle (endpoint_established (counted_at e) cookie (queues_kept (counted_at e) cookie) word))
     → Good a → Good e.options → a.remote_port ≡ e.options.local_port
     → HandleInput e (echo_packet a cookie) turns → Establishes e cookie turns
 establishes law e a cookie turns is unspent fits idle good_a good_b port input =
-    establishes_in law e closed a cookie turns is (ap (awaits_opening e) is) (new_case (counted_at e) cookie unspent) (λ f o begin. begin) fits idle good_a good_b port input
+    establishes_by law e a cookie (cookie_bytes cookie) turns is unspent (own_bytes law cookie fits) idle good_a good_b port input
 
 -- and one that itself awaits an INIT ACK
 pub establishes_waiting : HandshakeLaws → (e : Endpoint) (q : Pair) (a : Options) (cookie : Cookie) (turns : List Transition) → e.core ≡ cookie_wait q
@@ -169,7 +193,7 @@ pub establishes_waiting : HandshakeLaws → (e : Endpoint) (q : Pair) (a : Optio
     → Good a → Good e.options → a.remote_port ≡ e.options.local_port
     → HandleInput e (echo_packet a cookie) turns → Establishes e cookie turns
 establishes_waiting law e q a cookie turns is unspent fits idle good_a good_b port input =
-    establishes_in law e (cookie_wait q) a cookie turns is (ap (awaits_opening e) is) (new_case (counted_at e) cookie unspent) (λ f o begin. begin) fits idle good_a good_b port input
+    establishes_in law e (cookie_wait q) a cookie (cookie_bytes cookie) turns is (ap (awaits_opening e) is) (new_case (counted_at e) cookie unspent) (λ f o begin. begin) (own_bytes law cookie fits) idle good_a good_b port input
 
 -- ---- COOKIE ACK
 

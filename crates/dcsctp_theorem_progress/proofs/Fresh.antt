@@ -2,7 +2,7 @@
 use Rattle.std.specs.Prelude.{min, ◌&&◌, ◌==◌, if◌then◌else◌}
 use Rattle.std.proofs.lemmas.Bool.Decides.{nat_tests}
 use Rattle.std.specs.Duration.{max_nanos}
-use Rattle.std.proofs.Common.{◌≡◌, ◌≤◌, ℕ, suc, Bool, true, false, List, [], ◌∷◌, ◌++◌, refl, sym, subst, ap, ◌∙◌, arith}
+use Rattle.std.proofs.Common.{◌≡◌, ◌≤◌, ℕ, suc, Bool, true, false, List, [], ◌∷◌, ◌++◌, refl, sym, subst, ◌∙◌, arith}
 use Rattle.std.proofs.lemmas.List.{append-nil}
 use Rattle.dcsctp_spec_lemmas.specs.types.declared.association.Pair.{Pair}
 use Rattle.dcsctp_spec_lemmas.specs.types.declared.options.Options.{Options}
@@ -13,12 +13,13 @@ use Rattle.dcsctp_spec_lemmas.specs.spec.endpoint.Endpoint.{fresh_endpoint, numb
 use Rattle.dcsctp_spec_lemmas.specs.spec.endpoint.Turn.{act_input}
 use Rattle.dcsctp_spec_lemmas.specs.spec.endpoint.CallTurns.{Transition, transition, after_all, events_of}
 use Rattle.dcsctp_spec_lemmas.specs.spec.endpoint.HandshakeOutcomes.{pair_from}
+use Rattle.dcsctp_spec_lemmas.specs.spec.endpoint.TimeTurns.{TimePassesQuietly}
 use Rattle.dcsctp_spec_lemmas.specs.spec.association.Acts.{connect}
 use Rattle.dcsctp_spec_runs.specs.Sockets.{PerformedAct, Both, endpoint_after, turns_after, SocketRun, acts_of}
 use Rattle.dcsctp_theorem_sockets.specs.Handshake.{other_side, connections_of_events}
 use Rattle.dcsctp_theorem_progress.specs.LostInits.{KeepsOptions}
 use Rattle.dcsctp_theorem_progress.specs.Retries.{LeavesRestarts, RetriesInit}
-use Rattle.dcsctp_theorem_progress.specs.Connecting.{RestsWithoutTag, TakesOwn, MayConnect, a_tries, b_tries, both_try, HaveConnected, Caller, one, both, calls_of, AllowRestarts, FreshSocketsConnect}
+use Rattle.dcsctp_theorem_progress.specs.Connecting.{RestsWithoutTag, TakesOwn, MayConnect, a_tries, b_tries, both_try, connections_once_open, HaveConnected, Caller, one, both, calls_of, AllowRestarts, FreshSocketsConnect}
 use Rattle.dcsctp_theorem_sockets.proofs.HandshakeTurns.{HandshakeLaws, Good, Begins, begins, connecting}
 use Rattle.dcsctp_theorem_progress.proofs.Facts.{fits_drawn, secret_fits}
 use Rattle.dcsctp_theorem_progress.proofs.Runs.{good_by}
@@ -40,11 +41,7 @@ tries a word next more left =
       empty = refl;
       asks = never_with a.follow_rfc;
       pair = fits_drawn word next;
-      timer = _;
-      runs = refl;
-      left = left;
-      clock = omega arith;
-      deadline = cut _ max_nanos;
+      t1 = record { timer = _; runs = refl; left = left; clock = omega arith; deadline = cut _ max_nanos };
     }
 
 rests : (b : Options) → RestsWithoutTag (fresh_endpoint b)
@@ -76,8 +73,8 @@ record Calls (options : Both Options) (called : List PerformedAct) (more : ℕ) 
   connects : MayConnect more (endpoint_after options.a (turns_after called).a) (endpoint_after options.b (turns_after called).b)
   keeps_a : KeepsOptions options.a (endpoint_after options.a (turns_after called).a)
   keeps_b : KeepsOptions options.b (endpoint_after options.b (turns_after called).b)
-  told_a : connections_of_events (events_of (turns_after called).a) ≡ 0
-  told_b : connections_of_events (events_of (turns_after called).b) ≡ 0
+  told_a : connections_once_open (endpoint_after options.a (turns_after called).a).core (connections_of_events (events_of (turns_after called).a)) ≡ 1
+  told_b : connections_once_open (endpoint_after options.b (turns_after called).b).core (connections_of_events (events_of (turns_after called).b)) ≡ 1
 
 by_one : (options : Both Options) (side : Side) (more : ℕ) (turns : List Transition) → Good options.a → Good options.b → AllowRestarts options more (one side) → SocketRun options (connected_at side turns ∷ [])
     → Calls options (connected_at side turns ∷ []) more
@@ -149,16 +146,16 @@ calls options (both side) more called good_a good_b left is runs =
 
 -- ---- the law
 
-pub fresh_sockets_connect : HandshakeLaws → FreshSocketsConnect
-fresh_sockets_connect law options run are fit runs who lost settled called between left is rounds quiet =
+pub fresh_sockets_connect : HandshakeLaws → TimePassesQuietly → FreshSocketsConnect
+fresh_sockets_connect law time options run are fit runs who lost settled called between left is rounds quiet =
     let good = good_by options are fit in
     let then_runs : SocketRun options between = ran options between _ quiet.between quiet.time (ran_exchanges options 4 _ quiet.between settled run quiet.exchanges runs) in
     let first : SocketRun options called = ran_lost options lost called between rounds then_runs in
     let h : Calls options called (suc lost) = calls options who (suc lost) called good.0 good.1 left is first in
-    let ends : HaveConnected options (turns_after called) (turns_after run) = lost_rounds_are_made_good law options run are fit runs lost settled called between h.keeps_a h.keeps_b h.connects rounds quiet in
+    let ends : HaveConnected options (turns_after called) (turns_after run) = lost_rounds_are_made_good law time options run are fit runs lost settled called between h.keeps_a h.keeps_b h.connects rounds quiet in
     record {
       a_pair = ends.p;
       b_pair = ends.q;
-      a = record { core = ends.linked.here; once = ends.told_a ∙ ap suc h.told_a };
-      b = record { core = ends.linked.there; once = ends.told_b ∙ ap suc h.told_b };
+      a = record { core = ends.linked.here; once = ends.told_a ∙ h.told_a };
+      b = record { core = ends.linked.there; once = ends.told_b ∙ h.told_b };
     }

@@ -19,4 +19,7 @@ mod TwoTry
 pub mod Connected
 pub mod Fresh
 mod Throughout
+mod OthersCookies
+mod Meanwhile
 mod EchoRound
+mod EchoLost

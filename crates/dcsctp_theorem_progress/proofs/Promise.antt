@@ -6,6 +6,7 @@ use Rattle.dcsctp_spec_lemmas.specs.types.declared.association.Pair.{Pair}
 use Rattle.dcsctp_spec_lemmas.specs.types.declared.options.Options.{Options}
 use Rattle.dcsctp_spec_lemmas.specs.types.declared.schedule.Side.{Side}
 use Rattle.dcsctp_spec_lemmas.specs.types.declared.schedule.Side.TheVariants as sides
+use Rattle.dcsctp_spec_lemmas.specs.spec.endpoint.Endpoint.{Core}
 use Rattle.dcsctp_spec_lemmas.specs.spec.endpoint.CallTurns.{Transition}
 use Rattle.dcsctp_spec_lemmas.specs.spec.endpoint.TimeTurns.{AdvanceTurns, next_moment}
 use Rattle.dcsctp_spec_runs.specs.Sockets.{PerformedAct, Both, of_side, of_other, turns_after, SocketRun}
@@ -14,7 +15,7 @@ use Rattle.dcsctp_theorem_sockets.specs.Handshake.{AreFitting}
 use Rattle.dcsctp_theorem_progress.specs.Rounds.{counts_shown, AdvancesBothClocks, LostRounds, QuietRound}
 use Rattle.dcsctp_theorem_progress.specs.LostInits.{AwaitsInitAck, AreLinked}
 use Rattle.dcsctp_theorem_progress.specs.Retries.{RetriesInit}
-use Rattle.dcsctp_theorem_progress.specs.Connecting.{RestsWithoutTag, HaveConnected}
+use Rattle.dcsctp_theorem_progress.specs.Connecting.{RestsWithoutTag, connections_once_open, HaveConnected}
 use Rattle.dcsctp_theorem_sockets.proofs.HandshakeTurns.{HandshakeLaws}
 use Rattle.dcsctp_theorem_progress.proofs.Turns.{init_repeated, t1_sends_init}
 use Rattle.dcsctp_theorem_progress.proofs.Facts.{Fit}
@@ -22,7 +23,7 @@ use Rattle.dcsctp_theorem_progress.proofs.EchoRuns.{fitting}
 use Rattle.dcsctp_theorem_progress.proofs.Retries.{never, next_fits, awaits_next, Onward, onward, Resting, resting}
 use Rattle.dcsctp_theorem_progress.proofs.Views.{View, view, view_then, AtOf, KeepOf, Moved, lesser, time_moves, ran, ran_exchanges}
 use Rattle.dcsctp_theorem_progress.proofs.Handed.{settles, keep_same}
-use Rattle.dcsctp_theorem_progress.proofs.Chain.{Ground, Joined}
+use Rattle.dcsctp_theorem_progress.proofs.Chain.{Ground, JoinedBy, Joined}
 use Rattle.dcsctp_theorem_progress.proofs.Starts.{closed_connects}
 
 -- ---- either side
@@ -66,6 +67,10 @@ min_right n limit fits = omega (arith, fits)
 pub moment_is : (side : Side) (v w : View) → next_moment v.endpoint ≤ max_nanos → next_moment w.endpoint ≡ max_nanos → lesser_of side v w ≡ next_moment v.endpoint
 moment_is sides.A v w fits none = ap (λ (n : ℕ). min (next_moment v.endpoint) n) none ∙ min_left (next_moment v.endpoint) max_nanos fits
 moment_is sides.B v w fits none = ap (λ (n : ℕ). min n (next_moment v.endpoint)) none ∙ min_right (next_moment v.endpoint) max_nanos fits
+
+pub moment_by : (side : Side) (v w : View) → next_moment v.endpoint ≤ next_moment w.endpoint → lesser_of side v w ≡ next_moment v.endpoint
+moment_by sides.A v w first = min_left (next_moment v.endpoint) (next_moment w.endpoint) first
+moment_by sides.B v w first = min_right (next_moment v.endpoint) (next_moment w.endpoint) first
 
 -- ---- rounds
 
@@ -113,16 +118,20 @@ lost_rounds (suc lost) side options earlier run p m n are fit h rounds runs =
 
 -- ---- the quiet round
 
--- After a quiet round both are linked.
-pub record Settled (side : Side) (options : Both Options) (run : List PerformedAct) (m n : ℕ) : Type 0 where
+-- After a quiet round both are linked, and have told that often.
+pub record SettledBy (side : Side) (options : Both Options) (run : List PerformedAct) (m n : ℕ) : Type 0 where
   pub mine : View
   pub others : View
   pub at : AtOf side options run mine others
   pub p : Pair
   pub q : Pair
   pub linked : AreLinked mine.endpoint others.endpoint (of_side side options) (of_other side options) p q
-  pub told_mine : mine.told ≡ suc m
-  pub told_others : others.told ≡ suc n
+  pub told_mine : mine.told ≡ m
+  pub told_others : others.told ≡ n
+
+-- once more
+abbrev pub Settled : Side → Both Options → List PerformedAct → ℕ → ℕ → Type 0
+Settled side options run m n = SettledBy side options run (suc m) (suc n)
 
 linked_by : (side : Side) (options : Both Options) (v w mine others : View) (p q : Pair) → KeepOf side options v w → AreLinked mine.endpoint others.endpoint v.endpoint.options w.endpoint.options p q
     → AreLinked mine.endpoint others.endpoint (of_side side options) (of_other side options) p q
@@ -131,8 +140,8 @@ linked_by sides.A options v w mine others p q keep h =
 linked_by sides.B options v w mine others p q keep h =
     subst (λ (b : Options). AreLinked mine.endpoint others.endpoint b options.a p q) keep.b (subst (λ (a : Options). AreLinked mine.endpoint others.endpoint v.endpoint.options a p q) keep.a h)
 
-pub settled_by : (side : Side) (options : Both Options) (run : List PerformedAct) (v w : View) (m n : ℕ) → KeepOf side options v w → v.told ≡ m → w.told ≡ n → Joined side options run v w → Settled side options run m n
-settled_by side options run v w m n keep told_v told_w j =
+pub settled_in : (side : Side) (options : Both Options) (run : List PerformedAct) (v w : View) (m n : ℕ) → KeepOf side options v w → JoinedBy side options run v w m n → SettledBy side options run m n
+settled_in side options run v w m n keep j =
     record {
       mine = j.here;
       others = j.there;
@@ -140,9 +149,14 @@ settled_by side options run v w m n keep told_v told_w j =
       p = j.p;
       q = j.q;
       linked = linked_by side options v w j.here j.there j.p j.q keep j.linked;
-      told_mine = j.told_here ∙ ap suc told_v;
-      told_others = j.told_there ∙ ap suc told_w;
+      told_mine = j.told_here;
+      told_others = j.told_there;
     }
+
+pub settled_by : (side : Side) (options : Both Options) (run : List PerformedAct) (v w : View) (m n : ℕ) → KeepOf side options v w → v.told ≡ m → w.told ≡ n → Joined side options run v w → Settled side options run m n
+settled_by side options run v w m n keep told_v told_w j =
+    subst (λ (k : ℕ). SettledBy side options run (suc k) (suc n)) told_v
+    (subst (λ (k : ℕ). SettledBy side options run (suc v.told) (suc k)) told_w (settled_in side options run v w (suc v.told) (suc w.told) keep j))
 
 quiet_round : HandshakeLaws → (side : Side) (options : Both Options) (settled : Both ℕ) (earlier run : List PerformedAct) (p : Pair) (m n : ℕ) → AreUsable options → AreFitting options → Ready side options earlier p 1 m n
     → QuietRound options (counts_shown options (turns_after earlier)) earlier settled run → SocketRun options run → Settled side options run m n
@@ -172,26 +186,34 @@ quiet_round law side options settled earlier run p m n are fit h quiet runs =
 
 -- ---- the law
 
-pub connected_a : (options : Both Options) (before : Both (List Transition)) (run : List PerformedAct) → Settled sides.A options run (view options.a before.a).told (view options.b before.b).told
-    → HaveConnected options before (turns_after run)
-connected_a options before run h =
+-- How often each has told OnConnected in the end, by this side's view from before.
+pub record Counted (v : View) (n : ℕ) : Type 0 where
+  pub once : n ≡ connections_once_open v.endpoint.core v.told
+
+-- Once more, in a phase that isn't open.
+pub once_more : (v : View) (core : Core) → v.endpoint.core ≡ core → connections_once_open core v.told ≡ suc v.told → Counted v (suc v.told)
+once_more v core is more = record { once = sym (ap (λ (c : Core). connections_once_open c v.told) is ∙ more) }
+
+pub connected_a : (options : Both Options) (before : Both (List Transition)) (run : List PerformedAct) (m n : ℕ) → Counted (view options.a before.a) m → Counted (view options.b before.b) n
+    → SettledBy sides.A options run m n → HaveConnected options before (turns_after run)
+connected_a options before run m n once_a once_b h =
     record {
       p = h.p;
       q = h.q;
       linked = record { here = ap (λ (x : View). x.endpoint.core) h.at.a ∙ h.linked.here; there = ap (λ (x : View). x.endpoint.core) h.at.b ∙ h.linked.there };
-      told_a = ap (λ (x : View). x.told) h.at.a ∙ h.told_mine;
-      told_b = ap (λ (x : View). x.told) h.at.b ∙ h.told_others;
+      told_a = ap (λ (x : View). x.told) h.at.a ∙ h.told_mine ∙ once_a.once;
+      told_b = ap (λ (x : View). x.told) h.at.b ∙ h.told_others ∙ once_b.once;
     }
 
-pub connected_b : (options : Both Options) (before : Both (List Transition)) (run : List PerformedAct) → Settled sides.B options run (view options.b before.b).told (view options.a before.a).told
-    → HaveConnected options before (turns_after run)
-connected_b options before run h =
+pub connected_b : (options : Both Options) (before : Both (List Transition)) (run : List PerformedAct) (m n : ℕ) → Counted (view options.a before.a) m → Counted (view options.b before.b) n
+    → SettledBy sides.B options run n m → HaveConnected options before (turns_after run)
+connected_b options before run m n once_a once_b h =
     record {
       p = h.q;
       q = h.p;
       linked = record { here = ap (λ (x : View). x.endpoint.core) h.at.a ∙ h.linked.there; there = ap (λ (x : View). x.endpoint.core) h.at.b ∙ h.linked.here };
-      told_a = ap (λ (x : View). x.told) h.at.a ∙ h.told_others;
-      told_b = ap (λ (x : View). x.told) h.at.b ∙ h.told_mine;
+      told_a = ap (λ (x : View). x.told) h.at.a ∙ h.told_others ∙ once_a.once;
+      told_b = ap (λ (x : View). x.told) h.at.b ∙ h.told_mine ∙ once_b.once;
     }
 
 pub one_connects : HandshakeLaws → (side : Side) (options : Both Options) (lost : ℕ) (settled : Both ℕ) (earlier between run : List PerformedAct) (p : Pair) (m n : ℕ) → AreUsable options → AreFitting options

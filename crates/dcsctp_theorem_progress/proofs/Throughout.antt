@@ -4,9 +4,18 @@ use Rattle.dcsctp_spec_lemmas.specs.types.declared.options.Options.{Options}
 use Rattle.dcsctp_spec_runs.specs.Sockets.{PerformedAct, Both, SocketRun}
 use Rattle.dcsctp_theorem_sockets.specs.Agreement.{AreUsable}
 use Rattle.dcsctp_theorem_sockets.specs.Handshake.{AreFitting}
-use Rattle.dcsctp_theorem_progress.specs.Connecting.{LostRoundsAreMadeGood, FreshSocketsConnect, ConnectOverRounds}
+use Rattle.dcsctp_theorem_progress.specs.OthersCookies.{CookiesAreTheOthers}
+use Rattle.dcsctp_theorem_progress.specs.Connecting.{LostRoundsAreMadeGood, FreshSocketsConnect, RoundsConnect, ConnectOverRounds}
 
-pub throughout : LostRoundsAreMadeGood → FreshSocketsConnect → (options : Both Options) (run : List PerformedAct) → AreUsable options → AreFitting options → SocketRun options run → ConnectOverRounds options run
-throughout trying fresh options [] are fit runs = record { trying = trying options [] are fit runs; fresh = fresh options [] are fit runs }
-throughout trying fresh options (worked ∷ earlier) are fit runs =
-    (record { trying = trying options (worked ∷ earlier) are fit runs; fresh = fresh options (worked ∷ earlier) are fit runs }, throughout trying fresh options earlier are fit runs.1)
+-- what is known of rounds
+pub record Rounds : Type 0 where
+  pub trying : LostRoundsAreMadeGood
+  pub fresh : FreshSocketsConnect
+  pub cookies : CookiesAreTheOthers
+
+at_end : Rounds → (options : Both Options) (run : List PerformedAct) → AreUsable options → AreFitting options → SocketRun options run → RoundsConnect options run
+at_end law options run are fit runs = record { trying = law.trying options run are fit runs; fresh = law.fresh options run are fit runs; cookies = law.cookies options run are runs }
+
+pub throughout : Rounds → (options : Both Options) (run : List PerformedAct) → AreUsable options → AreFitting options → SocketRun options run → ConnectOverRounds options run
+throughout law options [] are fit runs = at_end law options [] are fit runs
+throughout law options (worked ∷ earlier) are fit runs = (at_end law options (worked ∷ earlier) are fit runs, throughout law options earlier are fit runs.1)

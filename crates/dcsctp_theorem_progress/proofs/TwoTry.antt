@@ -29,7 +29,7 @@ use Rattle.dcsctp_theorem_progress.proofs.Handed.{Settles, settles, keep_same}
 use Rattle.dcsctp_theorem_progress.proofs.Chain.{Ground, Joined, begun}
 use Rattle.dcsctp_theorem_progress.proofs.Starts.{waiting_connects}
 use Rattle.dcsctp_theorem_progress.proofs.Collision.{both_connect}
-use Rattle.dcsctp_theorem_progress.proofs.Promise.{fit_of, ran_lost, settled_by, connected_a, connected_b}
+use Rattle.dcsctp_theorem_progress.proofs.Promise.{fit_of, ran_lost, settled_by, Counted, connected_a, connected_b}
 
 -- ---- lost rounds
 
@@ -184,8 +184,9 @@ min_right n m is = grind (arith, nat_tests, is)
 -- A's, at the latest with B's; or B's before
 by_first : HandshakeLaws → (first : Bool) (options : Both Options) (before : Both (List Transition)) (settled : Both ℕ) (earlier run : List PerformedAct) (p q : Pair) → AreUsable options → AreFitting options
     → (h : BothReady options earlier p q 1 (view options.a before.a).told (view options.b before.b).told) → nat_le (next_moment h.v.endpoint) (next_moment h.w.endpoint) ≡ first
-    → QuietRound options (counts_shown options (turns_after earlier)) earlier settled run → SocketRun options run → HaveConnected options before (turns_after run)
-by_first law true options before settled earlier run p q are fit h is quiet runs =
+    → QuietRound options (counts_shown options (turns_after earlier)) earlier settled run → SocketRun options run
+    → Counted (view options.a before.a) (suc (view options.a before.a).told) → Counted (view options.b before.b) (suc (view options.b before.b).told) → HaveConnected options before (turns_after run)
+by_first law true options before settled earlier run p q are fit h is quiet runs once_a once_b =
     let good : Fit h.v.endpoint.options h.w.endpoint.options = fit_of sides.A options h.v h.w are fit h.keep in
     let moment : ℕ = lesser h.v h.w in
     let between : SocketRun options quiet.between = ran_exchanges options 4 _ quiet.between settled run quiet.exchanges runs in
@@ -198,8 +199,8 @@ by_first law true options before settled earlier run p q are fit h is quiet runs
     (record { awaits = awaits; other = h.there; own_here = h.own_here; own_there = h.own_there; fit = good; keep = h.keep })
     (advanced h.w.endpoint q 0 moment moved.there good.good_b.allow.mtu h.there moved.there_turns)
     (subst (λ (os : List Transition). At options quiet.between (view_then h.v os) (view_then h.w moved.there)) sends moved.at) (settles sides.A options earlier h.v h.w h.at) quiet.exchanges runs in
-    connected_a options before run (settled_by sides.A options run h.v h.w _ _ h.keep h.told_here h.told_there joined)
-by_first law false options before settled earlier run p q are fit h is quiet runs =
+    connected_a options before run _ _ once_a once_b (settled_by sides.A options run h.v h.w _ _ h.keep h.told_here h.told_there joined)
+by_first law false options before settled earlier run p q are fit h is quiet runs once_a once_b =
     let good : Fit h.v.endpoint.options h.w.endpoint.options = fit_of sides.A options h.v h.w are fit h.keep in
     let moment : ℕ = lesser h.v h.w in
     let between : SocketRun options quiet.between = ran_exchanges options 4 _ quiet.between settled run quiet.exchanges runs in
@@ -212,11 +213,12 @@ by_first law false options before settled earlier run p q are fit h is quiet run
     (record { awaits = awaits; other = h.here; own_here = h.own_there; own_there = h.own_here; fit = swap_fit h.v.endpoint.options h.w.endpoint.options good; keep = h.keep })
     (advanced h.v.endpoint p 0 moment moved.here good.good_a.allow.mtu h.here moved.here_turns)
     (subst (λ (os : List Transition). At options quiet.between (view_then h.v moved.here) (view_then h.w os)) sends moved.at) (settles sides.B options earlier h.w h.v h.at) quiet.exchanges runs in
-    connected_b options before run (settled_by sides.B options run h.w h.v _ _ h.keep h.told_there h.told_here joined)
+    connected_b options before run _ _ once_a once_b (settled_by sides.B options run h.w h.v _ _ h.keep h.told_there h.told_here joined)
 
 pub both_connect_after : HandshakeLaws → (options : Both Options) (before : Both (List Transition)) (lost : ℕ) (settled : Both ℕ) (earlier between run : List PerformedAct) (p q : Pair) → AreUsable options → AreFitting options
     → BothReady options earlier p q (suc lost) (view options.a before.a).told (view options.b before.b).told → LostRounds options lost earlier between
-    → QuietRound options (counts_shown options (turns_after between)) between settled run → SocketRun options between → SocketRun options run → HaveConnected options before (turns_after run)
-both_connect_after law options before lost settled earlier between run p q are fit h rounds quiet there runs =
+    → QuietRound options (counts_shown options (turns_after between)) between settled run → SocketRun options between → SocketRun options run
+    → Counted (view options.a before.a) (suc (view options.a before.a).told) → Counted (view options.b before.b) (suc (view options.b before.b).told) → HaveConnected options before (turns_after run)
+both_connect_after law options before lost settled earlier between run p q are fit h rounds quiet there runs once_a once_b =
     let now : BothReady options between p q 1 (view options.a before.a).told (view options.b before.b).told = lost_rounds lost options earlier between p q _ _ are fit h rounds there in
-    by_first law (nat_le (next_moment now.v.endpoint) (next_moment now.w.endpoint)) options before settled between run p q are fit now refl quiet runs
+    by_first law (nat_le (next_moment now.v.endpoint) (next_moment now.w.endpoint)) options before settled between run p q are fit now refl quiet runs once_a once_b

@@ -1,23 +1,22 @@
 -- Sockets that have sent no message connect, once the network lets a repeated INIT and what follows it through (RFC 9260, section
 -- 5.1).
-use Rattle.std.specs.Duration.{max_nanos}
-use Rattle.std.specs.Prelude.{◌≡◌, ◌<◌, ◌≤◌, ◌^◌, ◌==◌, ◌&&◌, ℕ, suc, false, List, [], ◌∷◌}
+use Rattle.std.specs.Prelude.{◌≡◌, ◌<◌, ◌^◌, ◌==◌, ◌&&◌, ℕ, suc, false, List, [], ◌∷◌}
 use Rattle.dcsctp_spec_lemmas.specs.types.declared.association.Pair.{Pair}
 use Rattle.dcsctp_spec_lemmas.specs.types.declared.options.Options.{Options}
 use Rattle.dcsctp_spec_lemmas.specs.types.declared.schedule.Side.{Side}
 use Rattle.dcsctp_spec_lemmas.specs.types.Schedule.{connect_call, call_step, ActContent, step_act}
-use Rattle.dcsctp_spec_lemmas.specs.spec.endpoint.Endpoint.{Endpoint, closed}
+use Rattle.dcsctp_spec_lemmas.specs.spec.Cookie.{Cookie}
+use Rattle.dcsctp_spec_lemmas.specs.spec.endpoint.Endpoint.{Endpoint, Core, closed, cookie_wait, cookie_echoed, open_in}
 use Rattle.dcsctp_spec_lemmas.specs.spec.endpoint.CallTurns.{Transition, events_of}
 use Rattle.dcsctp_spec_lemmas.specs.spec.endpoint.CookieEchoOutcomes.{is_tag_over}
-use Rattle.dcsctp_spec_lemmas.specs.spec.endpoint.TimeTurns.{next_moment}
-use Rattle.dcsctp_spec_lemmas.specs.spec.endpoint.Turn.{with_clock}
 use Rattle.dcsctp_spec_runs.specs.Sockets.{PerformedAct, Both, of_side, endpoint_after, turns_after, SocketRun, acts_of}
 use Rattle.dcsctp_theorem_sockets.specs.Agreement.{AreUsable}
 use Rattle.dcsctp_theorem_sockets.specs.Handshake.{other_side, AreFitting, AreConnected, connections_of_events}
 use Rattle.dcsctp_theorem_progress.specs.Rounds.{counts_shown, LostRounds, QuietRound}
 use Rattle.dcsctp_theorem_progress.specs.LostInits.{Rests, KeepsOptions, AreLinked}
-use Rattle.dcsctp_theorem_progress.specs.Retries.{LeavesRestarts, RetriesInit}
-use Rattle.dcsctp_theorem_progress.specs.Cookies.{AwaitsAck, MissedEcho}
+use Rattle.dcsctp_theorem_progress.specs.Retries.{LeavesRestarts, RetriesT1, RetriesInit, t1_expiry}
+use Rattle.dcsctp_theorem_progress.specs.Cookies.{HasEchoed, AnswersEcho}
+use Rattle.dcsctp_theorem_progress.specs.OthersCookies.{EchoOthersCookies}
 
 -- It is closed, and there is no tag under which none begins again.
 pub record RestsWithoutTag (e : Endpoint) : Type 0 where
@@ -31,30 +30,36 @@ pub record TakesOwn (e : Endpoint) (p : Pair) : Type 0 where
   pub has_secret : (e.options.follow_rfc && e.secret == 0) ≡ false
   pub anew : is_tag_over e closed p.tag ≡ false
 
--- It awaits a COOKIE ACK, with a restart of T1 left, and the other is closed and never got the COOKIE ECHO. It takes the cookie now,
--- and still at the moment at which T1 expires.
-pub record EchoIsLost (e f : Endpoint) (p q : Pair) (made tie : ℕ) : Type 0 where
-  pub awaits : AwaitsAck e f p q made tie (next_moment e)
-  pub missed : MissedEcho e f p q made tie
-  pub young : MissedEcho e (with_clock (next_moment e) f) p q made tie
-  pub fits : next_moment e ≤ max_nanos
+-- It awaits a COOKIE ACK, with that many restarts of T1 left. When T1 expires for the last of these times, the other acknowledges
+-- the COOKIE ECHO.
+pub record RetriesEcho (e f : Endpoint) (cookie : Cookie) (bytes : List ℕ) (more : ℕ) : Type 0 where
+  pub echoed : HasEchoed e f cookie bytes
+  pub t1 : RetriesT1 e more
+  pub other : AnswersEcho e f cookie (t1_expiry e more)
 
 -- One of the two awaits an INIT ACK, with that many restarts of T1 left, and the other is closed; or both await one. Or one awaits a
--- COOKIE ACK, the other is closed, and no round is lost.
+-- COOKIE ACK: the COOKIE ECHO was lost, and the other is closed; or the COOKIE ACK was, and the other is Established.
 pub data MayConnect (more : ℕ) (e f : Endpoint) : Type 0 where
   a_tries : (p : Pair) → RetriesInit e p more → RestsWithoutTag f → MayConnect more e f
   b_tries : (p : Pair) → RetriesInit f p more → RestsWithoutTag e → MayConnect more e f
   both_try : (p q : Pair) → RetriesInit e p more → TakesOwn e p → RetriesInit f q more → TakesOwn f q → MayConnect more e f
-  a_echoes : (p q : Pair) (made tie : ℕ) → more ≡ 1 → EchoIsLost e f p q made tie → MayConnect more e f
-  b_echoes : (p q : Pair) (made tie : ℕ) → more ≡ 1 → EchoIsLost f e p q made tie → MayConnect more e f
+  a_echoes : (cookie : Cookie) (bytes : List ℕ) → RetriesEcho e f cookie bytes more → MayConnect more e f
+  b_echoes : (cookie : Cookie) (bytes : List ℕ) → RetriesEcho f e cookie bytes more → MayConnect more e f
 
--- Both are Established and crossed, and each has told OnConnected once since.
+-- how often a socket has told OnConnected once it is Established: once more, unless it was open
+abbrev pub connections_once_open : Core → ℕ → ℕ
+connections_once_open closed told = suc told
+connections_once_open (cookie_wait mine) told = suc told
+connections_once_open (cookie_echoed mine held cookie) told = suc told
+connections_once_open (open_in phase mine held) told = told
+
+-- Both are Established and crossed, and each that wasn't open has told OnConnected once since.
 pub record HaveConnected (options : Both Options) (before after : Both (List Transition)) : Type 0 where
   pub p : Pair
   pub q : Pair
   pub linked : AreLinked (endpoint_after options.a after.a) (endpoint_after options.b after.b) options.a options.b p q
-  pub told_a : connections_of_events (events_of after.a) ≡ suc (connections_of_events (events_of before.a))
-  pub told_b : connections_of_events (events_of after.b) ≡ suc (connections_of_events (events_of before.b))
+  pub told_a : connections_of_events (events_of after.a) ≡ connections_once_open (endpoint_after options.a before.a).core (connections_of_events (events_of before.a))
+  pub told_b : connections_of_events (events_of after.b) ≡ connections_once_open (endpoint_after options.b before.b).core (connections_of_events (events_of before.b))
 
 -- Whatever came before, and was lost: after any number of rounds whose packets are all lost, each of which uses at most a restart
 -- of T1, one quiet round connects them. It ends this run.
@@ -97,10 +102,11 @@ FreshSocketsConnect = (options : Both Options) (run : List PerformedAct) → Are
 
 -- ---- over a whole run
 
--- At its end: whatever came before such rounds, and where nothing but the calls did.
+-- At its end: whatever came before such rounds, and where nothing but the calls did. Each cookie that is echoed is the other's.
 pub record RoundsConnect (options : Both Options) (run : List PerformedAct) : Type 0 where
   pub trying : TryingConnect options run
   pub fresh : CallersConnect options run
+  pub cookies : EchoOthersCookies options run
 
 -- At the end of each first part of the run. So such rounds have connected them, whatever came later.
 abbrev pub ConnectOverRounds : Both Options → List PerformedAct → Type 0

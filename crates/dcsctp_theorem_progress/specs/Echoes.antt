@@ -4,6 +4,7 @@ use Rattle.dcsctp_spec_lemmas.specs.types.declared.association.Pair.{Pair}
 use Rattle.dcsctp_spec_lemmas.specs.types.declared.options.Options.{Options}
 use Rattle.dcsctp_spec_lemmas.specs.types.declared.schedule.Side.TheVariants as sides
 use Rattle.dcsctp_spec_lemmas.specs.types.Schedule.{advance_call, call_step, delivery_step, step_act}
+use Rattle.dcsctp_spec_lemmas.specs.spec.Cookie.{Cookie}
 use Rattle.dcsctp_spec_lemmas.specs.spec.endpoint.Endpoint.{Endpoint}
 use Rattle.dcsctp_spec_lemmas.specs.spec.endpoint.CallTurns.{Transition, after_all, events_of}
 use Rattle.dcsctp_spec_runs.specs.Sockets.{PerformedAct, Both, endpoint_after, turns_after, SocketRun}
@@ -29,22 +30,22 @@ run_with_echo_again moment shown o1 o2 o3 earlier =
 
 abbrev pub LostEchoesAreMadeGood : Type 0
 LostEchoesAreMadeGood =
-    (options : Both Options) (earlier : List PerformedAct) (p q : Pair) (made tie moment : ℕ) (o1 o2 o3 : List Transition) →
+    (options : Both Options) (earlier : List PerformedAct) (cookie : Cookie) (bytes : List ℕ) (moment : ℕ) (o1 o2 o3 : List Transition) →
     AreUsable options → AreFitting options →
     let turns = turns_after earlier in
     let e = endpoint_after options.a turns.a in
     let f = endpoint_after options.b turns.b in
-    KeepsOptions options.a e → KeepsOptions options.b f → AwaitsAck e f p q made tie moment → MissedEcho e f p q made tie
+    KeepsOptions options.a e → KeepsOptions options.b f → AwaitsAck e f cookie bytes moment → MissedEcho f cookie
     → SocketRun options (run_with_echo_again moment (counts_shown options turns) o1 o2 o3 earlier)
-    → ConnectLast e f p q 1 (o1 ++ o3) o2
+    → ConnectLast e f cookie.addressee cookie.maker 1 (o1 ++ o3) o2
 
 abbrev pub LostAcksAreMadeGood : Type 0
 LostAcksAreMadeGood =
-    (options : Both Options) (earlier : List PerformedAct) (p q : Pair) (made tie moment : ℕ) (o1 o2 o3 : List Transition) →
+    (options : Both Options) (earlier : List PerformedAct) (cookie : Cookie) (bytes : List ℕ) (moment : ℕ) (o1 o2 o3 : List Transition) →
     AreUsable options → AreFitting options →
     let turns = turns_after earlier in
     let e = endpoint_after options.a turns.a in
     let f = endpoint_after options.b turns.b in
-    KeepsOptions options.a e → KeepsOptions options.b f → AwaitsAck e f p q made tie moment → HadEcho e f p q made tie
+    KeepsOptions options.a e → KeepsOptions options.b f → AwaitsAck e f cookie bytes moment → HadEcho e f cookie
     → SocketRun options (run_with_echo_again moment (counts_shown options turns) o1 o2 o3 earlier)
-    → ConnectLast e f p q 0 (o1 ++ o3) o2
+    → ConnectLast e f cookie.addressee cookie.maker 0 (o1 ++ o3) o2

@@ -1,6 +1,7 @@
 -- What is known of how two sockets connect, whatever is lost.
 use Rattle.dcsctp_theorem_progress.specs.LostInits.{LostInitsAreMadeGood, LostInitsOfBothAreMadeGood}
 use Rattle.dcsctp_theorem_progress.specs.Connecting.{LostRoundsAreMadeGood, FreshSocketsConnect, RoundsConnectSockets}
+use Rattle.dcsctp_theorem_progress.specs.OthersCookies.{CookiesAreTheOthers}
 use Rattle.dcsctp_theorem_progress.specs.Echoes.{LostEchoesAreMadeGood, LostAcksAreMadeGood}
 
 pub record ProgressLaws : Type 0 where
@@ -10,4 +11,5 @@ pub record ProgressLaws : Type 0 where
   pub acks : LostAcksAreMadeGood
   pub rounds : LostRoundsAreMadeGood
   pub fresh : FreshSocketsConnect
+  pub cookies : CookiesAreTheOthers
   pub throughout : RoundsConnectSockets

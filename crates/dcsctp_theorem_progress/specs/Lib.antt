@@ -3,5 +3,6 @@ pub mod LostInits
 pub mod Retries
 pub mod Cookies
 pub mod Echoes
+pub mod OthersCookies
 pub mod Connecting
 pub mod Laws

@@ -3,9 +3,15 @@
 ghost use Rattle.dcsctp_theorem_progress.specs.LostInits.{LostInitsAreMadeGood, LostInitsOfBothAreMadeGood};
 ghost use Rattle.dcsctp_theorem_progress.specs.Connecting.{LostRoundsAreMadeGood, FreshSocketsConnect, RoundsConnectSockets};
 ghost use Rattle.dcsctp_theorem_progress.specs.Laws.{ProgressLaws};
+ghost use Rattle.dcsctp_theorem_progress.specs.OthersCookies.{CookiesAreTheOthers};
 ghost use Rattle.dcsctp_theorem_progress.specs.Echoes.{LostEchoesAreMadeGood, LostAcksAreMadeGood};
 
-use dcsctp_spec_runs::{answer_keeps_agreement, cookie_reads_back, offer_reads_back};
+use dcsctp_spec_laws::{acts_are_controlled, time_passes_quietly};
+use dcsctp_spec_runs::{
+    admitted_packets_may_be_worked, answer_keeps_agreement, cookie_reads_back, offer_reads_back,
+    packets_are_controlled,
+};
+use dcsctp_theorem_association::effects_mean;
 use dcsctp_wire_laws::{built_packet_reads_as_itself, built_packet_reads_back};
 
 /// A socket whose INIT was lost connects with a closed one, whatever came before: T1 expires at the next moment,
@@ -58,8 +64,9 @@ pub fn lost_inits_of_both_are_made_good()
 /// Two sockets of which one connects and the other is closed, or of which both connect, after any run in which
 /// neither sent a message. After any number of rounds whose packets are all lost, each of which uses at most a
 /// restart of T1, one quiet round connects them (RFC 9260, sections 5.1 and 5.2.1): both are Established and match,
-/// and each has reported OnConnected once since. So it is where one has sent a COOKIE ECHO that was lost, and the
-/// other still takes it when T1 expires, if no round is lost before.
+/// and each that wasn't open has reported OnConnected once since. So it is where one awaits a COOKIE ACK: the other
+/// is closed and still takes the cookie when T1 expires in the quiet round, or it is Established by the cookie,
+/// however old that is, and none of its timers is due before (RFC 9260, section 5.2.4, D).
 pub fn lost_rounds_are_made_good()
     ensures { LostRoundsAreMadeGood }
 {
@@ -68,6 +75,7 @@ pub fn lost_rounds_are_made_good()
     offer_reads_back();
     answer_keeps_agreement();
     cookie_reads_back();
+    time_passes_quietly();
 }
 
 /// Two sockets that were just made, and fit each other, connect once one of them or both called `connect`, however
@@ -80,6 +88,22 @@ pub fn fresh_sockets_connect()
     offer_reads_back();
     answer_keeps_agreement();
     cookie_reads_back();
+    time_passes_quietly();
+}
+
+/// In an honest run in which no side draws a verification tag twice, a socket that awaits a COOKIE ACK echoes a
+/// cookie that the other made for it (RFC 9260, section 5.1): it names both pairs, of which the other drew the
+/// peer's, and what this socket offers; and both offers were negotiated.
+pub fn echoed_cookies_are_the_others()
+    ensures { CookiesAreTheOthers }
+{
+    answer_keeps_agreement();
+    effects_mean();
+    acts_are_controlled();
+    packets_are_controlled();
+    admitted_packets_may_be_worked();
+    offer_reads_back();
+    built_packet_reads_as_itself();
 }
 
 /// Wherever a run has had such rounds, they have connected the two sockets, whatever came later.
@@ -88,6 +112,7 @@ pub fn rounds_connect_sockets()
 {
     lost_rounds_are_made_good();
     fresh_sockets_connect();
+    echoed_cookies_are_the_others();
 }
 
 /// All that is known of how two sockets connect: the theorems above.
@@ -100,5 +125,6 @@ pub fn progress_laws()
     lost_acks_are_made_good();
     lost_rounds_are_made_good();
     fresh_sockets_connect();
+    echoed_cookies_are_the_others();
     rounds_connect_sockets();
 }

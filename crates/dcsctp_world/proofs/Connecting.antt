@@ -1,5 +1,5 @@
 -- A round connects two sockets that can.
-use Rattle.std.proofs.Common.{◌≡◌, ℕ, suc, List, [], ◌∷◌, refl, sym, ap, subst, ◌∙◌}
+use Rattle.std.proofs.Common.{◌≡◌, ℕ, List, [], ◌∷◌, refl, sym, ap, subst, ◌∙◌}
 use Rattle.rand_core.specs.Stream.{Stream}
 use Rattle.dcsctp_core.specs.types.declared.options.Options.{Options}
 use Rattle.dcsctp_core.specs.types.declared.schedule.Side.TheVariants as sides
@@ -10,7 +10,7 @@ use Rattle.dcsctp_core.specs.spec.endpoint.Event.{Event}
 use Rattle.dcsctp_core.specs.spec.endpoint.CallTurns.{Transition, events_of}
 use Rattle.dcsctp_spec_runs.specs.Sockets.{PerformedAct, Both, turns_after, endpoint_after}
 use Rattle.dcsctp_theorem_sockets.specs.Handshake.{connections_of_events}
-use Rattle.dcsctp_theorem_progress.specs.Connecting.{MayConnect, HaveConnected, RoundsConnect, ConnectOverRounds}
+use Rattle.dcsctp_theorem_progress.specs.Connecting.{MayConnect, connections_once_open, HaveConnected, RoundsConnect, ConnectOverRounds}
 use Rattle.dcsctp_theorem_progress.specs.LostInits.{KeepsOptions}
 use Rattle.dcsctp_theorem_progress.specs.Rounds.{counts_shown, QuietRound, QuietRounds}
 use Rattle.dcsctp_world.specs.Acts.{Ran}
@@ -36,6 +36,13 @@ one_round options settled settled' earlier run h =
 told : {R : Type 0} (options : Options) (turns : List Transition) (side : ShownSide R) → SideRuns options turns side → connections_of_events side.events ≡ connections_of_events (events_of turns)
 told options turns side h = ap (λ (events : List (Event (List ℕ))). connections_of_events events) h.events ∙ connections_shown (emission_bytes (ports_of options)) (events_of turns)
 
+-- as often as before, by the run and by what the world shows
+once_open : {R : Type 0} (options : Options) (turns : List Transition) (side : ShownSide R) → SideRuns options turns side
+    → connections_once_open (endpoint_after options turns).core (connections_of_events (events_of turns)) ≡ connections_once_open side.socket.view.endpoint.core (connections_of_events side.events)
+once_open options turns side h =
+    ap (λ (e : Endpoint). connections_once_open e.core (connections_of_events (events_of turns))) (sym h.endpoint)
+    ∙ ap (connections_once_open side.socket.view.endpoint.core) (sym (told options turns side h))
+
 -- by a run of each
 shows_connected : {R : Type 0} (old new : WorldView R) (before : IsRun (options_of old) old) (after : IsRun (options_of old) new)
     → HaveConnected (options_of old) (turns_after before.steps) (turns_after after.steps) → ConnectedSince old new
@@ -49,9 +56,9 @@ shows_connected old new before after h =
         there = ap (λ (e : Endpoint). e.core) (after.sides sides.B).endpoint ∙ h.linked.there;
       };
       told_a = told options.a (turns_after after.steps).a new.sides.a (after.sides sides.A) ∙ h.told_a
-          ∙ ap suc (sym (told options.a (turns_after before.steps).a old.sides.a (before.sides sides.A)));
+          ∙ once_open options.a (turns_after before.steps).a old.sides.a (before.sides sides.A);
       told_b = told options.b (turns_after after.steps).b new.sides.b (after.sides sides.B) ∙ h.told_b
-          ∙ ap suc (sym (told options.b (turns_after before.steps).b old.sides.b (before.sides sides.B)));
+          ∙ once_open options.b (turns_after before.steps).b old.sides.b (before.sides sides.B);
     }
 
 pub round_connects : {R : Type 0} (old new : WorldView (Recording R)) (settled : Both ℕ) → Promises old → Promises new

@@ -13,7 +13,7 @@ use Rattle.dcsctp_spec_runs.specs.Sockets.{PerformedAct, Both}
 use Rattle.dcsctp_theorem_sockets.specs.Handshake.{AreFitting, connections_of_events}
 use Rattle.dcsctp_theorem_progress.specs.Rounds.{QuietRounds}
 use Rattle.dcsctp_theorem_progress.specs.LostInits.{KeepsOptions, AreLinked}
-use Rattle.dcsctp_theorem_progress.specs.Connecting.{MayConnect}
+use Rattle.dcsctp_theorem_progress.specs.Connecting.{MayConnect, connections_once_open}
 use Rattle.dcsctp_world.specs.declared.rounds.Counts.{Counts}
 use Rattle.dcsctp_world.specs.Acts.{Ran, RanOutAmong, WorldStaysFailed}
 use Rattle.dcsctp_world.specs.Recording.{Recording}
@@ -79,20 +79,20 @@ SettlesOnce stream settled old result new = RunsOn stream (λ shown. Settles str
 -- ---- what `settle` does
 
 -- The sockets can connect in one round: one awaits an INIT ACK and the other is closed, or both await one, or one awaits a COOKIE
--- ACK and the other, closed, takes its cookie. T1 may restart, neither sent a message, and no setting was changed.
+-- ACK and the other takes its cookie, or is Established by it. T1 may restart, neither sent a message, and no setting was changed.
 pub record CanConnect {R : Type 0} (world : WorldView R) : Type 0 where
   pub fit : AreFitting (options_of world)
   pub keeps_a : KeepsOptions world.sides.a.options world.sides.a.socket.view.endpoint
   pub keeps_b : KeepsOptions world.sides.b.options world.sides.b.socket.view.endpoint
   pub trying : MayConnect 1 world.sides.a.socket.view.endpoint world.sides.b.socket.view.endpoint
 
--- Both are Established and crossed, and each has reported OnConnected once more.
+-- Both are Established and crossed, and each that wasn't open has reported OnConnected once more.
 pub record ConnectedSince {R : Type 0} (old new : WorldView R) : Type 0 where
   pub a_pair : Pair
   pub b_pair : Pair
   pub linked : AreLinked new.sides.a.socket.view.endpoint new.sides.b.socket.view.endpoint old.sides.a.options old.sides.b.options a_pair b_pair
-  pub told_a : connections_of_events new.sides.a.events ≡ suc (connections_of_events old.sides.a.events)
-  pub told_b : connections_of_events new.sides.b.events ≡ suc (connections_of_events old.sides.b.events)
+  pub told_a : connections_of_events new.sides.a.events ≡ connections_once_open old.sides.a.socket.view.endpoint.core (connections_of_events old.sides.a.events)
+  pub told_b : connections_of_events new.sides.b.events ≡ connections_once_open old.sides.b.socket.view.endpoint.core (connections_of_events old.sides.b.events)
 
 -- So many quiet rounds were made, and all packets from before them are lost.
 pub record HasSettled {R : Type 0} (stream : R → Stream) (count : ℕ) (old new : WorldView (Recording R)) : Type 0 where

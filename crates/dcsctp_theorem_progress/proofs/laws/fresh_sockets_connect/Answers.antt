@@ -10,4 +10,4 @@ returns c =
       answers = c.answer_keeps_agreement.ensures;
       cookies = c.cookie_reads_back.ensures;
     } in
-    fresh_sockets_connect law
+    fresh_sockets_connect law c.time_passes_quietly.ensures

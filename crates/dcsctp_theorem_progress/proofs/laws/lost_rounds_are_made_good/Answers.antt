@@ -10,4 +10,4 @@ returns c =
       answers = c.answer_keeps_agreement.ensures;
       cookies = c.cookie_reads_back.ensures;
     } in
-    lost_rounds_are_made_good law
+    lost_rounds_are_made_good law c.time_passes_quietly.ensures

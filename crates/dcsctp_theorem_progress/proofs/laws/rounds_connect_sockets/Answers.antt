@@ -2,4 +2,5 @@ use Rattle.dcsctp_theorem_progress.proofs.Throughout.{throughout}
 use Rattle.dcsctp_theorem_progress.proofs.laws.rounds_connect_sockets.Goals as goal
 
 pub returns : goal.returns
-returns c = throughout c.lost_rounds_are_made_good.ensures c.fresh_sockets_connect.ensures
+returns c =
+    throughout (record { trying = c.lost_rounds_are_made_good.ensures; fresh = c.fresh_sockets_connect.ensures; cookies = c.echoed_cookies_are_the_others.ensures })

@@ -1,0 +1,113 @@
+-- The cookie that a socket echoes is one that the other made for it.
+use Rattle.std.proofs.Common.{◌≡◌, ℕ, List, [], ◌∷◌, inl, inr, refl, sym, subst, ◌∙◌}
+use Rattle.dcsctp_spec_lemmas.specs.types.declared.association.Held.{Held}
+use Rattle.dcsctp_spec_lemmas.specs.types.declared.association.Pair.{Pair}
+use Rattle.dcsctp_spec_lemmas.specs.types.declared.options.Options.{Options}
+use Rattle.dcsctp_spec_lemmas.specs.types.declared.schedule.Side.{Side}
+use Rattle.dcsctp_spec_lemmas.specs.types.declared.schedule.Side.TheVariants as sides
+use Rattle.dcsctp_spec_lemmas.specs.types.Offer.{offer_of}
+use Rattle.dcsctp_spec_lemmas.specs.spec.endpoint.Endpoint.{Core, cookie_echoed}
+use Rattle.dcsctp_spec_lemmas.specs.spec.endpoint.CallTurns.{Transition}
+use Rattle.dcsctp_spec_lemmas.specs.spec.association.Effect.{Effect, draws, sends, holds, connects, ends, begins, gives_up, completes, fails, accepts, performs, renews, resumes, effects_without_packets, Change}
+use Rattle.dcsctp_spec_runs.specs.Fitting.{FitsCore}
+use Rattle.dcsctp_spec_runs.specs.Laws.{AnswerKeepsAgreement}
+use Rattle.dcsctp_spec_runs.specs.Past.{HasEffect}
+use Rattle.dcsctp_spec_runs.specs.Sockets.{PerformedAct, Both, turns_after, endpoint_after, SocketRun}
+use Rattle.dcsctp_spec_runs.specs.World.{SideState, after_changes, after_change, Which, at_a, at_b, Move, WorldStep, World, step_after, world_after, StepChanges, WorldRun}
+use Rattle.dcsctp_theorem_association.proofs.Agreement.{TrueWorld, FreshWorld}
+use Rattle.dcsctp_theorem_association.proofs.Facts.{PeerFacts, EchoedCookie, TrueCore}
+use Rattle.dcsctp_theorem_association.proofs.MovesKept.{TrueSide, move_true_after, true_beside, fresh_before_changes}
+use Rattle.dcsctp_theorem_sockets.specs.Agreement.{AreUsable}
+use Rattle.dcsctp_theorem_sockets.proofs.Follow.{Followed}
+use Rattle.dcsctp_theorem_sockets.proofs.Moves.{Below}
+use Rattle.dcsctp_theorem_sockets.proofs.SocketsAgree.{Joined, joined}
+use Rattle.dcsctp_theorem_progress.specs.OthersCookies.{IsOthersCookie, EchoesOthersCookie, EchoOthersCookies}
+
+-- ---- what is true of both sides over every run of the machine
+
+options_stay : (side : SideState) (changes : List Change) → (after_changes side changes).options ≡ side.options
+options_stay side [] = refl
+options_stay side (change ∷ changes) = options_stay (after_change side change) changes
+
+fresh_before_step : (world : World) (which : Which) (changes : List Change) → FreshWorld (step_after world which changes) → FreshWorld world
+fresh_before_step world at_a changes fresh = record { a = fresh_before_changes world.a changes fresh.a; b = fresh.b }
+fresh_before_step world at_b changes fresh = record { a = fresh.a; b = fresh_before_changes world.b changes fresh.b }
+
+true_still : (one other : SideState) (changes : List Change) → TrueSide (offer_of one.options) other one.past
+    → TrueSide (offer_of (after_changes one changes).options) other (after_changes one changes).past
+true_still one other changes h =
+    subst (λ (o : Options). TrueSide (offer_of o) other (after_changes one changes).past) (sym (options_stay one changes)) (true_beside (offer_of one.options) other one changes h)
+
+true_after : AnswerKeepsAgreement → (world : World) (which : Which) (move : Move) (changes : List Change) → TrueWorld world → FreshWorld (step_after world which changes)
+    → StepChanges world which move changes → TrueWorld (step_after world which changes)
+true_after law world at_a move changes h fresh turns =
+    record { a = move_true_after law (offer_of world.b.options) world.a world.b.past move changes h.a h.b.past fresh.a fresh.b turns; b = true_still world.a world.b changes h.b }
+true_after law world at_b move changes h fresh turns =
+    record { a = true_still world.b world.a changes h.a; b = move_true_after law (offer_of world.a.options) world.b world.a.past move changes h.b h.a.past fresh.b fresh.a turns }
+
+true_run : AnswerKeepsAgreement → (a b : Options) (steps : List WorldStep) → WorldRun a b steps → FreshWorld (world_after a b steps) → TrueWorld (world_after a b steps)
+true_run law a b [] run fresh = record { a = record { past = tt; core = tt }; b = record { past = tt; core = tt } }
+true_run law a b (step ∷ earlier) run fresh =
+    true_after law (world_after a b earlier) step.side step.move step.changes
+    (true_run law a b earlier run.1 (fresh_before_step (world_after a b earlier) step.side step.changes fresh)) fresh run.0
+
+-- ---- two sockets
+
+draws_recorded : (pair : Pair) (past : List Effect) → HasEffect (draws pair) past → HasEffect (draws pair) (effects_without_packets past)
+draws_recorded pair [] h = absurd h
+draws_recorded pair (draws other ∷ past) (inl is) = inl is
+draws_recorded pair (draws other ∷ past) (inr h) = inr (draws_recorded pair past h)
+draws_recorded pair (sends packet ∷ past) (inl is) = absurd (cc)
+draws_recorded pair (sends packet ∷ past) (inr h) = draws_recorded pair past h
+draws_recorded pair (holds link ∷ past) (inl is) = absurd (cc)
+draws_recorded pair (holds link ∷ past) (inr h) = inr (draws_recorded pair past h)
+draws_recorded pair (connects link ∷ past) (inl is) = absurd (cc)
+draws_recorded pair (connects link ∷ past) (inr h) = inr (draws_recorded pair past h)
+draws_recorded pair (ends ∷ past) (inl is) = absurd (cc)
+draws_recorded pair (ends ∷ past) (inr h) = inr (draws_recorded pair past h)
+draws_recorded pair (begins number ∷ past) (inl is) = absurd (cc)
+draws_recorded pair (begins number ∷ past) (inr h) = inr (draws_recorded pair past h)
+draws_recorded pair (gives_up number ∷ past) (inl is) = absurd (cc)
+draws_recorded pair (gives_up number ∷ past) (inr h) = inr (draws_recorded pair past h)
+draws_recorded pair (completes my number ∷ past) (inl is) = absurd (cc)
+draws_recorded pair (completes my number ∷ past) (inr h) = inr (draws_recorded pair past h)
+draws_recorded pair (fails number ∷ past) (inl is) = absurd (cc)
+draws_recorded pair (fails number ∷ past) (inr h) = inr (draws_recorded pair past h)
+draws_recorded pair (accepts number ∷ past) (inl is) = absurd (cc)
+draws_recorded pair (accepts number ∷ past) (inr h) = inr (draws_recorded pair past h)
+draws_recorded pair (performs peer number ∷ past) (inl is) = absurd (cc)
+draws_recorded pair (performs peer number ∷ past) (inr h) = inr (draws_recorded pair past h)
+draws_recorded pair (renews peer number ∷ past) (inl is) = absurd (cc)
+draws_recorded pair (renews peer number ∷ past) (inr h) = inr (draws_recorded pair past h)
+draws_recorded pair (resumes link own last ∷ past) (inl is) = absurd (cc)
+draws_recorded pair (resumes link own last ∷ past) (inr h) = inr (draws_recorded pair past h)
+
+found : (mine theirs : Options) (turns others : List Transition) (one other : SideState) → Followed mine turns one → Followed theirs others other → TrueSide (offer_of other.options) one other.past
+    → (p : Pair) (held : Held) (bytes : List ℕ) → (endpoint_after mine turns).core ≡ cookie_echoed p held bytes → IsOthersCookie mine theirs others p held bytes
+found mine theirs turns others one other f g h p held bytes is =
+    let own : TrueCore (offer_of mine) (offer_of theirs) one.past other.past (cookie_echoed p held bytes) =
+    subst (λ (o : Options). TrueCore (offer_of mine) (offer_of o) one.past other.past (cookie_echoed p held bytes)) g.side_options
+    (subst (λ (o : Options). TrueCore (offer_of o) (offer_of other.options) one.past other.past (cookie_echoed p held bytes)) f.side_options
+    (subst (λ (core : Core). TrueCore (offer_of one.options) (offer_of other.options) one.past other.past core) (f.core ∙ is) h.core)) in
+    let facts : PeerFacts (offer_of mine) (offer_of theirs) one.past other.past p held = own.0 in
+    let echoed : EchoedCookie (offer_of mine) p held bytes = own.2 in
+    let fits : FitsCore (cookie_echoed p held bytes) = subst FitsCore is f.fits.core in
+    record {
+      cookie = echoed.cookie;
+      reads = echoed.reads;
+      fits = fits.2;
+      addressee = echoed.addressee;
+      maker = echoed.maker;
+      drawn = subst (HasEffect (draws held.peer)) g.past (draws_recorded held.peer other.past facts.peer_drawn);
+      offer = echoed.offer;
+      capabilities = facts.capabilities;
+    }
+
+by_side : (options : Both Options) (turns : Both (List Transition)) (h : Joined options turns) → TrueWorld (world_after options.a options.b h.steps) → (side : Side) → EchoesOthersCookie options side turns
+by_side options turns h both sides.A = found options.a options.b turns.a turns.b _ _ h.a h.b both.a
+by_side options turns h both sides.B = found options.b options.a turns.b turns.a _ _ h.b h.a both.b
+
+pub echo_others : Below → AnswerKeepsAgreement → (options : Both Options) (run : List PerformedAct) → AreUsable options → SocketRun options run → EchoOthersCookies options run
+echo_others law answers options run are runs honest tags =
+    let h : Joined options (turns_after run) = joined law options run are runs honest in
+    by_side options (turns_after run) h (true_run answers options.a options.b h.steps h.is_run (record { a = h.a.fresh tags.a; b = h.b.fresh tags.b }))

@@ -1,0 +1,41 @@
+-- The cookie that a socket echoes is one that the other made for it, in an honest run (RFC 9260, section 5.1).
+use Rattle.std.specs.Prelude.{◌≡◌, ℕ, List, Ok}
+use Rattle.dcsctp_spec_lemmas.specs.wire.ReadsBack.{FitsEcho}
+use Rattle.dcsctp_spec_lemmas.specs.types.declared.association.Held.{Held}
+use Rattle.dcsctp_spec_lemmas.specs.types.declared.association.Pair.{Pair}
+use Rattle.dcsctp_spec_lemmas.specs.types.declared.options.Options.{Options}
+use Rattle.dcsctp_spec_lemmas.specs.types.declared.schedule.Side.{Side}
+use Rattle.dcsctp_spec_lemmas.specs.types.Offer.{offer_of, negotiated_capabilities}
+use Rattle.dcsctp_spec_lemmas.specs.types.Schedule.{AreHonest}
+use Rattle.dcsctp_spec_lemmas.specs.spec.Cookie.{Cookie, cookie_of_bytes}
+use Rattle.dcsctp_spec_lemmas.specs.spec.endpoint.Endpoint.{cookie_echoed}
+use Rattle.dcsctp_spec_lemmas.specs.spec.endpoint.CallTurns.{Transition}
+use Rattle.dcsctp_spec_lemmas.specs.spec.association.Effect.{draws}
+use Rattle.dcsctp_spec_runs.specs.Past.{HasEffect}
+use Rattle.dcsctp_spec_runs.specs.Sockets.{PerformedAct, Both, of_side, of_other, turns_after, endpoint_after, SocketRun, acts_of}
+use Rattle.dcsctp_theorem_sockets.specs.Agreement.{recorded_past, AreUsable, AreFresh}
+
+-- The bytes read as a cookie of both pairs and of what this side offers, and may be sent. Its maker's pair is one that the other
+-- drew, and the peer's. The association has what both offers have in common.
+pub record IsOthersCookie (mine theirs : Options) (others : List Transition) (p : Pair) (held : Held) (bytes : List ℕ) : Type 0 where
+  pub cookie : Cookie
+  pub reads : cookie_of_bytes bytes ≡ Ok cookie
+  pub fits : FitsEcho bytes
+  pub addressee : cookie.addressee ≡ p
+  pub maker : cookie.maker ≡ held.peer
+  pub drawn : HasEffect (draws held.peer) (recorded_past others)
+  pub offer : cookie.offer ≡ offer_of mine
+  pub capabilities : held.capabilities ≡ negotiated_capabilities (offer_of mine) (offer_of theirs)
+
+-- If this side awaits a COOKIE ACK, its cookie is so.
+abbrev pub EchoesOthersCookie : Both Options → Side → Both (List Transition) → Type 0
+EchoesOthersCookie options side turns =
+    (p : Pair) (held : Held) (bytes : List ℕ) → (endpoint_after (of_side side options) (of_side side turns)).core ≡ cookie_echoed p held bytes
+    → IsOthersCookie (of_side side options) (of_other side options) (of_other side turns) p held bytes
+
+-- At the end of an honest run in which no side drew a tag twice.
+abbrev pub EchoOthersCookies : Both Options → List PerformedAct → Type 0
+EchoOthersCookies options run = AreHonest (acts_of run) → AreFresh (turns_after run) → (side : Side) → EchoesOthersCookie options side (turns_after run)
+
+abbrev pub CookiesAreTheOthers : Type 0
+CookiesAreTheOthers = (options : Both Options) (run : List PerformedAct) → AreUsable options → SocketRun options run → EchoOthersCookies options run
