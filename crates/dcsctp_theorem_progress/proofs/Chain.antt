@@ -58,10 +58,10 @@ Joined side options run v w = JoinedBy side options run v w (suc v.told) (suc w.
 abbrev pub begun : View → Pair → ℕ → View
 begun v p moment = view_then v (init_repeated v.endpoint p moment)
 
-abbrev echoed : View → View → Pair → Pair → ℕ → Cookie → ℕ → View
+abbrev pub echoed : View → View → Pair → Pair → ℕ → Cookie → ℕ → View
 echoed v there p q moment cookie word = view_then (begun v p moment) (echoed_turns (begun v p moment).endpoint there.endpoint.options p q cookie word)
 
-abbrev acknowledged : View → Cookie → ℕ → View
+abbrev pub acknowledged : View → Cookie → ℕ → View
 acknowledged there cookie word = view_then there (established_turns there.endpoint cookie word)
 
 -- ---- COOKIE ACK

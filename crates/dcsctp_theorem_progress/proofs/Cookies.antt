@@ -32,6 +32,7 @@ use Rattle.dcsctp_theorem_progress.specs.LostInits.{DueT1}
 use Rattle.dcsctp_theorem_sockets.proofs.HandshakeReads.{counted_at, delivered, turned_as, Taken, taken}
 use Rattle.dcsctp_theorem_sockets.proofs.Idle.{OwesNothing}
 use Rattle.dcsctp_theorem_sockets.proofs.HandshakeTurns.{HandshakeLaws, Good, taken_as, same_tag}
+use Rattle.dcsctp_theorem_progress.proofs.Retries.{no_turns}
 use Rattle.dcsctp_theorem_progress.proofs.Echoes.{echo_is_taken, bytes_packet, Spells}
 
 -- ---- how long a cookie is
@@ -107,10 +108,6 @@ again_sends e p held bytes o at good turn =
     ∙ echo_now (fits after (echo_emission tag bytes)) after [] tag bytes turn.0 at.idle answers
     ∙ ap (λ (b : Bool). cond b (cond (allows_packet e.options.max_burst) (sends after [] [] (echo_emission tag bytes)) (quiet after [] [])) (quiet after [] [])) (bytes_fit after tag bytes at.size good.allow.mtu)
     ∙ ap (λ (b : Bool). cond b (sends after [] [] (echo_emission tag bytes)) (quiet after [] [])) good.allow.burst
-
-no_turns : (e : Endpoint) (turns : List Transition) → Turns e [] turns → turns ≡ []
-no_turns e [] h = refl
-no_turns e (t ∷ ts) h = absurd h
 
 nothing_behind : (e : Endpoint) (p : Pair) (held : Held) (bytes : List ℕ) (turns : List Transition) → e.core ≡ cookie_echoed p held bytes → is_exhausted e.options.max_retransmissions e.error_count ≡ false
     → Turns e (after_expiries e true) turns → turns ≡ []

@@ -12,13 +12,13 @@ use Rattle.dcsctp_spec_runs.specs.Sockets.{Both, PerformedAct, SocketRun, turns_
 use Rattle.dcsctp_theorem_sockets.specs.Agreement.{AreUsable}
 use Rattle.dcsctp_theorem_sockets.specs.Handshake.{AreFitting}
 use Rattle.dcsctp_theorem_progress.specs.Connecting.{RetriesEcho, connections_once_open}
-use Rattle.dcsctp_theorem_progress.specs.Cookies.{AnswersEcho, HasEchoed, had, missed}
+use Rattle.dcsctp_theorem_progress.specs.Cookies.{AnswersEcho, HasEchoed, KnowsCookie, not_yet, already, had, missed}
 use Rattle.dcsctp_theorem_progress.specs.LostInits.{DueT1}
 use Rattle.dcsctp_theorem_progress.specs.Retries.{RetriesT1, t1_expiry}
 use Rattle.dcsctp_theorem_progress.specs.Rounds.{AdvancesBothClocks, LostRounds, QuietRound, counts_shown}
 use Rattle.dcsctp_theorem_sockets.proofs.HandshakeTurns.{HandshakeLaws}
 use Rattle.dcsctp_theorem_progress.proofs.Chain.{JoinedBy}
-use Rattle.dcsctp_theorem_progress.proofs.EchoRound.{Answering, repeats_ack, takes, again, Waiting, echo_exchanged}
+use Rattle.dcsctp_theorem_progress.proofs.EchoRound.{again, Waiting, echo_exchanged}
 use Rattle.dcsctp_theorem_progress.proofs.EchoRuns.{repeated, repeats}
 use Rattle.dcsctp_theorem_progress.proofs.Facts.{Fit}
 use Rattle.dcsctp_theorem_progress.proofs.Handed.{Settles, keep_same, settles}
@@ -30,7 +30,7 @@ use Rattle.dcsctp_theorem_progress.proofs.Views.{AtOf, KeepOf, View, ran, ran_ex
 before_all : (next last others : ℕ) → next ≤ last → last < others → next ≤ others
 before_all next last others a b = omega (arith, a, b)
 
-same_count : (core core' : Core) (n n' : ℕ) → core ≡ core' → n ≡ n' → connections_once_open core n ≡ connections_once_open core' n'
+pub same_count : (core core' : Core) (n n' : ℕ) → core ≡ core' → n ≡ n' → connections_once_open core n ≡ connections_once_open core' n'
 same_count core core' n n' is told = ap (λ (c : Core). connections_once_open c n) is ∙ ap (connections_once_open core') told
 
 -- ---- lost rounds
@@ -74,27 +74,26 @@ not_before e f cookie bytes more last counted t1 expires (had h waits) =
     before_all (next_moment e) last (next_moment f) (subst (λ (n : ℕ). next_moment e ≤ n) expires (next_is_first e more counted t1)) waits
 
 -- What the clocks do in a round.
-record Turned (side : Side) (options : Both Options) (run : List PerformedAct) (v w : View) (cookie : Cookie) (bytes : List ℕ) (last : ℕ) : Type 0 where
-  moment : ℕ
-  is_next : moment ≡ next_moment v.endpoint
-  others : List Transition
-  remain : Remains v w cookie bytes last moment others
-  at : AtOf side options run (again v (view_then w others) cookie bytes moment) (view_then w others)
+pub record Turned (side : Side) (options : Both Options) (run : List PerformedAct) (v w : View) (cookie : Cookie) (bytes : List ℕ) (last : ℕ) : Type 0 where
+  pub moment : ℕ
+  pub is_next : moment ≡ next_moment v.endpoint
+  pub others : List Transition
+  pub remain : Remains v w cookie bytes last moment others
+  pub at : AtOf side options run (again v (view_then w others) cookie bytes moment) (view_then w others)
 
-turned : TimePassesQuietly → (side : Side) (options : Both Options) (earlier run : List PerformedAct) (cookie : Cookie) (bytes : List ℕ) (more last m n : ℕ) → AreUsable options → AreFitting options
-    → (h : EchoReady side options earlier cookie bytes (suc more) last m n) → AdvancesBothClocks options earlier run → SocketRun options run → Turned side options run h.v h.w cookie bytes last
-turned quiet side options earlier run cookie bytes more last m n are fit h time runs =
-    let v : View = h.v in
-    let w : View = h.w in
+pub turned_by : TimePassesQuietly → (side : Side) (options : Both Options) (earlier run : List PerformedAct) (v w : View) (cookie : Cookie) (bytes : List ℕ) (more last : ℕ) → AreUsable options → AreFitting options
+    → AtOf side options earlier v w → KeepOf side options v w → HasEchoed v.endpoint w.endpoint cookie bytes → RetriesT1 v.endpoint (suc more) → AnswersEcho v.endpoint w.endpoint cookie last
+    → next_moment v.endpoint ≤ next_moment w.endpoint → next_moment v.endpoint ≤ last → AdvancesBothClocks options earlier run → SocketRun options run → Turned side options run v w cookie bytes last
+turned_by quiet side options earlier run v w cookie bytes more last are fit at keep echoed t1 other first within time runs =
     let moment : ℕ = lesser_of side v w in
-    let counted : timers_counted v.endpoint.core ≡ t1_timer ∷ [] = ap timers_counted h.echoed.core in
-    let good : Fit v.endpoint.options w.endpoint.options = fit_of side options v w are fit h.keep in
-    let moved : MovedOf side options run v w moment = moves_of side options earlier run v w h.at h.keep time runs in
-    let at_t1 : moment ≡ next_moment v.endpoint = moment_by side v w (not_before v.endpoint w.endpoint cookie bytes more last counted h.t1 h.expires h.other) in
-    let by_last : moment ≤ last = subst (λ (k : ℕ). k ≤ last) (sym at_t1) (subst (λ (k : ℕ). next_moment v.endpoint ≤ k) h.expires (next_is_first v.endpoint more counted h.t1)) in
-    let still : Remains v w cookie bytes last moment moved.others = remains quiet v w cookie bytes last moment moved.others h.echoed h.other by_last moved.others_turns in
+    let counted : timers_counted v.endpoint.core ≡ t1_timer ∷ [] = ap timers_counted echoed.core in
+    let good : Fit v.endpoint.options w.endpoint.options = fit_of side options v w are fit keep in
+    let moved : MovedOf side options run v w moment = moves_of side options earlier run v w at keep time runs in
+    let at_t1 : moment ≡ next_moment v.endpoint = moment_by side v w first in
+    let by_last : moment ≤ last = subst (λ (k : ℕ). k ≤ last) (sym at_t1) within in
+    let still : Remains v w cookie bytes last moment moved.others = remains quiet v w cookie bytes last moment moved.others echoed other by_last moved.others_turns in
     let there : View = view_then w moved.others in
-    let due : DueT1 v.endpoint moment = subst (DueT1 v.endpoint) (sym at_t1) (due_next v.endpoint more counted h.t1) in
+    let due : DueT1 v.endpoint moment = subst (DueT1 v.endpoint) (sym at_t1) (due_next v.endpoint more counted t1) in
     let is : moved.mine ≡ repeated v.endpoint there.endpoint cookie bytes moment =
     repeats v.endpoint there.endpoint cookie bytes moment moved.mine (record { echoed = still.echoed; t1 = due }) good.good_a moved.mine_turns in
     record {
@@ -105,7 +104,14 @@ turned quiet side options earlier run cookie bytes more last m n are fit h time 
       at = subst (λ (os : List Transition). AtOf side options run (view_then v os) there) is moved.at;
     }
 
-after_again : (v x : View) (cookie : Cookie) (bytes : List ℕ) (moment : ℕ) → HasEchoed v.endpoint x.endpoint cookie bytes → HasEchoed (again v x cookie bytes moment).endpoint x.endpoint cookie bytes
+turned : TimePassesQuietly → (side : Side) (options : Both Options) (earlier run : List PerformedAct) (cookie : Cookie) (bytes : List ℕ) (more last m n : ℕ) → AreUsable options → AreFitting options
+    → (h : EchoReady side options earlier cookie bytes (suc more) last m n) → AdvancesBothClocks options earlier run → SocketRun options run → Turned side options run h.v h.w cookie bytes last
+turned quiet side options earlier run cookie bytes more last m n are fit h time runs =
+    let counted : timers_counted h.v.endpoint.core ≡ t1_timer ∷ [] = ap timers_counted h.echoed.core in
+    turned_by quiet side options earlier run h.v h.w cookie bytes more last are fit h.at h.keep h.echoed h.t1 h.other
+    (not_before h.v.endpoint h.w.endpoint cookie bytes more last counted h.t1 h.expires h.other) (subst (λ (k : ℕ). next_moment h.v.endpoint ≤ k) h.expires (next_is_first h.v.endpoint more counted h.t1)) time runs
+
+pub after_again : (v x : View) (cookie : Cookie) (bytes : List ℕ) (moment : ℕ) → HasEchoed v.endpoint x.endpoint cookie bytes → HasEchoed (again v x cookie bytes moment).endpoint x.endpoint cookie bytes
 after_again v x cookie bytes moment h =
     record {
       core = h.core;
@@ -154,11 +160,11 @@ lost_echoes quiet (suc lost) side options earlier run cookie bytes last m n are 
 
 -- ---- the quiet round
 
-now_answers : (v x : View) (cookie : Cookie) (bytes : List ℕ) (last : ℕ) → last ≤ x.endpoint.moment → AnswersEcho v.endpoint x.endpoint cookie last → Answering v.endpoint x.endpoint cookie
-now_answers v x cookie bytes last late (missed h) = takes (missed_now x.endpoint cookie last late h)
-now_answers v x cookie bytes last late (had h waits) = repeats_ack h
+pub now_answers : (e f : Endpoint) (cookie : Cookie) (last : ℕ) → last ≤ f.moment → AnswersEcho e f cookie last → KnowsCookie e f cookie
+now_answers e f cookie last late (missed h) = not_yet (missed_now f cookie last late h)
+now_answers e f cookie last late (had h waits) = already h
 
-quiet_echo : HandshakeLaws → TimePassesQuietly → (side : Side) (options : Both Options) (settled : Both ℕ) (earlier run : List PerformedAct) (cookie : Cookie) (bytes : List ℕ) (last m n : ℕ) → AreUsable options → AreFitting options
+pub quiet_echo : HandshakeLaws → TimePassesQuietly → (side : Side) (options : Both Options) (settled : Both ℕ) (earlier run : List PerformedAct) (cookie : Cookie) (bytes : List ℕ) (last m n : ℕ) → AreUsable options → AreFitting options
     → EchoReady side options earlier cookie bytes 1 last m n → QuietRound options (counts_shown options (turns_after earlier)) earlier settled run → SocketRun options run → SettledBy side options run m n
 quiet_echo law time side options settled earlier run cookie bytes last m n are fit h quiet runs =
     let between : SocketRun options quiet.between = ran_exchanges options 4 _ quiet.between settled run quiet.exchanges runs in
@@ -169,7 +175,7 @@ quiet_echo law time side options settled earlier run cookie bytes last m n are f
     let kept : KeepOf side options h.v there = keep_same side options h.v h.w h.v there refl t.remain.same h.keep in
     let g : Waiting side options h.v there cookie bytes t.moment = record {
       echoed = t.remain.echoed;
-      other = now_answers h.v there cookie bytes last (subst (λ (k : ℕ). k ≤ there.endpoint.moment) at_last t.remain.late) t.remain.answers;
+      other = now_answers h.v.endpoint there.endpoint cookie last (subst (λ (k : ℕ). k ≤ there.endpoint.moment) at_last t.remain.late) t.remain.answers;
       fit = fit_of side options h.v there are fit kept;
       keep = kept;
     } in

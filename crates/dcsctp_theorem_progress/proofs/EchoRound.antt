@@ -10,9 +10,10 @@ use Rattle.dcsctp_spec_lemmas.specs.spec.Packet.{cookie_echo}
 use Rattle.dcsctp_spec_lemmas.specs.spec.association.HandshakeChanges.{new_held}
 use Rattle.dcsctp_spec_lemmas.specs.spec.endpoint.CallTurns.{HandleInput, Transition}
 use Rattle.dcsctp_spec_lemmas.specs.spec.endpoint.Endpoint.{Core, Endpoint, established, open_in}
+use Rattle.dcsctp_spec_lemmas.specs.spec.endpoint.FlushOutcomes.{IsIdle}
 use Rattle.dcsctp_spec_runs.specs.Sockets.{Both, PerformedAct, SocketRun, turns_after}
 use Rattle.dcsctp_theorem_progress.specs.Connecting.{connections_once_open}
-use Rattle.dcsctp_theorem_progress.specs.Cookies.{HadEcho, HasEchoed, MissedEcho}
+use Rattle.dcsctp_theorem_progress.specs.Cookies.{HasEchoed, KnowsCookie, not_yet, already, OwesNothing}
 use Rattle.dcsctp_theorem_progress.specs.Rounds.{Exchanges, counts_shown}
 use Rattle.dcsctp_theorem_sockets.proofs.HandshakeReads.{counted_at, delivered}
 use Rattle.dcsctp_theorem_sockets.proofs.HandshakeTurns.{HandshakeLaws}
@@ -32,28 +33,32 @@ pub record Acknowledged (a : Options) (w : View) (cookie : Cookie) (turns : List
   pub same : (view_then w turns).endpoint.options ≡ w.endpoint.options
   pub linked : (view_then w turns).endpoint.core ≡ open_in established cookie.maker (new_held cookie.maker cookie.addressee (negotiated_capabilities (offer_of w.endpoint.options) (offer_of a)))
   pub told : (view_then w turns).told ≡ connections_once_open w.endpoint.core w.told
+  pub idle : IsIdle (view_then w turns).endpoint
+  pub owes : OwesNothing (view_then w turns).endpoint.queues.transfer
 
--- What it does with the COOKIE ECHO now.
-pub data Answering (e f : Endpoint) (cookie : Cookie) : Type 0 where
-  takes : MissedEcho f cookie → Answering e f cookie
-  repeats_ack : HadEcho e f cookie → Answering e f cookie
-
-pub acknowledged : HandshakeLaws → (e : Endpoint) (w : View) (cookie : Cookie) (bytes : List ℕ) (turns : List Transition) → HasEchoed e w.endpoint cookie bytes → Answering e w.endpoint cookie
+pub acknowledged : HandshakeLaws → (e : Endpoint) (w : View) (cookie : Cookie) (bytes : List ℕ) (turns : List Transition) → HasEchoed e w.endpoint cookie bytes → KnowsCookie e w.endpoint cookie
     → Fit e.options w.endpoint.options → HandleInput w.endpoint (bytes_packet e.options cookie bytes) turns → Acknowledged e.options w cookie turns
-acknowledged law e w cookie bytes turns h (takes m) fit input =
+acknowledged law e w cookie bytes turns h (not_yet m) fit input =
     let f : Endpoint = w.endpoint in
     let one : EstablishesBy f cookie bytes turns =
     establishes_by law f e.options cookie bytes turns m.core m.taken (pairs_fit e f cookie bytes h).spells (λ word. idle_established (counted_at f) cookie word m.empty)
     fit.good_a fit.good_b fit.to_b input in
     subst (Acknowledged e.options w cookie) (sym one.only)
-    (record { shown = refl; same = refl; linked = offered e f cookie h.offer; told = sym (ap (λ (core : Core). connections_once_open core w.told) m.core) })
-acknowledged law e w cookie bytes turns h (repeats_ack m) fit input =
+    (record {
+      shown = refl;
+      same = refl;
+      linked = offered e f cookie h.offer;
+      told = sym (ap (λ (core : Core). connections_once_open core w.told) m.core);
+      idle = idle_established (counted_at f) cookie one.tie m.empty;
+      owes = (refl, refl);
+    })
+acknowledged law e w cookie bytes turns h (already m) fit input =
     let f : Endpoint = w.endpoint in
     let one : turns ≡ delivered f cookie.maker.tag (cookie_echo bytes) (acknowledging (counted_at f) cookie) =
     maintains law f e.options cookie bytes turns (m.core ∙ sym (offered e f cookie h.offer)) m.idle (owes_same f.queues.transfer m.owes) (pairs_fit e f cookie bytes h).spells
     fit.good_a fit.good_b fit.to_b input in
     subst (Acknowledged e.options w cookie) (sym one)
-    (record { shown = refl; same = refl; linked = m.core; told = sym (ap (λ (core : Core). connections_once_open core w.told) m.core) })
+    (record { shown = refl; same = refl; linked = m.core; told = sym (ap (λ (core : Core). connections_once_open core w.told) m.core); idle = m.idle; owes = m.owes })
 
 -- ---- the four exchanges
 
@@ -64,7 +69,7 @@ again v w cookie bytes moment = view_then v (repeated v.endpoint w.endpoint cook
 -- It awaits a COOKIE ACK and T1 has come; the other acknowledges the COOKIE ECHO.
 pub record Waiting (side : Side) (options : Both Options) (v w : View) (cookie : Cookie) (bytes : List ℕ) (moment : ℕ) : Type 0 where
   pub echoed : HasEchoed v.endpoint w.endpoint cookie bytes
-  pub other : Answering v.endpoint w.endpoint cookie
+  pub other : KnowsCookie v.endpoint w.endpoint cookie
   pub fit : Fit v.endpoint.options w.endpoint.options
   pub keep : KeepOf side options v w
 

@@ -46,10 +46,10 @@ given settled side v w x number turns h is input =
     (subst (λ (xs : List (List ℕ)). DeliveryTurns w.endpoint (packet_at_number (suc number) xs) turns) h.shown input))
 
 -- A's count is one more than what is settled, and B's is that.
-mine_more : (settled : Both ℕ) (side : Side) (v w : View) (x : List ℕ) (h : Under settled side v w x) → length v.shown ≡ suc (of_side side settled)
+pub mine_more : (settled : Both ℕ) (side : Side) (v w : View) (x : List ℕ) (h : Under settled side v w x) → length v.shown ≡ suc (of_side side settled)
 mine_more settled side v w x h = ap length h.shown ∙ one_more h.before x ∙ ap suc (sym h.mine)
 
-acts_to_b : (options : Both Options) (settled : Both ℕ) (earlier : List PerformedAct) (v w : View) (x : List ℕ) → At options earlier v w → Under settled sides.A v w x
+pub acts_to_b : (options : Both Options) (settled : Both ℕ) (earlier : List PerformedAct) (v w : View) (x : List ℕ) → At options earlier v w → Under settled sides.A v w x
     → exchange options (turns_after earlier) settled ≡ step_act (delivery_step sides.B (suc settled.a)) ∷ []
 acts_to_b options settled earlier v w x at h =
     let shown : Both ℕ = counts_shown options (turns_after earlier) in
@@ -58,7 +58,7 @@ acts_to_b options settled earlier v w x at h =
     ap (λ (acts : List ActContent). acts ++ deliveries sides.A settled.b (shown.b - settled.b)) (one_delivery sides.B settled.a shown.a a)
     ∙ ap (λ (acts : List ActContent). step_act (delivery_step sides.B (suc settled.a)) ∷ acts) (no_delivery sides.A settled.b shown.b b)
 
-acts_to_a : (options : Both Options) (settled : Both ℕ) (earlier : List PerformedAct) (v w : View) (x : List ℕ) → At options earlier w v → Under settled sides.B v w x
+pub acts_to_a : (options : Both Options) (settled : Both ℕ) (earlier : List PerformedAct) (v w : View) (x : List ℕ) → At options earlier w v → Under settled sides.B v w x
     → exchange options (turns_after earlier) settled ≡ step_act (delivery_step sides.A (suc settled.b)) ∷ []
 acts_to_a options settled earlier v w x at h =
     let shown : Both ℕ = counts_shown options (turns_after earlier) in
@@ -147,7 +147,7 @@ no_acts : (more earlier : List PerformedAct) → acts_of more ≡ [] → more ++
 no_acts [] earlier none = refl
 no_acts (worked ∷ more) earlier none = absurd (cc)
 
-none_follow : (earlier : List PerformedAct) (acts : List ActContent) (run : List PerformedAct) → ActsFollow earlier acts run → acts ≡ [] → run ≡ earlier
+pub none_follow : (earlier : List PerformedAct) (acts : List ActContent) (run : List PerformedAct) → ActsFollow earlier acts run → acts ≡ [] → run ≡ earlier
 none_follow earlier acts run h none = h.is ∙ no_acts h.more earlier (h.are ∙ ap (λ (l : List ActContent). reverse l) none)
 
 nothing : (options : Both Options) (settled : Both ℕ) (earlier : List PerformedAct) → (counts_shown options (turns_after earlier)).a ≡ settled.a → (counts_shown options (turns_after earlier)).b ≡ settled.b

@@ -23,3 +23,9 @@ mod OthersCookies
 mod Meanwhile
 mod EchoRound
 mod EchoLost
+mod Beats
+mod AckLost
+mod Lossy
+mod LossyEcho
+mod LossyInit
+mod LossySteps

@@ -59,7 +59,7 @@ one_less : (limit : Option ℕ) (expiries more : ℕ) → LeavesRestarts limit e
 one_less None expiries more h = tt
 one_less (Some limit) expiries more h = omega (arith, h)
 
-fewer : (limit : Option ℕ) (expiries more : ℕ) → LeavesRestarts limit expiries (suc more) → LeavesRestarts limit expiries more
+pub fewer : (limit : Option ℕ) (expiries more : ℕ) → LeavesRestarts limit expiries (suc more) → LeavesRestarts limit expiries more
 fewer None expiries more h = tt
 fewer (Some limit) expiries more h = omega (arith, h)
 
@@ -90,7 +90,7 @@ pub data Advanced (e : Endpoint) (p : Pair) (moment : ℕ) (turns : List Transit
   too_early : turns ≡ clock_turn moment e ∷ [] → Advanced e p moment turns
   expires : DueT1 e moment → turns ≡ init_repeated e p moment → Advanced e p moment turns
 
-no_turns : (f : Endpoint) (turns : List Transition) → Turns f [] turns → turns ≡ []
+pub no_turns : (f : Endpoint) (turns : List Transition) → Turns f [] turns → turns ≡ []
 no_turns f [] h = refl
 no_turns f (t ∷ ts) h = absurd h
 
@@ -126,7 +126,7 @@ pub record Onward (v : View) (p : Pair) (more : ℕ) (turns : List Transition) :
 cut : (n limit : ℕ) → min n limit ≤ limit
 cut n limit = omega arith
 
-t1_stays : (e : Endpoint) (more : ℕ) → RetriesT1 e (suc more) → RetriesT1 e more
+pub t1_stays : (e : Endpoint) (more : ℕ) → RetriesT1 e (suc more) → RetriesT1 e more
 t1_stays e more h =
     record { timer = h.timer; runs = h.runs; left = fewer h.timer.terms.max_restarts h.timer.expiries more h.left; clock = h.clock; deadline = h.deadline }
 

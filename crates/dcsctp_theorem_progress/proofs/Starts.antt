@@ -35,10 +35,10 @@ init_handed side options v w p moment settled settled' earlier run g at counts r
 
 -- ---- a closed socket
 
-abbrev answered : View → View → Pair → ℕ → ℕ → View
+abbrev pub answered : View → View → Pair → ℕ → ℕ → View
 answered v w p word next = view_then w (answered_turns w.endpoint v.endpoint.options p word next)
 
-replied_anew : HandshakeLaws → (side : Side) (options : Both Options) (v w : View) (p : Pair) (moment word next : ℕ) → Ground side options v w p moment → Rests w.endpoint
+pub replied_anew : HandshakeLaws → (side : Side) (options : Both Options) (v w : View) (p : Pair) (moment word next : ℕ) → Ground side options v w p moment → Rests w.endpoint
     → ((tag : ℕ) → is_tag_over w.endpoint closed tag ≡ false)
     → Replied v (answered v w p word next) p (pair_from word next) w.endpoint.moment (secret_with w.endpoint (pair_from word next)) w.shown
 replied_anew law side options v w p moment word next g rests anew =

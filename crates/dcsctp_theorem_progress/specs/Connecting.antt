@@ -16,7 +16,6 @@ use Rattle.dcsctp_theorem_progress.specs.Rounds.{counts_shown, LostRounds, Quiet
 use Rattle.dcsctp_theorem_progress.specs.LostInits.{Rests, KeepsOptions, AreLinked}
 use Rattle.dcsctp_theorem_progress.specs.Retries.{LeavesRestarts, RetriesT1, RetriesInit, t1_expiry}
 use Rattle.dcsctp_theorem_progress.specs.Cookies.{HasEchoed, AnswersEcho}
-use Rattle.dcsctp_theorem_progress.specs.OthersCookies.{EchoOthersCookies}
 
 -- It is closed, and there is no tag under which none begins again.
 pub record RestsWithoutTag (e : Endpoint) : Type 0 where
@@ -99,19 +98,3 @@ CallersConnect options run =
 
 abbrev pub FreshSocketsConnect : Type 0
 FreshSocketsConnect = (options : Both Options) (run : List PerformedAct) → AreUsable options → AreFitting options → SocketRun options run → CallersConnect options run
-
--- ---- over a whole run
-
--- At its end: whatever came before such rounds, and where nothing but the calls did. Each cookie that is echoed is the other's.
-pub record RoundsConnect (options : Both Options) (run : List PerformedAct) : Type 0 where
-  pub trying : TryingConnect options run
-  pub fresh : CallersConnect options run
-  pub cookies : EchoOthersCookies options run
-
--- At the end of each first part of the run. So such rounds have connected them, whatever came later.
-abbrev pub ConnectOverRounds : Both Options → List PerformedAct → Type 0
-ConnectOverRounds options [] = RoundsConnect options []
-ConnectOverRounds options (worked ∷ earlier) = RoundsConnect options (worked ∷ earlier) × ConnectOverRounds options earlier
-
-abbrev pub RoundsConnectSockets : Type 0
-RoundsConnectSockets = (options : Both Options) (run : List PerformedAct) → AreUsable options → AreFitting options → SocketRun options run → ConnectOverRounds options run

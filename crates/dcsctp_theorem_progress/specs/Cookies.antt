@@ -50,6 +50,11 @@ pub record HadEcho (e f : Endpoint) (cookie : Cookie) : Type 0 where
   pub idle : IsIdle f
   pub owes : OwesNothing f.queues.transfer
 
+-- It never got the cookie and would take it now, or it has it.
+pub data KnowsCookie (e f : Endpoint) (cookie : Cookie) : Type 0 where
+  not_yet : MissedEcho f cookie → KnowsCookie e f cookie
+  already : HadEcho e f cookie → KnowsCookie e f cookie
+
 -- It acknowledges a COOKIE ECHO that comes at this moment, or later by its own clock: it is closed and takes the cookie then; or it
 -- has it already, and none of its own timers is due by then.
 pub data AnswersEcho (e f : Endpoint) (cookie : Cookie) (moment : ℕ) : Type 0 where

@@ -1,6 +1,9 @@
 -- What is known of how two sockets connect, whatever is lost.
 use Rattle.dcsctp_theorem_progress.specs.LostInits.{LostInitsAreMadeGood, LostInitsOfBothAreMadeGood}
-use Rattle.dcsctp_theorem_progress.specs.Connecting.{LostRoundsAreMadeGood, FreshSocketsConnect, RoundsConnectSockets}
+use Rattle.dcsctp_theorem_progress.specs.Connecting.{LostRoundsAreMadeGood, FreshSocketsConnect}
+use Rattle.dcsctp_theorem_progress.specs.Heartbeats.{LostAcksConnect}
+use Rattle.dcsctp_theorem_progress.specs.LossyRounds.{LossyRoundsLeadOn, LossyRoundsConnectSockets}
+use Rattle.dcsctp_theorem_progress.specs.Throughout.{RoundsConnectSockets}
 use Rattle.dcsctp_theorem_progress.specs.OthersCookies.{CookiesAreTheOthers}
 use Rattle.dcsctp_theorem_progress.specs.Echoes.{LostEchoesAreMadeGood, LostAcksAreMadeGood}
 
@@ -11,5 +14,8 @@ pub record ProgressLaws : Type 0 where
   pub acks : LostAcksAreMadeGood
   pub rounds : LostRoundsAreMadeGood
   pub fresh : FreshSocketsConnect
+  pub heartbeats : LostAcksConnect
+  pub lossy : LossyRoundsLeadOn
+  pub lossy_rounds : LossyRoundsConnectSockets
   pub cookies : CookiesAreTheOthers
   pub throughout : RoundsConnectSockets

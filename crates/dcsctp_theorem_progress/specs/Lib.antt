@@ -5,4 +5,7 @@ pub mod Cookies
 pub mod Echoes
 pub mod OthersCookies
 pub mod Connecting
+pub mod Heartbeats
+pub mod LossyRounds
+pub mod Throughout
 pub mod Laws

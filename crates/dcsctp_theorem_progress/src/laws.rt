@@ -1,9 +1,12 @@
 //! The theorems on how two sockets connect.
 
 ghost use Rattle.dcsctp_theorem_progress.specs.LostInits.{LostInitsAreMadeGood, LostInitsOfBothAreMadeGood};
-ghost use Rattle.dcsctp_theorem_progress.specs.Connecting.{LostRoundsAreMadeGood, FreshSocketsConnect, RoundsConnectSockets};
+ghost use Rattle.dcsctp_theorem_progress.specs.Connecting.{LostRoundsAreMadeGood, FreshSocketsConnect};
 ghost use Rattle.dcsctp_theorem_progress.specs.Laws.{ProgressLaws};
+ghost use Rattle.dcsctp_theorem_progress.specs.Throughout.{RoundsConnectSockets};
+ghost use Rattle.dcsctp_theorem_progress.specs.LossyRounds.{LossyRoundsLeadOn, LossyRoundsConnectSockets};
 ghost use Rattle.dcsctp_theorem_progress.specs.OthersCookies.{CookiesAreTheOthers};
+ghost use Rattle.dcsctp_theorem_progress.specs.Heartbeats.{LostAcksConnect};
 ghost use Rattle.dcsctp_theorem_progress.specs.Echoes.{LostEchoesAreMadeGood, LostAcksAreMadeGood};
 
 use dcsctp_spec_laws::{acts_are_controlled, time_passes_quietly};
@@ -78,6 +81,44 @@ pub fn lost_rounds_are_made_good()
     time_passes_quietly();
 }
 
+/// A socket that awaits a COOKIE ACK connects with one that is Established by its cookie, after any run. After any
+/// number of rounds whose packets are all lost, each of which uses at most a restart of T1 and leaves at most one
+/// HEARTBEAT without an answer, it does so in the quiet round in which T1 comes first (RFC 9260, sections 5.2.4, D,
+/// and 8.3).
+pub fn lost_acks_connect()
+    ensures { LostAcksConnect }
+{
+    built_packet_reads_back();
+    built_packet_reads_as_itself();
+    offer_reads_back();
+    answer_keeps_agreement();
+    cookie_reads_back();
+    time_passes_quietly();
+}
+
+/// In a lossy round each packet is delivered once, in order, or lost. Where one socket awaits an INIT ACK and the
+/// other is closed, or it awaits a COOKIE ACK of one that takes the cookie or has it, such a round in which T1 comes
+/// in time connects them, or leaves one of these states with a restart less (RFC 9260, section 5.1).
+pub fn lossy_rounds_lead_on()
+    ensures { LossyRoundsLeadOn }
+{
+    built_packet_reads_back();
+    built_packet_reads_as_itself();
+    offer_reads_back();
+    answer_keeps_agreement();
+    cookie_reads_back();
+    time_passes_quietly();
+}
+
+/// However many such rounds follow one another, if T1 may restart once more than there are rounds, and comes in time in
+/// each: one of them connects both sockets, or the quiet round after them does.
+pub fn lossy_rounds_connect()
+    ensures { LossyRoundsConnectSockets }
+{
+    lossy_rounds_lead_on();
+    lost_rounds_are_made_good();
+}
+
 /// Two sockets that were just made, and fit each other, connect once one of them or both called `connect`, however
 /// many of their INITs are lost, as long as T1 may restart.
 pub fn fresh_sockets_connect()
@@ -112,6 +153,9 @@ pub fn rounds_connect_sockets()
 {
     lost_rounds_are_made_good();
     fresh_sockets_connect();
+    lost_acks_connect();
+    lossy_rounds_lead_on();
+    lossy_rounds_connect();
     echoed_cookies_are_the_others();
 }
 
@@ -125,6 +169,9 @@ pub fn progress_laws()
     lost_acks_are_made_good();
     lost_rounds_are_made_good();
     fresh_sockets_connect();
+    lost_acks_connect();
+    lossy_rounds_lead_on();
+    lossy_rounds_connect();
     echoed_cookies_are_the_others();
     rounds_connect_sockets();
 }

@@ -10,7 +10,8 @@ use Rattle.dcsctp_core.specs.spec.endpoint.Event.{Event}
 use Rattle.dcsctp_core.specs.spec.endpoint.CallTurns.{Transition, events_of}
 use Rattle.dcsctp_spec_runs.specs.Sockets.{PerformedAct, Both, turns_after, endpoint_after}
 use Rattle.dcsctp_theorem_sockets.specs.Handshake.{connections_of_events}
-use Rattle.dcsctp_theorem_progress.specs.Connecting.{MayConnect, connections_once_open, HaveConnected, RoundsConnect, ConnectOverRounds}
+use Rattle.dcsctp_theorem_progress.specs.Connecting.{MayConnect, connections_once_open, HaveConnected}
+use Rattle.dcsctp_theorem_progress.specs.Throughout.{RoundsConnect, ConnectOverRounds}
 use Rattle.dcsctp_theorem_progress.specs.LostInits.{KeepsOptions}
 use Rattle.dcsctp_theorem_progress.specs.Rounds.{counts_shown, QuietRound, QuietRounds}
 use Rattle.dcsctp_world.specs.Acts.{Ran}

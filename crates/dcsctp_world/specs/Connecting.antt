@@ -2,7 +2,7 @@
 use Rattle.dcsctp_core.specs.types.declared.options.Options.{Options}
 use Rattle.dcsctp_spec_runs.specs.Sockets.{Both}
 use Rattle.dcsctp_theorem_sockets.specs.Handshake.{AreFitting}
-use Rattle.dcsctp_theorem_progress.specs.Connecting.{ConnectOverRounds}
+use Rattle.dcsctp_theorem_progress.specs.Throughout.{ConnectOverRounds}
 use Rattle.dcsctp_world.specs.Run.{IsRun}
 use Rattle.dcsctp_world.specs.Shown.{WorldView}
 

@@ -73,7 +73,7 @@ pub record Promises {R : Type 0} (world : WorldView (Recording R)) : Type 0 wher
   pub handshake : ShownHandshakeConnects (options_of world) world
   -- Where one side awaits an INIT ACK and the other is closed, or both await one, or one awaits a COOKIE ACK and the other takes its
   -- cookie or has it, neither sent a message, and T1 may restart: however many rounds are lost, one that isn't connects sockets that
-  -- fit each other. In an honest run the cookie is the other's.
+  -- fit each other. One that is lost in part does too, or costs a restart. In an honest run the cookie is the other's.
   pub connects : ShownRoundsConnect world
   -- Time before the next deadline moves the clock alone, but for a socket that awaits a COOKIE ACK.
   pub quiet : TimeIsQuiet (options_of world) run.steps

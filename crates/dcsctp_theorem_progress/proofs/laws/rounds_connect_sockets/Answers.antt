@@ -3,4 +3,12 @@ use Rattle.dcsctp_theorem_progress.proofs.laws.rounds_connect_sockets.Goals as g
 
 pub returns : goal.returns
 returns c =
-    throughout (record { trying = c.lost_rounds_are_made_good.ensures; fresh = c.fresh_sockets_connect.ensures; cookies = c.echoed_cookies_are_the_others.ensures })
+    throughout
+    (record {
+      trying = c.lost_rounds_are_made_good.ensures;
+      fresh = c.fresh_sockets_connect.ensures;
+      acks = c.lost_acks_connect.ensures;
+      lossy = c.lossy_rounds_lead_on.ensures;
+      lossy_rounds = c.lossy_rounds_connect.ensures;
+      cookies = c.echoed_cookies_are_the_others.ensures;
+    })

@@ -1,0 +1,263 @@
+-- A lost COOKIE ACK, and rounds in which the other's heartbeats are lost too.
+use Rattle.std.specs.Duration.{max_nanos}
+use Rattle.std.specs.Prelude.{nat_le}
+use Rattle.std.proofs.Common.{◌≡◌, ◌≤◌, ◌<◌, ℕ, zero, suc, Bool, true, false, List, [], ◌∷◌, refl, sym, subst, ap, ◌∙◌, arith}
+use Rattle.dcsctp_spec_lemmas.specs.types.Offer.{offer_of, negotiated_capabilities}
+use Rattle.dcsctp_spec_lemmas.specs.types.declared.association.Held.{Held}
+use Rattle.dcsctp_spec_lemmas.specs.types.declared.association.Pair.{Pair}
+use Rattle.dcsctp_spec_lemmas.specs.types.declared.options.Options.{Options}
+use Rattle.dcsctp_spec_lemmas.specs.types.declared.schedule.Side.{Side}
+use Rattle.dcsctp_spec_lemmas.specs.types.declared.schedule.Side.TheVariants as sides
+use Rattle.dcsctp_spec_lemmas.specs.spec.Cookie.{Cookie}
+use Rattle.dcsctp_spec_lemmas.specs.spec.association.HandshakeChanges.{new_held}
+use Rattle.dcsctp_spec_lemmas.specs.spec.queues.Transfer.{EndpointQueues}
+use Rattle.dcsctp_spec_lemmas.specs.spec.endpoint.CallTurns.{Transition, Turns}
+use Rattle.dcsctp_spec_lemmas.specs.spec.endpoint.Endpoint.{Endpoint, Core, cookie_echoed, open_in, established}
+use Rattle.dcsctp_spec_lemmas.specs.spec.endpoint.Outcome.{still}
+use Rattle.dcsctp_spec_lemmas.specs.spec.endpoint.OwnTimers.{acknowledgement_delay}
+use Rattle.dcsctp_spec_lemmas.specs.spec.endpoint.TimeTurns.{own_timer, t1_timer, handled_timers, timers_counted, deadline_of, delay_deadline, has_come, next_moment, ExpiryThen, ExpiryTurns, DueTurns, MomentTurns, TimeTurns, AdvanceTurns, TimePassesQuietly}
+use Rattle.dcsctp_spec_lemmas.specs.spec.endpoint.Turn.{time_passes, with_clock}
+use Rattle.dcsctp_spec_runs.specs.Sockets.{PerformedAct, Both, turns_after, SocketRun}
+use Rattle.dcsctp_theorem_sockets.specs.Agreement.{AreUsable}
+use Rattle.dcsctp_theorem_sockets.specs.Handshake.{AreFitting}
+use Rattle.dcsctp_theorem_sockets.proofs.HandshakeReads.{turned_as}
+use Rattle.dcsctp_theorem_sockets.proofs.HandshakeTurns.{HandshakeLaws, Good}
+use Rattle.dcsctp_theorem_progress.specs.Connecting.{connections_once_open}
+use Rattle.dcsctp_theorem_progress.specs.Cookies.{OwesNothing, HasEchoed, HadEcho, had}
+use Rattle.dcsctp_theorem_progress.specs.Heartbeats.{OnlyBeats, LostAcksConnect}
+use Rattle.dcsctp_theorem_progress.specs.LostInits.{DueT1}
+use Rattle.dcsctp_theorem_progress.specs.Retries.{RetriesT1, t1_expiry}
+use Rattle.dcsctp_theorem_progress.specs.Rounds.{AdvancesBothClocks, LostRounds, QuietRound, counts_shown}
+use Rattle.dcsctp_theorem_progress.proofs.Beats.{Beats, Beaten, beaten, idle_still}
+use Rattle.dcsctp_theorem_progress.proofs.EchoLost.{EchoReady, after_again, quiet_echo}
+use Rattle.dcsctp_theorem_progress.proofs.EchoRound.{again}
+use Rattle.dcsctp_theorem_progress.proofs.EchoRuns.{repeats}
+use Rattle.dcsctp_theorem_progress.proofs.Facts.{Fit}
+use Rattle.dcsctp_theorem_progress.proofs.Handed.{keep_same}
+use Rattle.dcsctp_theorem_progress.proofs.Promise.{MovedOf, SettledBy, fit_of, lesser_of, moves_of, ran_lost, once_more, connected_a, connected_b}
+use Rattle.dcsctp_theorem_progress.proofs.Retries.{clock_turn, first_expiry, no_turns, again as t1_again, t1_continues, t1_fits, t1_stays}
+use Rattle.dcsctp_theorem_progress.proofs.Views.{AtOf, KeepOf, View, ran, ran_exchanges, view, view_then}
+
+-- ---- the one that awaits the COOKIE ACK
+
+-- It still does, with a restart less at most, and told nothing.
+record AwaitsStill (v w : View) (cookie : Cookie) (bytes : List ℕ) (more : ℕ) (turns : List Transition) : Type 0 where
+  echoed : HasEchoed (view_then v turns).endpoint w.endpoint cookie bytes
+  t1 : RetriesT1 (view_then v turns).endpoint more
+  same : (view_then v turns).endpoint.options ≡ v.endpoint.options
+  told : (view_then v turns).told ≡ v.told
+
+not_due : (e : Endpoint) (p : Pair) (held : Held) (bytes : List ℕ) (moment : ℕ) (turns : List Transition) → e.core ≡ cookie_echoed p held bytes → has_come moment (delay_deadline e.queues.transfer) ≡ false
+    → has_come moment (deadline_of e.timers.t1) ≡ false → MomentTurns e moment turns → turns ≡ clock_turn moment e ∷ []
+not_due e p held bytes moment [] is delay waits h = absurd h
+not_due e p held bytes moment (t ∷ ts) is delay waits h =
+    let f : Endpoint = with_clock moment e in
+    let first : t ≡ clock_turn moment e = turned_as t (time_passes moment) (still f) h.0.is h.0.comes in
+    let rest : DueTurns f ts = subst (λ (x : Transition). DueTurns x.outcome.after ts) first h.1 in
+    let at_core : ExpiryTurns (own_timer acknowledgement_delay ∷ t1_timer ∷ []) false f ts = subst (λ (core : Core). ExpiryTurns (handled_timers core) false f ts) is rest in
+    let at_t1 : ExpiryTurns (t1_timer ∷ []) false f ts = subst (λ (b : Bool). ExpiryThen b (ExpiryTurns (t1_timer ∷ [])) f false (own_timer acknowledgement_delay) ts) delay at_core in
+    let none : Turns f [] ts = subst (λ (b : Bool). ExpiryThen b (ExpiryTurns []) f false t1_timer ts) waits at_t1 in
+    ap (λ (x : Transition). x ∷ ts) first ∙ ap (λ (xs : List Transition). clock_turn moment e ∷ xs) (no_turns f ts none)
+
+clock_awaits : (v w : View) (cookie : Cookie) (bytes : List ℕ) (more moment : ℕ) → moment ≤ max_nanos → HasEchoed v.endpoint w.endpoint cookie bytes → RetriesT1 v.endpoint (suc more)
+    → AwaitsStill v w cookie bytes more (clock_turn moment v.endpoint ∷ [])
+clock_awaits v w cookie bytes more moment fits h t1 =
+    let less : RetriesT1 v.endpoint more = t1_stays v.endpoint more t1 in
+    record {
+      echoed = record {
+        core = h.core;
+        reads = h.reads;
+        fits = h.fits;
+        offer = h.offer;
+        idle = h.idle;
+        owes = h.owes;
+        delay = h.delay;
+        asks = h.asks;
+        errors = h.errors;
+      };
+      t1 = record { timer = less.timer; runs = less.runs; left = less.left; clock = fits; deadline = less.deadline };
+      same = refl;
+      told = refl;
+    }
+
+awaits_by : (present come : Bool) (v w : View) (cookie : Cookie) (bytes : List ℕ) (more moment : ℕ) (turns : List Transition) → nat_le v.endpoint.moment moment ≡ present
+    → has_come moment (deadline_of v.endpoint.timers.t1) ≡ come → Good v.endpoint.options → moment ≤ max_nanos → HasEchoed v.endpoint w.endpoint cookie bytes → RetriesT1 v.endpoint (suc more)
+    → AdvanceTurns v.endpoint moment turns → AwaitsStill v w cookie bytes more turns
+awaits_by false come v w cookie bytes more moment turns is_present is_come good fits h t1 time =
+    subst (AwaitsStill v w cookie bytes more) (sym (subst (λ (b : Bool). TimeTurns b v.endpoint moment turns) is_present time))
+    (record { echoed = h; t1 = t1_stays v.endpoint more t1; same = refl; told = refl })
+awaits_by true false v w cookie bytes more moment turns is_present is_come good fits h t1 time =
+    subst (AwaitsStill v w cookie bytes more)
+    (sym (not_due v.endpoint _ _ _ moment turns h.core (ap (has_come moment) h.delay) is_come (subst (λ (b : Bool). TimeTurns b v.endpoint moment turns) is_present time)))
+    (clock_awaits v w cookie bytes more moment fits h t1)
+awaits_by true true v w cookie bytes more moment turns is_present is_come good fits h t1 time =
+    let due : DueT1 v.endpoint moment = record { present = is_present; come = is_come; again = t1_again v.endpoint more t1 } in
+    let here : View = again v w cookie bytes moment in
+    subst (AwaitsStill v w cookie bytes more) (sym (repeats v.endpoint w.endpoint cookie bytes moment turns (record { echoed = h; t1 = due }) good time))
+    (record { echoed = after_again v w cookie bytes moment h; t1 = t1_continues v.endpoint here.endpoint more moment fits t1 refl refl; same = refl; told = refl })
+
+awaits_still : (v w : View) (cookie : Cookie) (bytes : List ℕ) (more moment : ℕ) (turns : List Transition) → Good v.endpoint.options → moment ≤ max_nanos → HasEchoed v.endpoint w.endpoint cookie bytes
+    → RetriesT1 v.endpoint (suc more) → AdvanceTurns v.endpoint moment turns → AwaitsStill v w cookie bytes more turns
+awaits_still v w cookie bytes more moment turns good fits h t1 time =
+    awaits_by (nat_le v.endpoint.moment moment) (has_come moment (deadline_of v.endpoint.timers.t1)) v w cookie bytes more moment turns refl refl good fits h t1 time
+
+-- ---- by the other's options and queues
+
+pub echoed_beside : (e f g : Endpoint) (cookie : Cookie) (bytes : List ℕ) → g.options ≡ f.options → HasEchoed e f cookie bytes → HasEchoed e g cookie bytes
+echoed_beside e f g cookie bytes same h =
+    record {
+      core = subst (λ (o : Options). e.core ≡ cookie_echoed cookie.addressee (new_held cookie.addressee cookie.maker (negotiated_capabilities (offer_of e.options) (offer_of o))) bytes) (sym same) h.core;
+      reads = h.reads;
+      fits = h.fits;
+      offer = h.offer;
+      idle = h.idle;
+      owes = h.owes;
+      delay = h.delay;
+      asks = h.asks;
+      errors = h.errors;
+    }
+
+abbrev pub linked_with : Cookie → Options → Options → Core
+linked_with cookie b a = open_in established cookie.maker (new_held cookie.maker cookie.addressee (negotiated_capabilities (offer_of b) (offer_of a)))
+
+had_still : (e e' f g : Endpoint) (cookie : Cookie) (more : ℕ) → e'.options ≡ e.options → Beats f g more → HadEcho e f cookie → HadEcho e' g cookie
+had_still e e' f g cookie more same beats h =
+    record {
+      core = beats.core ∙ h.core ∙ ap (λ (o : Options). linked_with cookie o e.options) (sym beats.options) ∙ ap (linked_with cookie g.options) (sym same);
+      idle = idle_still f g beats.queues h.idle;
+      owes = subst (λ (queues : EndpointQueues). OwesNothing queues.transfer) (sym beats.queues) h.owes;
+    }
+
+-- ---- lost rounds
+
+-- This side awaits a COOKIE ACK with that many restarts left, the other is Established by the cookie, and may miss that many answers.
+record AckReady (side : Side) (options : Both Options) (run : List PerformedAct) (cookie : Cookie) (bytes : List ℕ) (more less m n : ℕ) : Type 0 where
+  v : View
+  w : View
+  at : AtOf side options run v w
+  keep : KeepOf side options v w
+  echoed : HasEchoed v.endpoint w.endpoint cookie bytes
+  t1 : RetriesT1 v.endpoint more
+  had_it : HadEcho v.endpoint w.endpoint cookie
+  only : OnlyBeats w.endpoint less
+  mine : v.told ≡ m
+  others : w.told ≡ n
+
+lesser_within : (side : Side) (v w : View) → next_moment v.endpoint ≤ max_nanos → lesser_of side v w ≤ max_nanos
+lesser_within sides.A v w fits = omega (arith, fits)
+lesser_within sides.B v w fits = omega (arith, fits)
+
+lost_ack : (side : Side) (options : Both Options) (earlier run : List PerformedAct) (cookie : Cookie) (bytes : List ℕ) (more less m n : ℕ) → AreUsable options → AreFitting options
+    → AckReady side options earlier cookie bytes (suc more) (suc less) m n → AdvancesBothClocks options earlier run → SocketRun options run → AckReady side options run cookie bytes more less m n
+lost_ack side options earlier run cookie bytes more less m n are fit h time runs =
+    let v : View = h.v in
+    let w : View = h.w in
+    let moment : ℕ = lesser_of side v w in
+    let good : Fit v.endpoint.options w.endpoint.options = fit_of side options v w are fit h.keep in
+    let moved : MovedOf side options run v w moment = moves_of side options earlier run v w h.at h.keep time runs in
+    let within : moment ≤ max_nanos = lesser_within side v w (t1_fits v.endpoint (suc more) (ap timers_counted h.echoed.core) h.t1) in
+    let a : AwaitsStill v w cookie bytes more moved.mine = awaits_still v w cookie bytes more moment moved.mine good.good_a within h.echoed h.t1 moved.mine_turns in
+    let b : Beaten w.endpoint less moved.others = beaten w.endpoint _ _ _ moment less moved.others h.had_it.core h.had_it.idle h.only moved.others_turns in
+    let here : View = view_then v moved.mine in
+    let there : View = view_then w moved.others in
+    record {
+      v = here;
+      w = there;
+      at = moved.at;
+      keep = keep_same side options v w here there a.same b.beats.options h.keep;
+      echoed = echoed_beside here.endpoint w.endpoint there.endpoint cookie bytes b.beats.options a.echoed;
+      t1 = a.t1;
+      had_it = had_still v.endpoint here.endpoint w.endpoint there.endpoint cookie less a.same b.beats h.had_it;
+      only = b.beats.only;
+      mine = a.told ∙ h.mine;
+      others = b.told w.told ∙ h.others;
+    }
+
+lost_acks : (lost : ℕ) (side : Side) (options : Both Options) (earlier run : List PerformedAct) (cookie : Cookie) (bytes : List ℕ) (m n : ℕ) → AreUsable options → AreFitting options
+    → AckReady side options earlier cookie bytes (suc lost) lost m n → LostRounds options lost earlier run → SocketRun options run → AckReady side options run cookie bytes 1 0 m n
+lost_acks zero side options earlier run cookie bytes m n are fit h is runs = subst (λ (r : List PerformedAct). AckReady side options r cookie bytes 1 0 m n) (sym is) h
+lost_acks (suc lost) side options earlier run cookie bytes m n are fit h rounds runs =
+    lost_acks lost side options rounds.0 run cookie bytes m n are fit
+    (lost_ack side options earlier rounds.0 cookie bytes (suc lost) lost m n are fit h rounds.1 (ran_lost options lost rounds.0 run rounds.2 runs)) rounds.2 runs
+
+-- ---- the quiet round
+
+-- T1 comes first.
+first_ready : (side : Side) (options : Both Options) (run : List PerformedAct) (cookie : Cookie) (bytes : List ℕ) (m n : ℕ) → (h : AckReady side options run cookie bytes 1 0 m n)
+    → next_moment h.v.endpoint < next_moment h.w.endpoint → EchoReady side options run cookie bytes 1 (t1_expiry h.v.endpoint 1) (suc m) n
+first_ready side options run cookie bytes m n h waits =
+    let counted : timers_counted h.v.endpoint.core ≡ t1_timer ∷ [] = ap timers_counted h.echoed.core in
+    record {
+      v = h.v;
+      w = h.w;
+      at = h.at;
+      keep = h.keep;
+      echoed = h.echoed;
+      t1 = h.t1;
+      expires = refl;
+      other = had h.had_it (subst (λ (k : ℕ). k < next_moment h.w.endpoint) (first_expiry h.v.endpoint 1 counted h.t1) waits);
+      mine = ap suc h.mine;
+      others = ap (λ (core : Core). connections_once_open core h.w.told) h.had_it.core ∙ h.others;
+    }
+
+-- as the run shows them
+comes_first : (side : Side) (options : Both Options) (run : List PerformedAct) (v w : View) → AtOf side options run v w → (x y : View) → AtOf side options run x y
+    → next_moment x.endpoint < next_moment y.endpoint → next_moment v.endpoint < next_moment w.endpoint
+comes_first sides.A options run v w at x y there waits =
+    subst (λ (k : View). next_moment k.endpoint < next_moment w.endpoint) (sym there.a ∙ at.a)
+    (subst (λ (k : View). next_moment x.endpoint < next_moment k.endpoint) (sym there.b ∙ at.b) waits)
+comes_first sides.B options run v w at x y there waits =
+    subst (λ (k : View). next_moment k.endpoint < next_moment w.endpoint) (sym there.b ∙ at.b)
+    (subst (λ (k : View). next_moment x.endpoint < next_moment k.endpoint) (sym there.a ∙ at.a) waits)
+
+acks_settle : HandshakeLaws → TimePassesQuietly → (side : Side) (options : Both Options) (lost : ℕ) (settled : Both ℕ) (earlier between run : List PerformedAct) (cookie : Cookie) (bytes : List ℕ) (m n : ℕ) (x y : View)
+    → AreUsable options → AreFitting options → AckReady side options earlier cookie bytes (suc lost) lost m n → LostRounds options lost earlier between
+    → AtOf side options between x y → next_moment x.endpoint < next_moment y.endpoint
+    → QuietRound options (counts_shown options (turns_after between)) between settled run → SocketRun options run → SettledBy side options run (suc m) n
+acks_settle law time side options lost settled earlier between run cookie bytes m n x y are fit h rounds seen waits quiet runs =
+    let there : SocketRun options between = ran options between _ quiet.between quiet.time (ran_exchanges options 4 _ quiet.between settled run quiet.exchanges runs) in
+    let now : AckReady side options between cookie bytes 1 0 m n = lost_acks lost side options earlier between cookie bytes m n are fit h rounds there in
+    quiet_echo law time side options settled between run cookie bytes (t1_expiry now.v.endpoint 1) (suc m) n are fit
+    (first_ready side options between cookie bytes m n now (comes_first side options between now.v now.w now.at x y seen waits)) quiet runs
+
+-- ---- the law
+
+pub lost_acks_connect : HandshakeLaws → TimePassesQuietly → LostAcksConnect
+lost_acks_connect law time options run are fit runs sides.A lost settled earlier between cookie bytes keeps_a keeps_b echoed t1 had_it only rounds waits quiet =
+    let turns : Both (List Transition) = turns_after earlier in
+    let v : View = view options.a turns.a in
+    let w : View = view options.b turns.b in
+    let ready : AckReady sides.A options earlier cookie bytes (suc lost) lost v.told w.told = record {
+      v = v;
+      w = w;
+      at = record { a = refl; b = refl };
+      keep = record { a = keeps_a.same; b = keeps_b.same };
+      echoed = echoed;
+      t1 = t1;
+      had_it = had_it;
+      only = only;
+      mine = refl;
+      others = refl;
+    } in
+    connected_a options turns run _ _ (once_more v _ echoed.core refl) (record { once = sym (ap (λ (core : Core). connections_once_open core w.told) had_it.core) })
+    (acks_settle law time sides.A options lost settled earlier between run cookie bytes _ _ (view options.a (turns_after between).a) (view options.b (turns_after between).b) are fit ready rounds
+    (record { a = refl; b = refl }) waits quiet runs)
+lost_acks_connect law time options run are fit runs sides.B lost settled earlier between cookie bytes keeps_b keeps_a echoed t1 had_it only rounds waits quiet =
+    let turns : Both (List Transition) = turns_after earlier in
+    let v : View = view options.b turns.b in
+    let w : View = view options.a turns.a in
+    let ready : AckReady sides.B options earlier cookie bytes (suc lost) lost v.told w.told = record {
+      v = v;
+      w = w;
+      at = record { a = refl; b = refl };
+      keep = record { a = keeps_a.same; b = keeps_b.same };
+      echoed = echoed;
+      t1 = t1;
+      had_it = had_it;
+      only = only;
+      mine = refl;
+      others = refl;
+    } in
+    connected_b options turns run _ _ (record { once = sym (ap (λ (core : Core). connections_once_open core w.told) had_it.core) }) (once_more v _ echoed.core refl)
+    (acks_settle law time sides.B options lost settled earlier between run cookie bytes _ _ (view options.b (turns_after between).b) (view options.a (turns_after between).a) are fit ready rounds
+    (record { a = refl; b = refl }) waits quiet runs)

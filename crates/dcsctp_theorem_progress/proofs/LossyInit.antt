@@ -1,0 +1,259 @@
+-- A lossy round before the COOKIE ECHO: INIT, INIT ACK, COOKIE ECHO and COOKIE ACK, as far as they come.
+use Rattle.std.specs.Duration.{as_nanos, max_nanos}
+use Rattle.std.specs.Prelude.{min, if◌then◌else◌}
+use Rattle.std.proofs.Common.{◌≡◌, ◌≤◌, ℕ, suc, Bool, true, false, Option, None, Some, List, length, refl, sym, subst, ap, ◌∙◌, arith}
+use Rattle.std.proofs.lemmas.Bool.Decides.{nat_tests}
+use Rattle.dcsctp_spec_lemmas.specs.types.Offer.{offer_of}
+use Rattle.dcsctp_spec_lemmas.specs.types.declared.association.Pair.{Pair}
+use Rattle.dcsctp_spec_lemmas.specs.types.declared.capabilities.Capabilities.{Capabilities}
+use Rattle.dcsctp_spec_lemmas.specs.types.declared.options.Options.{Options}
+use Rattle.dcsctp_spec_lemmas.specs.types.declared.schedule.Side.{Side}
+use Rattle.dcsctp_spec_lemmas.specs.spec.Cookie.{Cookie, cookie_bytes, is_stale}
+use Rattle.dcsctp_spec_lemmas.specs.spec.CookieFits.{FitsCookie}
+use Rattle.dcsctp_spec_lemmas.specs.spec.association.HandshakeChanges.{introduction_of, new_held}
+use Rattle.dcsctp_spec_lemmas.specs.spec.endpoint.CallTurns.{Transition}
+use Rattle.dcsctp_spec_lemmas.specs.spec.endpoint.CookieEchoOutcomes.{is_tag_over, is_foreign}
+use Rattle.dcsctp_spec_lemmas.specs.spec.endpoint.Endpoint.{Endpoint, closed, cookie_echoed, secret_with}
+use Rattle.dcsctp_spec_lemmas.specs.spec.endpoint.HandshakeOutcomes.{pair_from}
+use Rattle.dcsctp_spec_lemmas.specs.spec.endpoint.HeartbeatOutcomes.{is_exhausted}
+use Rattle.dcsctp_spec_lemmas.specs.spec.endpoint.TimeTurns.{next_moment}
+use Rattle.dcsctp_spec_runs.specs.Sockets.{PerformedAct, Both, turns_after, SocketRun}
+use Rattle.dcsctp_theorem_sockets.specs.Agreement.{AreUsable}
+use Rattle.dcsctp_theorem_sockets.specs.Handshake.{AreFitting}
+use Rattle.dcsctp_theorem_progress.specs.Connecting.{RestsWithoutTag}
+use Rattle.dcsctp_theorem_progress.specs.Cookies.{HasEchoed, MissedEcho, not_yet}
+use Rattle.dcsctp_theorem_progress.specs.LossyRounds.{LossyExchanges, LossyRound, still_inits, still_echoes}
+use Rattle.dcsctp_theorem_progress.specs.LostInits.{AwaitsInitAck}
+use Rattle.dcsctp_theorem_progress.specs.Retries.{LeavesRestarts, RetriesInit, RetriesT1}
+use Rattle.dcsctp_theorem_progress.specs.Rounds.{counts_shown}
+use Rattle.dcsctp_theorem_sockets.proofs.HandshakeReads.{counted_at}
+use Rattle.dcsctp_theorem_sockets.proofs.HandshakeTurns.{HandshakeLaws, answer_to}
+use Rattle.dcsctp_theorem_progress.proofs.Chain.{Ground, given_by, Replied, begun, echoed, acknowledged}
+use Rattle.dcsctp_theorem_progress.proofs.Echoes.{answer_packet, Echoes, echoes, echo_packet, EstablishesBy, own_bytes}
+use Rattle.dcsctp_theorem_progress.proofs.Facts.{Fit, fits_drawn, fits_cookie, secret_fits, own_after, unspent, is_young, owes_none, idle_waiting, idle_established}
+use Rattle.dcsctp_theorem_progress.proofs.Handed.{Settles, settles, keep_same}
+use Rattle.dcsctp_theorem_progress.proofs.Lossy.{HandedOrLost, given, lost, maybe_handed, BackOrLost, given_back, lost_back, maybe_back, lossy_end, ran_lossy}
+use Rattle.dcsctp_theorem_progress.proofs.LossyEcho.{Led, as_far, Acking, acked}
+use Rattle.dcsctp_theorem_progress.proofs.Promise.{MovedOf, fit_of, lesser_of, moment_is, moves_of}
+use Rattle.dcsctp_theorem_progress.proofs.Retries.{awaits_next, never, next_fits, Onward, onward, Resting, resting, fewer as less_restarts}
+use Rattle.dcsctp_theorem_progress.proofs.Starts.{answered, replied_anew}
+use Rattle.dcsctp_theorem_progress.proofs.Turns.{Answers, answers, init_packet, init_repeated, t1_sends_init}
+use Rattle.dcsctp_theorem_progress.proofs.Views.{AtOf, KeepOf, View, view_then}
+
+-- What is known of this side, which connects, and of the other, which is closed, once T1 has come.
+record Start (side : Side) (options : Both Options) (v w : View) (p : Pair) (moment more : ℕ) : Type 0 where
+  ground : Ground side options v w p moment
+  rests : RestsWithoutTag w.endpoint
+  again : RetriesInit (begun v p moment).endpoint p more
+  restarts : LeavesRestarts v.endpoint.options.max_init_retransmits 0 more
+  errors : is_exhausted v.endpoint.options.max_retransmissions v.endpoint.error_count ≡ false
+  fits : moment ≤ max_nanos
+
+-- ---- COOKIE ECHO and COOKIE ACK
+
+-- the cookie that the other gave away
+abbrev cookie_given : View → View → Pair → ℕ → ℕ → Cookie
+cookie_given v w p word next =
+    let q : Pair = pair_from word next in
+    given_by v p q w.endpoint.moment (secret_with w.endpoint q)
+
+-- the other once it has answered, and this side once it has echoed
+abbrev echoing : View → View → Pair → ℕ → ℕ → ℕ → ℕ → View
+echoing v w p moment word next tie = echoed v (answered v w p word next) p (pair_from word next) moment (cookie_given v w p word next) tie
+
+cookie_fits : (side : Side) (options : Both Options) (v w : View) (p : Pair) (moment more word next : ℕ) → Start side options v w p moment more → FitsCookie (cookie_given v w p word next)
+cookie_fits side options v w p moment more word next s =
+    let q : Pair = pair_from word next in
+    fits_cookie v.endpoint.options w.endpoint.moment p q (secret_with w.endpoint q) s.ground.fit.good_a s.ground.awaits.pair (fits_drawn word next)
+    (secret_fits w.endpoint q (fits_drawn word next) s.rests.rests.secret)
+
+none_counted : (limit : Option ℕ) → is_exhausted limit 0 ≡ false
+none_counted None = refl
+none_counted (Some limit) = grind (arith, nat_tests)
+
+errors_begin : (follows : Bool) (limit : Option ℕ) (count : ℕ) → is_exhausted limit count ≡ false → is_exhausted limit (if follows then 0 else count) ≡ false
+errors_begin true limit count h = none_counted limit
+errors_begin false limit count h = h
+
+cut : (n limit : ℕ) → min n limit ≤ limit
+cut n limit = omega arith
+
+has_echoed : HandshakeLaws → (side : Side) (options : Both Options) (v w : View) (p : Pair) (moment more word next tie : ℕ) → Start side options v w p moment more →
+    let cookie = cookie_given v w p word next in
+    HasEchoed (echoing v w p moment word next tie).endpoint (answered v w p word next).endpoint cookie (cookie_bytes cookie)
+has_echoed law side options v w p moment more word next tie s =
+    let a : Options = v.endpoint.options in
+    let b : Options = w.endpoint.options in
+    let q : Pair = pair_from word next in
+    let cookie : Cookie = cookie_given v w p word next in
+    let own = own_bytes law cookie (cookie_fits side options v w p moment more word next s) in
+    record {
+      core = ap (λ (c : Capabilities). cookie_echoed p (new_held p q c) (cookie_bytes cookie)) (law.answers (offer_of a) (offer_of b));
+      reads = own.reads;
+      fits = own.fits;
+      offer = refl;
+      idle = idle_waiting (begun v p moment).endpoint p (answer_to a b p q) (cookie_bytes cookie) tie s.ground.awaits.empty;
+      owes = (refl, refl);
+      delay = refl;
+      asks = s.ground.awaits.asks;
+      errors = errors_begin a.follow_rfc a.max_retransmissions v.endpoint.error_count s.errors;
+    }
+
+t1_begun : (side : Side) (options : Both Options) (v w : View) (p : Pair) (moment more word next tie : ℕ) → Start side options v w p moment more → RetriesT1 (echoing v w p moment word next tie).endpoint more
+t1_begun side options v w p moment more word next tie s = record { timer = _; runs = refl; left = s.restarts; clock = s.fits; deadline = cut _ max_nanos }
+
+takes_it : (side : Side) (options : Both Options) (v w : View) (p : Pair) (moment more word next : ℕ) → Start side options v w p moment more → MissedEcho (answered v w p word next).endpoint (cookie_given v w p word next)
+takes_it side options v w p moment more word next s =
+    let f : Endpoint = w.endpoint in
+    let q : Pair = pair_from word next in
+    let there : View = answered v w p word next in
+    let cookie : Cookie = cookie_given v w p word next in
+    record {
+      core = s.rests.rests.core;
+      empty = s.rests.rests.empty;
+      taken = unspent (is_tag_over f closed q.tag) (is_foreign there.endpoint closed cookie.tie) (is_stale (as_nanos f.options.cookie_lifetime) f.moment cookie) (s.rests.anew q.tag)
+          (own_after f q (fits_drawn word next).tag_is_not_zero) (is_young (as_nanos f.options.cookie_lifetime) f.moment (introduction_of v.endpoint.options p) q (secret_with f q));
+    }
+
+by_echo : HandshakeLaws → (side : Side) (options : Both Options) (settled settled' : Both ℕ) (earlier run : List PerformedAct) (v w : View) (p : Pair) (moment more word next tie : ℕ) →
+    let here = echoing v w p moment word next tie in
+    let there = answered v w p word next in
+    let cookie = cookie_given v w p word next in
+    Start side options v w p moment more → AtOf side options earlier here there → (rest : LossyExchanges options 2 settled earlier settled' run)
+    → HandedOrLost side options earlier rest.0 here there (echo_packet v.endpoint.options cookie) → SocketRun options run → Led side options run more (suc v.told) (suc w.told)
+by_echo law side options settled settled' earlier run v w p moment more word next tie s at rest (lost same) runs =
+    let here : View = echoing v w p moment word next tie in
+    let there : View = answered v w p word next in
+    let cookie : Cookie = cookie_given v w p word next in
+    let is : run ≡ earlier = lossy_end 1 side options settled settled' earlier rest.0 run here there at same rest.2 in
+    as_far here there (subst (λ (r : List PerformedAct). AtOf side options r here there) (sym is) at) (keep_same side options v w here there refl refl s.ground.keep)
+    (still_echoes cookie (cookie_bytes cookie) (has_echoed law side options v w p moment more word next tie s) (t1_begun side options v w p moment more word next tie s)
+    (not_yet (takes_it side options v w p moment more word next s)))
+by_echo law side options settled settled' earlier run v w p moment more word next tie s at rest (given h) runs =
+    let here : View = echoing v w p moment word next tie in
+    let there : View = answered v w p word next in
+    let f : Endpoint = there.endpoint in
+    let q : Pair = pair_from word next in
+    let cookie : Cookie = cookie_given v w p word next in
+    let replied : Replied v there p q w.endpoint.moment (secret_with w.endpoint q) w.shown = replied_anew law side options v w p moment word next s.ground s.rests.rests s.rests.anew in
+    let one : EstablishesBy f cookie (cookie_bytes cookie) h.turns = replied.takes h.turns h.input in
+    let last : View = acknowledged there cookie one.tie in
+    let h' : HasEchoed here.endpoint there.endpoint cookie (cookie_bytes cookie) = has_echoed law side options v w p moment more word next tie s in
+    let counts : Settles (counts_shown options (turns_after earlier)) side (length here.shown) (length there.shown) = settles side options earlier here there at in
+    let acking : Acking side options here last cookie (cookie_bytes cookie) more (suc v.told) (suc w.told) = record {
+      keep = keep_same side options v w here last refl refl s.ground.keep;
+      fit = s.ground.fit;
+      echoed = record {
+        core = h'.core;
+        reads = h'.reads;
+        fits = h'.fits;
+        offer = h'.offer;
+        idle = h'.idle;
+        owes = h'.owes;
+        delay = h'.delay;
+        asks = h'.asks;
+        errors = h'.errors;
+      };
+      t1 = t1_begun side options v w p moment more word next tie s;
+      had_it = record { core = refl; idle = idle_established (counted_at f) cookie one.tie s.rests.rests.empty; owes = (refl, refl) };
+      mine = refl;
+      others = refl;
+    } in
+    acked law 0 side options (counts_shown options (turns_after earlier)) settled' rest.0 run here last cookie (cookie_bytes cookie) more (suc v.told) (suc w.told)
+    (subst (λ (os : List Transition). AtOf side options rest.0 here (view_then there os)) one.only h.at) acking
+    (record { before = there.shown; shown = refl; others = counts.others; mine = counts.mine }) rest.2 runs
+
+-- ---- INIT ACK
+
+by_answer : HandshakeLaws → (side : Side) (options : Both Options) (settled settled' : Both ℕ) (earlier run : List PerformedAct) (v w : View) (p : Pair) (moment more word next : ℕ) →
+    let here = begun v p moment in
+    let there = answered v w p word next in
+    Start side options v w p moment more → AtOf side options earlier here there → (rest : LossyExchanges options 3 settled earlier settled' run)
+    → BackOrLost side options earlier rest.0 here there (answer_packet v.endpoint.options w.endpoint.options p (pair_from word next) (cookie_given v w p word next))
+    → SocketRun options run → Led side options run more (suc v.told) (suc w.told)
+by_answer law side options settled settled' earlier run v w p moment more word next s at rest (lost_back same) runs =
+    let here : View = begun v p moment in
+    let there : View = answered v w p word next in
+    let is : run ≡ earlier = lossy_end 2 side options settled settled' earlier rest.0 run here there at same rest.2 in
+    as_far here there (subst (λ (r : List PerformedAct). AtOf side options r here there) (sym is) at) (keep_same side options v w here there refl refl s.ground.keep)
+    (still_inits p s.again
+    (record {
+      rests = record { core = s.rests.rests.core; empty = s.rests.rests.empty; secret = secret_fits w.endpoint (pair_from word next) (fits_drawn word next) s.rests.rests.secret };
+      anew = s.rests.anew;
+    })
+    s.errors)
+by_answer law side options settled settled' earlier run v w p moment more word next s at rest (given_back i) runs =
+    let a : Options = v.endpoint.options in
+    let b : Options = w.endpoint.options in
+    let here : View = begun v p moment in
+    let there : View = answered v w p word next in
+    let q : Pair = pair_from word next in
+    let cookie : Cookie = cookie_given v w p word next in
+    let one : Echoes here.endpoint p (answer_to a b p q) cookie i.turns =
+    echoes law here.endpoint b p q cookie i.turns s.ground.awaits.core (λ tie. idle_waiting (counted_at here.endpoint) p (answer_to a b p q) (cookie_bytes cookie) tie s.ground.awaits.empty)
+    s.ground.fit.good_a s.ground.fit.good_b s.ground.awaits.pair (fits_drawn word next) s.ground.fit.to_a i.input in
+    let after : View = echoing v w p moment word next one.tie in
+    let at_after : AtOf side options rest.0 after there = subst (λ (os : List Transition). AtOf side options rest.0 (view_then here os) there) one.only i.at in
+    let counts : Settles (counts_shown options (turns_after earlier)) side (length here.shown) (length there.shown) = settles side options earlier here there at in
+    by_echo law side options (counts_shown options (turns_after earlier)) settled' rest.0 run v w p moment more word next one.tie s at_after rest.2
+    (maybe_handed side options (counts_shown options (turns_after earlier)) rest.0 rest.2.0 after there (echo_packet a cookie) at_after (keep_same side options v w after there refl refl s.ground.keep)
+    (record { before = here.shown; shown = refl; mine = counts.mine; others = counts.others }) rest.2.1 (ran_lossy options 1 _ settled' rest.2.0 run rest.2.2 runs)) runs
+
+-- ---- INIT
+
+by_init : HandshakeLaws → (side : Side) (options : Both Options) (settled settled' : Both ℕ) (earlier run : List PerformedAct) (v w : View) (p : Pair) (moment more : ℕ) → Start side options v w p moment more
+    → AtOf side options earlier (begun v p moment) w → (rest : LossyExchanges options 4 settled earlier settled' run)
+    → HandedOrLost side options earlier rest.0 (begun v p moment) w (init_packet v.endpoint.options p) → SocketRun options run → Led side options run more (suc v.told) (suc w.told)
+by_init law side options settled settled' earlier run v w p moment more s at rest (lost same) runs =
+    let here : View = begun v p moment in
+    let is : run ≡ earlier = lossy_end 3 side options settled settled' earlier rest.0 run here w at same rest.2 in
+    as_far here w (subst (λ (r : List PerformedAct). AtOf side options r here w) (sym is) at) (keep_same side options v w here w refl refl s.ground.keep) (still_inits p s.again s.rests s.errors)
+by_init law side options settled settled' earlier run v w p moment more s at rest (given h) runs =
+    let a : Options = v.endpoint.options in
+    let f : Endpoint = w.endpoint in
+    let here : View = begun v p moment in
+    let one : Answers f (introduction_of a p) h.turns =
+    answers law f a p h.turns s.rests.rests.core (owes_none f s.rests.rests.empty) s.ground.fit.good_a s.ground.fit.good_b s.ground.awaits.pair s.ground.fit.to_b h.input in
+    let there : View = answered v w p one.word one.next in
+    let at_there : AtOf side options rest.0 here there = subst (λ (os : List Transition). AtOf side options rest.0 here (view_then w os)) one.only h.at in
+    let counts : Settles (counts_shown options (turns_after earlier)) side (length here.shown) (length w.shown) = settles side options earlier here w at in
+    by_answer law side options (counts_shown options (turns_after earlier)) settled' rest.0 run v w p moment more one.word one.next s at_there rest.2
+    (maybe_back side options (counts_shown options (turns_after earlier)) rest.0 rest.2.0 here there _ at_there (keep_same side options v w here there refl refl s.ground.keep)
+    (record { before = w.shown; shown = refl; others = counts.others; mine = counts.mine }) rest.2.1 (ran_lossy options 2 _ settled' rest.2.0 run rest.2.2 runs)) runs
+
+-- ---- the round
+
+pub lossy_init : HandshakeLaws → (side : Side) (options : Both Options) (settled : Both ℕ) (earlier run : List PerformedAct) (v w : View) (p : Pair) (more : ℕ) → AreUsable options → AreFitting options
+    → AtOf side options earlier v w → KeepOf side options v w → RetriesInit v.endpoint p (suc more) → RestsWithoutTag w.endpoint → LeavesRestarts v.endpoint.options.max_init_retransmits 0 (suc more)
+    → is_exhausted v.endpoint.options.max_retransmissions v.endpoint.error_count ≡ false
+    → LossyRound options (counts_shown options (turns_after earlier)) earlier settled run → SocketRun options run → Led side options run more (suc v.told) (suc w.told)
+lossy_init law side options settled earlier run v w p more are fit at keep tries rests restarts errors lossy runs =
+    let moment : ℕ = lesser_of side v w in
+    let good : Fit v.endpoint.options w.endpoint.options = fit_of side options v w are fit keep in
+    let between : SocketRun options lossy.between = ran_lossy options 4 _ settled lossy.between run lossy.exchanges runs in
+    let moved : MovedOf side options lossy.between v w moment = moves_of side options earlier lossy.between v w at keep lossy.time between in
+    let still : Resting w moved.others = resting w moment moved.others rests moved.others_turns in
+    let within : next_moment v.endpoint ≤ max_nanos = next_fits v.endpoint p (suc more) tries in
+    let at_t1 : moment ≡ next_moment v.endpoint = moment_is side v w within (never w.endpoint rests.rests.core) in
+    let fits : moment ≤ max_nanos = subst (λ (k : ℕ). k ≤ max_nanos) (sym at_t1) within in
+    let awaits : AwaitsInitAck v.endpoint p moment = subst (AwaitsInitAck v.endpoint p) (sym at_t1) (awaits_next v.endpoint p more tries) in
+    let is : moved.mine ≡ init_repeated v.endpoint p moment = t1_sends_init v.endpoint p moment moved.mine awaits.core good.good_a.allow.mtu awaits.t1 moved.mine_turns in
+    let on : Onward v p more moved.mine = onward v p more moment moved.mine good.good_a.allow.mtu fits tries moved.mine_turns in
+    let there : View = view_then w moved.others in
+    let kept : KeepOf side options v there = keep_same side options v w v there refl still.same keep in
+    let s : Start side options v there p moment more = record {
+      ground = record { awaits = awaits; fit = subst (λ (o : Options). Fit v.endpoint.options o) (sym still.same) good; keep = kept };
+      rests = still.rests;
+      again = subst (λ (os : List Transition). RetriesInit (view_then v os).endpoint p more) is on.tries;
+      restarts = less_restarts v.endpoint.options.max_init_retransmits 0 more restarts;
+      errors = errors;
+      fits = fits;
+    } in
+    let counts : Settles (counts_shown options (turns_after earlier)) side (length v.shown) (length w.shown) = settles side options earlier v w at in
+    let at_start : AtOf side options lossy.between (begun v p moment) there = subst (λ (os : List Transition). AtOf side options lossy.between (view_then v os) there) is moved.at in
+    subst (λ (k : ℕ). Led side options run more (suc v.told) (suc k)) still.told
+    (by_init law side options (counts_shown options (turns_after earlier)) settled lossy.between run v there p moment more s at_start lossy.exchanges
+    (maybe_handed side options (counts_shown options (turns_after earlier)) lossy.between lossy.exchanges.0 (begun v p moment) there (init_packet v.endpoint.options p) at_start
+    (keep_same side options v there (begun v p moment) there refl refl kept)
+    (record { before = v.shown; shown = refl; mine = counts.mine; others = counts.others ∙ sym still.shown }) lossy.exchanges.1
+    (ran_lossy options 3 _ settled lossy.exchanges.0 run lossy.exchanges.2 runs)) runs)

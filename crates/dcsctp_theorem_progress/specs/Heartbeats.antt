@@ -1,0 +1,45 @@
+-- A lost COOKIE ACK is made good however many heartbeats are lost before T1 comes (RFC 9260, sections 5.2.4, D, and 8.3).
+use Rattle.std.specs.Prelude.{◌≡◌, ◌<◌, ℕ, suc, None, List}
+use Rattle.dcsctp_spec_lemmas.specs.types.declared.options.Options.{Options}
+use Rattle.dcsctp_spec_lemmas.specs.types.declared.schedule.Side.{Side}
+use Rattle.dcsctp_spec_lemmas.specs.spec.Cookie.{Cookie}
+use Rattle.dcsctp_spec_lemmas.specs.spec.endpoint.Endpoint.{Endpoint}
+use Rattle.dcsctp_spec_lemmas.specs.spec.endpoint.TimeTurns.{delay_deadline, loss_deadline, next_moment}
+use Rattle.dcsctp_spec_runs.specs.Sockets.{PerformedAct, Both, of_side, of_other, turns_after, endpoint_after, SocketRun}
+use Rattle.dcsctp_theorem_sockets.specs.Agreement.{AreUsable}
+use Rattle.dcsctp_theorem_sockets.specs.Handshake.{AreFitting}
+use Rattle.dcsctp_theorem_progress.specs.Rounds.{counts_shown, LostRounds, QuietRound}
+use Rattle.dcsctp_theorem_progress.specs.LostInits.{KeepsOptions}
+use Rattle.dcsctp_theorem_progress.specs.Retries.{LeavesRestarts, RetriesT1}
+use Rattle.dcsctp_theorem_progress.specs.Cookies.{HasEchoed, HadEcho}
+use Rattle.dcsctp_theorem_progress.specs.Connecting.{HaveConnected}
+
+-- Of its timers only those of heartbeats run, and that many HEARTBEATs more may stay without an answer.
+pub record OnlyBeats (e : Endpoint) (more : ℕ) : Type 0 where
+  pub delay : delay_deadline e.queues.transfer ≡ None
+  pub loss : loss_deadline e.queues.transfer ≡ None
+  pub reconfiguration : e.timers.reconfiguration ≡ None
+  pub t2 : e.timers.t2 ≡ None
+  pub errors : LeavesRestarts e.options.max_retransmissions e.error_count more
+
+-- this side after the run, and the other
+abbrev pub this_endpoint : Both Options → Side → List PerformedAct → Endpoint
+this_endpoint options side run = endpoint_after (of_side side options) (of_side side (turns_after run))
+
+abbrev pub other_endpoint : Both Options → Side → List PerformedAct → Endpoint
+other_endpoint options side run = endpoint_after (of_other side options) (of_other side (turns_after run))
+
+-- This side awaits a COOKIE ACK, and the other is Established by the cookie. After any number of rounds whose packets are all lost,
+-- heartbeats among them, the quiet round in which T1 comes first connects them. It ends this run.
+abbrev pub AcksConnect : Both Options → List PerformedAct → Type 0
+AcksConnect options run =
+    (side : Side) (lost : ℕ) (settled : Both ℕ) (earlier between : List PerformedAct) (cookie : Cookie) (bytes : List ℕ) →
+    let e = this_endpoint options side earlier in
+    let f = other_endpoint options side earlier in
+    KeepsOptions (of_side side options) e → KeepsOptions (of_other side options) f
+    → HasEchoed e f cookie bytes → RetriesT1 e (suc lost) → HadEcho e f cookie → OnlyBeats f lost → LostRounds options lost earlier between
+    → next_moment (this_endpoint options side between) < next_moment (other_endpoint options side between)
+    → QuietRound options (counts_shown options (turns_after between)) between settled run → HaveConnected options (turns_after earlier) (turns_after run)
+
+abbrev pub LostAcksConnect : Type 0
+LostAcksConnect = (options : Both Options) (run : List PerformedAct) → AreUsable options → AreFitting options → SocketRun options run → AcksConnect options run

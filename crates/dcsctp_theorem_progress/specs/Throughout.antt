@@ -1,0 +1,33 @@
+-- What is known of rounds, over a whole run.
+use Rattle.std.specs.Prelude.{List, [], ◌∷◌}
+use Rattle.dcsctp_spec_lemmas.specs.types.declared.options.Options.{Options}
+use Rattle.dcsctp_spec_runs.specs.Sockets.{PerformedAct, Both, SocketRun}
+use Rattle.dcsctp_theorem_sockets.specs.Agreement.{AreUsable}
+use Rattle.dcsctp_theorem_sockets.specs.Handshake.{AreFitting}
+use Rattle.dcsctp_theorem_progress.specs.Connecting.{TryingConnect, CallersConnect}
+use Rattle.dcsctp_theorem_progress.specs.OthersCookies.{EchoOthersCookies}
+use Rattle.dcsctp_theorem_progress.specs.Heartbeats.{AcksConnect}
+use Rattle.dcsctp_theorem_progress.specs.LossyRounds.{LossyRoundLeadsOn, LossyRoundsConnect}
+
+-- At its end.
+pub record RoundsConnect (options : Both Options) (run : List PerformedAct) : Type 0 where
+  -- Whatever came before rounds that are lost whole, the quiet one after them connects.
+  pub trying : TryingConnect options run
+  -- So it is where nothing but the calls came before.
+  pub fresh : CallersConnect options run
+  -- Heartbeats may be lost with a COOKIE ACK.
+  pub acks : AcksConnect options run
+  -- A round of which some packets are lost leads a handshake on, or leaves it as far as it was.
+  pub lossy : LossyRoundLeadsOn options run
+  -- After any number of these a quiet one connects, if none of them has.
+  pub lossy_rounds : LossyRoundsConnect options run
+  -- The cookie that is echoed is the other's.
+  pub cookies : EchoOthersCookies options run
+
+-- At the end of each first part of the run. So such rounds have connected them, whatever came later.
+abbrev pub ConnectOverRounds : Both Options → List PerformedAct → Type 0
+ConnectOverRounds options [] = RoundsConnect options []
+ConnectOverRounds options (worked ∷ earlier) = RoundsConnect options (worked ∷ earlier) × ConnectOverRounds options earlier
+
+abbrev pub RoundsConnectSockets : Type 0
+RoundsConnectSockets = (options : Both Options) (run : List PerformedAct) → AreUsable options → AreFitting options → SocketRun options run → ConnectOverRounds options run
