@@ -74,14 +74,14 @@ by_who law time options lost settled earlier between run are fit keeps_a keeps_b
     let v : View = view options.a turns.a in
     let w : View = view options.b turns.b in
     connected_a options turns run _ _ (once_more v _ retries.echoed.core refl) (record { once = refl })
-    (echo_connects_after law time sides.A options lost settled earlier between run cookie bytes _ _ _ are fit
+    (echo_connects_after law time sides.A options lost settled earlier between run _ _ are fit
     (echo_ready sides.A options earlier v w cookie bytes lost (record { a = refl; b = refl }) (record { a = keeps_a.same; b = keeps_b.same }) retries) rounds quiet runs)
 by_who law time options lost settled earlier between run are fit keeps_a keeps_b (b_echoes cookie bytes retries) rounds quiet runs =
     let turns : Both (List Transition) = turns_after earlier in
     let v : View = view options.b turns.b in
     let w : View = view options.a turns.a in
     connected_b options turns run _ _ (record { once = refl }) (once_more v _ retries.echoed.core refl)
-    (echo_connects_after law time sides.B options lost settled earlier between run cookie bytes _ _ _ are fit
+    (echo_connects_after law time sides.B options lost settled earlier between run _ _ are fit
     (echo_ready sides.B options earlier v w cookie bytes lost (record { a = refl; b = refl }) (record { a = keeps_a.same; b = keeps_b.same }) retries) rounds quiet runs)
 
 pub lost_rounds_are_made_good : HandshakeLaws → TimePassesQuietly → LostRoundsAreMadeGood

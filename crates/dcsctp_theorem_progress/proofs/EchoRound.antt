@@ -27,23 +27,23 @@ use Rattle.dcsctp_theorem_progress.proofs.Views.{AtOf, KeepOf, View, ran_exchang
 
 -- ---- COOKIE ECHO at the other
 
--- It has sent COOKIE ACK, both are linked then, and it has told OnConnected if it hadn't before.
-pub record Acknowledged (a : Options) (w : View) (cookie : Cookie) (turns : List Transition) : Type 0 where
+-- It has sent COOKIE ACK, both are linked then, and it has told OnConnected that often.
+pub record Acknowledged (a : Options) (w : View) (cookie : Cookie) (n : ℕ) (turns : List Transition) : Type 0 where
   pub shown : (view_then w turns).shown ≡ w.shown ++ acknowledgement_packet w.endpoint.options cookie ∷ []
   pub same : (view_then w turns).endpoint.options ≡ w.endpoint.options
   pub linked : (view_then w turns).endpoint.core ≡ open_in established cookie.maker (new_held cookie.maker cookie.addressee (negotiated_capabilities (offer_of w.endpoint.options) (offer_of a)))
-  pub told : (view_then w turns).told ≡ connections_once_open w.endpoint.core w.told
+  pub told : (view_then w turns).told ≡ n
   pub idle : IsIdle (view_then w turns).endpoint
   pub owes : OwesNothing (view_then w turns).endpoint.queues.transfer
 
 pub acknowledged : HandshakeLaws → (e : Endpoint) (w : View) (cookie : Cookie) (bytes : List ℕ) (turns : List Transition) → HasEchoed e w.endpoint cookie bytes → KnowsCookie e w.endpoint cookie
-    → Fit e.options w.endpoint.options → HandleInput w.endpoint (bytes_packet e.options cookie bytes) turns → Acknowledged e.options w cookie turns
+    → Fit e.options w.endpoint.options → HandleInput w.endpoint (bytes_packet e.options cookie bytes) turns → Acknowledged e.options w cookie (connections_once_open w.endpoint.core w.told) turns
 acknowledged law e w cookie bytes turns h (not_yet m) fit input =
     let f : Endpoint = w.endpoint in
     let one : EstablishesBy f cookie bytes turns =
     establishes_by law f e.options cookie bytes turns m.core m.taken (pairs_fit e f cookie bytes h).spells (λ word. idle_established (counted_at f) cookie word m.empty)
     fit.good_a fit.good_b fit.to_b input in
-    subst (Acknowledged e.options w cookie) (sym one.only)
+    subst (Acknowledged e.options w cookie (connections_once_open w.endpoint.core w.told)) (sym one.only)
     (record {
       shown = refl;
       same = refl;
@@ -57,19 +57,30 @@ acknowledged law e w cookie bytes turns h (already m) fit input =
     let one : turns ≡ delivered f cookie.maker.tag (cookie_echo bytes) (acknowledging (counted_at f) cookie) =
     maintains law f e.options cookie bytes turns (m.core ∙ sym (offered e f cookie h.offer)) m.idle (owes_same f.queues.transfer m.owes) (pairs_fit e f cookie bytes h).spells
     fit.good_a fit.good_b fit.to_b input in
-    subst (Acknowledged e.options w cookie) (sym one)
+    subst (Acknowledged e.options w cookie (connections_once_open w.endpoint.core w.told)) (sym one)
     (record { shown = refl; same = refl; linked = m.core; told = sym (ap (λ (core : Core). connections_once_open core w.told) m.core); idle = m.idle; owes = m.owes })
 
 -- ---- the four exchanges
+
+-- What is echoed, and how often each has told OnConnected in the end.
+pub record Echo : Type 0 where
+  pub cookie : Cookie
+  pub bytes : List ℕ
+  pub mine : ℕ
+  pub others : ℕ
+
+-- once more, unless it was open
+abbrev pub echo_of : View → View → Cookie → List ℕ → Echo
+echo_of v w cookie bytes = record { cookie = cookie; bytes = bytes; mine = suc v.told; others = connections_once_open w.endpoint.core w.told }
 
 -- the side whose COOKIE ECHO went out again
 abbrev pub again : View → View → Cookie → List ℕ → ℕ → View
 again v w cookie bytes moment = view_then v (repeated v.endpoint w.endpoint cookie bytes moment)
 
 -- It awaits a COOKIE ACK and T1 has come; the other acknowledges the COOKIE ECHO.
-pub record Waiting (side : Side) (options : Both Options) (v w : View) (cookie : Cookie) (bytes : List ℕ) (moment : ℕ) : Type 0 where
+pub record Waiting (side : Side) (options : Both Options) (v w : View) (cookie : Cookie) (bytes : List ℕ) (n : ℕ) : Type 0 where
   pub echoed : HasEchoed v.endpoint w.endpoint cookie bytes
-  pub other : KnowsCookie v.endpoint w.endpoint cookie
+  pub ack : (turns : List Transition) → HandleInput w.endpoint (bytes_packet v.endpoint.options cookie bytes) turns → Acknowledged v.endpoint.options w cookie n turns
   pub fit : Fit v.endpoint.options w.endpoint.options
   pub keep : KeepOf side options v w
 
@@ -82,10 +93,10 @@ rest_is side options settled settled' earlier run v w at counts rest =
     let two : rest.2.0 ≡ rest.0 = handed_none side options (counts_shown options (turns_after earlier)) rest.0 rest.2.0 v w there (settles side options earlier v w at) rest.2.1 in
     rest.2.2.1 ∙ two ∙ one
 
-pub echo_exchanged : HandshakeLaws → (side : Side) (options : Both Options) (v w : View) (cookie : Cookie) (bytes : List ℕ) (moment : ℕ) (settled settled' : Both ℕ) (earlier run : List PerformedAct)
-    → Waiting side options v w cookie bytes moment → AtOf side options earlier (again v w cookie bytes moment) w → Settles settled side (length v.shown) (length w.shown)
-    → Exchanges options 4 settled earlier settled' run → SocketRun options run → JoinedBy side options run v w (suc v.told) (connections_once_open w.endpoint.core w.told)
-echo_exchanged law side options v w cookie bytes moment settled settled' earlier run g at counts rest runs =
+pub echo_exchanged : HandshakeLaws → (side : Side) (options : Both Options) (v w : View) (cookie : Cookie) (bytes : List ℕ) (moment n : ℕ) (settled settled' : Both ℕ) (earlier run : List PerformedAct)
+    → Waiting side options v w cookie bytes n → AtOf side options earlier (again v w cookie bytes moment) w → Settles settled side (length v.shown) (length w.shown)
+    → Exchanges options 4 settled earlier settled' run → SocketRun options run → JoinedBy side options run v w (suc v.told) n
+echo_exchanged law side options v w cookie bytes moment n settled settled' earlier run g at counts rest runs =
     let e : Endpoint = v.endpoint in
     let f : Endpoint = w.endpoint in
     let held : Held = held_here e f cookie in
@@ -95,7 +106,7 @@ echo_exchanged law side options v w cookie bytes moment settled settled' earlier
     let h : Handed side options rest.0 here w x =
     handed side options settled earlier rest.0 here w x at (keep_same side options v w here w refl refl g.keep) under rest.1 (ran_exchanges options 3 _ rest.0 settled' run rest.2 runs) in
     let there : View = view_then w h.turns in
-    let one : Acknowledged e.options w cookie h.turns = acknowledged law e w cookie bytes h.turns g.echoed g.other g.fit h.input in
+    let one : Acknowledged e.options w cookie n h.turns = g.ack h.turns h.input in
     let then : Settles (counts_shown options (turns_after earlier)) side (length here.shown) (length w.shown) = settles side options earlier here w at in
     let y : List ℕ = acknowledgement_packet f.options cookie in
     let back : UnderBack (counts_shown options (turns_after earlier)) side here there y = record { before = w.shown; shown = one.shown; others = then.others; mine = then.mine } in
@@ -110,7 +121,7 @@ echo_exchanged law side options v w cookie bytes moment settled settled' earlier
     let now : Settles (counts_shown options (turns_after rest.0)) side (length here.shown) (length there.shown) = settles side options rest.0 here there h.at in
     let same : length end.shown ≡ length here.shown = ap length (append-nil here.shown) in
     let is : run ≡ rest.2.0 = rest_is side options (counts_shown options (turns_after rest.0)) settled' rest.2.0 run end there at2 (record { mine = now.mine ∙ sym same; others = now.others }) rest.2.2 in
-    subst (λ (r : List PerformedAct). JoinedBy side options r v w (suc v.told) (connections_once_open f.core w.told)) (sym is)
+    subst (λ (r : List PerformedAct). JoinedBy side options r v w (suc v.told) n) (sym is)
     (record {
       here = end;
       there = there;

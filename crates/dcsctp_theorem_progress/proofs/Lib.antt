@@ -27,5 +27,7 @@ mod Beats
 mod AckLost
 mod Lossy
 mod LossyEcho
+mod GivenCookies
 mod LossyInit
 mod LossySteps
+mod Restarts

@@ -11,11 +11,10 @@ use Rattle.dcsctp_theorem_sockets.specs.Agreement.{AreUsable}
 use Rattle.dcsctp_theorem_sockets.specs.Handshake.{AreFitting}
 use Rattle.dcsctp_theorem_progress.specs.Connecting.{RetriesEcho, MayConnect, a_tries, b_tries, a_echoes, b_echoes, HaveConnected, LostRoundsAreMadeGood}
 use Rattle.dcsctp_theorem_progress.specs.Cookies.{HasEchoed, AnswersEcho}
-use Rattle.dcsctp_theorem_progress.specs.Heartbeats.{this_endpoint, other_endpoint}
 use Rattle.dcsctp_theorem_progress.specs.LossyRounds.{LossyRounds, IsTrying, still_inits, still_echoes, ComesInTime, LeadsOn, tries_again, connects, LossyRoundsLeadOn, ComeInTime, OneConnects, LossyRoundsConnectSockets}
 use Rattle.dcsctp_theorem_progress.specs.LostInits.{KeepsOptions}
 use Rattle.dcsctp_theorem_progress.specs.Retries.{LeavesRestarts, RetriesT1}
-use Rattle.dcsctp_theorem_progress.specs.Rounds.{counts_shown, QuietRound}
+use Rattle.dcsctp_theorem_progress.specs.Rounds.{this_endpoint, other_endpoint, counts_shown, QuietRound}
 use Rattle.dcsctp_theorem_sockets.proofs.HandshakeTurns.{HandshakeLaws}
 use Rattle.dcsctp_theorem_progress.proofs.Lossy.{ran_lossy}
 use Rattle.dcsctp_theorem_progress.proofs.LossyEcho.{Led, as_far, joined, lossy_echo}

@@ -53,7 +53,7 @@ closed_moves_by false w moment turns is rests time = subst (ClockMoves w moment)
 at_or_after : (n m : ℕ) → nat_le n m ≡ true → n ≤ m
 at_or_after n m later = grind (arith, nat_tests, later)
 
-open_moves_by : TimePassesQuietly → (later : Bool) (w : View) (phase : OpenPhase) (mine : Pair) (held : Held) (moment : ℕ) (turns : List Transition) → nat_le w.endpoint.moment moment ≡ later
+pub open_moves_by : TimePassesQuietly → (later : Bool) (w : View) (phase : OpenPhase) (mine : Pair) (held : Held) (moment : ℕ) (turns : List Transition) → nat_le w.endpoint.moment moment ≡ later
     → w.endpoint.core ≡ open_in phase mine held → moment < next_moment w.endpoint → AdvanceTurns w.endpoint moment turns → ClockMoves w moment turns
 open_moves_by quiet true w phase mine held moment turns is opened waits time =
     let h : MoveClock w.endpoint moment turns =

@@ -1,18 +1,21 @@
 -- The cookie that a socket echoes is one that the other made for it.
-use Rattle.std.proofs.Common.{◌≡◌, ℕ, List, [], ◌∷◌, inl, inr, refl, sym, subst, ◌∙◌}
+use Rattle.std.proofs.Common.{◌≡◌, ℕ, List, [], ◌∷◌, inl, inr, refl, sym, subst, ap, ◌∙◌}
 use Rattle.dcsctp_spec_lemmas.specs.types.declared.association.Held.{Held}
 use Rattle.dcsctp_spec_lemmas.specs.types.declared.association.Pair.{Pair}
+use Rattle.dcsctp_spec_lemmas.specs.types.declared.capabilities.Capabilities.{Capabilities}
+use Rattle.dcsctp_spec_lemmas.specs.spec.Cookie.{Cookie}
+use Rattle.dcsctp_spec_lemmas.specs.spec.association.HandshakeChanges.{new_held}
 use Rattle.dcsctp_spec_lemmas.specs.types.declared.options.Options.{Options}
 use Rattle.dcsctp_spec_lemmas.specs.types.declared.schedule.Side.{Side}
 use Rattle.dcsctp_spec_lemmas.specs.types.declared.schedule.Side.TheVariants as sides
-use Rattle.dcsctp_spec_lemmas.specs.types.Offer.{offer_of}
-use Rattle.dcsctp_spec_lemmas.specs.spec.endpoint.Endpoint.{Core, cookie_echoed}
+use Rattle.dcsctp_spec_lemmas.specs.types.Offer.{offer_of, negotiated_capabilities}
+use Rattle.dcsctp_spec_lemmas.specs.spec.endpoint.Endpoint.{Endpoint, Core, cookie_echoed}
 use Rattle.dcsctp_spec_lemmas.specs.spec.endpoint.CallTurns.{Transition}
 use Rattle.dcsctp_spec_lemmas.specs.spec.association.Effect.{Effect, draws, sends, holds, connects, ends, begins, gives_up, completes, fails, accepts, performs, renews, resumes, effects_without_packets, Change}
 use Rattle.dcsctp_spec_runs.specs.Fitting.{FitsCore}
 use Rattle.dcsctp_spec_runs.specs.Laws.{AnswerKeepsAgreement}
 use Rattle.dcsctp_spec_runs.specs.Past.{HasEffect}
-use Rattle.dcsctp_spec_runs.specs.Sockets.{PerformedAct, Both, turns_after, endpoint_after, SocketRun}
+use Rattle.dcsctp_spec_runs.specs.Sockets.{PerformedAct, Both, of_side, of_other, turns_after, endpoint_after, SocketRun}
 use Rattle.dcsctp_spec_runs.specs.World.{SideState, after_changes, after_change, Which, at_a, at_b, Move, WorldStep, World, step_after, world_after, StepChanges, WorldRun}
 use Rattle.dcsctp_theorem_association.proofs.Agreement.{TrueWorld, FreshWorld}
 use Rattle.dcsctp_theorem_association.proofs.Facts.{PeerFacts, EchoedCookie, TrueCore}
@@ -21,7 +24,10 @@ use Rattle.dcsctp_theorem_sockets.specs.Agreement.{AreUsable}
 use Rattle.dcsctp_theorem_sockets.proofs.Follow.{Followed}
 use Rattle.dcsctp_theorem_sockets.proofs.Moves.{Below}
 use Rattle.dcsctp_theorem_sockets.proofs.SocketsAgree.{Joined, joined}
-use Rattle.dcsctp_theorem_progress.specs.OthersCookies.{IsOthersCookie, EchoesOthersCookie, EchoOthersCookies}
+use Rattle.dcsctp_theorem_progress.specs.OthersCookies.{IsOthersCookie, EchoesOthersCookie, EchoOthersCookies, AwaitsCookieAck, KnowCookies}
+use Rattle.dcsctp_theorem_progress.specs.Rounds.{this_endpoint, other_endpoint}
+use Rattle.dcsctp_theorem_progress.specs.LostInits.{KeepsOptions}
+use Rattle.dcsctp_theorem_progress.specs.Cookies.{HasEchoed}
 
 -- ---- what is true of both sides over every run of the machine
 
@@ -107,7 +113,46 @@ by_side : (options : Both Options) (turns : Both (List Transition)) (h : Joined 
 by_side options turns h both sides.A = found options.a options.b turns.a turns.b _ _ h.a h.b both.a
 by_side options turns h both sides.B = found options.b options.a turns.b turns.a _ _ h.b h.a both.b
 
-pub echo_others : Below → AnswerKeepsAgreement → (options : Both Options) (run : List PerformedAct) → AreUsable options → SocketRun options run → EchoOthersCookies options run
+echo_others : Below → AnswerKeepsAgreement → (options : Both Options) (run : List PerformedAct) → AreUsable options → SocketRun options run → EchoOthersCookies options run
 echo_others law answers options run are runs honest tags =
     let h : Joined options (turns_after run) = joined law options run are runs honest in
     by_side options (turns_after run) h (true_run answers options.a options.b h.steps h.is_run (record { a = h.a.fresh tags.a; b = h.b.fresh tags.b }))
+
+-- ---- with what else is known of it
+
+has_echoed : (e f : Endpoint) (mine theirs : Options) (others : List Transition) (p : Pair) (held : Held) (bytes : List ℕ) → KeepsOptions mine e → KeepsOptions theirs f → AwaitsCookieAck e p held bytes
+    → IsOthersCookie mine theirs others p held bytes → (cookie : Cookie) × HasEchoed e f cookie bytes
+has_echoed e f mine theirs others p held bytes keeps keeps' h c =
+    let common : Capabilities = negotiated_capabilities (offer_of e.options) (offer_of f.options) in
+    let agreed : held.capabilities ≡ common =
+    c.capabilities
+    ∙ ap (λ (o : Options). negotiated_capabilities (offer_of o) (offer_of theirs)) (sym keeps.same)
+    ∙ ap (λ (o : Options). negotiated_capabilities (offer_of e.options) (offer_of o)) (sym keeps'.same) in (
+      c.cookie,
+      record {
+        core = h.core
+            ∙ ap (λ (x : Held). cookie_echoed p x bytes) h.unchanged
+            ∙ ap (λ (x : Capabilities). cookie_echoed p (new_held p held.peer x) bytes) agreed
+            ∙ ap (λ (q : Pair). cookie_echoed p (new_held p q common) bytes) (sym c.maker)
+            ∙ ap (λ (q : Pair). cookie_echoed q (new_held q c.cookie.maker common) bytes) (sym c.addressee);
+        reads = c.reads;
+        fits = c.fits;
+        offer = c.offer ∙ ap offer_of (sym keeps.same);
+        idle = h.idle;
+        owes = h.owes;
+        delay = h.delay;
+        asks = h.asks;
+        errors = h.errors;
+      },
+    )
+
+awaiting_side : (options : Both Options) (run : List PerformedAct) (side : Side) → EchoesOthersCookie options side (turns_after run) → KeepsOptions (of_side side options) (this_endpoint options side run)
+    → KeepsOptions (of_other side options) (other_endpoint options side run) → (p : Pair) (held : Held) (bytes : List ℕ) → AwaitsCookieAck (this_endpoint options side run) p held bytes
+    → (cookie : Cookie) × HasEchoed (this_endpoint options side run) (other_endpoint options side run) cookie bytes
+awaiting_side options run side echoes keeps keeps' p held bytes h =
+    has_echoed (this_endpoint options side run) (other_endpoint options side run) (of_side side options) (of_other side options) (of_other side (turns_after run)) p held bytes keeps keeps' h (echoes p held bytes h.core)
+
+pub cookies_are_known : Below → AnswerKeepsAgreement → (options : Both Options) (run : List PerformedAct) → AreUsable options → SocketRun options run → KnowCookies options run
+cookies_are_known law answers options run are runs =
+    let others : EchoOthersCookies options run = echo_others law answers options run are runs in
+    record { others = others; awaiting = λ honest tags side keeps keeps' p held bytes h. awaiting_side options run side (others honest tags side) keeps keeps' p held bytes h }

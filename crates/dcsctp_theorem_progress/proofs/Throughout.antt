@@ -8,6 +8,7 @@ use Rattle.dcsctp_theorem_progress.specs.OthersCookies.{CookiesAreTheOthers}
 use Rattle.dcsctp_theorem_progress.specs.Connecting.{LostRoundsAreMadeGood, FreshSocketsConnect}
 use Rattle.dcsctp_theorem_progress.specs.Heartbeats.{LostAcksConnect}
 use Rattle.dcsctp_theorem_progress.specs.LossyRounds.{LossyRoundsLeadOn, LossyRoundsConnectSockets}
+use Rattle.dcsctp_theorem_progress.specs.Restarts.{OlderAssociationsGiveWay}
 use Rattle.dcsctp_theorem_progress.specs.Throughout.{RoundsConnect, ConnectOverRounds}
 
 -- what is known of rounds
@@ -17,6 +18,7 @@ pub record Rounds : Type 0 where
   pub acks : LostAcksConnect
   pub lossy : LossyRoundsLeadOn
   pub lossy_rounds : LossyRoundsConnectSockets
+  pub older : OlderAssociationsGiveWay
   pub cookies : CookiesAreTheOthers
 
 at_end : Rounds → (options : Both Options) (run : List PerformedAct) → AreUsable options → AreFitting options → SocketRun options run → RoundsConnect options run
@@ -27,6 +29,7 @@ at_end law options run are fit runs =
       acks = law.acks options run are fit runs;
       lossy = law.lossy options run are fit runs;
       lossy_rounds = law.lossy_rounds options run are fit runs;
+      older = law.older options run are fit runs;
       cookies = law.cookies options run are runs;
     }
 

@@ -20,7 +20,7 @@ OwesNothing None = Unit {0}
 OwesNothing (Some transfer) = (owes_acknowledgement transfer.tracker ≡ false) × (is_acknowledgement_due transfer.tracker ≡ false)
 
 -- It awaits a COOKIE ACK. The cookie that it echoes names its own pair, the peer's, and what it offers; both offers were negotiated
--- (`EchoOthersCookies` says that it is so). No request to reset streams was begun, no message queued, and no shutdown asked for.
+-- (in an honest run: `AwaitingEchoes`). No request to reset streams was begun, no message queued, and no shutdown asked for.
 pub record HasEchoed (e f : Endpoint) (cookie : Cookie) (bytes : List ℕ) : Type 0 where
   pub core : e.core ≡ cookie_echoed cookie.addressee (new_held cookie.addressee cookie.maker (negotiated_capabilities (offer_of e.options) (offer_of f.options))) bytes
   pub reads : cookie_of_bytes bytes ≡ Ok cookie

@@ -5,10 +5,10 @@ use Rattle.dcsctp_spec_lemmas.specs.types.declared.schedule.Side.{Side}
 use Rattle.dcsctp_spec_lemmas.specs.spec.Cookie.{Cookie}
 use Rattle.dcsctp_spec_lemmas.specs.spec.endpoint.Endpoint.{Endpoint}
 use Rattle.dcsctp_spec_lemmas.specs.spec.endpoint.TimeTurns.{delay_deadline, loss_deadline, next_moment}
-use Rattle.dcsctp_spec_runs.specs.Sockets.{PerformedAct, Both, of_side, of_other, turns_after, endpoint_after, SocketRun}
+use Rattle.dcsctp_spec_runs.specs.Sockets.{PerformedAct, Both, of_side, of_other, turns_after, SocketRun}
 use Rattle.dcsctp_theorem_sockets.specs.Agreement.{AreUsable}
 use Rattle.dcsctp_theorem_sockets.specs.Handshake.{AreFitting}
-use Rattle.dcsctp_theorem_progress.specs.Rounds.{counts_shown, LostRounds, QuietRound}
+use Rattle.dcsctp_theorem_progress.specs.Rounds.{this_endpoint, other_endpoint, counts_shown, LostRounds, QuietRound}
 use Rattle.dcsctp_theorem_progress.specs.LostInits.{KeepsOptions}
 use Rattle.dcsctp_theorem_progress.specs.Retries.{LeavesRestarts, RetriesT1}
 use Rattle.dcsctp_theorem_progress.specs.Cookies.{HasEchoed, HadEcho}
@@ -21,13 +21,6 @@ pub record OnlyBeats (e : Endpoint) (more : ℕ) : Type 0 where
   pub reconfiguration : e.timers.reconfiguration ≡ None
   pub t2 : e.timers.t2 ≡ None
   pub errors : LeavesRestarts e.options.max_retransmissions e.error_count more
-
--- this side after the run, and the other
-abbrev pub this_endpoint : Both Options → Side → List PerformedAct → Endpoint
-this_endpoint options side run = endpoint_after (of_side side options) (of_side side (turns_after run))
-
-abbrev pub other_endpoint : Both Options → Side → List PerformedAct → Endpoint
-other_endpoint options side run = endpoint_after (of_other side options) (of_other side (turns_after run))
 
 -- This side awaits a COOKIE ACK, and the other is Established by the cookie. After any number of rounds whose packets are all lost,
 -- heartbeats among them, the quiet round in which T1 comes first connects them. It ends this run.

@@ -3,6 +3,7 @@ use Rattle.dcsctp_theorem_progress.specs.LostInits.{LostInitsAreMadeGood, LostIn
 use Rattle.dcsctp_theorem_progress.specs.Connecting.{LostRoundsAreMadeGood, FreshSocketsConnect}
 use Rattle.dcsctp_theorem_progress.specs.Heartbeats.{LostAcksConnect}
 use Rattle.dcsctp_theorem_progress.specs.LossyRounds.{LossyRoundsLeadOn, LossyRoundsConnectSockets}
+use Rattle.dcsctp_theorem_progress.specs.Restarts.{OlderAssociationsGiveWay}
 use Rattle.dcsctp_theorem_progress.specs.Throughout.{RoundsConnectSockets}
 use Rattle.dcsctp_theorem_progress.specs.OthersCookies.{CookiesAreTheOthers}
 use Rattle.dcsctp_theorem_progress.specs.Echoes.{LostEchoesAreMadeGood, LostAcksAreMadeGood}
@@ -17,5 +18,6 @@ pub record ProgressLaws : Type 0 where
   pub heartbeats : LostAcksConnect
   pub lossy : LossyRoundsLeadOn
   pub lossy_rounds : LossyRoundsConnectSockets
+  pub older : OlderAssociationsGiveWay
   pub cookies : CookiesAreTheOthers
   pub throughout : RoundsConnectSockets

@@ -7,5 +7,6 @@ pub mod OthersCookies
 pub mod Connecting
 pub mod Heartbeats
 pub mod LossyRounds
+pub mod Restarts
 pub mod Throughout
 pub mod Laws

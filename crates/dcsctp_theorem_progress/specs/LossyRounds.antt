@@ -13,12 +13,11 @@ use Rattle.dcsctp_spec_lemmas.specs.spec.endpoint.TimeTurns.{next_moment}
 use Rattle.dcsctp_spec_runs.specs.Sockets.{PerformedAct, Both, of_side, of_other, turns_after, SocketRun}
 use Rattle.dcsctp_theorem_sockets.specs.Agreement.{AreUsable}
 use Rattle.dcsctp_theorem_sockets.specs.Handshake.{AreFitting}
-use Rattle.dcsctp_theorem_progress.specs.Rounds.{counts_shown, ActsFollow, AdvancesBothClocks, QuietRound}
+use Rattle.dcsctp_theorem_progress.specs.Rounds.{this_endpoint, other_endpoint, counts_shown, ActsFollow, AdvancesBothClocks, QuietRound}
 use Rattle.dcsctp_theorem_progress.specs.LostInits.{KeepsOptions}
 use Rattle.dcsctp_theorem_progress.specs.Retries.{LeavesRestarts, RetriesT1, RetriesInit}
 use Rattle.dcsctp_theorem_progress.specs.Cookies.{HasEchoed, KnowsCookie, AnswersEcho}
 use Rattle.dcsctp_theorem_progress.specs.Connecting.{RestsWithoutTag, HaveConnected}
-use Rattle.dcsctp_theorem_progress.specs.Heartbeats.{this_endpoint, other_endpoint}
 
 -- ---- a lossy round
 

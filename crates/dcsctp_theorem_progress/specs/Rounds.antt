@@ -7,11 +7,19 @@ use Rattle.dcsctp_spec_lemmas.specs.types.declared.schedule.Side.TheVariants as 
 use Rattle.dcsctp_spec_lemmas.specs.types.Schedule.{advance_call, call_step, delivery_step, ActContent, step_act}
 use Rattle.dcsctp_spec_lemmas.specs.spec.endpoint.CallTurns.{Transition}
 use Rattle.dcsctp_spec_lemmas.specs.spec.endpoint.TimeTurns.{next_moment}
-use Rattle.dcsctp_spec_runs.specs.Sockets.{PerformedAct, Both, endpoint_after, packets_shown, turns_after, acts_of}
+use Rattle.dcsctp_spec_lemmas.specs.spec.endpoint.Endpoint.{Endpoint}
+use Rattle.dcsctp_spec_runs.specs.Sockets.{PerformedAct, Both, of_side, of_other, endpoint_after, packets_shown, turns_after, acts_of}
 
 -- how many packets each has emitted
 abbrev pub counts_shown : Both Options → Both (List Transition) → Both ℕ
 counts_shown options turns = record { a = length (packets_shown options.a turns.a); b = length (packets_shown options.b turns.b) }
+
+-- this side after the run, and the other
+abbrev pub this_endpoint : Both Options → Side → List PerformedAct → Endpoint
+this_endpoint options side run = endpoint_after (of_side side options) (of_side side (turns_after run))
+
+abbrev pub other_endpoint : Both Options → Side → List PerformedAct → Endpoint
+other_endpoint options side run = endpoint_after (of_other side options) (of_other side (turns_after run))
 
 -- These acts, oldest first, and no others, lie between the runs.
 pub record ActsFollow (earlier : List PerformedAct) (acts : List ActContent) (run : List PerformedAct) : Type 0 where

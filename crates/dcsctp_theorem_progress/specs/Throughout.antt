@@ -5,8 +5,9 @@ use Rattle.dcsctp_spec_runs.specs.Sockets.{PerformedAct, Both, SocketRun}
 use Rattle.dcsctp_theorem_sockets.specs.Agreement.{AreUsable}
 use Rattle.dcsctp_theorem_sockets.specs.Handshake.{AreFitting}
 use Rattle.dcsctp_theorem_progress.specs.Connecting.{TryingConnect, CallersConnect}
-use Rattle.dcsctp_theorem_progress.specs.OthersCookies.{EchoOthersCookies}
+use Rattle.dcsctp_theorem_progress.specs.OthersCookies.{KnowCookies}
 use Rattle.dcsctp_theorem_progress.specs.Heartbeats.{AcksConnect}
+use Rattle.dcsctp_theorem_progress.specs.Restarts.{OlderGivesWay}
 use Rattle.dcsctp_theorem_progress.specs.LossyRounds.{LossyRoundLeadsOn, LossyRoundsConnect}
 
 -- At its end.
@@ -21,8 +22,10 @@ pub record RoundsConnect (options : Both Options) (run : List PerformedAct) : Ty
   pub lossy : LossyRoundLeadsOn options run
   -- After any number of these a quiet one connects, if none of them has.
   pub lossy_rounds : LossyRoundsConnect options run
+  -- An older association of the other gives way.
+  pub older : OlderGivesWay options run
   -- The cookie that is echoed is the other's.
-  pub cookies : EchoOthersCookies options run
+  pub cookies : KnowCookies options run
 
 -- At the end of each first part of the run. So such rounds have connected them, whatever came later.
 abbrev pub ConnectOverRounds : Both Options → List PerformedAct → Type 0

@@ -3,6 +3,7 @@
 ghost use Rattle.dcsctp_theorem_progress.specs.LostInits.{LostInitsAreMadeGood, LostInitsOfBothAreMadeGood};
 ghost use Rattle.dcsctp_theorem_progress.specs.Connecting.{LostRoundsAreMadeGood, FreshSocketsConnect};
 ghost use Rattle.dcsctp_theorem_progress.specs.Laws.{ProgressLaws};
+ghost use Rattle.dcsctp_theorem_progress.specs.Restarts.{OlderAssociationsGiveWay};
 ghost use Rattle.dcsctp_theorem_progress.specs.Throughout.{RoundsConnectSockets};
 ghost use Rattle.dcsctp_theorem_progress.specs.LossyRounds.{LossyRoundsLeadOn, LossyRoundsConnectSockets};
 ghost use Rattle.dcsctp_theorem_progress.specs.OthersCookies.{CookiesAreTheOthers};
@@ -119,6 +120,20 @@ pub fn lossy_rounds_connect()
     lost_rounds_are_made_good();
 }
 
+/// A socket that awaits a COOKIE ACK connects with one that still has an association of older tags, after any run, in
+/// the quiet round in which T1 comes first: its cookie bears the tie tag of that association, which is restarted (RFC
+/// 9260, section 5.2.4, A). Each has reported OnConnected once since.
+pub fn older_associations_give_way()
+    ensures { OlderAssociationsGiveWay }
+{
+    built_packet_reads_back();
+    built_packet_reads_as_itself();
+    offer_reads_back();
+    answer_keeps_agreement();
+    cookie_reads_back();
+    time_passes_quietly();
+}
+
 /// Two sockets that were just made, and fit each other, connect once one of them or both called `connect`, however
 /// many of their INITs are lost, as long as T1 may restart.
 pub fn fresh_sockets_connect()
@@ -134,7 +149,8 @@ pub fn fresh_sockets_connect()
 
 /// In an honest run in which no side draws a verification tag twice, a socket that awaits a COOKIE ACK echoes a
 /// cookie that the other made for it (RFC 9260, section 5.1): it names both pairs, of which the other drew the
-/// peer's, and what this socket offers; and both offers were negotiated.
+/// peer's, and what this socket offers; and both offers were negotiated. So the premises on the cookie hold in such a
+/// run.
 pub fn echoed_cookies_are_the_others()
     ensures { CookiesAreTheOthers }
 {
@@ -156,6 +172,7 @@ pub fn rounds_connect_sockets()
     lost_acks_connect();
     lossy_rounds_lead_on();
     lossy_rounds_connect();
+    older_associations_give_way();
     echoed_cookies_are_the_others();
 }
 
@@ -172,6 +189,7 @@ pub fn progress_laws()
     lost_acks_connect();
     lossy_rounds_lead_on();
     lossy_rounds_connect();
+    older_associations_give_way();
     echoed_cookies_are_the_others();
     rounds_connect_sockets();
 }

@@ -1,5 +1,5 @@
 use Rattle.dcsctp_theorem_sockets.proofs.Moves.{Below}
-use Rattle.dcsctp_theorem_progress.proofs.OthersCookies.{echo_others}
+use Rattle.dcsctp_theorem_progress.proofs.OthersCookies.{cookies_are_known}
 use Rattle.dcsctp_theorem_progress.proofs.laws.echoed_cookies_are_the_others.Goals as goal
 
 pub returns : goal.returns
@@ -12,4 +12,4 @@ returns c =
       offers = c.offer_reads_back.ensures.announced;
       built = c.built_packet_reads_as_itself.ensures;
     } in
-    echo_others law c.answer_keeps_agreement.ensures
+    cookies_are_known law c.answer_keeps_agreement.ensures

@@ -10,5 +10,6 @@ returns c =
       acks = c.lost_acks_connect.ensures;
       lossy = c.lossy_rounds_lead_on.ensures;
       lossy_rounds = c.lossy_rounds_connect.ensures;
+      older = c.older_associations_give_way.ensures;
       cookies = c.echoed_cookies_are_the_others.ensures;
     })

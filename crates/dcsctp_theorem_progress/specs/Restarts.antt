@@ -1,0 +1,54 @@
+-- An association with a peer that began again gives way, once the repeated COOKIE ECHO comes (RFC 9260, section 5.2.4, A).
+use Rattle.std.specs.Duration.{as_nanos}
+use Rattle.std.specs.Prelude.{◌≡◌, ◌≢◌, ◌<◌, ℕ, suc, false, max, List}
+use Rattle.dcsctp_spec_lemmas.specs.types.declared.association.Held.{Held}
+use Rattle.dcsctp_spec_lemmas.specs.types.declared.association.Pair.{Pair}
+use Rattle.dcsctp_spec_lemmas.specs.types.declared.options.Options.{Options}
+use Rattle.dcsctp_spec_lemmas.specs.types.declared.schedule.Side.{Side}
+use Rattle.dcsctp_spec_lemmas.specs.spec.Cookie.{Cookie, is_stale}
+use Rattle.dcsctp_spec_lemmas.specs.spec.endpoint.CallTurns.{Transition, events_of}
+use Rattle.dcsctp_spec_lemmas.specs.spec.endpoint.CookieEchoOutcomes.{queues_begun}
+use Rattle.dcsctp_spec_lemmas.specs.spec.endpoint.Endpoint.{Endpoint, open_in, established}
+use Rattle.dcsctp_spec_lemmas.specs.spec.endpoint.FlushOutcomes.{AreQueuesIdle}
+use Rattle.dcsctp_spec_lemmas.specs.spec.endpoint.TimeTurns.{next_moment}
+use Rattle.dcsctp_spec_runs.specs.Sockets.{PerformedAct, Both, of_side, of_other, turns_after, endpoint_after, SocketRun}
+use Rattle.dcsctp_theorem_sockets.specs.Agreement.{AreUsable}
+use Rattle.dcsctp_theorem_sockets.specs.Handshake.{AreFitting, connections_of_events}
+use Rattle.dcsctp_theorem_progress.specs.Rounds.{this_endpoint, other_endpoint, counts_shown, QuietRound}
+use Rattle.dcsctp_theorem_progress.specs.LostInits.{KeepsOptions, AreLinked}
+use Rattle.dcsctp_theorem_progress.specs.Retries.{RetriesT1}
+use Rattle.dcsctp_theorem_progress.specs.Cookies.{HasEchoed}
+
+-- It is Established under other tags. The cookie bears the tie tag of that association, and isn't stale at this moment, or later by
+-- its own clock. Nothing waits once it has begun again.
+pub record HasOlder (e : Endpoint) (cookie : Cookie) (moment : ℕ) : Type 0 where
+  pub mine : Pair
+  pub held : Held
+  pub core : e.core ≡ open_in established mine held
+  pub own : cookie.maker.tag ≢ mine.tag
+  pub peer : cookie.addressee.tag ≢ held.peer.tag
+  pub tie : cookie.tie ≡ e.tie
+  pub young : is_stale (as_nanos e.options.cookie_lifetime) (max e.moment moment) cookie ≡ false
+  pub anew : AreQueuesIdle (queues_begun e cookie).queue (queues_begun e cookie).transfer
+
+-- Both are Established and crossed, and each has told OnConnected once since.
+pub record HaveConnectedAnew (options : Both Options) (before after : Both (List Transition)) : Type 0 where
+  pub p : Pair
+  pub q : Pair
+  pub linked : AreLinked (endpoint_after options.a after.a) (endpoint_after options.b after.b) options.a options.b p q
+  pub told_a : connections_of_events (events_of after.a) ≡ suc (connections_of_events (events_of before.a))
+  pub told_b : connections_of_events (events_of after.b) ≡ suc (connections_of_events (events_of before.b))
+
+-- This side awaits a COOKIE ACK, and the other has an older association. The quiet round in which T1 comes first connects them,
+-- whatever came before. It ends this run.
+abbrev pub OlderGivesWay : Both Options → List PerformedAct → Type 0
+OlderGivesWay options run =
+    (side : Side) (settled : Both ℕ) (earlier : List PerformedAct) (cookie : Cookie) (bytes : List ℕ) →
+    let e = this_endpoint options side earlier in
+    let f = other_endpoint options side earlier in
+    KeepsOptions (of_side side options) e → KeepsOptions (of_other side options) f
+    → HasEchoed e f cookie bytes → RetriesT1 e 1 → HasOlder f cookie (next_moment e) → next_moment e < next_moment f
+    → QuietRound options (counts_shown options (turns_after earlier)) earlier settled run → HaveConnectedAnew options (turns_after earlier) (turns_after run)
+
+abbrev pub OlderAssociationsGiveWay : Type 0
+OlderAssociationsGiveWay = (options : Both Options) (run : List PerformedAct) → AreUsable options → AreFitting options → SocketRun options run → OlderGivesWay options run
