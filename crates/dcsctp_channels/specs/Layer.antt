@@ -13,6 +13,7 @@ use Rattle.dcsctp_channel_calls.specs.View.{WaitingChannel, ReportedEvent, of_ch
 use Rattle.dcsctp_channel_calls.specs.declared.channel.Limits.{Limits}
 use Rattle.dcsctp_channel_calls.specs.Calls.{KeepsTaking, on_layer}
 use Rattle.dcsctp_channel_calls.specs.Events.{with_notices, HandlesEventUnlessEnded}
+use Rattle.dcsctp_channel_handover.specs.Handover.{ChannelPlaces}
 use Rattle.dcsctp_channel_calls.specs.Late.{DoesLate, NothingIsLate}
 use Rattle.dcsctp_channel_calls.specs.Polls.{HandlesNext, NothingToDo}
 use Rattle.dcsctp_channels.specs.declared.arrivals.Kind.{Kind}
@@ -20,6 +21,7 @@ use Rattle.dcsctp_channels.specs.Rows.{slot_in}
 use Rattle.dcsctp_channels.specs.declared.layer.Layer.{Layer}
 use Rattle.dcsctp_channels.specs.declared.layer.Told.{Told}
 use Rattle.dcsctp_channels.specs.declared.layer.Waiting.{Waiting}
+use Rattle.dcsctp_channels.specs.declared.table.Table.{Table}
 
 abbrev pub waiting_said : Waiting → WaitingChannel
 waiting_said waiting = record { name = waiting.id.0; payload = waiting.payload.items; delivery = waiting.delivery; negotiated = waiting.negotiated }
@@ -131,3 +133,16 @@ place_from place name (waits ∷ rest) = if waits.name == name then Some place e
 -- the place of a channel among those that wait
 abbrev pub place_waiting : ℕ → List WaitingChannel → Option ℕ
 place_waiting name waiting = place_from 0 name waiting
+
+-- ---- a restore
+
+-- the places of all channels in a table
+abbrev pub places_of : Table → ChannelPlaces
+places_of table = record { streams = table.channels.entries; names = table.names.entries }
+
+-- There is a table with these places; or there is none.
+abbrev pub PlacesAre : Option ChannelPlaces → Option Table → Type 0
+PlacesAre None None = Unit {0}
+PlacesAre (Some places) (Some table) = places ≡ places_of table
+PlacesAre None (Some table) = ⊥
+PlacesAre (Some places) None = ⊥

@@ -11,11 +11,14 @@ ghost use Rattle.dcsctp_channel_calls.specs.Calls.{Answers, SocketConnects, Sock
 ghost use Rattle.dcsctp_channel_calls.specs.Sending.{SendsContent, channel_closed, SetsChannelThreshold, stream_of_name};
 ghost use Rattle.dcsctp_channel_calls.specs.Opening.{SetsRole, OpensChannel};
 ghost use Rattle.dcsctp_channel_calls.specs.Polls.{PollsChannels, deadline_with};
+ghost use Rattle.dcsctp_channel_handover.specs.Handover.{channels_part, readiness_with_channels, HandsOverChannels, RestoresChannels};
+ghost use Rattle.dcsctp_channel_calls.specs.api.types.Snapshot.{snapshot};
 ghost use Rattle.dcsctp_channels.specs.Layer.{layer_view, fresh_layer};
 ghost use Rattle.dcsctp_channels.specs.Shown.{channels_shown};
 
 use crate::below::{advance_time, connect, handle_input, shutdown};
 use crate::closing::{close, next_deadline};
+use crate::handover::{hand_over, readiness, restore};
 use crate::layer::Layer;
 use crate::naming::open;
 use crate::notices::close_socket;
@@ -23,11 +26,14 @@ use crate::opening::begin_waiting;
 use crate::polling::poll;
 use crate::queries::state_of;
 use crate::sending::send;
-use dcsctp_channel_calls::api::{DcSctpSocket, Metrics, SocketFault, SocketTime, StreamId};
+use dcsctp_channel_calls::api::{
+    DcSctpSocket, HandoverError, HandoverReadiness, Metrics, SocketFault, SocketTime, StreamId,
+};
 use dcsctp_channel_calls::channel_messages::channel_spec::Role;
 use dcsctp_channel_calls::{
     ChannelError, ChannelEvent, ChannelId, ChannelOptions, ChannelState, ChannelTraffic, Limits,
 };
+use dcsctp_channel_handover::{ChannelsHandoverState, RestoreChannelsError};
 use std::alloc::Global;
 
 /// The channels of one association, with its socket (RFC 8831). Once the association has ended, so has each channel,
@@ -243,6 +249,61 @@ impl<S: DcSctpSocket + Drop> Channels<S> {
             .set_buffered_amount_low_threshold(StreamId(stream), bytes)
         {
             Ok(()) => Ok(Ok(())),
+            Err(_) => Err(self.layer.fail()),
+        }
+    }
+
+    // ---- handover
+
+    /// Why the socket and its channels can't be handed over now, as bits; 0 if they can. Beside the socket's reasons
+    /// `WRONG_CONNECTION_STATE` says that there is no association, `CHANNELS_UNSETTLED` that a channel waits for its
+    /// stream, is closing or refused, or that its ACK isn't sent, and `EVENTS_NOT_TAKEN` that a poll has something to
+    /// return or to handle; what a call since the last poll has added doesn't count yet. Allocates nothing.
+    pub fn get_handover_readiness(&self) -> HandoverReadiness
+        ensures { result.0 ≡ readiness_with_channels (channels_shown S.user_view self.now) }
+    {
+        readiness(&self.socket, &self.layer)
+    }
+
+    /// Hands the socket over with its channels: returns their snapshot, and ends the association here. Nothing is sent
+    /// to the peer. No channel is said to have ended, since they go on where the snapshot is restored; the last event
+    /// is `ChannelEvent::Ended`. Low thresholds aren't carried, as with a socket alone.
+    ///
+    /// `HandoverError::NotReady`: the reasons are those of `get_handover_readiness` once the socket's events were taken
+    /// over. Nothing else has changed.
+    pub fn get_handover_state_and_close(
+        &mut self,
+    ) -> Result<Result<ChannelsHandoverState, HandoverError>, SocketFault>
+        ensures { Answers HandsOverChannels (channels_shown S.user_view self.old) result
+            (channels_shown S.user_view self.new) }
+    {
+        if self.layer.failed {
+            return Err(SocketFault::Failed);
+        }
+        match hand_over(&mut self.socket, &mut self.layer) {
+            Ok(answer) => Ok(answer),
+            Err(_) => Err(self.layer.fail()),
+        }
+    }
+
+    /// Restores a new socket with its channels: the association continues here, and each channel under its name. The
+    /// first event is `ChannelEvent::Connected`; nothing else is said of the channels that continue. The role is that of
+    /// the snapshot, and low thresholds are 0. Advance the time before, as for a socket alone.
+    ///
+    /// `RestoreChannelsError` if the socket isn't new or the snapshot isn't valid. Nothing has changed.
+    pub fn restore_from_state(
+        &mut self,
+        state: &ChannelsHandoverState,
+    ) -> Result<Result<(), RestoreChannelsError>, SocketFault>
+        ensures { Answers (RestoresChannels (snapshot state.now.socket)
+            (channels_part state.now.channels)) (channels_shown S.user_view self.old) result
+            (channels_shown S.user_view self.new) }
+    {
+        if self.layer.failed {
+            return Err(SocketFault::Failed);
+        }
+        match restore(&mut self.socket, &mut self.layer, state) {
+            Ok(answer) => Ok(answer),
             Err(_) => Err(self.layer.fail()),
         }
     }

@@ -6,6 +6,7 @@ mod arrivals;
 mod below;
 mod channels;
 mod closing;
+mod handover;
 mod layer;
 mod naming;
 mod notices;
@@ -18,5 +19,6 @@ mod table;
 
 pub use channels::Channels;
 
-// The crate below, for those above.
+// The crates below, for those above.
 pub use dcsctp_channel_calls as channel_calls;
+pub use dcsctp_channel_handover as channel_handover;
