@@ -959,8 +959,9 @@ int32_t dcsctp_get_counts(const dcsctp_socket *socket, dcsctp_counts *counts) DC
  * These calls work as before: dcsctp_connect, dcsctp_shutdown, dcsctp_close, dcsctp_handle_input,
  * dcsctp_advance_time, dcsctp_poll_timeout, dcsctp_set_max_message_size, dcsctp_state,
  * dcsctp_has_failed, dcsctp_verification_tag, dcsctp_get_options, dcsctp_get_metrics,
- * dcsctp_get_counts and dcsctp_destroy. Any other one above returns HAS_CHANNELS, and so do those
- * of a handover. Of a call below, NO_CHANNEL also means that dcsctp_channel_begin wasn't called.
+ * dcsctp_get_counts and dcsctp_destroy; those of a handover carry the channels. Any other one above
+ * returns HAS_CHANNELS. Of a call below, NO_CHANNEL also means that dcsctp_channel_begin wasn't
+ * called.
  *
  * A channel is a number that is never 0, and is never given twice on a socket, though its stream
  * is. So a number that was kept too long is harmless. */
@@ -1182,17 +1183,22 @@ int32_t dcsctp_channel_count(const dcsctp_socket *socket, size_t *count) DCSCTP_
 #define DCSCTP_HANDOVER_RETRANSMISSION_QUEUE_OUTSTANDING_DATA 512u /* data isn't acknowledged */
 #define DCSCTP_HANDOVER_RETRANSMISSION_QUEUE_FAST_RECOVERY 1024u /* it is under way */
 #define DCSCTP_HANDOVER_RETRANSMISSION_QUEUE_NOT_EMPTY 2048u /* data must be sent again */
+#define DCSCTP_HANDOVER_CHANNELS_UNSETTLED 4096u /* a channel waits, is closing or refused */
+#define DCSCTP_HANDOVER_EVENTS_NOT_TAKEN 8192u   /* dcsctp_channel_poll must be called */
 
 /* Writes why the socket can't be handed over now: the sum of DCSCTP_HANDOVER_.., or 0 if it can. A
  * closed socket can. With `enable_handover_with_outstanding_data`, queued messages and data in
  * flight are no reason. The snapshot lacks messages that are ready: take them first. While a peer
  * sends long messages and packets are lost, it is 0 only now and then: ask after each packet.
- * Error: NO_SOCKET. */
+ *
+ * A socket with channels needs an association, and all its events taken. No channel may wait for
+ * its stream or for a reset, nor owe an ACK. Error: NO_SOCKET. */
 int32_t dcsctp_get_handover_readiness(const dcsctp_socket *socket, uint32_t *reasons) DCSCTP_CALL;
 
 /* Takes a snapshot of the socket, from which dcsctp_restore_from_state continues in another
  * process, and ends the association here. The peer isn't informed, and the last event is
- * DCSCTP_EVENT_CLOSED; on a closed socket there is none. Copy the snapshot with
+ * DCSCTP_EVENT_CLOSED; on a closed socket there is none. With channels it is
+ * DCSCTP_CHANNEL_EVENT_ENDED, and no channel gets CLOSED. Copy the snapshot with
  * dcsctp_handover_bytes, then destroy this socket. A second call would replace the snapshot.
  *
  * Errors: NO_SOCKET, NOT_READY, FAILED, OUT_OF_MEMORY. */
@@ -1213,6 +1219,11 @@ int32_t dcsctp_handover_bytes(const dcsctp_socket *socket, uint8_t *buffer, size
  * clock must read more than 60 s: older times become moment 0. If its clock isn't the one of the
  * snapshot, cookies from before may be judged too young or too old. Restore only what you trust: a
  * forged snapshot can make an association, and can take long to check.
+ *
+ * A snapshot with channels needs a socket to which dcsctp_channel_begin gave channels. If one was
+ * opened on it, or an association began, it is NOT_CLOSED. Channels continue under their numbers,
+ * with the role and what was counted; low thresholds are 0. DCSCTP_CHANNEL_EVENT_CONNECTED follows.
+ * INVALID_SNAPSHOT: this socket has channels and that one none, or the other way round.
  *
  * OTHER_OPTIONS: this socket has other ports, announces another number of streams, or differs in
  * `enable_partial_reliability`, `enable_message_interleaving` or `zero_checksum_method`. Other

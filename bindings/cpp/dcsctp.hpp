@@ -364,6 +364,32 @@ public:
         return read;
     }
 
+    // Why the socket can't be handed over now: the sum of DCSCTP_HANDOVER_.., or 0 if it can.
+    std::uint32_t handover_readiness() const {
+        std::uint32_t reasons = 0;
+        dcsctp_get_handover_readiness(&it_, &reasons);
+        return reasons;
+    }
+
+    // Takes a snapshot, with all channels, and ends the association here. If the copy fails by out_of_memory,
+    // handover_bytes may be tried again.
+    error get_handover_state_and_close(std::vector<std::uint8_t> &snapshot) {
+        const error result = done(dcsctp_get_handover_state_and_close(&it_));
+        return result == error::ok ? handover_bytes(snapshot) : result;
+    }
+
+    // Copies the last snapshot.
+    error handover_bytes(std::vector<std::uint8_t> &snapshot) const {
+        std::uint8_t nowhere = 0;
+        std::size_t length = 0;
+        const error result = done(dcsctp_handover_bytes(&it_, &nowhere, 0, &length));
+        return result == error::buffer_too_small ? copy(snapshot, length, dcsctp_handover_bytes) : result;
+    }
+
+    error restore_from_state(bytes_view snapshot) {
+        return done(dcsctp_restore_from_state(&it_, snapshot.data(), snapshot.size()));
+    }
+
 protected:
     association() = default;
     ~association() { destroy(); }
@@ -521,32 +547,6 @@ public:
     }
     error set_stream_priority(std::uint16_t stream_id, std::uint16_t priority) {
         return done(dcsctp_set_stream_priority(&it_, stream_id, priority));
-    }
-
-    // Why the socket can't be handed over now: the sum of DCSCTP_HANDOVER_.., or 0 if it can.
-    std::uint32_t handover_readiness() const {
-        std::uint32_t reasons = 0;
-        dcsctp_get_handover_readiness(&it_, &reasons);
-        return reasons;
-    }
-
-    // Takes a snapshot, and ends the association here. If the copy fails by out_of_memory, handover_bytes may be tried
-    // again.
-    error get_handover_state_and_close(std::vector<std::uint8_t> &snapshot) {
-        const error result = done(dcsctp_get_handover_state_and_close(&it_));
-        return result == error::ok ? handover_bytes(snapshot) : result;
-    }
-
-    // Copies the last snapshot.
-    error handover_bytes(std::vector<std::uint8_t> &snapshot) const {
-        std::uint8_t nowhere = 0;
-        std::size_t length = 0;
-        const error result = done(dcsctp_handover_bytes(&it_, &nowhere, 0, &length));
-        return result == error::buffer_too_small ? copy(snapshot, length, dcsctp_handover_bytes) : result;
-    }
-
-    error restore_from_state(bytes_view snapshot) {
-        return done(dcsctp_restore_from_state(&it_, snapshot.data(), snapshot.size()));
     }
 
 private:

@@ -446,6 +446,29 @@ void empty_channels() {
     EXPECT(none.state() == socket_state::connecting);
 }
 
+void channels_go_on_after_a_handover(bool follow_rfc) {
+    parties pair(follow_rfc);
+    const auto [of_a, of_b] = pair.opened();
+    bytes snapshot;
+    EXPECT(pair.a.channels.handover_readiness() == 0);
+    EXPECT(pair.a.channels.get_handover_state_and_close(snapshot) == error::ok && !snapshot.empty());
+    pair.a.take(pair.b);
+    EXPECT(pair.a.only().kind == channel_event_kind::ended);
+    EXPECT(pair.a.channels.handover_readiness() == DCSCTP_HANDOVER_WRONG_CONNECTION_STATE);
+    pair.a.channels.destroy();
+    EXPECT(pair.a.channels.create(pair.how, pair.now) == error::ok);
+    EXPECT(pair.a.channels.restore_from_state(snapshot) == error::ok);
+    EXPECT(pair.a.channels.state_of(of_a) == channel_state::open);
+    pair.settle();
+    EXPECT(pair.a.only().kind == channel_event_kind::connected);
+    EXPECT(pair.b.say(of_b) == error::ok);
+    pair.settle();
+    const report message = pair.a.only();
+    EXPECT(message.kind == channel_event_kind::message && message.of == of_a && message.bytes == "hello");
+    EXPECT(pair.opened().first > of_a);
+    EXPECT(pair.a.channels.restore_from_state(snapshot) == error::not_closed);
+}
+
 void channels_are_opened(bool follow_rfc) {
     parties pair(follow_rfc);
     std::uint16_t stream = 0;
@@ -601,6 +624,7 @@ void data_channels() {
     empty_channels();
     for (bool follow_rfc : {true, false}) {
         channels_are_opened(follow_rfc);
+        channels_go_on_after_a_handover(follow_rfc);
         channels_carry_messages(follow_rfc);
         channels_are_closed(follow_rfc);
         channels_are_negotiated(follow_rfc);

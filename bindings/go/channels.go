@@ -232,7 +232,7 @@ func (c *Channels) Events() func(yield func(Event) bool) {
 }
 
 func (c *Channels) eventOf(at *C.dcsctp_socket, event *C.dcsctp_channel_event) Event {
-	channel := c.known[uint64(event.channel)]
+	channel := c.named(uint64(event.channel))
 	switch event.kind {
 	case C.DCSCTP_CHANNEL_EVENT_SEND_PACKET:
 		return SendPacket{shownBytes(at)}
@@ -256,6 +256,29 @@ func (c *Channels) eventOf(at *C.dcsctp_socket, event *C.dcsctp_channel_event) E
 	default:
 		return UnknownEvent{uint32(event.kind)}
 	}
+}
+
+// Channel returns the channel with a number, also one that was restored. Of that the options are unknown.
+func (c *Channels) Channel(number uint64) *Channel {
+	var channel *Channel
+	c.do(func(*C.dcsctp_socket) C.int32_t {
+		channel = c.named(number)
+		return C.DCSCTP_OK
+	})
+	if channel == nil {
+		channel = &Channel{c.association, number, ChannelOptions{}}
+	}
+	return channel
+}
+
+// named returns the channel with a number; nil for 0.
+func (c *Channels) named(number uint64) *Channel {
+	channel := c.known[number]
+	if channel == nil && number != 0 {
+		channel = &Channel{c.association, number, ChannelOptions{}}
+		c.known[number] = channel
+	}
+	return channel
 }
 
 // shownBytes returns a copy of the bytes of the last taken event.

@@ -326,6 +326,43 @@ func TestEndOfTheAssociationEndsEachChannelOnce(t *testing.T) {
 	}
 }
 
+func TestChannelsGoOnAfterAHandover(t *testing.T) {
+	each(t, func(t *testing.T, p *parties) {
+		ofA, ofB := p.opened(ChannelOptions{Label: "chat"})
+		expect(t, "send", ofA.SendText("before"), nil)
+		p.settle()
+		p.b.reported(ChannelMessage{ofB, true, []byte("before")})
+		if reasons := p.a.channels.HandoverReadiness(); reasons != 0 {
+			t.Fatalf("not ready: %d", reasons)
+		}
+		snapshot, err := p.a.channels.GetHandoverStateAndClose()
+		expect(t, "handover", err, nil)
+		p.a.carry(&p.b)
+		p.a.reported(ChannelsEnded{})
+		if reasons := p.a.channels.HandoverReadiness(); reasons != HandoverWrongConnectionState {
+			t.Fatalf("ready: %d", reasons)
+		}
+		options := p.a.channels.Options()
+		p.a.channels.Destroy()
+		again, err := NewChannels(options, ChannelLimits{}, nil, p.now)
+		expect(t, "again", err, nil)
+		t.Cleanup(again.Destroy)
+		p.a.channels = again
+		expect(t, "restore", again.RestoreFromState(snapshot), nil)
+		channel := again.Channel(ofA.Number())
+		if channel.State() != ChannelStateOpen || channel.Metrics().MessagesSent != 1 {
+			t.Fatal("it isn't open")
+		}
+		expect(t, "send", ofB.SendText("back"), nil)
+		p.settle()
+		p.a.reported(Connected{}, ChannelMessage{channel, true, []byte("back")})
+		if later, _ := p.opened(ChannelOptions{}); later.Number() <= ofA.Number() {
+			t.Error("a number is given twice")
+		}
+		expect(t, "again", again.RestoreFromState(snapshot), ErrNotClosed)
+	})
+}
+
 func TestChannelsWithoutSocketReturnAnError(t *testing.T) {
 	p := connectedParties(t, true, ChannelLimits{})
 	ofA, _ := p.opened(ChannelOptions{})

@@ -378,17 +378,17 @@ func (s *association) Counts() Counts {
 }
 
 // HandoverReadiness returns why the socket can't be handed over now: the sum of Handover.., or 0 if it can.
-func (s *Socket) HandoverReadiness() uint32 {
+func (s *association) HandoverReadiness() uint32 {
 	var reasons C.uint32_t
 	s.do(func(at *C.dcsctp_socket) C.int32_t { return C.dcsctp_get_handover_readiness(at, &reasons) })
 	return uint32(reasons)
 }
 
 // GetHandoverStateAndClose takes a snapshot, from which RestoreFromState continues in another process, and ends the
-// association here. The peer isn't informed, and the last event is Closed. Take all messages first. The snapshot is as
-// secret as the messages, is used once, and by the same version of the library. Errors: ErrNoSocket, ErrNotReady,
-// ErrFailed, ErrOutOfMemory. If HandoverBytes returns the last one, it may be tried again.
-func (s *Socket) GetHandoverStateAndClose() ([]byte, error) {
+// association here. The peer isn't informed, and the last event is Closed or ChannelsEnded. Take all events and messages
+// first. The snapshot has the channels, but for their labels and low thresholds. It is as secret as the messages, is used
+// once, and by the same version of the library. Errors: ErrNoSocket, ErrNotReady, ErrFailed, ErrOutOfMemory. If HandoverBytes returns the last one, it may be tried again.
+func (s *association) GetHandoverStateAndClose() ([]byte, error) {
 	err := check(s.do(func(at *C.dcsctp_socket) C.int32_t { return C.dcsctp_get_handover_state_and_close(at) }))
 	if err != nil {
 		return nil, err
@@ -397,7 +397,7 @@ func (s *Socket) GetHandoverStateAndClose() ([]byte, error) {
 }
 
 // HandoverBytes returns the last snapshot. Errors: ErrNoSocket, ErrNothingToCopy, ErrOutOfMemory.
-func (s *Socket) HandoverBytes() ([]byte, error) {
+func (s *association) HandoverBytes() ([]byte, error) {
 	var snapshot []byte
 	err := check(s.do(func(at *C.dcsctp_socket) C.int32_t {
 		var length C.size_t
@@ -418,7 +418,7 @@ func (s *Socket) HandoverBytes() ([]byte, error) {
 // of this socket must be over a minute. Restore only what you trust. ErrOtherOptions: they differ in a port, an
 // announced number of streams, EnablePartialReliability, EnableMessageInterleaving or ZeroChecksumMethod. Errors:
 // ErrNoSocket, ErrNotClosed, ErrInvalidSnapshot, ErrOtherOptions, ErrFailed, ErrOutOfMemory.
-func (s *Socket) RestoreFromState(snapshot []byte) error {
+func (s *association) RestoreFromState(snapshot []byte) error {
 	return check(s.do(func(at *C.dcsctp_socket) C.int32_t {
 		return C.dcsctp_restore_from_state(at, first(snapshot), C.size_t(len(snapshot)))
 	}))

@@ -292,6 +292,8 @@ const (
 	HandoverRetransmissionQueueOutstandingData uint32 = C.DCSCTP_HANDOVER_RETRANSMISSION_QUEUE_OUTSTANDING_DATA
 	HandoverRetransmissionQueueFastRecovery    uint32 = C.DCSCTP_HANDOVER_RETRANSMISSION_QUEUE_FAST_RECOVERY
 	HandoverRetransmissionQueueNotEmpty        uint32 = C.DCSCTP_HANDOVER_RETRANSMISSION_QUEUE_NOT_EMPTY
+	HandoverChannelsUnsettled                  uint32 = C.DCSCTP_HANDOVER_CHANNELS_UNSETTLED
+	HandoverEventsNotTaken                     uint32 = C.DCSCTP_HANDOVER_EVENTS_NOT_TAKEN
 )
 
 // Metrics are counts since the socket was created, and the present state of the association. dcsctp.h describes each.

@@ -666,6 +666,8 @@ class Handover(enum.IntFlag):
     RETRANSMISSION_QUEUE_OUTSTANDING_DATA = 512
     RETRANSMISSION_QUEUE_FAST_RECOVERY = 1024
     RETRANSMISSION_QUEUE_NOT_EMPTY = 2048
+    CHANNELS_UNSETTLED = 4096
+    EVENTS_NOT_TAKEN = 8192
 
 
 @dataclasses.dataclass(frozen=True)
@@ -1199,6 +1201,42 @@ class _Association:
         self._do(_library.dcsctp_get_counts, read)
         return Counts(read.rx_packets_count, read.tx_packets_count, read.tx_messages_count)
 
+    # Handover to another process
+
+    def handover_readiness(self) -> Handover:
+        """Why the socket can't be handed over now; 0: it can. Raises `NoSocket`."""
+        return Handover(self._number(_library.dcsctp_get_handover_readiness, ctypes.c_uint32()))
+
+    def get_handover_state_and_close(self) -> bytes:
+        """Takes a snapshot, from which `restore_from_state` continues in another process, and ends the association
+        here. The peer isn't informed, and the last event is `Closed` or `ChannelsEnded`. Take all events and messages
+        first. The snapshot has the channels, but for their labels and low thresholds; it is as
+        secret as the messages, is used once, and by the same version of the library.
+
+        Raises `NoSocket`, `NotReady`, `Failed` and `OutOfMemory`."""
+        with self._lock:
+            self._do(_library.dcsctp_get_handover_state_and_close)
+            return self.handover_bytes()
+
+    def handover_bytes(self) -> bytes:
+        """The last snapshot. Raises `NoSocket`, `NothingToCopy` and `OutOfMemory`."""
+        length = ctypes.c_size_t()
+        with self._lock:
+            try:
+                self._do(_library.dcsctp_handover_bytes, self._buffer, 0, length)
+            except BufferTooSmall:
+                pass
+            return self._copied(_library.dcsctp_handover_bytes, length.value)
+
+    def restore_from_state(self, snapshot: Bytes) -> None:
+        """Continues from a snapshot that another socket with these options gave: `Connected` follows. The time of this
+        socket must be over a minute. Restore only what you trust. `OtherOptions`: they differ in a port, an announced
+        number of streams, `enable_partial_reliability`, `enable_message_interleaving` or `zero_checksum_method`.
+
+        Raises `NoSocket`, `NotClosed`, `InvalidSnapshot`, `OtherOptions`, `Failed` and `OutOfMemory`."""
+        whole = _whole(snapshot)
+        self._do(_library.dcsctp_restore_from_state, whole, len(whole))
+
 
 class Socket(_Association):
     """A socket. Leaving its `with` destroys it without informing the peer: `shutdown` or `close` does that. It can't be
@@ -1330,41 +1368,6 @@ class Socket(_Association):
         """Sets that priority, also for later associations. Raises `NoSocket`, `Failed` and `OutOfMemory`."""
         priority = _checked("priority", priority, ctypes.c_uint16)
         self._do(_library.dcsctp_set_stream_priority, _stream(stream_id), priority)
-
-    # Handover to another process
-
-    def handover_readiness(self) -> Handover:
-        """Why the socket can't be handed over now; 0: it can. Raises `NoSocket`."""
-        return Handover(self._number(_library.dcsctp_get_handover_readiness, ctypes.c_uint32()))
-
-    def get_handover_state_and_close(self) -> bytes:
-        """Takes a snapshot, from which `restore_from_state` continues in another process, and ends the association
-        here. The peer isn't informed, and the last event is `Closed`. Take all messages first. The snapshot is as
-        secret as the messages, is used once, and by the same version of the library.
-
-        Raises `NoSocket`, `NotReady`, `Failed` and `OutOfMemory`."""
-        with self._lock:
-            self._do(_library.dcsctp_get_handover_state_and_close)
-            return self.handover_bytes()
-
-    def handover_bytes(self) -> bytes:
-        """The last snapshot. Raises `NoSocket`, `NothingToCopy` and `OutOfMemory`."""
-        length = ctypes.c_size_t()
-        with self._lock:
-            try:
-                self._do(_library.dcsctp_handover_bytes, self._buffer, 0, length)
-            except BufferTooSmall:
-                pass
-            return self._copied(_library.dcsctp_handover_bytes, length.value)
-
-    def restore_from_state(self, snapshot: Bytes) -> None:
-        """Continues from a snapshot that another socket with these options gave: `Connected` follows. The time of this
-        socket must be over a minute. Restore only what you trust. `OtherOptions`: they differ in a port, an announced
-        number of streams, `enable_partial_reliability`, `enable_message_interleaving` or `zero_checksum_method`.
-
-        Raises `NoSocket`, `NotClosed`, `InvalidSnapshot`, `OtherOptions`, `Failed` and `OutOfMemory`."""
-        whole = _whole(snapshot)
-        self._do(_library.dcsctp_restore_from_state, whole, len(whole))
 
 
 # ---- Data channels --------------------------------------------------------------------------------------------------
@@ -1533,6 +1536,11 @@ class Channels(_Association):
             )
         return channel
 
+    def channel(self, number: int) -> Channel:
+        """The channel with a number, also one that was restored. Of that `label` and the like are unknown."""
+        with self._lock:
+            return self._known.setdefault(number, Channel(self, number))
+
     # Events
 
     def poll_event(self) -> Optional[Event]:
@@ -1561,7 +1569,7 @@ class Channels(_Association):
         """The channel of an event. A new one is remembered until its last event."""
         if event.kind == ChannelIncoming.kind:
             self._known[event.channel] = self._incoming(event.channel)
-        channel = self._known.get(event.channel) or Channel(self, event.channel)
+        channel = self.channel(event.channel)
         if event.kind == ChannelClosed.kind:
             self._known.pop(event.channel, None)
         return channel

@@ -171,7 +171,7 @@ class Header(unittest.TestCase):
             ("KIND_", dcsctp.ErrorKind, 9),
             ("STATE_", dcsctp.State, 4),
             ("PEER_", dcsctp.Peer, 5),
-            ("HANDOVER_", dcsctp.Handover, 10),
+            ("HANDOVER_", dcsctp.Handover, 12),
         ]
         for prefix, kind, count in rows:
             self.assertEqual(numbers(prefix), {it.name: it.value for it in kind}, prefix)
@@ -271,7 +271,7 @@ class Misuse(unittest.TestCase):
         with dcsctp.Channels(is_dtls_client=True) as channels:
             channel = channels.open("chat")
         calls = {**CALLS, "set_role": (True,), "open": ("more",), "streams_in_use": ()}
-        methods = {it for it in dir(dcsctp.Channels) if not it.startswith("_")} - {"events", "destroy"}
+        methods = {it for it in dir(dcsctp.Channels) if not it.startswith("_")} - {"events", "channel", "destroy"}
         for name in methods:
             with self.assertRaises(dcsctp.NoSocket, msg=name):
                 getattr(channels, name)(*calls[name])
@@ -762,6 +762,37 @@ class DataChannels(unittest.TestCase):
                     self.assertEqual(channel.state, dcsctp.ChannelState.CLOSED)
                 self.assertRaises(dcsctp.Ended, self.a.open)
                 self.assertEqual(self.a.state(), dcsctp.State.CLOSED)
+
+        self.each(test)
+
+    def test_channels_go_on_after_a_handover(self):
+        def test():
+            self.connect()
+            of_a, of_b = self.opened()
+            of_a.send("before")
+            self.settle()
+            self.assertEqual(self.take("b"), [dcsctp.ChannelMessage(of_b, "before")])
+            self.assertEqual(self.a.handover_readiness(), 0)
+            snapshot = self.a.get_handover_state_and_close()
+            self.assertEqual(list(self.a.events()), [dcsctp.ChannelsEnded()])
+            self.assertEqual(self.a.handover_bytes(), snapshot)
+            self.assertEqual(self.a.handover_readiness(), dcsctp.Handover.WRONG_CONNECTION_STATE)
+            self.a.destroy()
+            options = dcsctp.Options(follow_rfc=self.follow_rfc)
+            self.now += 60_000_000_000
+            self.a = dcsctp.Channels(options, now=self.now)
+            self.addCleanup(self.a.destroy)
+            with dcsctp.Socket(options, now=self.now) as plain:
+                self.assertRaises(dcsctp.InvalidSnapshot, plain.restore_from_state, snapshot)
+            self.a.restore_from_state(snapshot)
+            again = self.a.channel(of_a.number)
+            self.assertEqual(again.state, dcsctp.ChannelState.OPEN)
+            self.assertEqual(again.metrics().messages_sent, 1)
+            of_b.send("back")
+            self.settle()
+            self.assertEqual(self.take("a"), [dcsctp.Connected(), dcsctp.ChannelMessage(again, "back")])
+            self.assertGreater(self.opened()[0].number, of_a.number)
+            self.assertRaises(dcsctp.NotClosed, self.a.restore_from_state, snapshot)
 
         self.each(test)
 

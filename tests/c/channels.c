@@ -1053,6 +1053,358 @@ static void shutdown_ends_all_channels(void) {
     end_both();
 }
 
+/* Is a result one that dcsctp.h names for the call? */
+static void is_one_of(const char *name, int32_t result, int32_t a1, int32_t a2, int32_t a3,
+                      int32_t a4) {
+    EQUAL(name, result == 0 || result == a1 || result == a2 || result == a3 || result == a4, 1);
+}
+
+/* ---- Handover ------------------------------------------------------------------------------- */
+
+static uint8_t snapshot[1 << 16];
+
+/* Why A can't be handed over. */
+static uint32_t reasons_of_a(void) {
+    uint32_t reasons = 77;
+    EQUAL("reasons", dcsctp_get_handover_readiness(&a.end.socket, &reasons), 0);
+    return reasons;
+}
+
+static dcsctp_options handover_options(void) {
+    dcsctp_options options = options_here();
+    options.enable_handover_with_outstanding_data = 1;
+    return options;
+}
+
+/* Hands A over. It hears that the association has ended, and of no channel that one has. */
+static size_t hand_over_a(void) {
+    size_t length = 0, again = 0;
+    run(&a);
+    EQUAL("ready", reasons_of_a(), 0);
+    const size_t before = a.event_count;
+    const unsigned packets = a.packets;
+    EQUAL("handover", dcsctp_get_handover_state_and_close(&a.end.socket), 0);
+    EQUAL("closed", dcsctp_state(&a.end.socket), DCSCTP_STATE_CLOSED);
+    EQUAL("none is in use", streams_in_use(&a), 0);
+    EQUAL("no room", dcsctp_handover_bytes(&a.end.socket, snapshot, 0, &length),
+          DCSCTP_ERROR_BUFFER_TOO_SMALL);
+    run(&a);
+    EQUAL("one event", a.event_count, before + 1);
+    EQUAL("the end", a.events[before].kind, DCSCTP_CHANNEL_EVENT_ENDED);
+    EQUAL("the peer isn't told", a.packets, packets);
+    EQUAL("snapshot", dcsctp_handover_bytes(&a.end.socket, snapshot, sizeof snapshot, &again), 0);
+    EQUAL("its length", again, length);
+    EQUAL("none is open", say(&a, 1, "x"), DCSCTP_ERROR_NO_CHANNEL);
+    return length;
+}
+
+/* Another socket with channels in A's place, of which nothing is known yet. */
+static void create_a_again(const dcsctp_options *options) {
+    dcsctp_destroy(&a.end.socket);
+    create_party(&a, &b, options, 9);
+    EQUAL("begin", dcsctp_channel_begin(&a.end.socket, &DEFAULTS), 0);
+    EQUAL("time", dcsctp_advance_time(&a.end.socket, now), 0);
+}
+
+static void restore_a(const dcsctp_options *options, size_t length) {
+    create_a_again(options);
+    EQUAL("restore", dcsctp_restore_from_state(&a.end.socket, snapshot, length), 0);
+    run(&a);
+    EQUAL("one event", a.event_count, 1);
+    EQUAL("connected", a.events[0].kind, DCSCTP_CHANNEL_EVENT_CONNECTED);
+}
+
+/* Channels of either end go on under their numbers, with what is in flight. Later ones get new
+ * numbers, on streams that are free. */
+static void channels_go_on_after_a_handover(void) {
+    const dcsctp_options options = handover_options();
+    dcsctp_channel_metrics metrics = {sizeof metrics, 7, 7, 7, 7};
+    dcsctp_channel_options how = labelled("unordered");
+    how.is_unordered = 1;
+    how.reliability = DCSCTP_CHANNEL_RETRANSMISSIONS;
+    how.limit = 50;
+    how.priority = 512;
+    connect_with(&options, &DEFAULTS, 0);
+    const uint64_t x = open_channel(&a);
+    pass_time(SECONDS);
+    const uint64_t x_of_b = came(&b), y_of_b = open_channel(&b);
+    pass_time(SECONDS);
+    const uint64_t y = came(&a), z = open_with(&a, &how);
+    pass_time(SECONDS);
+    const uint64_t z_of_b = came(&b), over = open_channel(&a);
+    pass_time(SECONDS);
+    close_channel(&a, over);
+    pass_time(3 * SECONDS);
+    EQUAL("closed", closed(&a) + closed(&b), 2);
+    EQUAL("send", say(&a, x, "one"), 0);
+    EQUAL("send", say(&b, y_of_b, "three"), 0);
+    pass_time(SECONDS);
+    a.is_losing = 1;
+    for (int i = 0; i < 5; i++)
+        EQUAL("send", say(&a, x, "lost"), 0);
+    const int streams[] = {stream_of(&a, x), stream_of(&a, y), stream_of(&a, z)};
+    restore_a(&options, hand_over_a());
+    EQUAL("three", streams_in_use(&a), 3);
+    const uint64_t channels[] = {x, y, z};
+    for (int i = 0; i < 3; i++) {
+        EQUAL("open", state_of(&a, channels[i]), DCSCTP_CHANNEL_OPEN);
+        EQUAL("its stream", stream_of(&a, channels[i]), streams[i]);
+    }
+    EQUAL("closed", state_of(&a, over), DCSCTP_CHANNEL_CLOSED);
+    EQUAL("metrics", dcsctp_channel_get_metrics(&a.end.socket, x, &metrics), 0);
+    EQUAL("messages", metrics.messages_sent, 6);
+    EQUAL("bytes", metrics.bytes_sent, 23);
+    EQUAL("metrics", dcsctp_channel_get_metrics(&a.end.socket, y, &metrics), 0);
+    EQUAL("messages", metrics.messages_received, 1);
+    EQUAL("bytes", metrics.bytes_received, 5);
+    pass_time(5 * SECONDS);
+    EQUAL("those that were lost, too", messages(&b), 6);
+    EQUAL("send", say(&a, y, "yes"), 0);
+    pass_time(SECONDS);
+    EQUAL("on its channel", last_event(&b, DCSCTP_CHANNEL_EVENT_MESSAGE).channel, y_of_b);
+    EQUAL("send", say(&b, x_of_b, "yes"), 0);
+    pass_time(SECONDS);
+    EQUAL("on its channel", last_event(&a, DCSCTP_CHANNEL_EVENT_MESSAGE).channel, x);
+    EQUAL("send", say(&a, z, "yes"), 0);
+    pass_time(SECONDS);
+    EQUAL("on its channel", last_event(&b, DCSCTP_CHANNEL_EVENT_MESSAGE).channel, z_of_b);
+    EQUAL("unordered", last_of(&a, DATA).flags & UNORDERED, UNORDERED);
+    const uint64_t later = open_channel(&a);
+    pass_time(SECONDS);
+    EQUAL("a new number", later > over, 1);
+    EQUAL("known", last_event(&a, DCSCTP_CHANNEL_EVENT_OPENED).channel, later);
+    EQUAL("a client's stream", stream_of(&a, later) % 2, 0);
+    open_channel(&b);
+    pass_time(SECONDS);
+    EQUAL("a new number", came(&a) > later, 1);
+    close_channel(&a, x);
+    close_channel(&b, y_of_b);
+    pass_time(3 * SECONDS);
+    EQUAL("both of A", closed(&a), 2);
+    EQUAL("and of B", closed(&b), 3);
+    EQUAL("why", last_event(&a, DCSCTP_CHANNEL_EVENT_CLOSED).detail, DCSCTP_CHANNEL_CLOSED_BY_RESETS);
+    end_both();
+}
+
+/* An OPEN in flight goes along, and the peer's ACK comes after the handover. Until then messages are
+ * ordered (RFC 8832, section 6). */
+static void open_in_flight_is_handed_over(void) {
+    const dcsctp_options options = handover_options();
+    dcsctp_channel_options how = labelled("late");
+    how.is_unordered = 1;
+    connect_with(&options, &DEFAULTS, 0);
+    a.is_losing = 1;
+    const uint64_t channel = open_with(&a, &how);
+    run(&a);
+    restore_a(&options, hand_over_a());
+    EQUAL("open", state_of(&a, channel), DCSCTP_CHANNEL_OPEN);
+    EQUAL("send", say(&a, channel, "ordered"), 0);
+    run(&a);
+    EQUAL("ordered", last_of(&a, DATA).flags & UNORDERED, 0);
+    pass_time(5 * SECONDS);
+    EQUAL("incoming", incoming(&b), 1);
+    EQUAL("read", messages(&b), 1);
+    EQUAL("known", opened(&a), 1);
+    EQUAL("this one", last_event(&a, DCSCTP_CHANNEL_EVENT_OPENED).channel, channel);
+    EQUAL("send", say(&a, channel, "unordered"), 0);
+    pass_time(SECONDS);
+    EQUAL("unordered", last_of(&a, DATA).flags & UNORDERED, UNORDERED);
+    end_both();
+}
+
+/* Why a socket with channels can't be handed over. Then nothing changes. */
+static void handover_has_reasons(void) {
+    create_both(NULL, &DEFAULTS, 0);
+    EQUAL("no association", reasons_of_a(), DCSCTP_HANDOVER_WRONG_CONNECTION_STATE);
+    const uint64_t waiting = open_channel(&a);
+    EQUAL("one waits", reasons_of_a(),
+          DCSCTP_HANDOVER_WRONG_CONNECTION_STATE | DCSCTP_HANDOVER_CHANNELS_UNSETTLED);
+    EQUAL("connect", dcsctp_connect(&a.end.socket), 0);
+    EQUAL("its INIT isn't taken", reasons_of_a() & DCSCTP_HANDOVER_EVENTS_NOT_TAKEN,
+          DCSCTP_HANDOVER_EVENTS_NOT_TAKEN);
+    pass_time(SECONDS);
+    EQUAL("ready", reasons_of_a(), 0);
+    EQUAL("send", say(&b, came(&b), "x"), 0);
+    run(&b);
+    EQUAL("not read yet", reasons_of_a() & DCSCTP_HANDOVER_EVENTS_NOT_TAKEN,
+          DCSCTP_HANDOVER_EVENTS_NOT_TAKEN);
+    EQUAL("not ready", dcsctp_get_handover_state_and_close(&a.end.socket),
+          DCSCTP_ERROR_NOT_READY);
+    run(&a);
+    EQUAL("read", messages(&a), 1);
+    pass_time(SECONDS);
+    EQUAL("ready", reasons_of_a(), 0);
+    EQUAL("send", say(&a, waiting, "x"), 0);
+    EQUAL("its packet isn't taken", dcsctp_get_handover_state_and_close(&a.end.socket),
+          DCSCTP_ERROR_NOT_READY);
+    EQUAL("it says why", reasons_of_a() & DCSCTP_HANDOVER_EVENTS_NOT_TAKEN,
+          DCSCTP_HANDOVER_EVENTS_NOT_TAKEN);
+    pass_time(SECONDS);
+    EQUAL("read", messages(&b), 1);
+    EQUAL("ready", reasons_of_a(), 0);
+    b.is_losing = 1;
+    close_channel(&a, waiting);
+    EQUAL("it is closing", reasons_of_a(), DCSCTP_HANDOVER_CHANNELS_UNSETTLED);
+    EQUAL("not ready", dcsctp_get_handover_state_and_close(&a.end.socket),
+          DCSCTP_ERROR_NOT_READY);
+    size_t length = 77;
+    EQUAL("no snapshot", dcsctp_handover_bytes(&a.end.socket, snapshot, sizeof snapshot, &length),
+          DCSCTP_ERROR_NOTHING_TO_COPY);
+    EQUAL("closing", state_of(&a, waiting), DCSCTP_CHANNEL_CLOSING);
+    b.is_losing = 0;
+    pass_time(5 * SECONDS);
+    EQUAL("it is closed", closed(&a), 1);
+    EQUAL("ready", reasons_of_a(), 0);
+    EQUAL("close", dcsctp_close(&a.end.socket), 0);
+    run(&a);
+    EQUAL("no association", reasons_of_a(), DCSCTP_HANDOVER_WRONG_CONNECTION_STATE);
+    end_both();
+}
+
+/* A stream that isn't a channel's is in use until both ends have reset it. */
+static void refused_stream_is_not_handed_over(void) {
+    connect_with(NULL, &DEFAULTS, 1);
+    EQUAL("ready", reasons_of_a(), 0);
+    send_raw(&b, 5, 51, "x", 1);
+    EQUAL("in use", streams_in_use(&a), 1);
+    EQUAL("refused", reasons_of_a(), DCSCTP_HANDOVER_CHANNELS_UNSETTLED);
+    reset_raw(&b, 5);
+    EQUAL("free", streams_in_use(&a), 0);
+    EQUAL("ready", reasons_of_a(), 0);
+    end_both();
+}
+
+/* The restore returns this, and nothing changes. */
+static void not_restored(const char *name, size_t length, int32_t expected) {
+    EQUAL(name, dcsctp_restore_from_state(&a.end.socket, snapshot, length), expected);
+    EQUAL(name, dcsctp_state(&a.end.socket), DCSCTP_STATE_CLOSED);
+}
+
+/* Only a new socket with channels is restored from a snapshot with channels, and one without from one
+ * without. */
+static void snapshot_is_for_its_kind(void) {
+    dcsctp_options options = handover_options();
+    connect_with(&options, &DEFAULTS, 1);
+    open_channel(&a);
+    run(&a);
+    size_t length = hand_over_a();
+    dcsctp_destroy(&a.end.socket);
+    create_party(&a, &b, &options, 9);
+    EQUAL("time", dcsctp_advance_time(&a.end.socket, now), 0);
+    not_restored("no channels here", length, DCSCTP_ERROR_INVALID_SNAPSHOT);
+    create_a_again(&options);
+    open_channel(&a);
+    not_restored("one is open", length, DCSCTP_ERROR_NOT_CLOSED);
+    create_a_again(&options);
+    EQUAL("connect", dcsctp_connect(&a.end.socket), 0);
+    EQUAL("connecting", dcsctp_restore_from_state(&a.end.socket, snapshot, length),
+          DCSCTP_ERROR_NOT_CLOSED);
+    EQUAL("close", dcsctp_close(&a.end.socket), 0);
+    not_restored("it was connecting", length, DCSCTP_ERROR_NOT_CLOSED);
+    run(&a);
+    not_restored("it was connecting", length, DCSCTP_ERROR_NOT_CLOSED);
+    options.local_port = 5001;
+    create_a_again(&options);
+    not_restored("another port", length, DCSCTP_ERROR_OTHER_OPTIONS);
+    options = handover_options();
+    restore_a(&options, length);
+    EQUAL("the snapshot was used", dcsctp_restore_from_state(&a.end.socket, snapshot, length),
+          DCSCTP_ERROR_NOT_CLOSED);
+    EQUAL("a plain socket", dcsctp_get_handover_state_and_close(&b.end.socket), 0);
+    EQUAL("its snapshot", dcsctp_handover_bytes(&b.end.socket, snapshot, sizeof snapshot, &length),
+          0);
+    create_a_again(&options);
+    not_restored("no channels there", length, DCSCTP_ERROR_INVALID_SNAPSHOT);
+    EQUAL("no event", a.event_count, 0);
+    end_both();
+}
+
+/* The channels are the last bytes of a snapshot before its seal: of each its stream (2), its name (8)
+ * and more, for a reliable one 48 in all; before them how many were named (8), and their count (8). */
+enum { SEAL = 18, CHANNEL = 48, NAME = 2 };
+
+/* The place of a channel in a snapshot of two. */
+static uint8_t *channel_in(size_t length, int which) {
+    return snapshot + length - SEAL - CHANNEL * (2 - which);
+}
+
+/* Restores with one byte of the channels changed and the right check value. */
+static void changed(const char *name, const dcsctp_options *options, size_t length, uint8_t *at,
+                    uint8_t to, int32_t expected) {
+    const uint8_t before = *at;
+    *at = to;
+    put_check_value(snapshot, length);
+    create_a_again(options);
+    EQUAL(name, dcsctp_restore_from_state(&a.end.socket, snapshot, length), expected);
+    EQUAL(name, streams_in_use(&a), expected == 0 ? 2 : 0);
+    *at = before;
+    put_check_value(snapshot, length);
+}
+
+/* A snapshot whose channels don't go together is refused, with the right check value, too. */
+static void channels_of_a_snapshot_go_together(void) {
+    dcsctp_options options = handover_options();
+    options.announced_maximum_incoming_streams = 10;
+    options.announced_maximum_outgoing_streams = 10;
+    connect_with(&options, &DEFAULTS, 0);
+    open_channel(&a);
+    open_channel(&a);
+    pass_time(SECONDS);
+    const size_t length = hand_over_a();
+    uint8_t *first = channel_in(length, 0), *second = channel_in(length, 1);
+    EQUAL("two names", first[-9], 2);
+    EQUAL("two channels", first[-1], 2);
+    EQUAL("the stream of the first", first[1], 0);
+    EQUAL("its name", first[NAME + 7], 0);
+    EQUAL("the stream of the second", second[1], 2);
+    EQUAL("its name", second[NAME + 7], 1);
+    changed("as it was", &options, length, second, 0, 0);
+    changed("one stream", &options, length, second + 1, 0, DCSCTP_ERROR_INVALID_SNAPSHOT);
+    changed("the last stream", &options, length, second + 1, 9, 0);
+    changed("no such stream", &options, length, second + 1, 10, DCSCTP_ERROR_INVALID_SNAPSHOT);
+    changed("no such stream", &options, length, second, 1, DCSCTP_ERROR_INVALID_SNAPSHOT);
+    changed("one name", &options, length, second + NAME + 7, 0, DCSCTP_ERROR_INVALID_SNAPSHOT);
+    changed("not named yet", &options, length, second + NAME + 7, 2, DCSCTP_ERROR_INVALID_SNAPSHOT);
+    changed("one was named", &options, length, first - 9, 1, DCSCTP_ERROR_INVALID_SNAPSHOT);
+    changed("more were named", &options, length, first - 9, 3, 0);
+    changed("one channel", &options, length, first - 1, 1, DCSCTP_ERROR_INVALID_SNAPSHOT);
+    changed("three channels", &options, length, first - 1, 3, DCSCTP_ERROR_INVALID_SNAPSHOT);
+    changed("no flag", &options, length, second + NAME + 8, 2, DCSCTP_ERROR_INVALID_SNAPSHOT);
+    end_both();
+}
+
+/* Bytes that aren't a snapshot are refused, and leave a new socket as it was. */
+static void other_bytes_are_no_snapshot(void) {
+    static uint8_t bytes[200];
+    const dcsctp_options options = handover_options();
+    connect_with(&options, &DEFAULTS, 0);
+    open_channel(&a);
+    pass_time(SECONDS);
+    const size_t length = hand_over_a();
+    create_a_again(&options);
+    for (size_t at = 0; at < length; at++) {
+        snapshot[at] ^= 1;
+        not_restored("a bit", length, DCSCTP_ERROR_INVALID_SNAPSHOT);
+        snapshot[at] ^= 1;
+    }
+    for (size_t prefix = 0; prefix < length; prefix++)
+        not_restored("a prefix", prefix, DCSCTP_ERROR_INVALID_SNAPSHOT);
+    for (int i = 0; i < 1000; i++) {
+        for (size_t at = 0; at < sizeof bytes; at++)
+            bytes[at] = (uint8_t)next_number();
+        put_check_value(bytes, sizeof bytes);
+        const int32_t result = dcsctp_restore_from_state(&a.end.socket, bytes, sizeof bytes);
+        is_one_of("random bytes", result, DCSCTP_ERROR_INVALID_SNAPSHOT,
+                  DCSCTP_ERROR_OTHER_OPTIONS, 0, 0);
+        EQUAL("refused", result < 0, 1);
+    }
+    run(&a);
+    EQUAL("nothing happened", a.event_count, 0);
+    EQUAL("it is as it was", dcsctp_restore_from_state(&a.end.socket, snapshot, length), 0);
+    EQUAL("one is open", streams_in_use(&a), 1);
+    end_both();
+}
+
 /* ---- Refused calls -------------------------------------------------------------------------- */
 
 /* A socket with channels refuses the calls below them, which write nothing. */
@@ -1066,7 +1418,6 @@ static void calls_below_are_refused(void) {
     dcsctp_message message = {7, 7, 7, 7};
     uint8_t buffer[4] = {7, 7, 7, 7};
     uint16_t streams[2] = {7, 7}, priority = 7;
-    uint32_t reasons = 7;
     size_t size = 7;
     int32_t result = 7;
     connect_both();
@@ -1088,16 +1439,12 @@ static void calls_below_are_refused(void) {
         dcsctp_set_buffered_amount_low_threshold(s, 0, 5),
         dcsctp_get_stream_priority(s, 0, &priority),
         dcsctp_set_stream_priority(s, 0, 5),
-        dcsctp_get_handover_readiness(s, &reasons),
-        dcsctp_get_handover_state_and_close(s),
-        dcsctp_handover_bytes(s, buffer, 4, &size),
-        dcsctp_restore_from_state(s, bytes, 1),
         dcsctp_channel_begin(s, &DEFAULTS),
     };
     for (size_t i = 0; i < sizeof results / sizeof results[0]; i++)
         EQUAL("refused", results[i], DCSCTP_ERROR_HAS_CHANNELS);
     EQUAL("nothing is written", event.kind == 7 && message.length == 7 && buffer[0] == 7, 1);
-    EQUAL("nothing is written", streams[0] == 7 && priority == 7 && reasons == 7, 1);
+    EQUAL("nothing is written", streams[0] == 7 && priority == 7, 1);
     EQUAL("nothing is written", size == 7 && result == 7 && view == bytes, 1);
     EQUAL("it goes on", say(&a, open_channel(&a), "x"), 0);
     pass_time(SECONDS);
@@ -1336,12 +1683,6 @@ static void check_events(int which, struct party *party) {
     party->event_count = 0;
 }
 
-/* Is a result one that dcsctp.h names for the call? */
-static void is_one_of(const char *name, int32_t result, int32_t a1, int32_t a2, int32_t a3,
-                      int32_t a4) {
-    EQUAL(name, result == 0 || result == a1 || result == a2 || result == a3 || result == a4, 1);
-}
-
 /* Makes a call on a channel that was given, on one that wasn't, or on none. */
 static void call_any(int which, struct party *party) {
     static const uint8_t bytes[3000];
@@ -1444,6 +1785,13 @@ static void all_tests(void) {
     loss_changes_nothing(20);
     end_of_the_association_closes_all_channels();
     shutdown_ends_all_channels();
+    channels_go_on_after_a_handover();
+    open_in_flight_is_handed_over();
+    handover_has_reasons();
+    refused_stream_is_not_handed_over();
+    snapshot_is_for_its_kind();
+    channels_of_a_snapshot_go_together();
+    other_bytes_are_no_snapshot();
     calls_below_are_refused();
     calls_of_the_association_stay();
     channels_are_there_once_begun();

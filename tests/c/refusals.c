@@ -214,7 +214,7 @@ static void check_failed_channels(struct end *end) {
     dcsctp_channel_metrics metrics = {sizeof metrics, 0, 0, 0, 0};
     dcsctp_channel_event event;
     uint64_t channel, moment;
-    uint32_t tag;
+    uint32_t reasons, tag;
     uint16_t stream;
     size_t size;
     int32_t taken;
@@ -229,6 +229,7 @@ static void check_failed_channels(struct end *end) {
         dcsctp_channel_send(socket, 1, DCSCTP_CHANNEL_BINARY, bytes, 10),
         dcsctp_channel_close(socket, 1),
         dcsctp_channel_set_buffered_amount_low_threshold(socket, 1, 5),
+        dcsctp_get_handover_state_and_close(socket),
     };
     for (size_t i = 0; i < sizeof commands / sizeof commands[0]; i++)
         EQUAL("a command", commands[i], DCSCTP_ERROR_FAILED);
@@ -242,6 +243,7 @@ static void check_failed_channels(struct end *end) {
     EQUAL("amount", dcsctp_channel_buffered_amount(socket, 1, &size) <= 0, 1);
     EQUAL("metrics", dcsctp_channel_get_metrics(socket, 1, &metrics) <= 0, 1);
     EQUAL("count", dcsctp_channel_count(socket, &size), DCSCTP_OK);
+    EQUAL("readiness", dcsctp_get_handover_readiness(socket, &reasons), DCSCTP_OK);
     while ((taken = dcsctp_channel_poll(socket, &event)) == 1)
         EQUAL("an event", event.kind != DCSCTP_CHANNEL_EVENT_NONE, 1);
     EQUAL("all are taken", taken, DCSCTP_ERROR_FAILED);
@@ -293,7 +295,22 @@ static int exchange_channels(uint64_t now) {
     return 1;
 }
 
-/* Both ends open a channel before they connect, and send on it. Then one of them closes each. */
+/* A is handed over with its channels, and continues in another socket. */
+static int channels_handed_over(const dcsctp_options *options, uint64_t now) {
+    static const dcsctp_channel_limits limits = DCSCTP_CHANNEL_LIMITS_INIT;
+    static uint8_t snapshot[1 << 12];
+    size_t length = 0;
+    TRY_HERE(&a, dcsctp_get_handover_state_and_close(&a.socket), 0);
+    TRY_HERE(&a, dcsctp_handover_bytes(&a.socket, snapshot, sizeof snapshot, &length), 1);
+    dcsctp_destroy(&a.socket);
+    TRY(&a, create(&a, options, 3, now), 1);
+    EQUAL("begin", dcsctp_channel_begin(&a.socket, &limits), DCSCTP_OK);
+    TRY_HERE(&a, dcsctp_restore_from_state(&a.socket, snapshot, length), 1);
+    return 1;
+}
+
+/* Both ends open a channel before they connect, and send on it. One of them is handed over. Then it
+ * closes each. */
 static int channels_part(const dcsctp_options *options) {
     static const uint8_t zeros[40000];
     const dcsctp_channel_limits limits = DCSCTP_CHANNEL_LIMITS_INIT;
@@ -322,6 +339,12 @@ static int channels_part(const dcsctp_options *options) {
     if (!exchange_channels(BEGIN + 2 * SECONDS) || !exchange_channels(BEGIN + 3 * SECONDS))
         return 0;
     EQUAL("messages", came, 3);
+    if (!channels_handed_over(options, BEGIN + 3 * SECONDS))
+        return 0;
+    TRY_HERE(&a, dcsctp_channel_send(&a.socket, of_a, DCSCTP_CHANNEL_TEXT, zeros, 9), 0);
+    if (!exchange_channels(BEGIN + 3 * SECONDS))
+        return 0;
+    EQUAL("messages", came, 4);
     TRY_HERE(&a, dcsctp_channel_close(&a.socket, of_a), 0);
     TRY_HERE(&a, dcsctp_channel_close(&a.socket, incoming[0]), 0);
     for (uint64_t i = 4; i < 8; i++)

@@ -23,7 +23,8 @@ use Rattle.dcsctp_session.specs.Options.{ShowsOptions, has_options_size, never}
 use Rattle.dcsctp_session.specs.Records.{has_metrics_size, has_counts_size}
 use Rattle.dcsctp_session.specs.Status.{status_number, state_number, taken_status}
 use Rattle.dcsctp_session.specs.Views.{view}
-use Rattle.dcsctp_channel_session.specs.Views.{channels_view, channels_deadline}
+use Rattle.dcsctp_channel_session.specs.Handover.{CopiesChannels}
+use Rattle.dcsctp_channel_session.specs.Views.{channels_view, channels_deadline, channels_readiness}
 use Rattle.dcsctp_channel_session.specs.declared.held.Held.{Held}
 use Rattle.dcsctp_channel_session.specs.declared.held.Held.TheVariants as helds
 use Rattle.dcsctp_channel_session.specs.declared.session.ChannelSession.{ChannelSession}
@@ -92,6 +93,10 @@ AmountIs stream session told = (told ≡ (stream_shown (view session) stream).am
 abbrev pub ReadinessIs : Session → ℕ → Type 0
 ReadinessIs session told = (told ≡ readiness_of (view session).endpoint) × AreInOrder (incoming_streams (view session).endpoint)
 
+-- the reasons; of a socket with channels, those of its channels too
+abbrev pub ReadinessAsked : Option Held → ℕ → ℤ → ℕ → Type 0
+ReadinessAsked = QueriesSession (WritesAnswer ReadinessIs) (WritesAnswer (λ session told. told ≡ channels_readiness (channels_view session)))
+
 -- The metrics of the socket are written, if there are any.
 abbrev pub WritesMetrics : {S : Type 0} → (S → UserView) → S → MetricsRecord → Status → MetricsRecord → Type 0
 WritesMetrics shown session before status after =
@@ -131,6 +136,11 @@ CopiesFrom numbers_in session before status after = CopiesIfTaken (numbers_in se
 abbrev pub CopiesSnapshotFrom : Session → Buffer → Status → Buffer → Type 0
 CopiesSnapshotFrom session before status after =
     CopiesSnapshot (view session).endpoint.options session.taken.snapshot before.numbers before.told status after.numbers after.told
+
+-- The same where it has channels.
+abbrev pub CopiesChannelsFrom : ChannelSession → Buffer → Status → Buffer → Type 0
+CopiesChannelsFrom session before status after =
+    CopiesChannels (socket_below session).endpoint.options session.snapshot before.numbers before.told status after.numbers after.told
 
 -- a place for a pointer, and one for a length
 pub record OutputPlace : Type 0 where

@@ -2,8 +2,9 @@
 
 ghost use Rattle.dcsctp_session.specs.Handover.{HandsOverSession, RestoresSession};
 ghost use Rattle.std.specs.Prelude.{◌≡◌};
-ghost use Rattle.dcsctp_c.specs.Exports.{Below};
-ghost use Rattle.dcsctp_c.specs.Queries.{AskedBelow, CopiesSnapshotFrom, buffer_of};
+ghost use Rattle.dcsctp_channel_session.specs.Handover.{ChannelsHandedOver, ChannelsRestored};
+ghost use Rattle.dcsctp_c.specs.Exports.{CallsSession};
+ghost use Rattle.dcsctp_c.specs.Queries.{QueriesSession, CopiesSnapshotFrom, CopiesChannelsFrom, buffer_of};
 
 use dcsctp_channel_session::Held;
 use dcsctp_handle::Handle;
@@ -12,14 +13,15 @@ use dcsctp_session::Status;
 /// Takes the socket's snapshot, and ends the association here.
 #[unsafe(no_mangle)]
 pub extern "C" fn dcsctp_get_handover_state_and_close(handle: &mut Handle) -> i32
-    ensures { Below HandsOverSession handle.old.slot.value result handle.new.slot.value }
+    ensures { CallsSession HandsOverSession ChannelsHandedOver handle.old.slot.value result
+        handle.new.slot.value }
 {
     if !handle.is_open() {
         return Status::NoSocket.number();
     }
     match handle.slot.held() {
         Held::Socket(session) => session.hand_over().number(),
-        Held::Channels(_) => Status::HasChannels.number(),
+        Held::Channels(channels) => channels.hand_over().number(),
     }
 }
 
@@ -30,7 +32,7 @@ pub extern "C" fn dcsctp_handover_bytes(
     buffer: &mut [u8],
     length: &mut usize,
 ) -> i32
-    ensures answer { AskedBelow CopiesSnapshotFrom handle.old.slot.value
+    ensures answer { QueriesSession CopiesSnapshotFrom CopiesChannelsFrom handle.old.slot.value
         (buffer_of buffer.old length.old) result (buffer_of buffer.new length.new) }
     ensures same { handle.new ≡ handle.old }
 {
@@ -39,20 +41,21 @@ pub extern "C" fn dcsctp_handover_bytes(
     }
     match handle.slot.held() {
         Held::Socket(session) => session.snapshot_bytes(buffer, length).number(),
-        Held::Channels(_) => Status::HasChannels.number(),
+        Held::Channels(channels) => channels.snapshot_bytes(buffer, length).number(),
     }
 }
 
-/// Restores a closed socket from a snapshot in bytes.
+/// Restores a closed socket from a snapshot in bytes, or a new one with its channels.
 #[unsafe(no_mangle)]
 pub extern "C" fn dcsctp_restore_from_state(handle: &mut Handle, bytes: &[u8]) -> i32
-    ensures { Below (RestoresSession bytes.now) handle.old.slot.value result handle.new.slot.value }
+    ensures { CallsSession (RestoresSession bytes.now) (ChannelsRestored bytes.now)
+        handle.old.slot.value result handle.new.slot.value }
 {
     if !handle.is_open() {
         return Status::NoSocket.number();
     }
     match handle.slot.held() {
         Held::Socket(session) => session.restore(bytes).number(),
-        Held::Channels(_) => Status::HasChannels.number(),
+        Held::Channels(channels) => channels.restore(bytes).number(),
     }
 }

@@ -4,7 +4,7 @@ ghost use Rattle.std.specs.Prelude.{◌≡◌, length};
 ghost use Rattle.dcsctp_api.specs.Calls.{stream_shown};
 ghost use Rattle.dcsctp_api.specs.Messages.{ready_messages};
 ghost use Rattle.dcsctp_session.specs.Views.{view};
-ghost use Rattle.dcsctp_c.specs.Queries.{QueriesSession, AskedBelow, WritesAnswer, TagAsked, DeadlineAsked, AmountIs, ReadinessIs, WritesOptions, ChannelsWriteOptions, GivesOptions, MetricsAsked, GivesMetrics, CountsAsked, GivesCounts, ReturnsState, ReturnsFailed};
+ghost use Rattle.dcsctp_c.specs.Queries.{QueriesSession, AskedBelow, WritesAnswer, TagAsked, DeadlineAsked, AmountIs, ReadinessAsked, WritesOptions, ChannelsWriteOptions, GivesOptions, MetricsAsked, GivesMetrics, CountsAsked, GivesCounts, ReturnsState, ReturnsFailed};
 
 use crate::answers::{state_number, take};
 use dcsctp_channel_session::Held;
@@ -248,16 +248,15 @@ pub extern "C" fn dcsctp_get_counts(handle: &mut Handle, counts: &mut CountsReco
 /// Why the socket can't be handed over now.
 #[unsafe(no_mangle)]
 pub extern "C" fn dcsctp_get_handover_readiness(handle: &mut Handle, reasons: &mut u32) -> i32
-    ensures answer { AskedBelow (WritesAnswer ReadinessIs) handle.old.slot.value reasons.old result
-        reasons.new }
+    ensures answer { ReadinessAsked handle.old.slot.value reasons.old result reasons.new }
     ensures same { handle.new ≡ handle.old }
 {
     if !handle.is_open() {
         return Status::NoSocket.number();
     }
-    let Held::Socket(session) = handle.slot.held() else {
-        return Status::HasChannels.number();
+    *reasons = match handle.slot.held() {
+        Held::Socket(session) => session.handover_readiness(),
+        Held::Channels(channels) => channels.handover_readiness(),
     };
-    *reasons = session.handover_readiness();
     Status::Done.number()
 }

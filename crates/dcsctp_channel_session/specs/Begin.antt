@@ -39,6 +39,7 @@ begin_refused session =
 pub record HasFreshChannels (limits : Limits) (session : Session) (channels : ChannelSession) : Type 0 where
   pub shown : channels_view channels ≡ record { below = view session; layer = fresh_layer limits }
   pub nothing : channels.event ≡ None
+  pub no_snapshot : channels.snapshot ≡ None
 
 abbrev pub BeginsUnless : Option Status → Limits → Session → Status → Held → Type 0
 BeginsUnless (Some refusal) limits session status new = (status ≡ refusal) × (new ≡ helds.Socket session)

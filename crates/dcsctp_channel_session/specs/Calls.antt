@@ -42,6 +42,7 @@ pub record Performed {A : Type 0} (status_of : Result A SocketFault → Status) 
   pub call : Answers Done (channels_view old) outcome (channels_view new)
   pub told : status ≡ status_of outcome
   pub event : new.event ≡ old.event
+  pub snapshot : new.snapshot ≡ old.snapshot
 
 -- The same of a call that nothing but memory refuses.
 abbrev pub Makes : (ChannelsView → ChannelsView → Type 0) → ChannelSession → Status → ChannelSession → Type 0
@@ -67,6 +68,7 @@ pub record ChannelsLimit (bytes : ℕ) (old : ChannelSession) (status : Status) 
   pub told : status ≡ statuses.Done
   pub call : channels_view new ≡ record (channels_view old) { below = with_setting (longest_message bytes) (channels_view old).below }
   pub event : new.event ≡ old.event
+  pub snapshot : new.snapshot ≡ old.snapshot
 
 -- Zero says server, and all else client.
 abbrev pub role_said : ℤ → Role
@@ -99,6 +101,7 @@ pub record Opens (numbers : ChannelOptionsRecord) (old : ChannelSession) (before
   pub told : status ≡ channel_status outcome
   pub number : after ≡ number_after before outcome
   pub event : new.event ≡ old.event
+  pub snapshot : new.snapshot ≡ old.snapshot
 
 -- Nothing has changed, and nothing is written.
 pub record OpenRefused (refusal : Status) (old : ChannelSession) (before : ℕ) (status : Status) (after : ℕ) (new : ChannelSession) : Type 0 where

@@ -31,3 +31,4 @@ pub record EventPolled (old : ChannelSession) (status : Status) (told : ChannelE
   pub status_is : status ≡ polled_status outcome
   pub kept : new.event ≡ event_polled outcome
   pub says : told ≡ event_told new.event
+  pub snapshot : new.snapshot ≡ old.snapshot

@@ -10,6 +10,7 @@ use Rattle.dcsctp_channel_calls.specs.View.{ChannelsView, LayerView}
 use Rattle.dcsctp_channel_calls.specs.declared.channel.ChannelState.{ChannelState}
 use Rattle.dcsctp_channel_calls.specs.declared.channel.ChannelState.TheVariants as states
 use Rattle.dcsctp_channel_calls.specs.declared.channel.ChannelTraffic.{ChannelTraffic}
+use Rattle.dcsctp_channel_handover.specs.Handover.{readiness_with_channels}
 use Rattle.dcsctp_channels.specs.Shown.{channels_shown}
 use Rattle.dcsctp_channel_session.specs.declared.session.ChannelSession.{ChannelSession}
 
@@ -20,6 +21,10 @@ channels_view session = channels_shown (user_view_of words_ahead) session.channe
 -- when the next `advance_time` is due
 abbrev pub channels_deadline : ChannelsView → ℕ
 channels_deadline shown = deadline_with shown.below shown.layer.streams (next_moment shown.below.endpoint)
+
+-- why the socket and its channels can't be handed over
+abbrev pub channels_readiness : ChannelsView → ℕ
+channels_readiness shown = readiness_with_channels shown
 
 -- ---- numbers of channels
 

@@ -7,6 +7,7 @@
 
 mod association;
 mod channels;
+mod handover;
 mod held;
 mod options;
 mod records;

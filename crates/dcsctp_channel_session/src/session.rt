@@ -3,16 +3,20 @@
 ghost use Rattle.dcsctp_channel_session.specs.Begin.{HasFreshChannels};
 
 use dcsctp_channel_calls::{ChannelEvent, Limits};
+use dcsctp_channel_handover::ChannelsHandoverState;
 use dcsctp_channels::Channels;
 use dcsctp_session::{Session, Socket};
 use rand_chacha::ChaCha20Rng;
 use std::alloc::Global;
 
-/// A socket with channels, and the event that was taken from it last. That can be copied until the next one is taken.
+/// A socket with channels, and what was taken from it last. That can be copied until the next of its kind is taken.
 pub struct ChannelSession {
     pub alloc: Global,
     pub channels: Channels<Socket<ChaCha20Rng>>,
     pub event: Option<ChannelEvent>,
+
+    /// The snapshot of the last handover.
+    pub snapshot: Option<ChannelsHandoverState>,
 }
 
 // Written out, so that the drop is proved here once.
@@ -22,6 +26,7 @@ impl Drop for ChannelSession {
             alloc: _,
             channels: _,
             event: _,
+            snapshot: _,
         } = self;
     }
 }
@@ -36,6 +41,7 @@ impl ChannelSession {
             alloc,
             channels: Channels::new(alloc, session.into_socket(), limits),
             event: None,
+            snapshot: None,
         }
     }
 }

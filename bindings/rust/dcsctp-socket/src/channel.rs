@@ -13,6 +13,11 @@ impl Channel {
     pub fn number(self) -> u64 {
         self.0
     }
+
+    /// The channel with a number, as after a handover.
+    pub fn with_number(number: u64) -> Channel {
+        Channel(number)
+    }
 }
 
 /// How long a lost message is sent again (RFC 8832, section 5.1).

@@ -4,7 +4,7 @@ use crate::channel::if_there;
 use crate::socket::shown;
 use crate::{
     Channel, ChannelEnd, ChannelEvent, ChannelLimits, ChannelMetrics, ChannelOptions, ChannelState,
-    Counts, Error, Metrics, Options, Reliability, Socket, State,
+    Counts, Error, HandoverReadiness, Metrics, Options, Reliability, Socket, State,
 };
 use dcsctp_sys as sys;
 use std::ffi::c_char;
@@ -229,6 +229,30 @@ impl Channels {
             priority: read.priority,
             negotiated: None,
         }
+    }
+
+    // ---- Handover to another process --------------------------------------------------------
+
+    /// Why the socket and its channels can't be handed over now.
+    pub fn handover_readiness(&self) -> HandoverReadiness {
+        self.0.handover_readiness()
+    }
+
+    /// As `Socket::get_handover_state_and_close`, with all channels: take all events before. The last event is
+    /// `ChannelEvent::Ended`, and no channel gets `ChannelEvent::Closed`.
+    pub fn get_handover_state_and_close(&mut self) -> Result<Vec<u8>, Error> {
+        self.0.get_handover_state_and_close()
+    }
+
+    /// As `Socket::handover_bytes`.
+    pub fn handover_bytes(&self) -> Result<Vec<u8>, Error> {
+        self.0.handover_bytes()
+    }
+
+    /// As `Socket::restore_from_state`, on new channels: those of the snapshot continue under their numbers, and
+    /// `ChannelEvent::Connected` follows. Low thresholds are 0.
+    pub fn restore_from_state(&mut self, bytes: &[u8]) -> Result<(), Error> {
+        self.0.restore_from_state(bytes)
     }
 
     // ---- The association --------------------------------------------------------------------

@@ -167,6 +167,10 @@ impl HandoverReadiness {
     /// Data must be sent again.
     pub const RETRANSMISSION_QUEUE_NOT_EMPTY: u32 =
         sys::DCSCTP_HANDOVER_RETRANSMISSION_QUEUE_NOT_EMPTY;
+    /// A channel waits for its stream, is closing or refused, or owes an ACK.
+    pub const CHANNELS_UNSETTLED: u32 = sys::DCSCTP_HANDOVER_CHANNELS_UNSETTLED;
+    /// `Channels::poll_event` must be called.
+    pub const EVENTS_NOT_TAKEN: u32 = sys::DCSCTP_HANDOVER_EVENTS_NOT_TAKEN;
 
     /// Whether it can be handed over.
     pub fn is_ready(self) -> bool {

@@ -2,7 +2,7 @@
 
 use dcsctp_socket::{
     Channel, ChannelEnd, ChannelEvent, ChannelLimits, ChannelMetrics, ChannelOptions, ChannelState,
-    Channels, Error, Options, Reliability,
+    Channels, Error, HandoverReadiness, Options, Reliability,
 };
 use std::time::Duration;
 
@@ -108,6 +108,33 @@ fn channel_is_at_the_peer_as_it_was_opened() {
                 assert_eq!(end.streams_in_use(), index + 1);
             }
         }
+    });
+}
+
+#[test]
+fn channels_go_on_after_a_handover() {
+    each(|pair| {
+        let [of_a, of_b] = pair.opened(&ChannelOptions::new("chat"));
+        assert!(pair.ends[A].handover_readiness().is_ready());
+        let snapshot = pair.ends[A].get_handover_state_and_close().expect("a snapshot");
+        pair.carry(A);
+        assert_eq!(pair.take(A), [ChannelEvent::Ended]);
+        let reasons = pair.ends[A].handover_readiness();
+        assert_eq!(reasons.0, HandoverReadiness::WRONG_CONNECTION_STATE);
+        let options = pair.ends[A].options();
+        pair.now += Duration::from_secs(60);
+        pair.ends[A] =
+            Channels::new(&options, &ChannelLimits::default(), &[3; 32], pair.now).expect("A");
+        pair.ends[A].restore_from_state(&snapshot).expect("restored");
+        let again = Channel::with_number(of_a.number());
+        assert_eq!(pair.ends[A].state_of(again), ChannelState::Open);
+        pair.ends[B].send_text(of_b, "back").expect("text");
+        pair.settle();
+        let back = ChannelEvent::Text(again, "back".into());
+        assert_eq!(pair.take(A), [ChannelEvent::Connected, back]);
+        let [later, _] = pair.opened(&ChannelOptions::default());
+        assert!(later > of_a);
+        assert_eq!(pair.ends[A].restore_from_state(&snapshot), Err(Error::NotClosed));
     });
 }
 

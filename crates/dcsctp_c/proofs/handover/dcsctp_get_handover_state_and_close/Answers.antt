@@ -1,9 +1,9 @@
 use Rattle.std.proofs.Common.{rules}
-use Rattle.dcsctp_c.proofs.ExportLemmas.{below_goes, below_refuses}
+use Rattle.dcsctp_c.proofs.ExportLemmas.{plain_goes, channelled_goes}
 use Rattle.dcsctp_c.proofs.handover.dcsctp_get_handover_state_and_close.Goals as goal
 
 pub returns-in-Socket : goal.returns-in-Socket
-returns-in-Socket c = below_goes _ c.held.ensures.value c.in-Socket.is c.hand_over.ensures (search rules)
+returns-in-Socket c = plain_goes _ _ c.held.ensures.value c.in-Socket.is c.hand_over.ensures (search rules)
 
 pub returns-in-Channels : goal.returns-in-Channels
-returns-in-Channels c = below_refuses _ c.held.ensures.value c.in-Channels.is (search rules)
+returns-in-Channels c = channelled_goes _ _ c.held.ensures.value c.in-Channels.is c.hand_over-in-Channels.ensures (search rules)

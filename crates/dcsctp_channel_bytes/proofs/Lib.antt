@@ -1,0 +1,2 @@
+pub mod ChannelLaws
+pub mod ChannelLists
