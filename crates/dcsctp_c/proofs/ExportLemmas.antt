@@ -17,8 +17,8 @@ use Rattle.dcsctp_channel_session.specs.declared.held.Held.{Held}
 use Rattle.dcsctp_channel_session.specs.declared.held.Held.TheVariants as helds
 use Rattle.dcsctp_channel_session.specs.declared.options.LimitsRecord.{LimitsRecord}
 use Rattle.dcsctp_channel_session.specs.declared.session.ChannelSession.{ChannelSession}
-use Rattle.dcsctp_c.specs.Channels.{OnChannels, WrittenOnChannels, ChannelsBegun}
-use Rattle.dcsctp_c.specs.Exports.{CallsSession, Below, WrittenBelow, CreatesOnce}
+use Rattle.dcsctp_c.specs.Channels.{OnChannels, WritesOnChannels, BeginsChannels}
+use Rattle.dcsctp_c.specs.Exports.{CallsSession, CallsBelowChannels, WritesBelowChannels, CreatesOnce}
 
 -- by a handle that is left as it was, since an allocation failed
 pub not_created : (numbers : OptionsRecord) (seed : List ℕ) (moment : ℕ) (made : Session) (held : Option Held) (result : ℤ)
@@ -41,20 +41,20 @@ channelled_goes Plain Channelled {new = new} {status = status} is there goes tol
 -- ---- calls below channels
 
 pub below_goes : (Plain : Session → Status → Session → Type 0) {held : Option Held} {here : Held} {old new : Session} {status : Status} {result : ℤ}
-    → held ≡ Some here → here ≡ helds.Socket old → Plain old status new → result ≡ status_number status → Below Plain held result (Some (helds.Socket new))
+    → held ≡ Some here → here ≡ helds.Socket old → Plain old status new → result ≡ status_number status → CallsBelowChannels Plain held result (Some (helds.Socket new))
 below_goes Plain {new = new} {status = status} is there goes told = rw is (rw there (status, new, goes, told, refl))
 
 pub below_refuses : (Plain : Session → Status → Session → Type 0) {held : Option Held} {here : Held} {old : ChannelSession} {result : ℤ}
-    → held ≡ Some here → here ≡ helds.Channels old → result ≡ status_number statuses.HasChannels → Below Plain held result (Some here)
+    → held ≡ Some here → here ≡ helds.Channels old → result ≡ status_number statuses.HasChannels → CallsBelowChannels Plain held result (Some here)
 below_refuses Plain {old = old} is there told = rw is (rw there (statuses.HasChannels, old, (refl, refl), told, refl))
 
 pub below_writes : {T : Type 0} (Plain : Session → T → Status → T → Session → Type 0) {held : Option Held} {here : Held} {before after : T} {old new : Session} {status : Status} {result : ℤ}
     → held ≡ Some here → here ≡ helds.Socket old → Plain old before status after new → result ≡ status_number status
-    → WrittenBelow Plain held before result after (Some (helds.Socket new))
+    → WritesBelowChannels Plain held before result after (Some (helds.Socket new))
 below_writes Plain {new = new} {status = status} is there goes told = rw is (rw there (status, new, goes, told, refl))
 
 pub below_writes_nothing : {T : Type 0} (Plain : Session → T → Status → T → Session → Type 0) (before : T) {held : Option Held} {here : Held} {old : ChannelSession} {result : ℤ}
-    → held ≡ Some here → here ≡ helds.Channels old → result ≡ status_number statuses.HasChannels → WrittenBelow Plain held before result before (Some here)
+    → held ≡ Some here → here ≡ helds.Channels old → result ≡ status_number statuses.HasChannels → WritesBelowChannels Plain held before result before (Some here)
 below_writes_nothing Plain before {old = old} is there told = rw is (rw there (statuses.HasChannels, old, (refl, refl, refl), told, refl))
 
 -- ---- calls of channels
@@ -69,13 +69,13 @@ channels_refuse Call {old = old} is there told = rw is (rw there (statuses.NoCha
 
 pub channels_write : {T : Type 0} (Call : ChannelSession → T → Status → T → ChannelSession → Type 0) {held : Option Held} {here : Held} {before after : T} {old new : ChannelSession} {status : Status} {result : ℤ}
     → held ≡ Some here → here ≡ helds.Channels old → Call old before status after new → result ≡ status_number status
-    → WrittenOnChannels Call held before result after (Some (helds.Channels new))
+    → WritesOnChannels Call held before result after (Some (helds.Channels new))
 channels_write Call {new = new} {status = status} is there goes told = rw is (rw there (status, new, goes, told, refl))
 
 pub channels_write_nothing : {T : Type 0} (Call : ChannelSession → T → Status → T → ChannelSession → Type 0) (before : T) {held : Option Held} {here : Held} {old : Session} {result : ℤ}
-    → held ≡ Some here → here ≡ helds.Socket old → result ≡ status_number statuses.NoChannel → WrittenOnChannels Call held before result before (Some here)
+    → held ≡ Some here → here ≡ helds.Socket old → result ≡ status_number statuses.NoChannel → WritesOnChannels Call held before result before (Some here)
 channels_write_nothing Call before {old = old} is there told = rw is (rw there (statuses.NoChannel, old, (refl, refl, refl), told, refl))
 
 pub begun_goes : (limits : LimitsRecord) (status : Status) (new : Held) {held : Option Held} {old : Held} {result : ℤ}
-    → held ≡ Some old → ChannelsBegin limits old status new → result ≡ status_number status → ChannelsBegun limits held result (Some new)
+    → held ≡ Some old → ChannelsBegin limits old status new → result ≡ status_number status → BeginsChannels limits held result (Some new)
 begun_goes limits status new is goes told = rw is (status, new, goes, told, refl)

@@ -42,11 +42,11 @@ abbrev pub WritesNothing : {S T : Type 0} → Status → S → T → Status → 
 WritesNothing refusal old before status after new = (status ≡ refusal) × (after ≡ before) × (new ≡ old)
 
 -- The call takes place on a session. One with channels refuses what is below them.
-abbrev pub Below : (Session → Status → Session → Type 0) → Option Held → ℤ → Option Held → Type 0
-Below Plain held result new = CallsSession Plain (Refuses statuses.HasChannels) held result new
+abbrev pub CallsBelowChannels : (Session → Status → Session → Type 0) → Option Held → ℤ → Option Held → Type 0
+CallsBelowChannels Plain held result new = CallsSession Plain (Refuses statuses.HasChannels) held result new
 
-abbrev pub WrittenBelow : {T : Type 0} → (Session → T → Status → T → Session → Type 0) → Option Held → T → ℤ → T → Option Held → Type 0
-WrittenBelow Plain held before result after new = CallsAndWrites Plain (WritesNothing statuses.HasChannels) held before result after new
+abbrev pub WritesBelowChannels : {T : Type 0} → (Session → T → Status → T → Session → Type 0) → Option Held → T → ℤ → T → Option Held → Type 0
+WritesBelowChannels Plain held before result after new = CallsAndWrites Plain (WritesNothing statuses.HasChannels) held before result after new
 
 -- a version as one number
 abbrev pub version_number : ℕ → ℕ → ℕ → ℕ

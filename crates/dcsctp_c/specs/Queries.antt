@@ -45,12 +45,12 @@ QueriesIfSized false Plain Channelled held before result after = (result ≡ sta
 QueriesIfSized true Plain Channelled held before result after = QueriesSession Plain Channelled held before result after
 
 -- This is returned, and nothing is written.
-abbrev pub TellsNothing : {S T : Type 0} → Status → S → T → Status → T → Type 0
-TellsNothing refusal session before status after = (status ≡ refusal) × (after ≡ before)
+abbrev pub KeepsOutput : {S T : Type 0} → Status → S → T → Status → T → Type 0
+KeepsOutput refusal session before status after = (status ≡ refusal) × (after ≡ before)
 
 -- The query is made of a session. One with channels refuses what is below them.
-abbrev pub AskedBelow : {T : Type 0} → (Session → T → Status → T → Type 0) → Option Held → T → ℤ → T → Type 0
-AskedBelow Plain held before result after = QueriesSession Plain (TellsNothing statuses.HasChannels) held before result after
+abbrev pub QueriesBelowChannels : {T : Type 0} → (Session → T → Status → T → Type 0) → Option Held → T → ℤ → T → Type 0
+QueriesBelowChannels Plain held before result after = QueriesSession Plain (KeepsOutput statuses.HasChannels) held before result after
 
 -- ---- what is written
 
@@ -63,16 +63,16 @@ abbrev pub socket_below : ChannelSession → UserView
 socket_below session = (channels_view session).below
 
 -- What is said of the socket is written, whether it has channels or not.
-abbrev pub AskedOf : {T : Type 0} → (UserView → T → Type 0) → Option Held → T → ℤ → T → Type 0
-AskedOf Says held before result after =
+abbrev pub QueriesSocket : {T : Type 0} → (UserView → T → Type 0) → Option Held → T → ℤ → T → Type 0
+QueriesSocket Says held before result after =
     QueriesSession (WritesAnswer (λ session told. Says (view session) told)) (WritesAnswer (λ session told. Says (socket_below session) told)) held before result after
 
-abbrev pub TagAsked : Option Held → ℕ → ℤ → ℕ → Type 0
-TagAsked = AskedOf (λ shown told. told ≡ own_tag shown.endpoint.core)
+abbrev pub QueriesTag : Option Held → ℕ → ℤ → ℕ → Type 0
+QueriesTag = QueriesSocket (λ shown told. told ≡ own_tag shown.endpoint.core)
 
 -- when the next call is due
-abbrev pub DeadlineAsked : Option Held → ℕ → ℤ → ℕ → Type 0
-DeadlineAsked =
+abbrev pub QueriesDeadline : Option Held → ℕ → ℤ → ℕ → Type 0
+QueriesDeadline =
     QueriesSession (WritesAnswer (λ session told. told ≡ min (next_moment (view session).endpoint) never)) (WritesAnswer (λ session told. told ≡ min (channels_deadline (channels_view session)) never))
 
 abbrev pub WritesOptions : Session → OptionsRecord → Status → OptionsRecord → Type 0
@@ -102,8 +102,8 @@ abbrev pub WritesMetrics : {S : Type 0} → (S → UserView) → S → MetricsRe
 WritesMetrics shown session before status after =
     (metrics : Option MetricsRecord) × ShowsMetricsRecord (shown session) metrics × (status ≡ taken_status metrics) × (after ≡ taken_or before metrics)
 
-abbrev pub MetricsAsked : Option Held → MetricsRecord → ℤ → MetricsRecord → Type 0
-MetricsAsked = QueriesSession (WritesMetrics view) (WritesMetrics socket_below)
+abbrev pub QueriesMetrics : Option Held → MetricsRecord → ℤ → MetricsRecord → Type 0
+QueriesMetrics = QueriesSession (WritesMetrics view) (WritesMetrics socket_below)
 
 abbrev pub GivesMetrics : Option Held → MetricsRecord → ℤ → MetricsRecord → Type 0
 GivesMetrics held before result after = QueriesIfSized (has_metrics_size before) (WritesMetrics view) (WritesMetrics socket_below) held before result after
@@ -112,8 +112,8 @@ GivesMetrics held before result after = QueriesIfSized (has_metrics_size before)
 abbrev pub WritesCounts : {S : Type 0} → (S → UserView) → S → CountsRecord → Status → CountsRecord → Type 0
 WritesCounts shown = WritesAnswer (λ session told. ShowsCountsRecord (shown session) told)
 
-abbrev pub CountsAsked : Option Held → CountsRecord → ℤ → CountsRecord → Type 0
-CountsAsked = QueriesSession (WritesCounts view) (WritesCounts socket_below)
+abbrev pub QueriesCounts : Option Held → CountsRecord → ℤ → CountsRecord → Type 0
+QueriesCounts = QueriesSession (WritesCounts view) (WritesCounts socket_below)
 
 abbrev pub GivesCounts : Option Held → CountsRecord → ℤ → CountsRecord → Type 0
 GivesCounts held before result after = QueriesIfSized (has_counts_size before) (WritesCounts view) (WritesCounts socket_below) held before result after

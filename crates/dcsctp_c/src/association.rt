@@ -5,7 +5,7 @@ ghost use Rattle.dcsctp_api.specs.types.Setting.{stream_priority, stream_low_thr
 ghost use Rattle.dcsctp_session.specs.Calls.{ConnectsSession, ShutDown, ClosesSession, HandlesPacket, AdvancesSession, MakesSetting, LimitsSize, SendsOneMessage, StreamsReset};
 ghost use Rattle.dcsctp_session.specs.Many.{SendsManyRecords};
 ghost use Rattle.dcsctp_channel_session.specs.Calls.{ChannelsConnect, ChannelsShutDown, ChannelsAbort, ChannelsHandle, ChannelsAdvance, ChannelsLimit};
-ghost use Rattle.dcsctp_c.specs.Exports.{CallsSession, Below, WrittenBelow};
+ghost use Rattle.dcsctp_c.specs.Exports.{CallsSession, CallsBelowChannels, WritesBelowChannels};
 
 use dcsctp_channel_session::Held;
 use dcsctp_handle::Handle;
@@ -94,7 +94,7 @@ pub extern "C" fn dcsctp_send(
     payload: &[u8],
     options: &SendOptionsRecord,
 ) -> i32
-    ensures { Below
+    ensures { CallsBelowChannels
         (SendsOneMessage (record { stream = stream_id; ppid = ppid; payload = payload.now })
         options.now) handle.old.slot.value result handle.new.slot.value }
 {
@@ -115,7 +115,7 @@ pub extern "C" fn dcsctp_send_many(
     options: &SendOptionsRecord,
     results: &mut [i32],
 ) -> i32
-    ensures { WrittenBelow (SendsManyRecords messages.now options.now) handle.old.slot.value
+    ensures { WritesBelowChannels (SendsManyRecords messages.now options.now) handle.old.slot.value
         results.old result results.new handle.new.slot.value }
 {
     if !handle.is_open() {
@@ -130,7 +130,7 @@ pub extern "C" fn dcsctp_send_many(
 /// Resets streams.
 #[unsafe(no_mangle)]
 pub extern "C" fn dcsctp_reset_streams(handle: &mut Handle, stream_ids: &[u16]) -> i32
-    ensures { Below (StreamsReset stream_ids.now) handle.old.slot.value result
+    ensures { CallsBelowChannels (StreamsReset stream_ids.now) handle.old.slot.value result
         handle.new.slot.value }
 {
     if !handle.is_open() {
@@ -149,7 +149,7 @@ pub extern "C" fn dcsctp_set_stream_priority(
     stream_id: u16,
     priority: u16,
 ) -> i32
-    ensures { Below (MakesSetting (stream_priority stream_id priority)) handle.old.slot.value
+    ensures { CallsBelowChannels (MakesSetting (stream_priority stream_id priority)) handle.old.slot.value
         result handle.new.slot.value }
 {
     if !handle.is_open() {
@@ -168,7 +168,7 @@ pub extern "C" fn dcsctp_set_buffered_amount_low_threshold(
     stream_id: u16,
     bytes: usize,
 ) -> i32
-    ensures { Below (MakesSetting (stream_low_threshold stream_id bytes)) handle.old.slot.value
+    ensures { CallsBelowChannels (MakesSetting (stream_low_threshold stream_id bytes)) handle.old.slot.value
         result handle.new.slot.value }
 {
     if !handle.is_open() {

@@ -2,8 +2,8 @@
 
 ghost use Rattle.std.specs.Prelude.{◌≡◌};
 ghost use Rattle.dcsctp_session.specs.declared.status.Status.TheVariants.{NoChannel};
-ghost use Rattle.dcsctp_channel_session.specs.Calls.{RoleSet, ChannelOpened, ChannelSent, ChannelClosed, ThresholdSet};
-ghost use Rattle.dcsctp_c.specs.Channels.{ChannelsBegun, OnChannels, WrittenOnChannels, WritesPolled, EventCopied, EventShown, AskedIfFound, OpeningGiven, stream_numbered, amount_numbered, TrafficGiven, StreamsCounted, ReturnsChannelState};
+ghost use Rattle.dcsctp_channel_session.specs.Calls.{SetsRoleByNumber, OpensIfValid, SendsOnNumber, ClosesNumber, SetsNumberThreshold};
+ghost use Rattle.dcsctp_c.specs.Channels.{BeginsChannels, OnChannels, WritesOnChannels, WritesNextEvent, CopiesEvent, ShowsEvent, QueriesFound, GivesOpening, stream_numbered, amount_numbered, GivesTraffic, CountsStreams, ReturnsChannelState};
 ghost use Rattle.dcsctp_c.specs.Queries.{buffer_of, output_place};
 
 use crate::answers::put;
@@ -16,7 +16,7 @@ use dcsctp_session::Status;
 /// Gives a new socket channels.
 #[unsafe(no_mangle)]
 pub extern "C" fn dcsctp_channel_begin(handle: &mut Handle, limits: &LimitsRecord) -> i32
-    ensures { ChannelsBegun limits.now handle.old.slot.value result handle.new.slot.value }
+    ensures { BeginsChannels limits.now handle.old.slot.value result handle.new.slot.value }
 {
     if !handle.is_open() {
         return Status::NoSocket.number();
@@ -27,7 +27,7 @@ pub extern "C" fn dcsctp_channel_begin(handle: &mut Handle, limits: &LimitsRecor
 /// Sets the role in DTLS.
 #[unsafe(no_mangle)]
 pub extern "C" fn dcsctp_channel_set_role(handle: &mut Handle, is_dtls_client: i32) -> i32
-    ensures { OnChannels (RoleSet is_dtls_client) handle.old.slot.value result
+    ensures { OnChannels (SetsRoleByNumber is_dtls_client) handle.old.slot.value result
         handle.new.slot.value }
 {
     if !handle.is_open() {
@@ -46,7 +46,7 @@ pub extern "C" fn dcsctp_channel_open(
     options: &ChannelOptionsRecord,
     channel: &mut u64,
 ) -> i32
-    ensures { WrittenOnChannels (ChannelOpened options.now) handle.old.slot.value channel.old result
+    ensures { WritesOnChannels (OpensIfValid options.now) handle.old.slot.value channel.old result
         channel.new handle.new.slot.value }
 {
     if !handle.is_open() {
@@ -66,7 +66,7 @@ pub extern "C" fn dcsctp_channel_send(
     kind: u32,
     bytes: &[u8],
 ) -> i32
-    ensures { OnChannels (ChannelSent channel kind bytes.now) handle.old.slot.value result
+    ensures { OnChannels (SendsOnNumber channel kind bytes.now) handle.old.slot.value result
         handle.new.slot.value }
 {
     if !handle.is_open() {
@@ -81,7 +81,7 @@ pub extern "C" fn dcsctp_channel_send(
 /// Closes a channel.
 #[unsafe(no_mangle)]
 pub extern "C" fn dcsctp_channel_close(handle: &mut Handle, channel: u64) -> i32
-    ensures { OnChannels (ChannelClosed channel) handle.old.slot.value result
+    ensures { OnChannels (ClosesNumber channel) handle.old.slot.value result
         handle.new.slot.value }
 {
     if !handle.is_open() {
@@ -96,7 +96,7 @@ pub extern "C" fn dcsctp_channel_close(handle: &mut Handle, channel: u64) -> i32
 /// Takes what happened first.
 #[unsafe(no_mangle)]
 pub extern "C" fn dcsctp_channel_poll(handle: &mut Handle, event: &mut ChannelEventRecord) -> i32
-    ensures { WrittenOnChannels WritesPolled handle.old.slot.value event.old result event.new
+    ensures { WritesOnChannels WritesNextEvent handle.old.slot.value event.old result event.new
         handle.new.slot.value }
 {
     if !handle.is_open() {
@@ -115,7 +115,7 @@ pub extern "C" fn dcsctp_channel_bytes(
     buffer: &mut [u8],
     length: &mut usize,
 ) -> i32
-    ensures answer { EventCopied handle.old.slot.value (buffer_of buffer.old length.old) result
+    ensures answer { CopiesEvent handle.old.slot.value (buffer_of buffer.old length.old) result
         (buffer_of buffer.new length.new) }
     ensures same { handle.new ≡ handle.old }
 {
@@ -135,7 +135,7 @@ pub extern "C" fn dcsctp_channel_view(
     bytes: &mut *const u8,
     length: &mut usize,
 ) -> i32
-    ensures answer { EventShown handle.old.slot.value (output_place bytes.old length.old) result
+    ensures answer { ShowsEvent handle.old.slot.value (output_place bytes.old length.old) result
         (output_place bytes.new length.new) }
     ensures same { handle.new ≡ handle.old }
 {
@@ -151,7 +151,7 @@ pub extern "C" fn dcsctp_channel_view(
 /// What the peer opened the channel with, if the event that was taken last says so.
 #[unsafe(no_mangle)]
 pub extern "C" fn dcsctp_channel_get_options(handle: &mut Handle, options: &mut ShownOptions) -> i32
-    ensures answer { OpeningGiven handle.old.slot.value options.old result options.new }
+    ensures answer { GivesOpening handle.old.slot.value options.old result options.new }
     ensures same { handle.new ≡ handle.old }
 {
     if !options.is_sized() {
@@ -186,7 +186,7 @@ pub extern "C" fn dcsctp_channel_state(handle: &mut Handle, channel: u64) -> i32
 /// The stream of a channel.
 #[unsafe(no_mangle)]
 pub extern "C" fn dcsctp_channel_stream(handle: &mut Handle, channel: u64, stream: &mut u16) -> i32
-    ensures answer { AskedIfFound NoChannel (stream_numbered channel) handle.old.slot.value
+    ensures answer { QueriesFound NoChannel (stream_numbered channel) handle.old.slot.value
         stream.old result stream.new }
     ensures same { handle.new ≡ handle.old }
 {
@@ -206,7 +206,7 @@ pub extern "C" fn dcsctp_channel_buffered_amount(
     channel: u64,
     bytes: &mut usize,
 ) -> i32
-    ensures answer { AskedIfFound NoChannel (amount_numbered channel) handle.old.slot.value
+    ensures answer { QueriesFound NoChannel (amount_numbered channel) handle.old.slot.value
         bytes.old result bytes.new }
     ensures same { handle.new ≡ handle.old }
 {
@@ -228,7 +228,7 @@ pub extern "C" fn dcsctp_channel_set_buffered_amount_low_threshold(
     channel: u64,
     bytes: usize,
 ) -> i32
-    ensures { OnChannels (ThresholdSet channel bytes) handle.old.slot.value result
+    ensures { OnChannels (SetsNumberThreshold channel bytes) handle.old.slot.value result
         handle.new.slot.value }
 {
     if !handle.is_open() {
@@ -249,7 +249,7 @@ pub extern "C" fn dcsctp_channel_get_metrics(
     channel: u64,
     metrics: &mut TrafficRecord,
 ) -> i32
-    ensures answer { TrafficGiven channel handle.old.slot.value metrics.old result metrics.new }
+    ensures answer { GivesTraffic channel handle.old.slot.value metrics.old result metrics.new }
     ensures same { handle.new ≡ handle.old }
 {
     if !metrics.is_sized() {
@@ -267,7 +267,7 @@ pub extern "C" fn dcsctp_channel_get_metrics(
 /// How many streams are in use.
 #[unsafe(no_mangle)]
 pub extern "C" fn dcsctp_channel_count(handle: &mut Handle, count: &mut usize) -> i32
-    ensures answer { StreamsCounted handle.old.slot.value count.old result count.new }
+    ensures answer { CountsStreams handle.old.slot.value count.old result count.new }
     ensures same { handle.new ≡ handle.old }
 {
     if !handle.is_open() {

@@ -4,7 +4,7 @@ ghost use Rattle.std.specs.Prelude.{◌≡◌, length};
 ghost use Rattle.dcsctp_api.specs.Calls.{stream_shown};
 ghost use Rattle.dcsctp_api.specs.Messages.{ready_messages};
 ghost use Rattle.dcsctp_session.specs.Views.{view};
-ghost use Rattle.dcsctp_c.specs.Queries.{QueriesSession, AskedBelow, WritesAnswer, TagAsked, DeadlineAsked, AmountIs, ReadinessAsked, WritesOptions, ChannelsWriteOptions, GivesOptions, MetricsAsked, GivesMetrics, CountsAsked, GivesCounts, ReturnsState, ReturnsFailed};
+ghost use Rattle.dcsctp_c.specs.Queries.{QueriesSession, QueriesBelowChannels, WritesAnswer, QueriesTag, QueriesDeadline, AmountIs, ReadinessAsked, WritesOptions, ChannelsWriteOptions, GivesOptions, QueriesMetrics, GivesMetrics, QueriesCounts, GivesCounts, ReturnsState, ReturnsFailed};
 
 use crate::answers::{state_number, take};
 use dcsctp_channel_session::Held;
@@ -46,7 +46,7 @@ pub extern "C" fn dcsctp_has_failed(handle: &mut Handle) -> i32
 /// Our own verification tag; 0 in the closed state.
 #[unsafe(no_mangle)]
 pub extern "C" fn dcsctp_verification_tag(handle: &mut Handle, tag: &mut u32) -> i32
-    ensures answer { TagAsked handle.old.slot.value tag.old result tag.new }
+    ensures answer { QueriesTag handle.old.slot.value tag.old result tag.new }
     ensures same { handle.new ≡ handle.old }
 {
     if !handle.is_open() {
@@ -62,7 +62,7 @@ pub extern "C" fn dcsctp_verification_tag(handle: &mut Handle, tag: &mut u32) ->
 /// The socket's next deadline.
 #[unsafe(no_mangle)]
 pub extern "C" fn dcsctp_poll_timeout(handle: &mut Handle, moment: &mut u64) -> i32
-    ensures answer { DeadlineAsked handle.old.slot.value moment.old result moment.new }
+    ensures answer { QueriesDeadline handle.old.slot.value moment.old result moment.new }
     ensures same { handle.new ≡ handle.old }
 {
     if !handle.is_open() {
@@ -115,7 +115,7 @@ pub extern "C" fn dcsctp_buffered_amount(
     stream_id: u16,
     bytes: &mut usize,
 ) -> i32
-    ensures answer { AskedBelow (WritesAnswer (AmountIs stream_id)) handle.old.slot.value bytes.old
+    ensures answer { QueriesBelowChannels (WritesAnswer (AmountIs stream_id)) handle.old.slot.value bytes.old
         result bytes.new }
     ensures same { handle.new ≡ handle.old }
 {
@@ -136,7 +136,7 @@ pub extern "C" fn dcsctp_buffered_amount_low_threshold(
     stream_id: u16,
     bytes: &mut usize,
 ) -> i32
-    ensures answer { AskedBelow
+    ensures answer { QueriesBelowChannels
         (WritesAnswer (λ session told. told ≡ (stream_shown (view session) stream_id).threshold))
         handle.old.slot.value bytes.old result bytes.new }
     ensures same { handle.new ≡ handle.old }
@@ -158,7 +158,7 @@ pub extern "C" fn dcsctp_get_stream_priority(
     stream_id: u16,
     priority: &mut u16,
 ) -> i32
-    ensures answer { AskedBelow
+    ensures answer { QueriesBelowChannels
         (WritesAnswer (λ session told. told ≡ (stream_shown (view session) stream_id).priority))
         handle.old.slot.value priority.old result priority.new }
     ensures same { handle.new ≡ handle.old }
@@ -176,7 +176,7 @@ pub extern "C" fn dcsctp_get_stream_priority(
 /// How many messages are ready to be taken.
 #[unsafe(no_mangle)]
 pub extern "C" fn dcsctp_messages_ready_count(handle: &mut Handle, count: &mut usize) -> i32
-    ensures answer { AskedBelow
+    ensures answer { QueriesBelowChannels
         (WritesAnswer (λ session told. told ≡ length (ready_messages (view session).endpoint)))
         handle.old.slot.value count.old result count.new }
     ensures same { handle.new ≡ handle.old }
@@ -193,7 +193,7 @@ pub extern "C" fn dcsctp_messages_ready_count(handle: &mut Handle, count: &mut u
 
 // Writes the metrics, where the peer is known, whatever the size that the record says.
 fn write_metrics(handle: &mut Handle, metrics: &mut MetricsRecord) -> i32
-    ensures answer { MetricsAsked handle.old.slot.value metrics.old result metrics.new }
+    ensures answer { QueriesMetrics handle.old.slot.value metrics.old result metrics.new }
     ensures same { handle.new ≡ handle.old }
 {
     if !handle.is_open() {
@@ -220,7 +220,7 @@ pub extern "C" fn dcsctp_get_metrics(handle: &mut Handle, metrics: &mut MetricsR
 
 // Writes the counts, whatever the size that the record says.
 fn write_counts(handle: &mut Handle, counts: &mut CountsRecord) -> i32
-    ensures answer { CountsAsked handle.old.slot.value counts.old result counts.new }
+    ensures answer { QueriesCounts handle.old.slot.value counts.old result counts.new }
     ensures same { handle.new ≡ handle.old }
 {
     if !handle.is_open() {

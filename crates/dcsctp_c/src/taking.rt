@@ -2,8 +2,8 @@
 
 ghost use Rattle.std.specs.Prelude.{◌≡◌};
 ghost use Rattle.dcsctp_session.specs.Views.{bytes_of_polled, packet_in_event, streams_in_event, payload_of_taken, message_of_taken};
-ghost use Rattle.dcsctp_c.specs.Exports.{WrittenBelow, WritesEvent, WritesMessage};
-ghost use Rattle.dcsctp_c.specs.Queries.{AskedBelow, CopiesFrom, buffer_of, ShowsFrom, output_place};
+ghost use Rattle.dcsctp_c.specs.Exports.{WritesBelowChannels, WritesEvent, WritesMessage};
+ghost use Rattle.dcsctp_c.specs.Queries.{QueriesBelowChannels, CopiesFrom, buffer_of, ShowsFrom, output_place};
 
 use crate::answers::take;
 use dcsctp_channel_session::Held;
@@ -13,7 +13,7 @@ use dcsctp_session::{EventRecord, MessageRecord, Status};
 /// Takes the event that was added first.
 #[unsafe(no_mangle)]
 pub extern "C" fn dcsctp_poll_event(handle: &mut Handle, event: &mut EventRecord) -> i32
-    ensures { WrittenBelow WritesEvent handle.old.slot.value event.old result event.new
+    ensures { WritesBelowChannels WritesEvent handle.old.slot.value event.old result event.new
         handle.new.slot.value }
 {
     if !handle.is_open() {
@@ -32,7 +32,7 @@ pub extern "C" fn dcsctp_event_bytes(
     buffer: &mut [u8],
     length: &mut usize,
 ) -> i32
-    ensures answer { AskedBelow (CopiesFrom (λ session. bytes_of_polled session.taken.event))
+    ensures answer { QueriesBelowChannels (CopiesFrom (λ session. bytes_of_polled session.taken.event))
         handle.old.slot.value
         (buffer_of buffer.old length.old) result (buffer_of buffer.new length.new) }
     ensures same { handle.new ≡ handle.old }
@@ -53,7 +53,7 @@ pub extern "C" fn dcsctp_event_view(
     bytes: &mut *const u8,
     length: &mut usize,
 ) -> i32
-    ensures answer { AskedBelow (ShowsFrom (λ session. packet_in_event session.taken.event))
+    ensures answer { QueriesBelowChannels (ShowsFrom (λ session. packet_in_event session.taken.event))
         handle.old.slot.value
         (output_place bytes.old length.old) result (output_place bytes.new length.new) }
     ensures same { handle.new ≡ handle.old }
@@ -74,7 +74,7 @@ pub extern "C" fn dcsctp_event_streams(
     buffer: &mut [u16],
     count: &mut usize,
 ) -> i32
-    ensures answer { AskedBelow (CopiesFrom (λ session. streams_in_event session.taken.event))
+    ensures answer { QueriesBelowChannels (CopiesFrom (λ session. streams_in_event session.taken.event))
         handle.old.slot.value
         (buffer_of buffer.old count.old) result (buffer_of buffer.new count.new) }
     ensures same { handle.new ≡ handle.old }
@@ -91,7 +91,7 @@ pub extern "C" fn dcsctp_event_streams(
 /// Takes the message that became ready first.
 #[unsafe(no_mangle)]
 pub extern "C" fn dcsctp_get_next_message(handle: &mut Handle, message: &mut MessageRecord) -> i32
-    ensures { WrittenBelow WritesMessage handle.old.slot.value message.old result message.new
+    ensures { WritesBelowChannels WritesMessage handle.old.slot.value message.old result message.new
         handle.new.slot.value }
 {
     if !handle.is_open() {
@@ -110,7 +110,7 @@ pub extern "C" fn dcsctp_message_bytes(
     buffer: &mut [u8],
     length: &mut usize,
 ) -> i32
-    ensures answer { AskedBelow (CopiesFrom (λ session. payload_of_taken session.taken.message))
+    ensures answer { QueriesBelowChannels (CopiesFrom (λ session. payload_of_taken session.taken.message))
         handle.old.slot.value
         (buffer_of buffer.old length.old) result (buffer_of buffer.new length.new) }
     ensures same { handle.new ≡ handle.old }
@@ -131,7 +131,7 @@ pub extern "C" fn dcsctp_message_view(
     bytes: &mut *const u8,
     length: &mut usize,
 ) -> i32
-    ensures answer { AskedBelow (ShowsFrom (λ session. message_of_taken session.taken.message))
+    ensures answer { QueriesBelowChannels (ShowsFrom (λ session. message_of_taken session.taken.message))
         handle.old.slot.value
         (output_place bytes.old length.old) result (output_place bytes.new length.new) }
     ensures same { handle.new ≡ handle.old }

@@ -150,8 +150,8 @@ has_own_place count named channel places =
     nat_lt channel.stream count && nat_lt channel.name named && not (is_some (entry_numbered channel.stream places.streams))
     && not (is_some (entry_numbered channel.name places.names))
 
-abbrev pub placed : ℕ → HandoverChannel → ChannelPlaces → ChannelPlaces
-placed moment channel places =
+abbrev pub places_with_channel : ℕ → HandoverChannel → ChannelPlaces → ChannelPlaces
+places_with_channel moment channel places =
     record {
       streams = entry_put channel.stream (held_again moment channel) places.streams;
       names = entry_put channel.name channel.stream places.names;
@@ -161,7 +161,7 @@ placed moment channel places =
 abbrev pub places_beside : ℕ → ℕ → ℕ → List HandoverChannel → ChannelPlaces → Option ChannelPlaces
 places_beside moment count named [] places = Some places
 places_beside moment count named (channel ∷ channels) places =
-    if has_own_place count named channel places then places_beside moment count named channels (placed moment channel places) else None
+    if has_own_place count named channel places then places_beside moment count named channels (places_with_channel moment channel places) else None
 
 -- how many streams go both ways
 abbrev pub streams_of_snapshot : HandoverCapabilities → ℕ
@@ -196,13 +196,13 @@ pub record RestoresAll (state : Snapshot) (part : ChannelsPart) (places : Channe
   pub socket : RestoresSocket state old.below (Ok (Ok tt)) below
   pub is : new ≡ record { below = below; layer = layer_restored part places old.layer }
 
-abbrev pub RestoresInto : Snapshot → ChannelsPart → Option ChannelPlaces → Result (Unit {0}) RestoreChannelsError → ChannelsView → ChannelsView → Type 0
-RestoresInto state part None answer old new = (answer ≡ Err errors.InvalidSnapshot) × (new ≡ old)
-RestoresInto state part (Some places) answer old new = (answer ≡ Ok tt) × RestoresAll state part places old new
+abbrev pub RestoresIfPlaced : Snapshot → ChannelsPart → Option ChannelPlaces → Result (Unit {0}) RestoreChannelsError → ChannelsView → ChannelsView → Type 0
+RestoresIfPlaced state part None answer old new = (answer ≡ Err errors.InvalidSnapshot) × (new ≡ old)
+RestoresIfPlaced state part (Some places) answer old new = (answer ≡ Ok tt) × RestoresAll state part places old new
 
 abbrev pub RestoresIfUnused : Bool → Snapshot → ChannelsPart → Result (Unit {0}) RestoreChannelsError → ChannelsView → ChannelsView → Type 0
 RestoresIfUnused false state part answer old new = (answer ≡ Err errors.NotNew) × (new ≡ old)
-RestoresIfUnused true state part answer old new = RestoresInto state part (places_restored state part old) answer old new
+RestoresIfUnused true state part answer old new = RestoresIfPlaced state part (places_restored state part old) answer old new
 
 -- Only a new socket is restored, and only from a snapshot that is valid. Else nothing changes.
 abbrev pub RestoresChannels : Snapshot → ChannelsPart → Result (Unit {0}) RestoreChannelsError → ChannelsView → ChannelsView → Type 0

@@ -6,7 +6,7 @@ use Rattle.std.specs.List.{list_all}
 use Rattle.std.proofs.lemmas.Bool.{and_parts, ltb-true, lt-ltb, eqb-true, cases_eq}
 use Rattle.std.proofs.lemmas.List.{nil_from_length}
 use Rattle.std.proofs.lemmas.Nat.{le_or_l, le_or_r}
-use Rattle.dcsctp_channel_laws.specs.Lives.{ComesFirst, AreRising, IsOrderly, is_placed, life_where}
+use Rattle.dcsctp_channel_laws.specs.Lives.{ComesFirst, AreRising, IsOrderly, is_placed, life_by_place}
 use Rattle.dcsctp_channel_laws.proofs.Maps.{put_here, put_apart}
 use Rattle.dcsctp_channel_laws.proofs.First.{begin_apart, states_true}
 use Rattle.dcsctp_channel_handover.specs.channel_calls.api.types.Readiness.{reason_if_true}
@@ -24,7 +24,7 @@ use Rattle.dcsctp_channel_handover.specs.channel_calls.Queries.{channel_state}
 use Rattle.dcsctp_channel_handover.specs.channel_calls.View.{WaitingChannel, LayerView, ChannelsView, entry_numbered, slot_of, stream_count, streams_if_connected, view_with_events}
 use Rattle.dcsctp_channel_handover.specs.declared.state.ChannelsHandoverState.{ChannelsHandoverState}
 use Rattle.dcsctp_channel_handover.specs.declared.state.HandoverChannel.{HandoverChannel}
-use Rattle.dcsctp_channel_handover.specs.Handover.{ChannelsPart, ChannelPlaces, no_places, is_empty, is_plain, has_settled, are_settled, has_association, readiness_with_channels, name_or_zero, carried_channel, carried_channels, layer_handed_over, held_again, has_own_place, placed, places_beside, streams_of_snapshot, is_valid_below, is_unused, places_restored, HandsOverNow}
+use Rattle.dcsctp_channel_handover.specs.Handover.{ChannelsPart, ChannelPlaces, no_places, is_empty, is_plain, has_settled, are_settled, has_association, readiness_with_channels, name_or_zero, carried_channel, carried_channels, layer_handed_over, held_again, has_own_place, places_with_channel, places_beside, streams_of_snapshot, is_valid_below, is_unused, places_restored, HandsOverNow}
 use Rattle.dcsctp_channel_handover_laws.specs.Handovers.{HandedOverAreGone, GoesOn, HandedOverGoOn}
 use Rattle.dcsctp_channel_handover_laws.proofs.Restoring.{unused_waits}
 
@@ -187,7 +187,7 @@ module _ (old : LayerView) (a : IsOrderly old) (moment count : ℕ) (number : �
       rw (first, second, free_stream, fourth) refl
 
   abbrev after : ChannelPlaces
-  after = placed moment channel places
+  after = places_with_channel moment channel places
 
   name_here : entry_numbered name after.names ≡ Some number
   name_here = subst (λ (n : ℕ). entry_numbered n after.names ≡ Some number) named_so (put_here channel.name number places.names)
@@ -279,12 +279,12 @@ begins_way old a =
 -- ---- the whole
 
 life_same : (names others : List (ℕ × ℕ)) (waiting also : List WaitingChannel) (named name : ℕ) → entry_numbered name names ≡ entry_numbered name others → waiting ≡ [] → also ≡ []
-    → life_where (is_placed names waiting name) (ltb name named) ≡ life_where (is_placed others also name) (ltb name named)
+    → life_by_place (is_placed names waiting name) (ltb name named) ≡ life_by_place (is_placed others also name) (ltb name named)
 life_same names others waiting also named name at none none_too =
     let first : is_placed names waiting name ≡ is_placed names [] name = ap (λ (w : List WaitingChannel). is_placed names w name) none in
     let second : is_placed names [] name ≡ is_placed others [] name = ap (λ (o : Option ℕ). is_some o) at in
     let third : is_placed others also name ≡ is_placed others [] name = ap (λ (w : List WaitingChannel). is_placed others w name) none_too in
-    ap (λ (b : Bool). life_where b (ltb name named)) (first ∙ second ∙ sym third)
+    ap (λ (b : Bool). life_by_place b (ltb name named)) (first ∙ second ∙ sym third)
 
 go_on_now : (state : ChannelsHandoverState) (old new other : ChannelsView) → HandsOverNow (Ok state) old new → IsOrderly old.layer → is_unused other ≡ true → is_valid_below (snapshot state.socket) other ≡ true
     → GoesOn state old.layer other
@@ -304,7 +304,7 @@ go_on_now state old new other (ready, all) a unused valid =
       places = placed_all.result;
       are = subst (λ (part : ChannelsPart). places_restored (snapshot state.socket) part other ≡ Some placed_all.result) (sym all.channels) are;
       lives = λ name.
-          ap (λ (n : ℕ). life_where (is_placed placed_all.result.names other.layer.waiting name) (ltb name n)) (ap (λ (part : ChannelsPart). part.named) all.channels)
+          ap (λ (n : ℕ). life_by_place (is_placed placed_all.result.names other.layer.waiting name) (ltb name n)) (ap (λ (part : ChannelsPart). part.named) all.channels)
           ∙ life_same placed_all.result.names old.layer.names other.layer.waiting old.layer.waiting old.layer.named name (placed_all.names name) there here;
     }
   where

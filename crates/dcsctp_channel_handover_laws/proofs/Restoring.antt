@@ -11,7 +11,7 @@ use Rattle.dcsctp_channel_handover.specs.channel_calls.declared.channel.HeldStre
 use Rattle.dcsctp_channel_handover.specs.channel_calls.messages.channel_spec.Slots.{name_of_slot}
 use Rattle.dcsctp_channel_handover.specs.channel_calls.View.{WaitingChannel, ChannelsView, entry_numbered, slot_of}
 use Rattle.dcsctp_channel_handover.specs.declared.state.HandoverChannel.{HandoverChannel}
-use Rattle.dcsctp_channel_handover.specs.Handover.{ChannelsPart, ChannelPlaces, no_places, held_again, has_own_place, placed, places_beside, is_empty, is_unused, places_restored, is_valid_below, streams_of_snapshot, RestoresIfUnused, RestoresInto}
+use Rattle.dcsctp_channel_handover.specs.Handover.{ChannelsPart, ChannelPlaces, no_places, held_again, has_own_place, places_with_channel, places_beside, is_empty, is_unused, places_restored, is_valid_below, streams_of_snapshot, RestoresIfUnused, RestoresIfPlaced}
 use Rattle.dcsctp_channel_handover_laws.specs.Handovers.{RestoredAreOrderly}
 
 abbrev AreInOrder : ℕ → ChannelPlaces → Type 0
@@ -38,22 +38,22 @@ is_none (Some x) is = absurd cc
 
 module _ (moment named : ℕ) (channel : HandoverChannel) (places : ChannelPlaces) (a : AreInOrder named places) (below : channel.name < named)
     (no_stream : entry_numbered channel.stream places.streams ≡ None) (no_name : entry_numbered channel.name places.names ≡ None) where
-  new_leads : (number name : ℕ) → name_of_slot (slot_of (entry_numbered number (placed moment channel places).streams)) ≡ Some name → entry_numbered name (placed moment channel places).names ≡ Some number
+  new_leads : (number name : ℕ) → name_of_slot (slot_of (entry_numbered number (places_with_channel moment channel places).streams)) ≡ Some name → entry_numbered name (places_with_channel moment channel places).names ≡ Some number
   new_leads number name is = go (cases_eq number channel.stream)
     where
       name_apart : entry_numbered name places.names ≡ Some number → name ≡ channel.name → ⊥
       name_apart at same = let at_it : entry_numbered channel.name places.names ≡ Some number = subst (λ (n : ℕ). entry_numbered n places.names ≡ Some number) same at in absurd cc
 
-      go : (number ≡ channel.stream) ⊎ (number ≡ channel.stream → ⊥) → entry_numbered name (placed moment channel places).names ≡ Some number
+      go : (number ≡ channel.stream) ⊎ (number ≡ channel.stream → ⊥) → entry_numbered name (places_with_channel moment channel places).names ≡ Some number
       go (inl same) =
-          let here : entry_numbered number (placed moment channel places).streams ≡ Some (held_again moment channel) = rw same (put_here channel.stream (held_again moment channel) places.streams) in
+          let here : entry_numbered number (places_with_channel moment channel places).streams ≡ Some (held_again moment channel) = rw same (put_here channel.stream (held_again moment channel) places.streams) in
           let named_so : channel.name ≡ name = let both : Some channel.name ≡ Some name = sym (ap (λ (o : Option HeldStream). name_of_slot (slot_of o)) here) ∙ is in cc in
-          subst (λ (n : ℕ). entry_numbered n (placed moment channel places).names ≡ Some number) named_so (put_here channel.name channel.stream places.names ∙ ap Some (sym same))
+          subst (λ (n : ℕ). entry_numbered n (places_with_channel moment channel places).names ≡ Some number) named_so (put_here channel.name channel.stream places.names ∙ ap Some (sym same))
       go (inr apart) =
           let old : entry_numbered name places.names ≡ Some number = a.leads number name (sym (ap (λ (o : Option HeldStream). name_of_slot (slot_of o)) (put_apart number channel.stream (held_again moment channel) places.streams apart)) ∙ is) in
           put_apart name channel.name channel.stream places.names (name_apart old) ∙ old
 
-  new_led_to : (name number : ℕ) → entry_numbered name (placed moment channel places).names ≡ Some number → name_of_slot (slot_of (entry_numbered number (placed moment channel places).streams)) ≡ Some name
+  new_led_to : (name number : ℕ) → entry_numbered name (places_with_channel moment channel places).names ≡ Some number → name_of_slot (slot_of (entry_numbered number (places_with_channel moment channel places).streams)) ≡ Some name
   new_led_to name number at = go (cases_eq name channel.name)
     where
       stream_apart : name_of_slot (slot_of (entry_numbered number places.streams)) ≡ Some name → number ≡ channel.stream → ⊥
@@ -61,25 +61,25 @@ module _ (moment named : ℕ) (channel : HandoverChannel) (places : ChannelPlace
           let there : name_of_slot (slot_of (entry_numbered channel.stream places.streams)) ≡ Some name = subst (λ (n : ℕ). name_of_slot (slot_of (entry_numbered n places.streams)) ≡ Some name) same has in
           let none : None ≡ Some name = sym (ap (λ (o : Option HeldStream). name_of_slot (slot_of o)) no_stream) ∙ there in absurd cc
 
-      go : (name ≡ channel.name) ⊎ (name ≡ channel.name → ⊥) → name_of_slot (slot_of (entry_numbered number (placed moment channel places).streams)) ≡ Some name
+      go : (name ≡ channel.name) ⊎ (name ≡ channel.name → ⊥) → name_of_slot (slot_of (entry_numbered number (places_with_channel moment channel places).streams)) ≡ Some name
       go (inl same) =
-          let here : entry_numbered name (placed moment channel places).names ≡ Some channel.stream = rw same (put_here channel.name channel.stream places.names) in
+          let here : entry_numbered name (places_with_channel moment channel places).names ≡ Some channel.stream = rw same (put_here channel.name channel.stream places.names) in
           let stream_is : channel.stream ≡ number = let both : Some channel.stream ≡ Some number = sym here ∙ at in cc in
-          subst (λ (n : ℕ). name_of_slot (slot_of (entry_numbered n (placed moment channel places).streams)) ≡ Some name) stream_is
+          subst (λ (n : ℕ). name_of_slot (slot_of (entry_numbered n (places_with_channel moment channel places).streams)) ≡ Some name) stream_is
           (ap (λ (o : Option HeldStream). name_of_slot (slot_of o)) (put_here channel.stream (held_again moment channel) places.streams) ∙ ap Some (sym same))
       go (inr apart) =
           let old : entry_numbered name places.names ≡ Some number = sym (put_apart name channel.name channel.stream places.names apart) ∙ at in
           let has : name_of_slot (slot_of (entry_numbered number places.streams)) ≡ Some name = a.led_to name number old in
           ap (λ (o : Option HeldStream). name_of_slot (slot_of o)) (put_apart number channel.stream (held_again moment channel) places.streams (stream_apart has)) ∙ has
 
-  new_was_named : (name number : ℕ) → entry_numbered name (placed moment channel places).names ≡ Some number → name < named
+  new_was_named : (name number : ℕ) → entry_numbered name (places_with_channel moment channel places).names ≡ Some number → name < named
   new_was_named name number at = go (cases_eq name channel.name)
     where
       go : (name ≡ channel.name) ⊎ (name ≡ channel.name → ⊥) → name < named
       go (inl same) = subst (λ (n : ℕ). n < named) (sym same) below
       go (inr apart) = a.was_named name number (sym (put_apart name channel.name channel.stream places.names apart) ∙ at)
 
-  pub placed_in_order : AreInOrder named (placed moment channel places)
+  pub placed_in_order : AreInOrder named (places_with_channel moment channel places)
   placed_in_order =
       record {
         streams_rise = rising_put channel.stream (held_again moment channel) places.streams a.streams_rise;
@@ -116,10 +116,10 @@ beside_in_order : (moment count named : ℕ) (channels : List HandoverChannel) (
     → places_beside moment count named channels places ≡ Some result → AreInOrder named result
 beside_in_order moment count named [] places result a is = let same : places ≡ result = cc in subst (AreInOrder named) same a
 beside_in_order moment count named (channel ∷ channels) places result a is =
-    go (has_own_place count named channel places) refl is (λ order then. beside_in_order moment count named channels (placed moment channel places) result order then)
+    go (has_own_place count named channel places) refl is (λ order then. beside_in_order moment count named channels (places_with_channel moment channel places) result order then)
   where
-    go : (own : Bool) → has_own_place count named channel places ≡ own → cond own (places_beside moment count named channels (placed moment channel places)) None ≡ Some result
-        → (AreInOrder named (placed moment channel places) → places_beside moment count named channels (placed moment channel places) ≡ Some result → AreInOrder named result) → AreInOrder named result
+    go : (own : Bool) → has_own_place count named channel places ≡ own → cond own (places_beside moment count named channels (places_with_channel moment channel places)) None ≡ Some result
+        → (AreInOrder named (places_with_channel moment channel places) → places_beside moment count named channels (places_with_channel moment channel places) ≡ Some result → AreInOrder named result) → AreInOrder named result
     go false so then rest = absurd cc
     go true so then rest =
         let parts = own_parts count named channel places so in
@@ -145,7 +145,7 @@ unused_waits view is =
 pub restored_are_orderly : RestoredAreOrderly
 restored_are_orderly state part old new restores = by_use (is_unused old) refl restores
   where
-    by_places : (places : Option ChannelPlaces) → places_restored state part old ≡ places → is_unused old ≡ true → RestoresInto state part places (Ok tt) old new → IsOrderly new.layer × (new.layer.named ≡ part.named)
+    by_places : (places : Option ChannelPlaces) → places_restored state part old ≡ places → is_unused old ≡ true → RestoresIfPlaced state part places (Ok tt) old new → IsOrderly new.layer × (new.layer.named ≡ part.named)
     by_places None are unused into = let wrong : Ok tt ≡ Err _ = into.0 in absurd cc
     by_places (Some places) are unused into =
         let order : AreInOrder part.named places = restored_in_order state part old places are in

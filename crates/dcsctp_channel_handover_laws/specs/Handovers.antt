@@ -1,6 +1,6 @@
 -- What a handover keeps of channels.
 use Rattle.std.specs.Prelude.{◌≡◌, ℕ, true, Some, Ok}
-use Rattle.dcsctp_channel_laws.specs.Lives.{IsOrderly, life_in}
+use Rattle.dcsctp_channel_laws.specs.Lives.{IsOrderly, life_of_channel}
 use Rattle.dcsctp_channel_handover.specs.channel_calls.api.types.Snapshot.{Snapshot, snapshot}
 use Rattle.dcsctp_channel_handover.specs.channel_calls.Queries.{channel_state}
 use Rattle.dcsctp_channel_handover.specs.channel_calls.View.{LayerView, ChannelsView}
@@ -22,7 +22,7 @@ HandedOverAreGone =
 pub record GoesOn (state : ChannelsHandoverState) (old : LayerView) (other : ChannelsView) : Type 0 where
   pub places : ChannelPlaces
   pub are : places_restored (snapshot state.socket) (channels_part state.channels) other ≡ Some places
-  pub lives : (name : ℕ) → life_in (layer_restored (channels_part state.channels) places other.layer) name ≡ life_in old name
+  pub lives : (name : ℕ) → life_of_channel (layer_restored (channels_part state.channels) places other.layer) name ≡ life_of_channel old name
 
 abbrev pub HandedOverGoOn : Type 0
 HandedOverGoOn =

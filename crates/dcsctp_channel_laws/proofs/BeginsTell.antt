@@ -16,29 +16,29 @@ use Rattle.dcsctp_channel_calls.specs.Calls.{OnlySocket, on_layer}
 use Rattle.dcsctp_channel_calls.specs.Queries.{is_waiting}
 use Rattle.dcsctp_channel_calls.specs.Sending.{row_taken_if_held}
 use Rattle.dcsctp_channel_calls.specs.Opening.{GetsStream, BeginsOn, BeginsInTurn, none_waits, begins, waits_on, BeginsWhereKnown, BeginsWaiting, may_begin, view_after_open, opening_said, is_taken, channels_waiting, without_stream}
-use Rattle.dcsctp_channel_laws.specs.Lives.{IsInOrder, IsOrderly, is_placed, Life, lasting, gone, life_where, life_in, Hears, TellsLives}
+use Rattle.dcsctp_channel_laws.specs.Lives.{IsInOrder, IsOrderly, is_placed, Life, lasting, gone, life_by_place, life_of_channel, Hears, ReportsLives}
 use Rattle.dcsctp_channel_laws.proofs.Rows.{accepts, no_names}
 use Rattle.dcsctp_channel_laws.proofs.Places.{IsFresh}
 use Rattle.dcsctp_channel_laws.proofs.Telling.{tells_then, tells_nothing, hears_as, ends_now, ends_other, lives_waiting, lives_nowhere, IsGiven, given_own, quiet_row_tells}
 use Rattle.dcsctp_channel_laws.proofs.Waits.{head_waits, past_head, first_out}
 
 abbrev pub Keeps : LayerView → LayerView → Type 0
-Keeps old new = IsOrderly old → TellsLives (life_in old) old [] new
+Keeps old new = IsOrderly old → ReportsLives (life_of_channel old) old [] new
 
 pub same_tells : (layer : LayerView) → Keeps layer layer
 same_tells layer a = tells_nothing layer layer refl (λ n. refl) a
 
 pub keeps_then : (a b c : LayerView) → Keeps a b → Keeps b c → Keeps a c
-keeps_then a b c first second apart = tells_then (life_in a) a b [] c (first apart) second
+keeps_then a b c first second apart = tells_then (life_of_channel a) a b [] c (first apart) second
 
-pub tells_to : (before : ℕ → Life) (old : LayerView) (between new : ChannelsView) → new ≡ between → TellsLives before old [] between.layer → TellsLives before old [] new.layer
-tells_to before old between new is tells = subst (λ (v : ChannelsView). TellsLives before old [] v.layer) (sym is) tells
+pub tells_to : (before : ℕ → Life) (old : LayerView) (between new : ChannelsView) → new ≡ between → ReportsLives before old [] between.layer → ReportsLives before old [] new.layer
+tells_to before old between new is tells = subst (λ (v : ChannelsView). ReportsLives before old [] v.layer) (sym is) tells
 
 -- ---- the socket below
 
 pub only_tells : (Makes : UserView → Type 0) (old new : ChannelsView) → OnlySocket Makes old new → Keeps old.layer new.layer
 only_tells Makes old new only a =
-    tells_to (life_in old.layer) old.layer (view_with_events (record old { below = only.below })) new only.is (tells_nothing old.layer (view_with_events (record old { below = only.below })).layer refl (λ n. refl) a)
+    tells_to (life_of_channel old.layer) old.layer (view_with_events (record old { below = only.below })) new only.is (tells_nothing old.layer (view_with_events (record old { below = only.below })).layer refl (λ n. refl) a)
 
 pub gathers_tell : (view : ChannelsView) → Keeps view.layer (view_with_events view).layer
 gathers_tell view a = tells_nothing view.layer (view_with_events view).layer refl (λ n. refl) a
@@ -51,7 +51,7 @@ GivesNone input = (slot : StreamSlot) → given_name input slot ≡ name_of_slot
 
 pub row_tells : EachSpeaksInTurn → (number : ℕ) (delivery : Delivery) (input : SlotInput) (layer : LayerView) → accepts input ≡ false → GivesNone input → Keeps layer (row_taken number delivery input layer)
 row_tells law number delivery input layer not gives a =
-    quiet_row_tells number delivery input (outcome_of input (slot_numbered layer number)) layer a (name_of_slot (slot_numbered layer number)) (life_in layer) (given_own number layer a)
+    quiet_row_tells number delivery input (outcome_of input (slot_numbered layer number)) layer a (name_of_slot (slot_numbered layer number)) (life_of_channel layer) (given_own number layer a)
     (subst (λ (g : Option ℕ). Speaks g (outcome_of input (slot_numbered layer number)).reports (name_of_slot (outcome_of input (slot_numbered layer number)).after)) (gives (slot_numbered layer number)) (law input (slot_numbered layer number)))
     (no_names input (slot_numbered layer number) not)
 
@@ -63,7 +63,7 @@ row_where_tells law (Some held) number input layer not gives a = row_tells law n
 
 -- the lives where these wait
 abbrev pub life_with : List WaitingChannel → LayerView → ℕ → Life
-life_with waiting layer n = life_where (is_placed layer.names waiting n) (nat_lt n layer.named)
+life_with waiting layer n = life_by_place (is_placed layer.names waiting n) (nat_lt n layer.named)
 
 -- one that waited first is given a stream
 given_first : (waits : WaitingChannel) (rest : List WaitingChannel) (number : ℕ) (layer : LayerView) → IsInOrder layer.streams layer.names (waits ∷ rest) layer.named → slot_numbered layer number ≡ free
@@ -73,7 +73,7 @@ given_first waits rest number layer a is_free =
       from = λ n had. let none : name_of_slot (slot_numbered layer number) ≡ None = ap name_of_slot is_free in absurd cc;
       is_free = λ n same. let named : waits.name ≡ n = cc in inr (subst (λ (m : ℕ). IsFresh (channels_waiting rest layer) layer.named m) named fresh);
       lasts = λ n same. let named : waits.name ≡ n = cc in lives_waiting layer.names (waits ∷ rest) n (nat_lt n layer.named) (head_waits waits rest n named);
-      others = λ n not. ap (λ (b : Bool). life_where (b || is_some (entry_numbered n layer.names)) (nat_lt n layer.named)) (past_head waits rest n (λ (s : waits.name ≡ n). not (ap Some s)));
+      others = λ n not. ap (λ (b : Bool). life_by_place (b || is_some (entry_numbered n layer.names)) (nat_lt n layer.named)) (past_head waits rest n (λ (s : waits.name ≡ n). not (ap Some s)));
     }
   where
     waits_first : is_waiting waits.name (waits ∷ rest) ≡ true
@@ -84,7 +84,7 @@ given_first waits rest number layer a is_free =
 
 -- What a channel that waited first becomes.
 abbrev TellsFirst : WaitingChannel → List WaitingChannel → LayerView → LayerView → Type 0
-TellsFirst waits rest layer new = TellsLives (life_with (waits ∷ rest) layer) (channels_waiting rest layer) [] new
+TellsFirst waits rest layer new = ReportsLives (life_with (waits ∷ rest) layer) (channels_waiting rest layer) [] new
 
 agrees_tells : (waits : WaitingChannel) (rest : List WaitingChannel) (number : ℕ) (layer : LayerView) → IsInOrder layer.streams layer.names (waits ∷ rest) layer.named → slot_numbered layer number ≡ free
     → TellsFirst waits rest layer (row_taken number waits.delivery (agrees waits.name) (channels_waiting rest layer))
@@ -118,7 +118,7 @@ none_tells waits rest layer a =
     lives n (inl same) = subst (λ (m : ℕ). Hears m (life_with (waits ∷ rest) layer m) (of_channel (ended waits.name NoStream) ∷ []) (life_with rest layer m)) same own
     lives n (inr apart) =
         ends_other n waits.name NoStream [] (life_with (waits ∷ rest) layer n) (life_with rest layer n) apart
-        (ap (λ (b : Bool). life_where (b || is_some (entry_numbered n layer.names)) (nat_lt n layer.named)) (sym (past_head waits rest n apart)))
+        (ap (λ (b : Bool). life_by_place (b || is_some (entry_numbered n layer.names)) (nat_lt n layer.named)) (sym (past_head waits rest n apart)))
 
 -- the stream that a channel gets is free
 gets_free : (role : Role) (view : ChannelsView) (negotiated : Option ℕ) (number : ℕ) → GetsStream role view negotiated (Some number) → slot_numbered view.layer number ≡ free
@@ -159,12 +159,12 @@ stays_tells role waits rest None (Some number) old between a on =
     subst (λ (v : ChannelsView). TellsFirst waits rest old.layer (channels_waiting (waits ∷ rest) v.layer)) (sym on.is) (refused_tells on.answer waits rest number on.below old.layer a on.begins)
 
 -- the same from the layer in which it waits
-tells_out : (waits : WaitingChannel) (rest : List WaitingChannel) (layer new : LayerView) → layer.waiting ≡ waits ∷ rest → TellsFirst waits rest layer new → TellsLives (life_in layer) layer [] new
+tells_out : (waits : WaitingChannel) (rest : List WaitingChannel) (layer new : LayerView) → layer.waiting ≡ waits ∷ rest → TellsFirst waits rest layer new → ReportsLives (life_of_channel layer) layer [] new
 tells_out waits rest layer new is tells =
     record {
       more = tells.more;
       behind = tells.behind;
-      lives = λ n. subst (λ (w : List WaitingChannel). Hears n (life_with w layer n) tells.more (life_in new n)) (sym is) (tells.lives n);
+      lives = λ n. subst (λ (w : List WaitingChannel). Hears n (life_with w layer n) tells.more (life_of_channel new n)) (sym is) (tells.lives n);
       apart = tells.apart;
     }
 
@@ -172,20 +172,20 @@ in_order : (waits : WaitingChannel) (rest : List WaitingChannel) (layer : LayerV
 in_order waits rest layer is a = subst (λ (w : List WaitingChannel). IsInOrder layer.streams layer.names w layer.named) is a
 
 turns_tell : (role : Role) (new old : ChannelsView) → BeginsInTurn role new old → Keeps old.layer new.layer
-turns_tell role new _ (none_waits old none is) a = tells_to (life_in old.layer) old.layer old new is (same_tells old.layer a)
+turns_tell role new _ (none_waits old none is) a = tells_to (life_of_channel old.layer) old.layer old new is (same_tells old.layer a)
 turns_tell role new _ (begins old between waits rest is first others) a =
-    tells_then (life_in old.layer) old.layer between.layer [] new.layer
+    tells_then (life_of_channel old.layer) old.layer between.layer [] new.layer
     (tells_out waits rest old.layer between.layer is (first_tells role waits rest waits.negotiated first.stream old between (in_order waits rest old.layer is a) first.gets first.begins))
     (turns_tell role new between others)
 turns_tell role new _ (waits_on old between waits rest is first back) a =
-    tells_to (life_in old.layer) old.layer (on_layer (channels_waiting (waits ∷ rest)) between) new back
+    tells_to (life_of_channel old.layer) old.layer (on_layer (channels_waiting (waits ∷ rest)) between) new back
     (tells_out waits rest old.layer (channels_waiting (waits ∷ rest) between.layer) is (stays_tells role waits rest waits.negotiated first.stream old between (in_order waits rest old.layer is a) first.begins))
 
 known_tells : (may : Bool) (role : Option Role) (old new : ChannelsView) → BeginsWhereKnown may role old new → Keeps old.layer new.layer
 known_tells true (Some role) old new turns a = turns_tell role new old turns a
-known_tells true None old new is a = tells_to (life_in old.layer) old.layer old new is (same_tells old.layer a)
-known_tells false None old new is a = tells_to (life_in old.layer) old.layer old new is (same_tells old.layer a)
-known_tells false (Some role) old new is a = tells_to (life_in old.layer) old.layer old new is (same_tells old.layer a)
+known_tells true None old new is a = tells_to (life_of_channel old.layer) old.layer old new is (same_tells old.layer a)
+known_tells false None old new is a = tells_to (life_of_channel old.layer) old.layer old new is (same_tells old.layer a)
+known_tells false (Some role) old new is a = tells_to (life_of_channel old.layer) old.layer old new is (same_tells old.layer a)
 
 pub waiting_tells : (old new : ChannelsView) → BeginsWaiting old new → Keeps old.layer new.layer
 waiting_tells old new begun a = known_tells (may_begin old.layer) old.layer.role old new begun a

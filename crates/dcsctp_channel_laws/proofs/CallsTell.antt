@@ -18,7 +18,7 @@ use Rattle.dcsctp_channel_calls.specs.Queries.{is_waiting}
 use Rattle.dcsctp_channel_calls.specs.Sending.{SendsIfOpen, view_after_send, counts_sent, without_waiting, ends_waiting, layer_after_close, channel_closed, SetsThresholdIfOpen, stream_unless_closing, open_held, open_on, open_stream, stream_of_name}
 use Rattle.dcsctp_channel_calls.specs.Opening.{OpensOrRefuses, open_refusal, named_next}
 use Rattle.dcsctp_channel_laws.specs.Names.{ChannelsCall, sets_role, connects, handles_input, advances, aborts, shuts_down, opens_channel, sends_content, closes_channel, sets_threshold, IsCallMade}
-use Rattle.dcsctp_channel_laws.specs.Lives.{AreRising, IsInOrder, IsOrderly, is_placed, Life, lasting, gone, life_where, life_in, Hears, TellsLives, life_from}
+use Rattle.dcsctp_channel_laws.specs.Lives.{AreRising, IsInOrder, IsOrderly, is_placed, Life, lasting, gone, life_by_place, life_of_channel, Hears, ReportsLives, life_from}
 use Rattle.dcsctp_channel_laws.proofs.Maps.{put_here, put_apart, rising_put}
 use Rattle.dcsctp_channel_laws.proofs.Telling.{tells_then, tells_nothing, hears_as, ends_now, ends_other, lives_waiting, lives_nowhere, lt_next, next_no_stream, next_not_waiting}
 use Rattle.dcsctp_channel_laws.proofs.Waits.{last_waits, before_last, apart_with_last, without_other, without_itself, apart_without, none_closed, one_closed}
@@ -28,9 +28,9 @@ use Rattle.dcsctp_channel_laws.proofs.BeginsTell.{Keeps, same_tells, tells_to, o
 
 -- with the name that the call returns
 abbrev life_opened : ℕ → LayerView → ℕ → Life
-life_opened id layer name = if id == name then lasting else life_in layer name
+life_opened id layer name = if id == name then lasting else life_of_channel layer name
 
-named_tells : (opening : Opening) (negotiated : Option ℕ) (layer : LayerView) → IsOrderly layer → TellsLives (life_opened layer.named layer) layer [] (named_next opening negotiated layer)
+named_tells : (opening : Opening) (negotiated : Option ℕ) (layer : LayerView) → IsOrderly layer → ReportsLives (life_opened layer.named layer) layer [] (named_next opening negotiated layer)
 named_tells opening negotiated layer a =
     record { more = []; behind = sym (append-nil layer.notices); lives = λ n. lives n (cases_eq layer.named n); apart = apart }
   where
@@ -40,14 +40,14 @@ named_tells opening negotiated layer a =
     added : WaitingChannel
     added = record { name = layer.named; payload = open_bytes opening; delivery = opening.delivery; negotiated = negotiated }
 
-    lives : (n : ℕ) → (layer.named ≡ n) ⊎ (layer.named ≡ n → ⊥) → life_in new n ≡ life_opened layer.named layer n
+    lives : (n : ℕ) → (layer.named ≡ n) ⊎ (layer.named ≡ n → ⊥) → life_of_channel new n ≡ life_opened layer.named layer n
     lives n (inl same) =
         lives_waiting layer.names (layer.waiting ++ added ∷ []) n (nat_lt n (layer.named + 1)) (last_waits layer.waiting added n same)
-        ∙ ap (λ (b : Bool). if b then lasting else life_in layer n) (sym (eq-eqb layer.named n same))
+        ∙ ap (λ (b : Bool). if b then lasting else life_of_channel layer n) (sym (eq-eqb layer.named n same))
     lives n (inr other) =
-        ap (λ (b : Bool). life_where (b || is_some (entry_numbered n layer.names)) (nat_lt n (layer.named + 1))) (before_last layer.waiting added n other)
-        ∙ ap (life_where (is_placed layer.names layer.waiting n)) (lt_next n layer.named other)
-        ∙ ap (λ (b : Bool). if b then lasting else life_in layer n) (sym (ne_eqb layer.named n other))
+        ap (λ (b : Bool). life_by_place (b || is_some (entry_numbered n layer.names)) (nat_lt n (layer.named + 1))) (before_last layer.waiting added n other)
+        ∙ ap (life_by_place (is_placed layer.names layer.waiting n)) (lt_next n layer.named other)
+        ∙ ap (λ (b : Bool). if b then lasting else life_of_channel layer n) (sym (ne_eqb layer.named n other))
 
     no_stream : (n : ℕ) → is_waiting n (layer.waiting ++ added ∷ []) ≡ true → (layer.named ≡ n) ⊎ (layer.named ≡ n → ⊥) → entry_numbered n layer.names ≡ None
     no_stream n waits (inl same) = subst (λ (m : ℕ). entry_numbered m layer.names ≡ None) same (next_no_stream layer a)
@@ -72,17 +72,17 @@ named_tells opening negotiated layer a =
 
 abbrev life_answered : Result ChannelId ChannelError → LayerView → ℕ → Life
 life_answered (Ok id) layer name = life_opened id.0 layer name
-life_answered (Err error) layer name = life_in layer name
+life_answered (Err error) layer name = life_of_channel layer name
 
 opens_tell : (opening : Opening) (negotiated : Option ℕ) (refusal : Option ChannelError) (answer : Result ChannelId ChannelError) (old new : ChannelsView) → OpensOrRefuses opening negotiated refusal answer old new
-    → IsOrderly old.layer → TellsLives (life_answered answer old.layer) old.layer [] new.layer
+    → IsOrderly old.layer → ReportsLives (life_answered answer old.layer) old.layer [] new.layer
 opens_tell opening negotiated None (Ok id) old new made a =
     tells_then (life_opened id.0 old.layer) old.layer (named_next opening negotiated old.layer) [] new.layer
-    (subst (λ (n : ℕ). TellsLives (life_opened n old.layer) old.layer [] (named_next opening negotiated old.layer)) (sym made.0) (named_tells opening negotiated old.layer a))
+    (subst (λ (n : ℕ). ReportsLives (life_opened n old.layer) old.layer [] (named_next opening negotiated old.layer)) (sym made.0) (named_tells opening negotiated old.layer a))
     (waiting_tells (on_layer (named_next opening negotiated) old) new made.1)
 opens_tell opening negotiated None (Err error) old new made a = absurd made
 opens_tell opening negotiated (Some refusal) (Ok id) old new made a = absurd made
-opens_tell opening negotiated (Some refusal) (Err error) old new made a = tells_to (life_in old.layer) old.layer old new made.1 (same_tells old.layer a)
+opens_tell opening negotiated (Some refusal) (Err error) old new made a = tells_to (life_of_channel old.layer) old.layer old new made.1 (same_tells old.layer a)
 
 -- ---- a message is sent
 
@@ -138,9 +138,9 @@ sent_tells (Err refusal) number bytes held below layer is a = same_tells layer a
 
 sends_tell : (found : Option (ℕ × HeldStream)) (name : ℕ) (content : ChannelContent) (answer : Result (Unit {0}) ChannelError) (old new : ChannelsView) → open_stream old.layer name ≡ found → SendsIfOpen found content answer old new
     → Keeps old.layer new.layer
-sends_tell None name content answer old new is made a = tells_to (life_in old.layer) old.layer old new made.1 (same_tells old.layer a)
+sends_tell None name content answer old new is made a = tells_to (life_of_channel old.layer) old.layer old new made.1 (same_tells old.layer a)
 sends_tell (Some found) name content answer old new is made a =
-    tells_to (life_in old.layer) old.layer _ new made.is (sent_tells made.taken found.0 _ found.1 made.below old.layer (open_is old.layer found name is) a)
+    tells_to (life_of_channel old.layer) old.layer _ new made.is (sent_tells made.taken found.0 _ found.1 made.below old.layer (open_is old.layer found name is) a)
 
 -- ---- a channel is closed
 
@@ -148,24 +148,24 @@ waiting_closes : (name : ℕ) (layer : LayerView) → Keeps layer (layer_after_c
 waiting_closes name layer a =
     record { more = ends_waiting name layer.waiting; behind = refl; lives = λ n. lives n (cases_eq name n); apart = apart }
   where
-    own_life : (b : Bool) → is_waiting name layer.waiting ≡ b → Hears name (life_in layer name) (ends_waiting name layer.waiting) (life_with (without_waiting name layer.waiting) layer name)
+    own_life : (b : Bool) → is_waiting name layer.waiting ≡ b → Hears name (life_of_channel layer name) (ends_waiting name layer.waiting) (life_with (without_waiting name layer.waiting) layer name)
     own_life true waits =
-        hears_as name lasting (life_in layer name) (ends_waiting name layer.waiting) gone _ (lives_waiting layer.names layer.waiting name (nat_lt name layer.named) waits)
+        hears_as name lasting (life_of_channel layer name) (ends_waiting name layer.waiting) gone _ (lives_waiting layer.names layer.waiting name (nat_lt name layer.named) waits)
         (lives_nowhere layer.names (without_waiting name layer.waiting) name layer.named (without_itself name layer.waiting a.wait_apart) (a.no_stream name waits) (a.waits_named name waits))
         (subst (λ (ns : List ChannelNotice). Hears name lasting ns gone) (sym (one_closed name layer.waiting waits)) (ends_now name name Closed [] gone refl refl))
     own_life false is =
-        subst (λ (ns : List ChannelNotice). Hears name (life_in layer name) ns (life_with (without_waiting name layer.waiting) layer name)) (sym (none_closed name layer.waiting is))
-        (ap (λ (b : Bool). life_where (b || is_some (entry_numbered name layer.names)) (nat_lt name layer.named)) (without_itself name layer.waiting a.wait_apart ∙ sym is))
+        subst (λ (ns : List ChannelNotice). Hears name (life_of_channel layer name) ns (life_with (without_waiting name layer.waiting) layer name)) (sym (none_closed name layer.waiting is))
+        (ap (λ (b : Bool). life_by_place (b || is_some (entry_numbered name layer.names)) (nat_lt name layer.named)) (without_itself name layer.waiting a.wait_apart ∙ sym is))
 
     other_notices : (n : ℕ) (l k : Life) (b : Bool) → is_waiting name layer.waiting ≡ b → (name ≡ n → ⊥) → k ≡ l → Hears n l (ends_waiting name layer.waiting) k
     other_notices n l k true waits apart same = subst (λ (ns : List ChannelNotice). Hears n l ns k) (sym (one_closed name layer.waiting waits)) (ends_other n name Closed [] l k apart same)
     other_notices n l k false is apart same = subst (λ (ns : List ChannelNotice). Hears n l ns k) (sym (none_closed name layer.waiting is)) same
 
-    lives : (n : ℕ) → (name ≡ n) ⊎ (name ≡ n → ⊥) → Hears n (life_in layer n) (ends_waiting name layer.waiting) (life_with (without_waiting name layer.waiting) layer n)
-    lives n (inl same) = subst (λ (m : ℕ). Hears m (life_in layer m) (ends_waiting name layer.waiting) (life_with (without_waiting name layer.waiting) layer m)) same (own_life (is_waiting name layer.waiting) refl)
+    lives : (n : ℕ) → (name ≡ n) ⊎ (name ≡ n → ⊥) → Hears n (life_of_channel layer n) (ends_waiting name layer.waiting) (life_with (without_waiting name layer.waiting) layer n)
+    lives n (inl same) = subst (λ (m : ℕ). Hears m (life_of_channel layer m) (ends_waiting name layer.waiting) (life_with (without_waiting name layer.waiting) layer m)) same (own_life (is_waiting name layer.waiting) refl)
     lives n (inr other) =
-        other_notices n (life_in layer n) (life_with (without_waiting name layer.waiting) layer n) (is_waiting name layer.waiting) refl other
-        (ap (λ (b : Bool). life_where (b || is_some (entry_numbered n layer.names)) (nat_lt n layer.named)) (without_other name layer.waiting n other))
+        other_notices n (life_of_channel layer n) (life_with (without_waiting name layer.waiting) layer n) (is_waiting name layer.waiting) refl other
+        (ap (λ (b : Bool). life_by_place (b || is_some (entry_numbered n layer.names)) (nat_lt n layer.named)) (without_other name layer.waiting n other))
 
     waited : (n : ℕ) → is_waiting n (without_waiting name layer.waiting) ≡ true → (name ≡ n) ⊎ (name ≡ n → ⊥) → is_waiting n layer.waiting ≡ true
     waited n waits (inl same) =
@@ -190,21 +190,21 @@ closes_tell law (Some number) name layer a = row_where_tells law (held_stream_nu
 closes_tell law None name layer a = waiting_closes name layer a
 
 sets_tell : (stream : Option ℕ) (bytes : ℕ) (answer : Result (Unit {0}) ChannelError) (old new : ChannelsView) → SetsThresholdIfOpen stream bytes answer old new → Keeps old.layer new.layer
-sets_tell None bytes answer old new made a = tells_to (life_in old.layer) old.layer old new made.1 (same_tells old.layer a)
-sets_tell (Some number) bytes answer old new made a = tells_to (life_in old.layer) old.layer _ new made.1.is (same_tells old.layer a)
+sets_tell None bytes answer old new made a = tells_to (life_of_channel old.layer) old.layer old new made.1 (same_tells old.layer a)
+sets_tell (Some number) bytes answer old new made a = tells_to (life_of_channel old.layer) old.layer _ new made.1.is (same_tells old.layer a)
 
 -- ---- a call
 
-pub calls_tell : EachSpeaksInTurn → (call : ChannelsCall) (old new : ChannelsView) → IsCallMade call old new → IsOrderly old.layer → TellsLives (life_from call old.layer) old.layer [] new.layer
+pub calls_tell : EachSpeaksInTurn → (call : ChannelsCall) (old new : ChannelsView) → IsCallMade call old new → IsOrderly old.layer → ReportsLives (life_from call old.layer) old.layer [] new.layer
 calls_tell law (sets_role role) old new made a =
-    tells_then (life_in old.layer) old.layer (record old.layer { role = Some role }) [] new.layer (tells_nothing old.layer (record old.layer { role = Some role }) refl (λ n. refl) a)
+    tells_then (life_of_channel old.layer) old.layer (record old.layer { role = Some role }) [] new.layer (tells_nothing old.layer (record old.layer { role = Some role }) refl (λ n. refl) a)
     (waiting_tells (on_layer (λ layer. record layer { role = Some role }) old) new made)
 calls_tell law connects old new made a = only_tells _ old new made a
 calls_tell law (handles_input packet) old new made a =
-    tells_then (life_in old.layer) old.layer (record old.layer { has_room = true }) [] new.layer (tells_nothing old.layer (record old.layer { has_room = true }) refl (λ n. refl) a)
+    tells_then (life_of_channel old.layer) old.layer (record old.layer { has_room = true }) [] new.layer (tells_nothing old.layer (record old.layer { has_room = true }) refl (λ n. refl) a)
     (only_tells _ (on_layer (λ layer. record layer { has_room = true }) old) new made)
 calls_tell law (advances moment) old new made a =
-    tells_then (life_in old.layer) old.layer (clock_set moment old.layer) [] new.layer (tells_nothing old.layer (clock_set moment old.layer) refl (λ n. refl) a)
+    tells_then (life_of_channel old.layer) old.layer (clock_set moment old.layer) [] new.layer (tells_nothing old.layer (clock_set moment old.layer) refl (λ n. refl) a)
     (only_tells _ (on_layer (clock_set moment) old) new made)
 calls_tell law aborts old new made a = only_tells _ old new made a
 calls_tell law shuts_down old new made a = only_tells _ old new made a
@@ -212,5 +212,5 @@ calls_tell law (opens_channel opening negotiated (Ok id)) old new made a = opens
 calls_tell law (opens_channel opening negotiated (Err error)) old new made a = opens_tell opening negotiated (open_refusal opening negotiated old) (Err error) old new made a
 calls_tell law (sends_content name content answer) old new made a = sends_tell (open_stream old.layer name) name content answer old new refl made a
 calls_tell law (closes_channel name) old new made a =
-    tells_to (life_in old.layer) old.layer (on_layer (channel_closed name) old) new made (closes_tell law (stream_of_name old.layer name) name old.layer a)
+    tells_to (life_of_channel old.layer) old.layer (on_layer (channel_closed name) old) new made (closes_tell law (stream_of_name old.layer name) name old.layer a)
 calls_tell law (sets_threshold name bytes answer) old new made a = sets_tell (stream_of_name old.layer name) bytes answer old new made a

@@ -30,7 +30,7 @@ use Rattle.dcsctp_channel_calls.specs.Arrivals.{has_place, is_peers, accepts_ope
 use Rattle.dcsctp_channel_calls.specs.Late.{reset_input, DoesLate, a_reset, an_ack, waiting_begin}
 use Rattle.dcsctp_channel_calls.specs.Polls.{one_more_taken, HandlesNext, an_event, a_message, put_off, TakesNextNotice, PollsInTurn, takes, goes_on, idle}
 use Rattle.dcsctp_channel_laws.specs.Names.{WasPacket}
-use Rattle.dcsctp_channel_laws.specs.Lives.{IsInOrder, IsOrderly, lasting, gone, life_where, life_in, of_life, news_in, news_where, Hears, TellsLives, PollTells}
+use Rattle.dcsctp_channel_laws.specs.Lives.{IsInOrder, IsOrderly, lasting, gone, life_by_place, life_of_channel, of_life, news_of_channel, news_if_same, Hears, ReportsLives, PollReportsLives}
 use Rattle.dcsctp_channel_laws.proofs.Rows.{accepts}
 use Rattle.dcsctp_channel_laws.proofs.Places.{row_leaves, row_apart}
 use Rattle.dcsctp_channel_laws.proofs.Telling.{tells_then, tells_nothing, hears_as, not_told, lasts_on, lives_placed, lives_waiting, lives_nowhere, accepted_lives, accepted_next}
@@ -42,24 +42,24 @@ use Rattle.dcsctp_channel_laws.proofs.BeginsTell.{Keeps, same_tells, keeps_then,
 rows_tell : EachSpeaksInTurn → (numbers : List ℕ) (input : SlotInput) (layer : LayerView) → accepts input ≡ false → GivesNone input → Keeps layer (rows_taken numbers input layer)
 rows_tell law [] input layer not gives a = same_tells layer a
 rows_tell law (number ∷ numbers) input layer not gives a =
-    tells_then (life_in layer) layer (row_taken_if_held (held_stream_numbered layer number) number input layer) [] _ (row_where_tells law (held_stream_numbered layer number) number input layer not gives a)
+    tells_then (life_of_channel layer) layer (row_taken_if_held (held_stream_numbered layer number) number input layer) [] _ (row_where_tells law (held_stream_numbered layer number) number input layer not gives a)
     (rows_tell law numbers input (row_taken_if_held (held_stream_numbered layer number) number input layer) not gives)
 
 -- something that is said of no channel
-quiet_tells : (notice : ChannelNotice) (layer : LayerView) → ((n : ℕ) → news_in n notice ≡ None) → Keeps layer (with_notices (notice ∷ []) layer)
-quiet_tells notice layer quiet a = record { more = notice ∷ []; behind = refl; lives = λ n. not_told n notice [] (life_in layer n) (life_in layer n) (quiet n) refl; apart = a }
+quiet_tells : (notice : ChannelNotice) (layer : LayerView) → ((n : ℕ) → news_of_channel n notice ≡ None) → Keeps layer (with_notices (notice ∷ []) layer)
+quiet_tells notice layer quiet a = record { more = notice ∷ []; behind = refl; lives = λ n. not_told n notice [] (life_of_channel layer n) (life_of_channel layer n) (quiet n) refl; apart = a }
 
 waiting_lost_tells : (layer : LayerView) → Keeps layer (waiting_lost layer)
 waiting_lost_tells layer a =
     record { more = lost_waiting layer.waiting; behind = refl; lives = λ n. lives n (is_waiting n layer.waiting) refl; apart = apart }
   where
-    lives : (n : ℕ) (b : Bool) → is_waiting n layer.waiting ≡ b → Hears n (life_in layer n) (lost_waiting layer.waiting) (life_where (is_some (entry_numbered n layer.names)) (nat_lt n layer.named))
+    lives : (n : ℕ) (b : Bool) → is_waiting n layer.waiting ≡ b → Hears n (life_of_channel layer n) (lost_waiting layer.waiting) (life_by_place (is_some (entry_numbered n layer.names)) (nat_lt n layer.named))
     lives n true waits =
-        hears_as n lasting (life_in layer n) (lost_waiting layer.waiting) gone _ (lives_waiting layer.names layer.waiting n (nat_lt n layer.named) waits)
+        hears_as n lasting (life_of_channel layer n) (lost_waiting layer.waiting) gone _ (lives_waiting layer.names layer.waiting n (nat_lt n layer.named) waits)
         (lives_nowhere layer.names [] n layer.named refl (a.no_stream n waits) (a.waits_named n waits)) (lost_own layer.waiting n a.wait_apart waits)
     lives n false is =
-        hears_as n (life_in layer n) (life_in layer n) (lost_waiting layer.waiting) (life_in layer n) _ refl
-        (ap (λ (b : Bool). life_where (b || is_some (entry_numbered n layer.names)) (nat_lt n layer.named)) (sym is)) (lost_other layer.waiting n (life_in layer n) is)
+        hears_as n (life_of_channel layer n) (life_of_channel layer n) (lost_waiting layer.waiting) (life_of_channel layer n) _ refl
+        (ap (λ (b : Bool). life_by_place (b || is_some (entry_numbered n layer.names)) (nat_lt n layer.named)) (sym is)) (lost_other layer.waiting n (life_of_channel layer n) is)
 
     apart : IsInOrder layer.streams layer.names [] layer.named
     apart =
@@ -76,12 +76,12 @@ waiting_lost_tells layer a =
 
 streams_lost_tell : EachSpeaksInTurn → (layer : LayerView) → Keeps layer (streams_lost layer)
 streams_lost_tell law layer a =
-    tells_then (life_in layer) layer (record layer { over = true; connected = false }) [] (streams_lost layer) (tells_nothing layer (record layer { over = true; connected = false }) refl (λ n. refl) a)
+    tells_then (life_of_channel layer) layer (record layer { over = true; connected = false }) [] (streams_lost layer) (tells_nothing layer (record layer { over = true; connected = false }) refl (λ n. refl) a)
     (rows_tell law (keys_of layer.streams) association_ends (record layer { over = true; connected = false }) refl (λ slot. refl))
 
 ended_tells : EachSpeaksInTurn → (layer : LayerView) → Keeps layer (channels_ended layer)
 ended_tells law layer a =
-    tells_then (life_in layer) layer (streams_lost layer) [] (channels_ended layer) (streams_lost_tell law layer a)
+    tells_then (life_of_channel layer) layer (streams_lost layer) [] (channels_ended layer) (streams_lost_tell law layer a)
     (keeps_then (streams_lost layer) (waiting_lost (streams_lost layer)) (channels_ended layer) (waiting_lost_tells (streams_lost layer))
     (quiet_tells association_over (waiting_lost (streams_lost layer)) (λ n. refl)))
 
@@ -91,17 +91,17 @@ low_tells layer None has_sent number is a = tells_nothing layer (with_notices []
 low_tells layer (Some name) false number is a = tells_nothing layer (with_notices [] layer) (append-nil layer.notices) (λ n. refl) a
 low_tells layer (Some name) true number is a = record { more = amount_low name ∷ []; behind = refl; lives = λ n. lives n (cases_eq name n); apart = a }
   where
-    own : life_in layer name ≡ lasting
+    own : life_of_channel layer name ≡ lasting
     own = lives_placed layer.names layer.waiting name number (nat_lt name layer.named) (a.leads number name is)
 
-    itself : Hears name (life_in layer name) (amount_low name ∷ []) (life_in layer name)
+    itself : Hears name (life_of_channel layer name) (amount_low name ∷ []) (life_of_channel layer name)
     itself =
-        hears_as name lasting (life_in layer name) (amount_low name ∷ []) lasting (life_in layer name) own own
-        (lasts_on name (amount_low name) [] lasting (ap (λ (b : Bool). news_where b of_life) (eq-eqb name name refl)) refl)
+        hears_as name lasting (life_of_channel layer name) (amount_low name ∷ []) lasting (life_of_channel layer name) own own
+        (lasts_on name (amount_low name) [] lasting (ap (λ (b : Bool). news_if_same b of_life) (eq-eqb name name refl)) refl)
 
-    lives : (n : ℕ) → (name ≡ n) ⊎ (name ≡ n → ⊥) → Hears n (life_in layer n) (amount_low name ∷ []) (life_in layer n)
-    lives n (inl same) = subst (λ (m : ℕ). Hears m (life_in layer m) (amount_low name ∷ []) (life_in layer m)) same itself
-    lives n (inr apart) = not_told n (amount_low name) [] (life_in layer n) (life_in layer n) (ap (λ (b : Bool). news_where b of_life) (ne_eqb name n apart)) refl
+    lives : (n : ℕ) → (name ≡ n) ⊎ (name ≡ n → ⊥) → Hears n (life_of_channel layer n) (amount_low name ∷ []) (life_of_channel layer n)
+    lives n (inl same) = subst (λ (m : ℕ). Hears m (life_of_channel layer m) (amount_low name ∷ []) (life_of_channel layer m)) same itself
+    lives n (inr apart) = not_told n (amount_low name) [] (life_of_channel layer n) (life_of_channel layer n) (ap (λ (b : Bool). news_if_same b of_life) (ne_eqb name n apart)) refl
 
 lows_tell : (layer : LayerView) (number : ℕ) (held : Option HeldStream) → held_stream_numbered layer number ≡ held → Keeps layer (with_notices (low_notices held) layer)
 lows_tell layer number None is a = tells_nothing layer (with_notices [] layer) (append-nil layer.notices) (λ n. refl) a
@@ -112,10 +112,10 @@ then_begins : (becomes : LayerView → LayerView) (old new : ChannelsView) → K
 then_begins becomes old new keeps begun = keeps_then old.layer (becomes old.layer) new.layer keeps (waiting_tells (on_layer becomes old) new begun)
 
 stays : (old new : ChannelsView) → new ≡ old → Keeps old.layer new.layer
-stays old new is a = tells_to (life_in old.layer) old.layer old new is (same_tells old.layer a)
+stays old new is a = tells_to (life_of_channel old.layer) old.layer old new is (same_tells old.layer a)
 
 becomes_so : (becomes : LayerView → LayerView) (old new : ChannelsView) → Keeps old.layer (becomes old.layer) → new ≡ on_layer becomes old → Keeps old.layer new.layer
-becomes_so becomes old new keeps is a = tells_to (life_in old.layer) old.layer (on_layer becomes old) new is (keeps a)
+becomes_so becomes old new keeps is a = tells_to (life_of_channel old.layer) old.layer (on_layer becomes old) new is (keeps a)
 
 made_tells : (layer : LayerView) → Keeps layer (connection_made layer)
 made_tells layer =
@@ -154,7 +154,7 @@ accepted_layer number opening slot layer =
 
 accepted_as : (number : ℕ) (opening : Opening) (outcome : SlotOutcome) (layer : LayerView) (had : Option ℕ) (why : ChannelEnd) → IsOrderly layer → name_of_slot (slot_numbered layer number) ≡ had → name_of_slot outcome.after ≡ Some layer.named
     → outcome.reports ≡ reports_of had (λ m. ended m why) ++ incoming layer.named opening ∷ []
-    → TellsLives (life_in layer) layer [] (record (taken_as number opening.delivery (hears_open true layer.named opening) outcome layer) { named = layer.named + 1 })
+    → ReportsLives (life_of_channel layer) layer [] (record (taken_as number opening.delivery (hears_open true layer.named opening) outcome layer) { named = layer.named + 1 })
 accepted_as number opening outcome layer had why a is has reports =
     let new = taken_as number opening.delivery (hears_open true layer.named opening) outcome layer in
     let row = row_leaves number opening.delivery (hears_open true layer.named opening) outcome layer a in
@@ -166,7 +166,7 @@ accepted_as number opening outcome layer had why a is has reports =
     }
 
 reopened_as : (peer_reset : Bool) (own : OwnReset) (number : ℕ) (opening : Opening) (stream : StreamUse) (layer : LayerView) → IsOrderly layer → (peer_reset && was_asked own) ≡ true → name_of_slot (slot_numbered layer number) ≡ stream.name
-    → TellsLives (life_in layer) layer [] (record (taken_as number opening.delivery (hears_open true layer.named opening) (reopens_if_reset peer_reset own true layer.named opening stream) layer) { named = layer.named + 1 })
+    → ReportsLives (life_of_channel layer) layer [] (record (taken_as number opening.delivery (hears_open true layer.named opening) (reopens_if_reset peer_reset own true layer.named opening stream) layer) { named = layer.named + 1 })
 reopened_as true Asked number opening stream layer a may is =
     accepted_as number opening (reopens_if_reset true Asked true layer.named opening stream) layer stream.name (end_if_heard stream.heard) a is refl refl
 reopened_as true NotAsked number opening stream layer a may is = absurd cc
@@ -174,13 +174,13 @@ reopened_as true Performed number opening stream layer a may is = absurd cc
 reopened_as true GivenUp number opening stream layer a may is = absurd cc
 reopened_as false own number opening stream layer a may is = absurd cc
 
-slot_accepts : (number : ℕ) (opening : Opening) (slot : StreamSlot) (layer : LayerView) → IsOrderly layer → has_place slot layer ≡ true → slot_numbered layer number ≡ slot → TellsLives (life_in layer) layer [] (accepted_layer number opening slot layer)
+slot_accepts : (number : ℕ) (opening : Opening) (slot : StreamSlot) (layer : LayerView) → IsOrderly layer → has_place slot layer ≡ true → slot_numbered layer number ≡ slot → ReportsLives (life_of_channel layer) layer [] (accepted_layer number opening slot layer)
 slot_accepts number opening free layer a place is = accepted_as number opening (outcome_of (hears_open true layer.named opening) free) layer None Closed a (ap name_of_slot is) refl refl
 slot_accepts number opening (used stream) layer a place is = reopened_as stream.peer_reset stream.own number opening stream layer a place (ap name_of_slot is)
 
 accepted_tells : (number : ℕ) (opening : Opening) (old new : ChannelsView) → has_place (slot_numbered old.layer number) old.layer ≡ true → AcceptsOpen number opening old new → Keeps old.layer new.layer
 accepted_tells number opening old new place accepts a =
-    tells_to (life_in old.layer) old.layer _ new accepts.is (slot_accepts number opening (slot_numbered old.layer number) old.layer a place refl)
+    tells_to (life_of_channel old.layer) old.layer _ new accepts.is (slot_accepts number opening (slot_numbered old.layer number) old.layer a place refl)
 
 -- ---- what a message is to its stream
 
@@ -247,7 +247,7 @@ acked_tells law (Ok done) number held below layer a = row_tells law number held.
 acked_tells law (Err refusal) number held below layer a = tells_nothing layer (view_after_ack (Err refusal) number held below layer).layer refl (λ n. refl) a
 
 ack_tells : EachSpeaksInTurn → (number : ℕ) (held : HeldStream) (old new : ChannelsView) → SendsAck number held old new → Keeps old.layer new.layer
-ack_tells law number held old new acks a = tells_to (life_in old.layer) old.layer _ new acks.is (acked_tells law acks.answer number held acks.below old.layer a)
+ack_tells law number held old new acks a = tells_to (life_of_channel old.layer) old.layer _ new acks.is (acked_tells law acks.answer number held acks.below old.layer a)
 
 ack_where_tells : EachSpeaksInTurn → (due : Bool) (number : ℕ) (held : HeldStream) (old new : ChannelsView) → AcksIfDue due number held old new → Keeps old.layer new.layer
 ack_where_tells law true number held old new acks = ack_tells law number held old new acks
@@ -269,7 +269,7 @@ reset_tells law (Ok done) number held layer = row_tells law number held.delivery
 reset_tells law (Err fault) number held layer = row_tells law number held.delivery cannot_reset layer refl (λ slot. refl)
 
 late_tells : EachSpeaksInTurn → (old new : ChannelsView) → DoesLate old new → Keeps old.layer new.layer
-late_tells law old new (a_reset number held at due resets) a = tells_to (life_in old.layer) old.layer _ new resets.is (reset_tells law resets.answer number held old.layer a)
+late_tells law old new (a_reset number held at due resets) a = tells_to (life_of_channel old.layer) old.layer _ new resets.is (reset_tells law resets.answer number held old.layer a)
 late_tells law old new (an_ack number held none at due acks) a = ack_tells law number held old new acks a
 late_tells law old new (waiting_begin no_reset no_ack may begun) a = waiting_tells old new begun a
 
@@ -284,33 +284,33 @@ next_tells law old new (put_off quiet lasts late) = late_tells law old new late
 
 -- ---- a poll
 
-from_queue : (packets : List (List ℕ)) (old : LayerView) (notice : ChannelNotice) (new : LayerView) → TakesNextNotice packets old notice new → IsOrderly old → PollTells (Some notice) old new
+from_queue : (packets : List (List ℕ)) (old : LayerView) (notice : ChannelNotice) (new : LayerView) → TakesNextNotice packets old notice new → IsOrderly old → PollReportsLives (Some notice) old new
 from_queue (packet ∷ rest) old notice new (out, is) a =
     record {
       taken = [];
       was_taken = inr (refl, subst WasPacket (sym out) tt);
-      tells = subst (λ (l : LayerView). TellsLives (life_in old) old [] l) (sym is) (tells_nothing old (record old { packets = rest }) refl (λ n. refl) a);
+      tells = subst (λ (l : LayerView). ReportsLives (life_of_channel old) old [] l) (sym is) (tells_nothing old (record old { packets = rest }) refl (λ n. refl) a);
     }
 from_queue [] old notice new taken a =
     record {
       taken = notice ∷ [];
       was_taken = inl refl;
       tells =
-          subst (λ (l : LayerView). TellsLives (life_in old) old (notice ∷ []) l) (sym taken.2)
+          subst (λ (l : LayerView). ReportsLives (life_of_channel old) old (notice ∷ []) l) (sym taken.2)
           (record { more = []; behind = sym taken.1 ∙ sym (append-nil old.notices); lives = λ n. refl; apart = a });
     }
 
-polls_then : (result : Option ChannelNotice) (a b c : LayerView) → TellsLives (life_in a) a [] b → (IsOrderly b → PollTells result b c) → PollTells result a c
+polls_then : (result : Option ChannelNotice) (a b c : LayerView) → ReportsLives (life_of_channel a) a [] b → (IsOrderly b → PollReportsLives result b c) → PollReportsLives result a c
 polls_then result a b c first rest =
     let polls = rest first.apart in
-    record { taken = polls.taken; was_taken = polls.was_taken; tells = tells_then (life_in a) a b polls.taken c first (λ apart. polls.tells) }
+    record { taken = polls.taken; was_taken = polls.was_taken; tells = tells_then (life_of_channel a) a b polls.taken c first (λ apart. polls.tells) }
 
-pub polls_tell : EachSpeaksInTurn → (result : Option ChannelNotice) (new old : ChannelsView) → PollsInTurn result new old → IsOrderly old.layer → PollTells result old.layer new.layer
+pub polls_tell : EachSpeaksInTurn → (result : Option ChannelNotice) (new old : ChannelsView) → PollsInTurn result new old → IsOrderly old.layer → PollReportsLives result old.layer new.layer
 polls_tell law result new _ (takes old notice is taken below) a =
-    subst (λ (r : Option ChannelNotice). PollTells r old.layer new.layer) (sym is)
+    subst (λ (r : Option ChannelNotice). PollReportsLives r old.layer new.layer) (sym is)
     (polls_then (Some notice) old.layer (view_with_events old).layer new.layer (gathers_tell old a) (from_queue (view_with_events old).layer.packets (view_with_events old).layer notice new.layer taken))
 polls_tell law result new _ (goes_on old between nothing next polls) a =
     polls_then result old.layer between.layer new.layer (keeps_then old.layer (view_with_events old).layer between.layer (gathers_tell old) (next_tells law (view_with_events old) between next) a) (polls_tell law result new between polls)
 polls_tell law result new _ (idle old is nothing none same) a =
-    subst (λ (r : Option ChannelNotice). PollTells r old.layer new.layer) (sym is)
-    (record { taken = []; was_taken = refl; tells = tells_to (life_in old.layer) old.layer (view_with_events old) new same (gathers_tell old a) })
+    subst (λ (r : Option ChannelNotice). PollReportsLives r old.layer new.layer) (sym is)
+    (record { taken = []; was_taken = refl; tells = tells_to (life_of_channel old.layer) old.layer (view_with_events old) new same (gathers_tell old a) })

@@ -10,7 +10,7 @@ use Rattle.dcsctp_channel_calls.specs.messages.channel_spec.Laws.{Speaks}
 use Rattle.dcsctp_channel_calls.specs.declared.channel.HeldStream.{HeldStream}
 use Rattle.dcsctp_channel_calls.specs.View.{WaitingChannel, ChannelNotice, of_channel, LayerView, entry_numbered, slot_numbered, taken_as}
 use Rattle.dcsctp_channel_calls.specs.Queries.{is_waiting}
-use Rattle.dcsctp_channel_laws.specs.Lives.{is_placed, IsOrderly, Life, unnamed, lasting, gone, life_where, life_in, News, of_birth, of_life, of_end, news_where, news_in, LivesOn, Hears, TellsLives}
+use Rattle.dcsctp_channel_laws.specs.Lives.{is_placed, IsOrderly, Life, unnamed, lasting, gone, life_by_place, life_of_channel, News, of_birth, of_life, of_end, news_if_same, news_of_channel, LivesOn, Hears, ReportsLives}
 use Rattle.dcsctp_channel_laws.proofs.Rows.{GivesNoName}
 use Rattle.dcsctp_channel_laws.proofs.Places.{is_named, IsFresh, IsNext, RowLeaves, row_leaves, row_apart}
 
@@ -20,32 +20,32 @@ pub hears_then : (n : ℕ) (a : Life) (xs : List ChannelNotice) (b : Life) (ys :
 hears_then n a [] b ys c first second = subst (λ (l : Life). Hears n l ys c) first second
 hears_then n a (x ∷ xs) b ys c first second = (first.0, first.1, hears_then n first.0 xs b ys c first.2 second)
 
-pub tells_then : (before : ℕ → Life) (a b : LayerView) (taken : List ChannelNotice) (c : LayerView) → TellsLives before a [] b → (IsOrderly b → TellsLives (life_in b) b taken c) → TellsLives before a taken c
+pub tells_then : (before : ℕ → Life) (a b : LayerView) (taken : List ChannelNotice) (c : LayerView) → ReportsLives before a [] b → (IsOrderly b → ReportsLives (life_of_channel b) b taken c) → ReportsLives before a taken c
 tells_then before a b taken c first rest =
     let second = rest first.apart in
     record {
       more = first.more ++ second.more;
       behind = second.behind ∙ ap (λ (ns : List ChannelNotice). ns ++ second.more) first.behind ∙ append_assoc a.notices first.more second.more;
-      lives = λ n. hears_then n (before n) first.more (life_in b n) second.more (life_in c n) (first.lives n) (second.lives n);
+      lives = λ n. hears_then n (before n) first.more (life_of_channel b n) second.more (life_of_channel c n) (first.lives n) (second.lives n);
       apart = second.apart;
     }
 
 -- nothing is reported, and each channel is as before
-pub tells_nothing : (old new : LayerView) → new.notices ≡ old.notices → ((n : ℕ) → life_in new n ≡ life_in old n) → IsOrderly new → TellsLives (life_in old) old [] new
+pub tells_nothing : (old new : LayerView) → new.notices ≡ old.notices → ((n : ℕ) → life_of_channel new n ≡ life_of_channel old n) → IsOrderly new → ReportsLives (life_of_channel old) old [] new
 tells_nothing old new same lives apart = record { more = []; behind = same ∙ sym (append-nil old.notices); lives = lives; apart = apart }
 
 -- ---- of one channel
 
-told_where : (n other : ℕ) (news : News) → other ≡ n → news_where (other == n) news ≡ Some news
-told_where n other news same = ap (λ (b : Bool). news_where b news) (eq-eqb other n same)
+told_where : (n other : ℕ) (news : News) → other ≡ n → news_if_same (other == n) news ≡ Some news
+told_where n other news same = ap (λ (b : Bool). news_if_same b news) (eq-eqb other n same)
 
-told_of_other : (n other : ℕ) (news : News) → (other ≡ n → ⊥) → news_where (other == n) news ≡ None
-told_of_other n other news apart = ap (λ (b : Bool). news_where b news) (ne_eqb other n apart)
+told_of_other : (n other : ℕ) (news : News) → (other ≡ n → ⊥) → news_if_same (other == n) news ≡ None
+told_of_other n other news apart = ap (λ (b : Bool). news_if_same b news) (ne_eqb other n apart)
 
-pub not_told : (n : ℕ) (notice : ChannelNotice) (notices : List ChannelNotice) (a b : Life) → news_in n notice ≡ None → Hears n a notices b → Hears n a (notice ∷ notices) b
+pub not_told : (n : ℕ) (notice : ChannelNotice) (notices : List ChannelNotice) (a b : Life) → news_of_channel n notice ≡ None → Hears n a notices b → Hears n a (notice ∷ notices) b
 not_told n notice notices a b is hears = (a, subst (λ (o : Option News). LivesOn o a a) (sym is) refl, hears)
 
-pub lasts_on : (n : ℕ) (notice : ChannelNotice) (notices : List ChannelNotice) (b : Life) → news_in n notice ≡ Some of_life → Hears n lasting notices b → Hears n lasting (notice ∷ notices) b
+pub lasts_on : (n : ℕ) (notice : ChannelNotice) (notices : List ChannelNotice) (b : Life) → news_of_channel n notice ≡ Some of_life → Hears n lasting notices b → Hears n lasting (notice ∷ notices) b
 lasts_on n notice notices b is hears = (lasting, subst (λ (o : Option News). LivesOn o lasting lasting) (sym is) (refl, refl), hears)
 
 pub ends_now : (n other : ℕ) (why : ChannelEnd) (notices : List ChannelNotice) (b : Life) → other ≡ n → Hears n gone notices b → Hears n lasting (of_channel (ended other why) ∷ notices) b
@@ -69,17 +69,17 @@ or_true : (b : Bool) → (b || true) ≡ true
 or_true true = refl
 or_true false = refl
 
-pub lives_placed : (names : List (ℕ × ℕ)) (waiting : List WaitingChannel) (n number : ℕ) (is_below : Bool) → entry_numbered n names ≡ Some number → life_where (is_placed names waiting n) is_below ≡ lasting
+pub lives_placed : (names : List (ℕ × ℕ)) (waiting : List WaitingChannel) (n number : ℕ) (is_below : Bool) → entry_numbered n names ≡ Some number → life_by_place (is_placed names waiting n) is_below ≡ lasting
 lives_placed names waiting n number is_below at =
-    ap (λ (o : Option ℕ). life_where (is_waiting n waiting || is_some o) is_below) at ∙ ap (λ (b : Bool). life_where b is_below) (or_true (is_waiting n waiting))
+    ap (λ (o : Option ℕ). life_by_place (is_waiting n waiting || is_some o) is_below) at ∙ ap (λ (b : Bool). life_by_place b is_below) (or_true (is_waiting n waiting))
 
-pub lives_waiting : (names : List (ℕ × ℕ)) (waiting : List WaitingChannel) (n : ℕ) (is_below : Bool) → is_waiting n waiting ≡ true → life_where (is_placed names waiting n) is_below ≡ lasting
-lives_waiting names waiting n is_below waits = ap (λ (b : Bool). life_where (b || is_some (entry_numbered n names)) is_below) waits
+pub lives_waiting : (names : List (ℕ × ℕ)) (waiting : List WaitingChannel) (n : ℕ) (is_below : Bool) → is_waiting n waiting ≡ true → life_by_place (is_placed names waiting n) is_below ≡ lasting
+lives_waiting names waiting n is_below waits = ap (λ (b : Bool). life_by_place (b || is_some (entry_numbered n names)) is_below) waits
 
-pub lives_nowhere : (names : List (ℕ × ℕ)) (waiting : List WaitingChannel) (n named : ℕ) → is_waiting n waiting ≡ false → entry_numbered n names ≡ None → n < named → life_where (is_placed names waiting n) (nat_lt n named) ≡ gone
+pub lives_nowhere : (names : List (ℕ × ℕ)) (waiting : List WaitingChannel) (n named : ℕ) → is_waiting n waiting ≡ false → entry_numbered n names ≡ None → n < named → life_by_place (is_placed names waiting n) (nat_lt n named) ≡ gone
 lives_nowhere names waiting n named not_waiting none below =
-    ap (λ (b : Bool). life_where (b || is_some (entry_numbered n names)) (nat_lt n named)) not_waiting
-    ∙ ap (λ (o : Option ℕ). life_where (is_some o) (nat_lt n named)) none ∙ ap (life_where false) (lt-ltb n named below)
+    ap (λ (b : Bool). life_by_place (b || is_some (entry_numbered n names)) (nat_lt n named)) not_waiting
+    ∙ ap (λ (o : Option ℕ). life_by_place (is_some o) (nat_lt n named)) none ∙ ap (life_by_place false) (lt-ltb n named below)
 
 -- ---- a row that gives no name
 
@@ -97,7 +97,7 @@ none_after b (ended o w ∷ rs) s quiet = absurd s
 abbrev Fate : ℕ → Option ℕ → List ChannelNotice → Type 0
 Fate n b notices = ((b ≡ Some n) × Hears n lasting notices lasting) ⊎ ((b ≡ None) × Hears n lasting notices gone)
 
-fate_on : (n : ℕ) (b : Option ℕ) (notice : ChannelNotice) (notices : List ChannelNotice) → news_in n notice ≡ Some of_life → Fate n b notices → Fate n b (notice ∷ notices)
+fate_on : (n : ℕ) (b : Option ℕ) (notice : ChannelNotice) (notices : List ChannelNotice) → news_of_channel n notice ≡ Some of_life → Fate n b notices → Fate n b (notice ∷ notices)
 fate_on n b notice notices is (inl (has, hears)) = inl (has, lasts_on n notice notices lasting is hears)
 fate_on n b notice notices is (inr (none, hears)) = inr (none, lasts_on n notice notices gone is hears)
 
@@ -130,9 +130,9 @@ pub record IsGiven (g : Option ℕ) (number : ℕ) (layer : LayerView) (before :
   pub from : (n : ℕ) → name_of_slot (slot_numbered layer number) ≡ Some n → g ≡ Some n
   pub is_free : (n : ℕ) → g ≡ Some n → (name_of_slot (slot_numbered layer number) ≡ Some n) ⊎ IsFresh layer layer.named n
   pub lasts : (n : ℕ) → g ≡ Some n → before n ≡ lasting
-  pub others : (n : ℕ) → (g ≡ Some n → ⊥) → before n ≡ life_in layer n
+  pub others : (n : ℕ) → (g ≡ Some n → ⊥) → before n ≡ life_of_channel layer n
 
-pub given_own : (number : ℕ) (layer : LayerView) → IsOrderly layer → IsGiven (name_of_slot (slot_numbered layer number)) number layer (life_in layer)
+pub given_own : (number : ℕ) (layer : LayerView) → IsOrderly layer → IsGiven (name_of_slot (slot_numbered layer number)) number layer (life_of_channel layer)
 given_own number layer a =
     record {
       from = λ n is. is;
@@ -141,8 +141,8 @@ given_own number layer a =
       others = λ n not. refl;
     }
 
-same_places : (names others : List (ℕ × ℕ)) (waiting : List WaitingChannel) (n : ℕ) (is_below : Bool) → entry_numbered n names ≡ entry_numbered n others → life_where (is_placed names waiting n) is_below ≡ life_where (is_placed others waiting n) is_below
-same_places names others waiting n is_below same = ap (λ (o : Option ℕ). life_where (is_waiting n waiting || is_some o) is_below) same
+same_places : (names others : List (ℕ × ℕ)) (waiting : List WaitingChannel) (n : ℕ) (is_below : Bool) → entry_numbered n names ≡ entry_numbered n others → life_by_place (is_placed names waiting n) is_below ≡ life_by_place (is_placed others waiting n) is_below
+same_places names others waiting n is_below same = ap (λ (o : Option ℕ). life_by_place (is_waiting n waiting || is_some o) is_below) same
 
 module _ (number : ℕ) (after : StreamSlot) (layer : LayerView) (streams : List (ℕ × HeldStream)) (names : List (ℕ × ℕ)) (a : IsOrderly layer) (row : RowLeaves number after layer streams names)
     (g : Option ℕ) (before : ℕ → Life) (given : IsGiven g number layer before) (reports : List Report) (speaks : Speaks g reports (name_of_slot after)) (quiet : GivesNoName reports) where
@@ -168,16 +168,16 @@ module _ (number : ℕ) (after : StreamSlot) (layer : LayerView) (streams : List
       by (inl had) = row.freed n had (λ (has : name_of_slot after ≡ Some n). absurd cc)
       by (inr not) = row.other n not (λ (has : name_of_slot after ≡ Some n). absurd cc) ∙ fresh.no_stream
 
-  own_lives : (n : ℕ) → g ≡ Some n → Fate n (name_of_slot after) (map of_channel reports) → Hears n (before n) (map of_channel reports) (life_where (is_placed names layer.waiting n) (nat_lt n layer.named))
+  own_lives : (n : ℕ) → g ≡ Some n → Fate n (name_of_slot after) (map of_channel reports) → Hears n (before n) (map of_channel reports) (life_by_place (is_placed names layer.waiting n) (nat_lt n layer.named))
   own_lives n is (inl (has, hears)) = hears_as n lasting (before n) (map of_channel reports) lasting _ (given.lasts n is) (lives_placed names layer.waiting n number (nat_lt n layer.named) (row.gets n has)) hears
   own_lives n is (inr (none, hears)) =
       hears_as n lasting (before n) (map of_channel reports) gone _ (given.lasts n is)
       (lives_nowhere names layer.waiting n layer.named (not_waiting n (given.is_free n is)) (no_stream_left n none (given.is_free n is)) (below n (given.is_free n is))) hears
 
-  row_lives : (n : ℕ) → Hears n (before n) (map of_channel reports) (life_where (is_placed names layer.waiting n) (nat_lt n layer.named))
+  row_lives : (n : ℕ) → Hears n (before n) (map of_channel reports) (life_by_place (is_placed names layer.waiting n) (nat_lt n layer.named))
   row_lives n = by (is_named g n)
     where
-      by : (g ≡ Some n) ⊎ (g ≡ Some n → ⊥) → Hears n (before n) (map of_channel reports) (life_where (is_placed names layer.waiting n) (nat_lt n layer.named))
+      by : (g ≡ Some n) ⊎ (g ≡ Some n → ⊥) → Hears n (before n) (map of_channel reports) (life_by_place (is_placed names layer.waiting n) (nat_lt n layer.named))
       by (inl is) = own_lives n is (speaks_own n (name_of_slot after) reports (subst (λ (o : Option ℕ). Speaks o reports (name_of_slot after)) is speaks) quiet)
       by (inr not) =
           let other = speaks_other n g (name_of_slot after) reports (before n) not speaks quiet in
@@ -195,7 +195,7 @@ le_same : (n : ℕ) → n ≤ n
 le_same n = omega arith
 
 pub quiet_row_tells : (number : ℕ) (delivery : Delivery) (input : SlotInput) (outcome : SlotOutcome) (layer : LayerView) → IsOrderly layer → (g : Option ℕ) (before : ℕ → Life) → IsGiven g number layer before
-    → Speaks g outcome.reports (name_of_slot outcome.after) → GivesNoName outcome.reports → TellsLives before layer [] (taken_as number delivery input outcome layer)
+    → Speaks g outcome.reports (name_of_slot outcome.after) → GivesNoName outcome.reports → ReportsLives before layer [] (taken_as number delivery input outcome layer)
 quiet_row_tells number delivery input outcome layer a g before given speaks quiet =
     let row = row_leaves number delivery input outcome layer a in
     let new = taken_as number delivery input outcome layer in
@@ -233,10 +233,10 @@ module _ (layer : LayerView) (a : IsOrderly layer) where
       by true is = let below : layer.named < layer.named = a.waits_named layer.named is in absurd (omega arith)
       by false is = is
 
-  pub next_unnamed : life_in layer layer.named ≡ unnamed
+  pub next_unnamed : life_of_channel layer layer.named ≡ unnamed
   next_unnamed =
-      ap (λ (b : Bool). life_where (b || is_some (entry_numbered layer.named layer.names)) (nat_lt layer.named layer.named)) next_not_waiting
-      ∙ ap (λ (o : Option ℕ). life_where (is_some o) (nat_lt layer.named layer.named)) next_no_stream ∙ ap (life_where false) (le-ltb layer.named layer.named (le_same layer.named))
+      ap (λ (b : Bool). life_by_place (b || is_some (entry_numbered layer.named layer.names)) (nat_lt layer.named layer.named)) next_not_waiting
+      ∙ ap (λ (o : Option ℕ). life_by_place (is_some o) (nat_lt layer.named layer.named)) next_no_stream ∙ ap (life_by_place false) (le-ltb layer.named layer.named (le_same layer.named))
 
   pub next_fresh : IsFresh layer (layer.named + 1) layer.named
   next_fresh = record { no_stream = next_no_stream; not_waiting = next_not_waiting; is_below = omega arith }
@@ -244,34 +244,34 @@ module _ (layer : LayerView) (a : IsOrderly layer) where
   module _ (number : ℕ) (after : StreamSlot) (streams : List (ℕ × HeldStream)) (names : List (ℕ × ℕ)) (row : RowLeaves number after layer streams names) (has : name_of_slot after ≡ Some layer.named)
       (opening : Opening) (why : ChannelEnd) where
     abbrev life_now : ℕ → Life
-    life_now n = life_where (is_placed names layer.waiting n) (nat_lt n (layer.named + 1))
+    life_now n = life_by_place (is_placed names layer.waiting n) (nat_lt n (layer.named + 1))
 
-    born : Hears layer.named (life_in layer layer.named) (of_channel (incoming layer.named opening) ∷ []) (life_now layer.named)
+    born : Hears layer.named (life_of_channel layer layer.named) (of_channel (incoming layer.named opening) ∷ []) (life_now layer.named)
     born =
-        hears_as layer.named unnamed (life_in layer layer.named) (of_channel (incoming layer.named opening) ∷ []) lasting (life_now layer.named) next_unnamed
+        hears_as layer.named unnamed (life_of_channel layer layer.named) (of_channel (incoming layer.named opening) ∷ []) lasting (life_now layer.named) next_unnamed
         (lives_placed names layer.waiting layer.named number (nat_lt layer.named (layer.named + 1)) (row.gets layer.named has)) (comes_now layer.named layer.named opening refl)
 
-    stays : (n : ℕ) → (layer.named ≡ n → ⊥) → (name_of_slot (slot_numbered layer number) ≡ Some n → ⊥) → life_now n ≡ life_in layer n
+    stays : (n : ℕ) → (layer.named ≡ n → ⊥) → (name_of_slot (slot_numbered layer number) ≡ Some n → ⊥) → life_now n ≡ life_of_channel layer n
     stays n not_next not_before =
         same_places names layer.names layer.waiting n (nat_lt n (layer.named + 1)) (row.other n not_before (λ (is : name_of_slot after ≡ Some n). let same : layer.named ≡ n = cc in not_next same))
-        ∙ ap (life_where (is_placed layer.names layer.waiting n)) (lt_next n layer.named not_next)
+        ∙ ap (life_by_place (is_placed layer.names layer.waiting n)) (lt_next n layer.named not_next)
 
-    other : (n : ℕ) → (layer.named ≡ n → ⊥) → (name_of_slot (slot_numbered layer number) ≡ Some n → ⊥) → Hears n (life_in layer n) (of_channel (incoming layer.named opening) ∷ []) (life_now n)
+    other : (n : ℕ) → (layer.named ≡ n → ⊥) → (name_of_slot (slot_numbered layer number) ≡ Some n → ⊥) → Hears n (life_of_channel layer n) (of_channel (incoming layer.named opening) ∷ []) (life_now n)
     other n not_next not_before =
-        hears_as n (life_in layer n) (life_in layer n) (of_channel (incoming layer.named opening) ∷ []) (life_in layer n) (life_now n) refl (stays n not_next not_before)
-        (comes_other n layer.named opening (life_in layer n) not_next)
+        hears_as n (life_of_channel layer n) (life_of_channel layer n) (of_channel (incoming layer.named opening) ∷ []) (life_of_channel layer n) (life_now n) refl (stays n not_next not_before)
+        (comes_other n layer.named opening (life_of_channel layer n) not_next)
 
-    where_none : name_of_slot (slot_numbered layer number) ≡ None → (n : ℕ) → (layer.named ≡ n) ⊎ (layer.named ≡ n → ⊥) → Hears n (life_in layer n) (of_channel (incoming layer.named opening) ∷ []) (life_now n)
-    where_none none n (inl same) = subst (λ (m : ℕ). Hears m (life_in layer m) (of_channel (incoming layer.named opening) ∷ []) (life_now m)) same born
+    where_none : name_of_slot (slot_numbered layer number) ≡ None → (n : ℕ) → (layer.named ≡ n) ⊎ (layer.named ≡ n → ⊥) → Hears n (life_of_channel layer n) (of_channel (incoming layer.named opening) ∷ []) (life_now n)
+    where_none none n (inl same) = subst (λ (m : ℕ). Hears m (life_of_channel layer m) (of_channel (incoming layer.named opening) ∷ []) (life_now m)) same born
     where_none none n (inr not_next) = other n not_next (λ (is : name_of_slot (slot_numbered layer number) ≡ Some n). absurd cc)
 
     -- the channel that the stream had before
-    ends_first : (m : ℕ) → name_of_slot (slot_numbered layer number) ≡ Some m → (layer.named ≡ m → ⊥) → Hears m (life_in layer m) (of_channel (ended m why) ∷ of_channel (incoming layer.named opening) ∷ []) (life_now m)
+    ends_first : (m : ℕ) → name_of_slot (slot_numbered layer number) ≡ Some m → (layer.named ≡ m → ⊥) → Hears m (life_of_channel layer m) (of_channel (ended m why) ∷ of_channel (incoming layer.named opening) ∷ []) (life_now m)
     ends_first m had not_next =
         let here : entry_numbered m layer.names ≡ Some number = a.leads number m had in
         let below : m < layer.named = a.was_named m number here in
         let more : m < layer.named + 1 = omega arith in
-        hears_as m lasting (life_in layer m) (of_channel (ended m why) ∷ of_channel (incoming layer.named opening) ∷ []) gone (life_now m) (lives_placed layer.names layer.waiting m number (nat_lt m layer.named) here)
+        hears_as m lasting (life_of_channel layer m) (of_channel (ended m why) ∷ of_channel (incoming layer.named opening) ∷ []) gone (life_now m) (lives_placed layer.names layer.waiting m number (nat_lt m layer.named) here)
         (lives_nowhere names layer.waiting m (layer.named + 1) (had_not_waiting here) (row.freed m had (λ (is : name_of_slot after ≡ Some m). let same : layer.named ≡ m = cc in not_next same)) more)
         (ends_now m m why (of_channel (incoming layer.named opening) ∷ []) gone refl (comes_other m layer.named opening gone not_next))
       where
@@ -286,18 +286,18 @@ module _ (layer : LayerView) (a : IsOrderly layer) where
     next_is_not m had same = let below : m < layer.named = a.was_named m number (a.leads number m had) in absurd (omega arith)
 
     where_some : (m : ℕ) → name_of_slot (slot_numbered layer number) ≡ Some m → (n : ℕ) → (layer.named ≡ n) ⊎ (layer.named ≡ n → ⊥) → (m ≡ n) ⊎ (m ≡ n → ⊥)
-        → Hears n (life_in layer n) (of_channel (ended m why) ∷ of_channel (incoming layer.named opening) ∷ []) (life_now n)
+        → Hears n (life_of_channel layer n) (of_channel (ended m why) ∷ of_channel (incoming layer.named opening) ∷ []) (life_now n)
     where_some m had n next (inl same) =
-        subst (λ (k : ℕ). Hears k (life_in layer k) (of_channel (ended m why) ∷ of_channel (incoming layer.named opening) ∷ []) (life_now k)) same (ends_first m had (next_is_not m had))
+        subst (λ (k : ℕ). Hears k (life_of_channel layer k) (of_channel (ended m why) ∷ of_channel (incoming layer.named opening) ∷ []) (life_now k)) same (ends_first m had (next_is_not m had))
     where_some m had n (inl same) (inr apart) =
-        ends_other n m why (of_channel (incoming layer.named opening) ∷ []) (life_in layer n) (life_now n) apart
-        (subst (λ (k : ℕ). Hears k (life_in layer k) (of_channel (incoming layer.named opening) ∷ []) (life_now k)) same born)
+        ends_other n m why (of_channel (incoming layer.named opening) ∷ []) (life_of_channel layer n) (life_now n) apart
+        (subst (λ (k : ℕ). Hears k (life_of_channel layer k) (of_channel (incoming layer.named opening) ∷ []) (life_now k)) same born)
     where_some m had n (inr not_next) (inr apart) =
-        ends_other n m why (of_channel (incoming layer.named opening) ∷ []) (life_in layer n) (life_now n) apart
+        ends_other n m why (of_channel (incoming layer.named opening) ∷ []) (life_of_channel layer n) (life_now n) apart
         (other n not_next (λ (is : name_of_slot (slot_numbered layer number) ≡ Some n). let same : m ≡ n = cc in apart same))
 
     pub accepted_lives : (had : Option ℕ) → name_of_slot (slot_numbered layer number) ≡ had → (n : ℕ)
-        → Hears n (life_in layer n) (map of_channel (reports_of had (λ m. ended m why) ++ incoming layer.named opening ∷ [])) (life_now n)
+        → Hears n (life_of_channel layer n) (map of_channel (reports_of had (λ m. ended m why) ++ incoming layer.named opening ∷ [])) (life_now n)
     accepted_lives None is n = where_none is n (cases_eq layer.named n)
     accepted_lives (Some m) is n = where_some m is n (cases_eq layer.named n) (cases_eq m n)
 

@@ -50,13 +50,13 @@ pub data Life : Type 0 where
   lasting : Life
   gone : Life
 
-abbrev pub life_where : Bool → Bool → Life
-life_where true is_named = lasting
-life_where false true = gone
-life_where false false = unnamed
+abbrev pub life_by_place : Bool → Bool → Life
+life_by_place true is_named = lasting
+life_by_place false true = gone
+life_by_place false false = unnamed
 
-abbrev pub life_in : LayerView → ℕ → Life
-life_in layer name = life_where (is_placed layer.names layer.waiting name) (nat_lt name layer.named)
+abbrev pub life_of_channel : LayerView → ℕ → Life
+life_of_channel layer name = life_by_place (is_placed layer.names layer.waiting name) (nat_lt name layer.named)
 
 -- what a user hears of a channel: that there is one, something of it, its end
 pub data News : Type 0 where
@@ -64,20 +64,20 @@ pub data News : Type 0 where
   of_life : News
   of_end : News
 
-abbrev pub news_where : Bool → News → Option News
-news_where true news = Some news
-news_where false news = None
+abbrev pub news_if_same : Bool → News → Option News
+news_if_same true news = Some news
+news_if_same false news = None
 
 -- what is said of the channel of this name
-abbrev pub news_in : ℕ → ChannelNotice → Option News
-news_in name (packet_out packet) = None
-news_in name association_made = None
-news_in name (of_channel (opened other)) = news_where (other == name) of_life
-news_in name (of_channel (incoming other opening)) = news_where (other == name) of_birth
-news_in name (of_channel (message other content)) = news_where (other == name) of_life
-news_in name (of_channel (ended other why)) = news_where (other == name) of_end
-news_in name (amount_low other) = news_where (other == name) of_life
-news_in name association_over = None
+abbrev pub news_of_channel : ℕ → ChannelNotice → Option News
+news_of_channel name (packet_out packet) = None
+news_of_channel name association_made = None
+news_of_channel name (of_channel (opened other)) = news_if_same (other == name) of_life
+news_of_channel name (of_channel (incoming other opening)) = news_if_same (other == name) of_birth
+news_of_channel name (of_channel (message other content)) = news_if_same (other == name) of_life
+news_of_channel name (of_channel (ended other why)) = news_if_same (other == name) of_end
+news_of_channel name (amount_low other) = news_if_same (other == name) of_life
+news_of_channel name association_over = None
 
 -- Each channel is born once and ends once. Nothing is said of it before or after.
 abbrev pub LivesOn : Option News → Life → Life → Type 0
@@ -89,32 +89,32 @@ LivesOn (Some of_end) before after = (before ≡ lasting) × (after ≡ gone)
 -- what is said of a channel in turn, from the one life to the other
 abbrev pub Hears : ℕ → Life → List ChannelNotice → Life → Type 0
 Hears name before [] after = after ≡ before
-Hears name before (notice ∷ notices) after = (between : Life) × LivesOn (news_in name notice) before between × Hears name between notices after
+Hears name before (notice ∷ notices) after = (between : Life) × LivesOn (news_of_channel name notice) before between × Hears name between notices after
 
 -- More is reported behind what there was. It tells how each channel fares.
-pub record TellsLives (before : ℕ → Life) (old : LayerView) (taken : List ChannelNotice) (new : LayerView) : Type 0 where
+pub record ReportsLives (before : ℕ → Life) (old : LayerView) (taken : List ChannelNotice) (new : LayerView) : Type 0 where
   pub more : List ChannelNotice
   pub behind : taken ++ new.notices ≡ old.notices ++ more
-  pub lives : (name : ℕ) → Hears name (before name) more (life_in new name)
+  pub lives : (name : ℕ) → Hears name (before name) more (life_of_channel new name)
   pub apart : IsOrderly new
 
 -- ---- calls
 
 -- A call that opens a channel returns its name, which is said by that.
 abbrev pub life_from : ChannelsCall → LayerView → ℕ → Life
-life_from (opens_channel opening negotiated (Ok id)) layer name = if id.0 == name then lasting else life_in layer name
-life_from call layer name = life_in layer name
+life_from (opens_channel opening negotiated (Ok id)) layer name = if id.0 == name then lasting else life_of_channel layer name
+life_from call layer name = life_of_channel layer name
 
-abbrev pub CallsTellLives : Type 0
-CallsTellLives = (call : ChannelsCall) (old new : ChannelsView) → IsCallMade call old new → IsOrderly old.layer → TellsLives (life_from call old.layer) old.layer [] new.layer
+abbrev pub CallsReportLives : Type 0
+CallsReportLives = (call : ChannelsCall) (old new : ChannelsView) → IsCallMade call old new → IsOrderly old.layer → ReportsLives (life_from call old.layer) old.layer [] new.layer
 
-pub record PollTells (result : Option ChannelNotice) (old new : LayerView) : Type 0 where
+pub record PollReportsLives (result : Option ChannelNotice) (old new : LayerView) : Type 0 where
   pub taken : List ChannelNotice
   pub was_taken : WasTaken result taken
-  pub tells : TellsLives (life_in old) old taken new
+  pub tells : ReportsLives (life_of_channel old) old taken new
 
-abbrev pub PollsTellLives : Type 0
-PollsTellLives = (result : Option ChannelNotice) (old new : ChannelsView) → PollsAs old result new → IsOrderly old.layer → PollTells result old.layer new.layer
+abbrev pub PollsReportLives : Type 0
+PollsReportLives = (result : Option ChannelNotice) (old new : ChannelsView) → PollsAs old result new → IsOrderly old.layer → PollReportsLives result old.layer new.layer
 
 -- ---- what follows
 

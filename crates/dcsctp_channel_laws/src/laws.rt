@@ -1,7 +1,7 @@
 //! What a caller may rely on of the definitions. The functions do nothing: their contracts are the laws.
 
 ghost use Rattle.dcsctp_channel_laws.specs.Names.{CallsGiveNewNames, OpensGiveNewNames, PollsGiveNewNames, OpensHaveRoom};
-ghost use Rattle.dcsctp_channel_laws.specs.Lives.{CallsTellLives, PollsTellLives, BeginApart, StreamsAreApart, StatesAreTrue};
+ghost use Rattle.dcsctp_channel_laws.specs.Lives.{CallsReportLives, PollsReportLives, BeginApart, StreamsAreApart, StatesAreTrue};
 
 use dcsctp_channel_calls::channel_messages::channel_spec::reports_are_in_turn;
 
@@ -24,8 +24,8 @@ pub fn names_are_new()
 /// - `apart`: no two streams have one channel.
 /// - `shown`: its state is `Closed` where it isn't there, and nowhere else.
 pub fn each_channel_ends_once()
-    ensures calls { CallsTellLives }
-    ensures polls { PollsTellLives }
+    ensures calls { CallsReportLives }
+    ensures polls { PollsReportLives }
     ensures begins { BeginApart }
     ensures apart { StreamsAreApart }
     ensures shown { StatesAreTrue }

@@ -49,10 +49,10 @@ abbrev pub Begins : Limits → Held → Status → Held → Type 0
 Begins limits (helds.Socket session) status new = BeginsUnless (begin_refused session) limits session status new
 Begins limits (helds.Channels channels) status new = (status ≡ statuses.HasChannels) × (new ≡ helds.Channels channels)
 
-abbrev pub BeginsWhereSized : Bool → Limits → Held → Status → Held → Type 0
-BeginsWhereSized false limits old status new = (status ≡ statuses.WrongSize) × (new ≡ old)
-BeginsWhereSized true limits old status new = Begins limits old status new
+abbrev pub BeginsIfSized : Bool → Limits → Held → Status → Held → Type 0
+BeginsIfSized false limits old status new = (status ≡ statuses.WrongSize) × (new ≡ old)
+BeginsIfSized true limits old status new = Begins limits old status new
 
 -- Channels begin, if the record has the size of the library's.
 abbrev pub ChannelsBegin : LimitsRecord → Held → Status → Held → Type 0
-ChannelsBegin numbers old status new = BeginsWhereSized (has_limits_size numbers) (limits_said numbers) old status new
+ChannelsBegin numbers old status new = BeginsIfSized (has_limits_size numbers) (limits_said numbers) old status new

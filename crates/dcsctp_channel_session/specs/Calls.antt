@@ -16,7 +16,7 @@ use Rattle.dcsctp_channel_calls.specs.declared.channel.ChannelError.TheVariants 
 use Rattle.dcsctp_channel_calls.specs.declared.channel.ChannelId.{ChannelId}
 use Rattle.dcsctp_channel_calls.specs.messages.channel_spec.declared.types.Role.{Role}
 use Rattle.dcsctp_channel_calls.specs.messages.channel_spec.declared.types.Role.TheVariants.{Client, Server}
-use Rattle.dcsctp_channel_session.specs.Options.{has_channel_options_size, says_channel, has_long_text, opening_said_by, stream_said}
+use Rattle.dcsctp_channel_session.specs.Options.{has_channel_options_size, says_channel, has_long_text, opening_of_numbers, stream_said}
 use Rattle.dcsctp_channel_session.specs.Views.{channels_view, channel_number, name_of}
 use Rattle.dcsctp_channel_session.specs.declared.options.ChannelOptionsRecord.{ChannelOptionsRecord}
 use Rattle.dcsctp_channel_session.specs.declared.session.ChannelSession.{ChannelSession}
@@ -36,7 +36,7 @@ channel_status = answer_status channel_error_status
 -- ---- calls
 
 -- The layer's call takes place, and the status says its outcome.
-pub record Performed {A : Type 0} (status_of : Result A SocketFault → Status) (Done : A → ChannelsView → ChannelsView → Type 0)
+pub record CallsLayer {A : Type 0} (status_of : Result A SocketFault → Status) (Done : A → ChannelsView → ChannelsView → Type 0)
     (old : ChannelSession) (status : Status) (new : ChannelSession) : Type 0 where
   pub outcome : Result A SocketFault
   pub call : Answers Done (channels_view old) outcome (channels_view new)
@@ -46,7 +46,7 @@ pub record Performed {A : Type 0} (status_of : Result A SocketFault → Status) 
 
 -- The same of a call that nothing but memory refuses.
 abbrev pub Makes : (ChannelsView → ChannelsView → Type 0) → ChannelSession → Status → ChannelSession → Type 0
-Makes Done = Performed {A = Unit {0}} done_status (λ done. Done)
+Makes Done = CallsLayer {A = Unit {0}} done_status (λ done. Done)
 
 abbrev pub ChannelsConnect : ChannelSession → Status → ChannelSession → Type 0
 ChannelsConnect = Makes SocketConnects
@@ -76,8 +76,8 @@ role_said (pos zero) = Server
 role_said (pos (suc number)) = Client
 role_said (negsuc number) = Client
 
-abbrev pub RoleSet : ℤ → ChannelSession → Status → ChannelSession → Type 0
-RoleSet is_dtls_client = Makes (SetsRole (role_said is_dtls_client))
+abbrev pub SetsRoleByNumber : ℤ → ChannelSession → Status → ChannelSession → Type 0
+SetsRoleByNumber is_dtls_client = Makes (SetsRole (role_said is_dtls_client))
 
 -- ---- a channel is opened
 
@@ -97,48 +97,48 @@ number_after before (Err fault) = before
 -- The layer's call takes place, and the number of its channel is written.
 pub record Opens (numbers : ChannelOptionsRecord) (old : ChannelSession) (before : ℕ) (status : Status) (after : ℕ) (new : ChannelSession) : Type 0 where
   pub outcome : Result (Result ChannelId ChannelError) SocketFault
-  pub call : Answers (OpensChannel (opening_said_by numbers) (stream_said numbers)) (channels_view old) outcome (channels_view new)
+  pub call : Answers (OpensChannel (opening_of_numbers numbers) (stream_said numbers)) (channels_view old) outcome (channels_view new)
   pub told : status ≡ channel_status outcome
   pub number : after ≡ number_after before outcome
   pub event : new.event ≡ old.event
   pub snapshot : new.snapshot ≡ old.snapshot
 
 -- Nothing has changed, and nothing is written.
-pub record OpenRefused (refusal : Status) (old : ChannelSession) (before : ℕ) (status : Status) (after : ℕ) (new : ChannelSession) : Type 0 where
+pub record RefusesOpen (refusal : Status) (old : ChannelSession) (before : ℕ) (status : Status) (after : ℕ) (new : ChannelSession) : Type 0 where
   pub told : status ≡ refusal
   pub number : after ≡ before
   pub same : new ≡ old
 
 abbrev pub OpensUnless : Option Status → ChannelOptionsRecord → ChannelSession → ℕ → Status → ℕ → ChannelSession → Type 0
-OpensUnless (Some refusal) numbers old before status after new = OpenRefused refusal old before status after new
+OpensUnless (Some refusal) numbers old before status after new = RefusesOpen refusal old before status after new
 OpensUnless None numbers old before status after new =
-    OpenRefused statuses.OutOfMemory old before status after new ⊎ Opens numbers old before status after new
+    RefusesOpen statuses.OutOfMemory old before status after new ⊎ Opens numbers old before status after new
 
 -- The channel is opened, unless the numbers are refused, or there was no memory for the texts.
-abbrev pub ChannelOpened : ChannelOptionsRecord → ChannelSession → ℕ → Status → ℕ → ChannelSession → Type 0
-ChannelOpened numbers old before status after new = OpensUnless (numbers_refused numbers) numbers old before status after new
+abbrev pub OpensIfValid : ChannelOptionsRecord → ChannelSession → ℕ → Status → ℕ → ChannelSession → Type 0
+OpensIfValid numbers old before status after new = OpensUnless (numbers_refused numbers) numbers old before status after new
 
 -- ---- calls of a channel
 
 -- The call takes place on the channel of a number; without one this is returned, and nothing has changed.
-abbrev pub OnNamed : Option ℕ → Status → (ℕ → ChannelSession → Status → ChannelSession → Type 0) → ChannelSession → Status → ChannelSession → Type 0
-OnNamed None missing Call old status new = (status ≡ missing) × (new ≡ old)
-OnNamed (Some name) missing Call old status new = Call name old status new
+abbrev pub CallsNamed : Option ℕ → Status → (ℕ → ChannelSession → Status → ChannelSession → Type 0) → ChannelSession → Status → ChannelSession → Type 0
+CallsNamed None missing Call old status new = (status ≡ missing) × (new ≡ old)
+CallsNamed (Some name) missing Call old status new = Call name old status new
 
 abbrev pub is_kind : ℕ → Bool
 is_kind kind = (kind == 1) || (kind == 2)
 
-abbrev pub SentWhereKind : Bool → ℕ → ℕ → List ℕ → ChannelSession → Status → ChannelSession → Type 0
-SentWhereKind false channel kind bytes old status new = (status ≡ statuses.InvalidSendOptions) × (new ≡ old)
-SentWhereKind true channel kind bytes old status new =
-    OnNamed (name_of channel) statuses.NoChannel (λ name. Performed channel_status (SendsContent name (record { is_text = kind == 1; bytes = bytes }))) old status new
+abbrev pub SendsIfKind : Bool → ℕ → ℕ → List ℕ → ChannelSession → Status → ChannelSession → Type 0
+SendsIfKind false channel kind bytes old status new = (status ≡ statuses.InvalidSendOptions) × (new ≡ old)
+SendsIfKind true channel kind bytes old status new =
+    CallsNamed (name_of channel) statuses.NoChannel (λ name. CallsLayer channel_status (SendsContent name (record { is_text = kind == 1; bytes = bytes }))) old status new
 
 -- The message is sent, if there is such a kind.
-abbrev pub ChannelSent : ℕ → ℕ → List ℕ → ChannelSession → Status → ChannelSession → Type 0
-ChannelSent channel kind bytes old status new = SentWhereKind (is_kind kind) channel kind bytes old status new
+abbrev pub SendsOnNumber : ℕ → ℕ → List ℕ → ChannelSession → Status → ChannelSession → Type 0
+SendsOnNumber channel kind bytes old status new = SendsIfKind (is_kind kind) channel kind bytes old status new
 
-abbrev pub ChannelClosed : ℕ → ChannelSession → Status → ChannelSession → Type 0
-ChannelClosed channel = OnNamed (name_of channel) statuses.Done (λ name. Makes (λ old new. new ≡ on_layer (channel_closed name) old))
+abbrev pub ClosesNumber : ℕ → ChannelSession → Status → ChannelSession → Type 0
+ClosesNumber channel = CallsNamed (name_of channel) statuses.Done (λ name. Makes (λ old new. new ≡ on_layer (channel_closed name) old))
 
-abbrev pub ThresholdSet : ℕ → ℕ → ChannelSession → Status → ChannelSession → Type 0
-ThresholdSet channel bytes = OnNamed (name_of channel) statuses.NoChannel (λ name. Performed channel_status (SetsChannelThreshold name bytes))
+abbrev pub SetsNumberThreshold : ℕ → ℕ → ChannelSession → Status → ChannelSession → Type 0
+SetsNumberThreshold channel bytes = CallsNamed (name_of channel) statuses.NoChannel (λ name. CallsLayer channel_status (SetsChannelThreshold name bytes))

@@ -16,7 +16,7 @@ use Rattle.dcsctp_channel_handover.specs.declared.state.ChannelsHandoverState.{C
 use Rattle.dcsctp_channel_handover.specs.declared.state.RestoreChannelsError.{RestoreChannelsError}
 use Rattle.dcsctp_channel_handover.specs.declared.state.RestoreChannelsError.TheVariants as errors
 use Rattle.dcsctp_channel_handover.specs.Handover.{ChannelsPart, channels_part}
-use Rattle.dcsctp_channel_session.specs.Calls.{Performed}
+use Rattle.dcsctp_channel_session.specs.Calls.{CallsLayer}
 use Rattle.dcsctp_channel_session.specs.Views.{channels_view}
 use Rattle.dcsctp_channel_session.specs.declared.session.ChannelSession.{ChannelSession}
 
@@ -67,7 +67,7 @@ pub record RefusesBytes (why : Status) (old : ChannelSession) (status : Status) 
 
 abbrev pub RestoresRead : Option (Snapshot × ChannelsPart) → ChannelSession → Status → ChannelSession → Type 0
 RestoresRead None old status new = RefusesBytes statuses.InvalidSnapshot old status new
-RestoresRead (Some read) old status new = Performed (answer_status restore_channels_status) (RestoresChannels read.0 read.1) old status new
+RestoresRead (Some read) old status new = CallsLayer (answer_status restore_channels_status) (RestoresChannels read.0 read.1) old status new
 
 -- The socket is restored from what the bytes say, without their seal; or there was no memory to read them.
 abbrev pub RestoresChannelsBody : List ℕ → ChannelSession → Status → ChannelSession → Type 0

@@ -47,8 +47,8 @@ has_long_text numbers = nat_lt most_text (length numbers.label.now) || nat_lt mo
 abbrev pub reliability_said : ℕ → ℕ → Reliability
 reliability_said kind limit = if kind == 1 then Retransmissions limit else (if kind == 2 then Lifetime limit else Reliable)
 
-abbrev pub opening_said_by : ChannelOptionsRecord → Opening
-opening_said_by numbers =
+abbrev pub opening_of_numbers : ChannelOptionsRecord → Opening
+opening_of_numbers numbers =
     record {
       label = numbers.label.now;
       protocol = numbers.protocol.now;

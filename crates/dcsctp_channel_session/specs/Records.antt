@@ -57,13 +57,13 @@ memory_of_event (events.SendPacket packet) = Some packet
 memory_of_event (events.Message id is_text bytes) = Some bytes
 memory_of_event event = None
 
-abbrev pub memory_in : Option ChannelEvent → Option (Vec ℕ)
-memory_in None = None
-memory_in (Some event) = memory_of_event event
+abbrev pub memory_of_taken : Option ChannelEvent → Option (Vec ℕ)
+memory_of_taken None = None
+memory_of_taken (Some event) = memory_of_event event
 
-abbrev pub items_in : Option (Vec ℕ) → Option (List ℕ)
-items_in None = None
-items_in (Some bytes) = Some bytes.items
+abbrev pub items_of_memory : Option (Vec ℕ) → Option (List ℕ)
+items_of_memory None = None
+items_of_memory (Some bytes) = Some bytes.items
 
 -- ---- options of a peer's channel
 
@@ -102,9 +102,9 @@ abbrev pub options_of_event : ChannelEvent → Option ShownOptions
 options_of_event (events.Incoming id options) = Some (shown_options options)
 options_of_event event = None
 
-abbrev pub options_in : Option ChannelEvent → Option ShownOptions
-options_in None = None
-options_in (Some event) = options_of_event event
+abbrev pub options_of_taken : Option ChannelEvent → Option ShownOptions
+options_of_taken None = None
+options_of_taken (Some event) = options_of_event event
 
 -- ---- what was counted
 

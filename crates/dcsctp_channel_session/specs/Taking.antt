@@ -20,15 +20,15 @@ abbrev pub event_polled : Result (Option ChannelEvent) SocketFault → Option Ch
 event_polled (Ok event) = event
 event_polled (Err fault) = None
 
-abbrev pub event_told : Option ChannelEvent → ChannelEventRecord
-event_told None = plain_event 0
-event_told (Some event) = notice_record (notice_of event)
+abbrev pub record_of_polled : Option ChannelEvent → ChannelEventRecord
+record_of_polled None = plain_event 0
+record_of_polled (Some event) = notice_record (notice_of event)
 
 -- The next event is taken and kept, and the record says it; without one it says none.
-pub record EventPolled (old : ChannelSession) (status : Status) (told : ChannelEventRecord) (new : ChannelSession) : Type 0 where
+pub record PollsNextEvent (old : ChannelSession) (status : Status) (told : ChannelEventRecord) (new : ChannelSession) : Type 0 where
   pub outcome : Result (Option ChannelEvent) SocketFault
   pub call : PollsChannels (channels_view old) (polled_notice outcome) (channels_view new)
   pub status_is : status ≡ polled_status outcome
   pub kept : new.event ≡ event_polled outcome
-  pub says : told ≡ event_told new.event
+  pub says : told ≡ record_of_polled new.event
   pub snapshot : new.snapshot ≡ old.snapshot

@@ -54,9 +54,9 @@ stream_of_named layer None = None
 stream_of_named layer (Some name) = stream_of_name layer name
 
 -- what waits on a stream, if there is one
-abbrev pub amount_where : ChannelsView → Option ℕ → Option ℕ
-amount_where shown None = None
-amount_where shown (Some stream) = Some (amount_on shown.below (Some stream))
+abbrev pub amount_if_stream : ChannelsView → Option ℕ → Option ℕ
+amount_if_stream shown None = None
+amount_if_stream shown (Some stream) = Some (amount_on shown.below (Some stream))
 
 abbrev pub traffic_named : LayerView → Option ℕ → Option ChannelTraffic
 traffic_named layer name = traffic_on (stream_of_named layer name) layer

@@ -1,9 +1,9 @@
 //! The calls of channels. A channel is a number that is never given twice, 0 is none.
 
 ghost use Rattle.std.specs.Prelude.{◌≡◌, length, option_map};
-ghost use Rattle.dcsctp_channel_session.specs.Views.{channels_view, name_of, state_named, channel_state_number, stream_of_named, amount_where, traffic_named};
+ghost use Rattle.dcsctp_channel_session.specs.Views.{channels_view, name_of, state_named, channel_state_number, stream_of_named, amount_if_stream, traffic_named};
 ghost use Rattle.dcsctp_channel_session.specs.Records.{traffic_record};
-ghost use Rattle.dcsctp_channel_session.specs.Calls.{channel_error_status, channel_status, number_after, RoleSet, ChannelOpened, ChannelSent, ChannelClosed, ThresholdSet};
+ghost use Rattle.dcsctp_channel_session.specs.Calls.{channel_error_status, channel_status, number_after, SetsRoleByNumber, OpensIfValid, SendsOnNumber, ClosesNumber, SetsNumberThreshold};
 
 use crate::options::ChannelOptionsRecord;
 use crate::records::{TrafficRecord, channel_number, channel_state_number, numbered};
@@ -58,7 +58,7 @@ fn of_open(
 impl ChannelSession {
     /// Sets the role in DTLS.
     pub fn set_role(&mut self, is_dtls_client: i32) -> Status
-        ensures { RoleSet is_dtls_client self.old result self.new }
+        ensures { SetsRoleByNumber is_dtls_client self.old result self.new }
     {
         let role = if is_dtls_client == 0 {
             Role::Server
@@ -76,7 +76,7 @@ impl ChannelSession {
     ///
     /// `Status::OutOfMemory` if the texts couldn't be copied, too: then nothing has changed.
     pub fn open(&mut self, options: &ChannelOptionsRecord, channel: &mut u64) -> Status
-        ensures { ChannelOpened options.now self.old channel.old result channel.new self.new }
+        ensures { OpensIfValid options.now self.old channel.old result channel.new self.new }
     {
         if !options.is_sized() {
             return Status::WrongSize;
@@ -98,7 +98,7 @@ impl ChannelSession {
     /// `Status::InvalidSendOptions`: it is another kind. Nothing has changed, and a socket that has failed returns
     /// this, too.
     pub fn send(&mut self, channel: u64, kind: u32, bytes: &[u8]) -> Status
-        ensures { ChannelSent channel kind bytes.now self.old result self.new }
+        ensures { SendsOnNumber channel kind bytes.now self.old result self.new }
     {
         if kind != 1 && kind != 2 {
             return Status::InvalidSendOptions;
@@ -111,7 +111,7 @@ impl ChannelSession {
 
     /// Closes a channel once all that was sent has left. On one that is closed it does nothing.
     pub fn close_channel(&mut self, channel: u64) -> Status
-        ensures { ChannelClosed channel self.old result self.new }
+        ensures { ClosesNumber channel self.old result self.new }
     {
         let Some(id) = numbered(channel) else {
             return Status::Done;
@@ -121,7 +121,7 @@ impl ChannelSession {
 
     /// Sets the low threshold of a channel that has a stream, in bytes.
     pub fn set_buffered_amount_low_threshold(&mut self, channel: u64, bytes: usize) -> Status
-        ensures { ThresholdSet channel bytes self.old result self.new }
+        ensures { SetsNumberThreshold channel bytes self.old result self.new }
     {
         let Some(id) = numbered(channel) else {
             return Status::NoChannel;
@@ -150,7 +150,7 @@ impl ChannelSession {
 
     /// How many bytes wait to be sent on a channel that has a stream.
     pub fn buffered_amount(&self, channel: u64) -> Option<usize>
-        ensures { result ≡ amount_where (channels_view self.now) (stream_of_named
+        ensures { result ≡ amount_if_stream (channels_view self.now) (stream_of_named
             (channels_view self.now).layer (name_of channel)) }
     {
         let id = numbered(channel)?;

@@ -3,7 +3,7 @@
 
 ghost use Rattle.std.specs.Prelude.{◌≡◌, IfOk};
 ghost use Rattle.dcsctp_channel_calls.specs.Notices.{opening_of};
-ghost use Rattle.dcsctp_channel_session.specs.Options.{has_limits_size, limit_or, limits_said, has_channel_options_size, says_channel, has_long_text, reliability_said, opening_said_by, stream_said};
+ghost use Rattle.dcsctp_channel_session.specs.Options.{has_limits_size, limit_or, limits_said, has_channel_options_size, says_channel, has_long_text, reliability_said, opening_of_numbers, stream_said};
 
 use dcsctp_channel_calls::channel_messages::channel_spec::{Delivery, Reliability};
 use dcsctp_channel_calls::{ChannelOptions, Limits};
@@ -124,7 +124,7 @@ impl ChannelOptionsRecord<'_> {
 
     /// The options that the numbers encode. `Err`: an allocation failed.
     pub fn options(&self, alloc: Global) -> Result<ChannelOptions, AllocError>
-        ensures opening { IfOk result (λ options. opening_of options ≡ opening_said_by self.now) }
+        ensures opening { IfOk result (λ options. opening_of options ≡ opening_of_numbers self.now) }
         ensures agreed { IfOk result (λ options. options.negotiated ≡ stream_said self.now) }
     {
         Ok(ChannelOptions {

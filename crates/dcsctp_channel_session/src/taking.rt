@@ -2,8 +2,8 @@
 
 ghost use Rattle.std.specs.Prelude.{◌≡◌};
 ghost use Rattle.dcsctp_session.specs.Copying.{CopiesIfTaken, ShowsPlace};
-ghost use Rattle.dcsctp_channel_session.specs.Records.{memory_in, items_in, options_in};
-ghost use Rattle.dcsctp_channel_session.specs.Taking.{EventPolled};
+ghost use Rattle.dcsctp_channel_session.specs.Records.{memory_of_taken, items_of_memory, options_of_taken};
+ghost use Rattle.dcsctp_channel_session.specs.Taking.{PollsNextEvent};
 
 use crate::records::{ChannelEventRecord, ShownOptions};
 use crate::session::ChannelSession;
@@ -14,7 +14,7 @@ impl ChannelSession {
     /// Takes what happened first, and writes it; a record of 0 if nothing has. The event that was taken before is
     /// dropped.
     pub fn poll(&mut self, told: &mut ChannelEventRecord) -> Status
-        ensures { EventPolled self.old result told.new self.new }
+        ensures { PollsNextEvent self.old result told.new self.new }
     {
         if let Some(ChannelEvent::SendPacket(packet)) = self.event.take() {
             self.channels.socket().take_back(packet);
@@ -34,7 +34,7 @@ impl ChannelSession {
     /// Copies the packet or the message of the event that was taken last, and says how many bytes it has. A buffer
     /// that is too small is unchanged.
     pub fn event_bytes(&self, buffer: &mut [u8], length: &mut usize) -> Status
-        ensures { CopiesIfTaken (items_in (memory_in self.now.event)) buffer.old result buffer.new
+        ensures { CopiesIfTaken (items_of_memory (memory_of_taken self.now.event)) buffer.old result buffer.new
             length.new }
     {
         match &self.event {
@@ -54,7 +54,7 @@ impl ChannelSession {
     /// Says where the packet or the message of the event lies that was taken last, and how many bytes it has. It lies
     /// there until the next event is taken.
     pub fn event_view(&self, bytes: &mut *const u8, length: &mut usize) -> Status
-        ensures { ShowsPlace (memory_in self.now.event) bytes.old result bytes.new length.new }
+        ensures { ShowsPlace (memory_of_taken self.now.event) bytes.old result bytes.new length.new }
     {
         match &self.event {
             Some(ChannelEvent::SendPacket(packet)) => show_place(packet, bytes, length),
@@ -69,7 +69,7 @@ impl ChannelSession {
     /// What the peer opened the channel with, if the event that was taken last says so. Its texts lie there until the
     /// next event is taken.
     pub fn event_options(&self) -> Option<ShownOptions>
-        ensures { result ≡ options_in self.now.event }
+        ensures { result ≡ options_of_taken self.now.event }
     {
         match &self.event {
             Some(ChannelEvent::Incoming(_, options)) => Some(ShownOptions::of(options)),

@@ -21,7 +21,7 @@ use Rattle.dcsctp_channel_calls.specs.Opening.{ReadiesStream}
 use Rattle.dcsctp_channel_calls.specs.Events.{with_notices, HandlesEventUnlessEnded}
 use Rattle.dcsctp_channel_calls.specs.Arrivals.{has_place, is_peers, accepts_open, AcceptsOpen, input_of_control, message_taken, TakesRow, ack_is_due, SendsAck, AcksIfDue, AcksHeld, AcksNow, HandlesMessage}
 use Rattle.dcsctp_channel_calls.specs.Polls.{HandlesReady}
-use Rattle.dcsctp_channels.specs.Layer.{Leaves, accepted_before, accepted_at, HandlesTold}
+use Rattle.dcsctp_channels.specs.Layer.{Leaves, accepted_before, layer_after_accepting, HandlesFirstReported}
 use Rattle.dcsctp_channels.proofs.Keeping.{keeps_named, keeps_same, keeps_then, keeps_report}
 
 -- ---- ACKs
@@ -106,13 +106,13 @@ accepted_row number opening (Some held) layer has =
 
 done_in : {A E : Type 0} (number id : ℕ) (opening : Opening) (old : ChannelsView) (prepared : UserView) (named taken after : LayerView) (result : Result A E)
     → accepts_open old.layer number opening ≡ true → ReadiesStream number opening.delivery.priority old.below prepared
-    → id ≡ old.layer.named → named ≡ record old.layer { named = old.layer.named + 1 } → taken ≡ accepted_at number id opening.delivery named
+    → id ≡ old.layer.named → named ≡ record old.layer { named = old.layer.named + 1 } → taken ≡ layer_after_accepting number id opening.delivery named
     → ByResult (λ done. after ≡ with_notices (of_channel (incoming id opening) ∷ []) taken) (after ≡ taken) result
     → IfOk result (λ answer. AcceptsOpen number opening old (record { below = prepared; layer = after }))
 done_in number id opening old prepared named taken after (Ok done) accepted prepares is names takes reports =
     let has = first_holds (has_place (slot_of (held_stream_numbered old.layer number)) old.layer) _ (is_peers old.layer.role number) accepted in
-    let taken_is : taken ≡ accepted_at number old.layer.named opening.delivery (record old.layer { named = old.layer.named + 1 }) =
-    takes ∙ ap (λ (n : ℕ). accepted_at number n opening.delivery named) is ∙ ap (accepted_at number old.layer.named opening.delivery) names in
+    let taken_is : taken ≡ layer_after_accepting number old.layer.named opening.delivery (record old.layer { named = old.layer.named + 1 }) =
+    takes ∙ ap (λ (n : ℕ). layer_after_accepting number n opening.delivery named) is ∙ ap (layer_after_accepting number old.layer.named opening.delivery) names in
     record {
       prepared = prepared;
       prepares = prepares;
@@ -125,7 +125,7 @@ done_in number id opening old prepared named taken after (Err error) accepted pr
 
 pub accepts_in : {A E : Type 0} (number id : ℕ) (opening : Opening) (old : ChannelsView) (prepared : UserView) (named taken after : LayerView) (result : Result A E)
     → accepts_open old.layer number opening ≡ true → ReadiesStream number opening.delivery.priority old.below prepared
-    → id ≡ old.layer.named → named ≡ record old.layer { named = old.layer.named + 1 } → KeepsTaking named taken → taken ≡ accepted_at number id opening.delivery named
+    → id ≡ old.layer.named → named ≡ record old.layer { named = old.layer.named + 1 } → KeepsTaking named taken → taken ≡ layer_after_accepting number id opening.delivery named
     → ByResult (λ done. after ≡ with_notices (of_channel (incoming id opening) ∷ []) taken) (after ≡ taken) result
     → PartGoes (λ done. AcceptsOpen number opening) old result (record { below = prepared; layer = after })
 accepts_in number id opening old prepared named taken after result accepted prepares is names keeps takes reports = (
@@ -153,6 +153,6 @@ ready_in message old below mid new (Err error) takes is goes = (ready_keeps old.
 -- ---- an event that was told
 
 pub told_handled : (old new : ChannelsView) (first : ReportedEvent) (rest : List ReportedEvent) → old.layer.told ≡ first ∷ rest → KeepsTaking (record old.layer { told = rest }) new.layer
-    → HandlesEventUnlessEnded old.layer.over first.event (on_layer (λ layer. record layer { told = rest }) old) new → KeepsTaking old.layer new.layer × HandlesTold true old new
+    → HandlesEventUnlessEnded old.layer.over first.event (on_layer (λ layer. record layer { told = rest }) old) new → KeepsTaking old.layer new.layer × HandlesFirstReported true old new
 told_handled old new first rest is keeps handles =
     (keeps_then old.layer (record old.layer { told = rest }) new.layer (keeps_same old.layer (record old.layer { told = rest }) refl refl refl refl) keeps, (first, rest, is, handles))

@@ -12,7 +12,7 @@ use Rattle.dcsctp_channel_calls.specs.Events.{with_notices}
 use Rattle.dcsctp_channel_calls.specs.Arrivals.{plain_delivery, message_taken}
 use Rattle.dcsctp_channels.specs.declared.rows.Step.{Step}
 use Rattle.dcsctp_channels.specs.Layer.{Leaves, stream_left}
-use Rattle.dcsctp_channels.specs.Rows.{slot_in, IsStep, notice_reports}
+use Rattle.dcsctp_channels.specs.Rows.{slot_of_use, IsStep, notice_reports}
 use Rattle.dcsctp_channels.proofs.Keeping.{keeps_notices, keeps_then}
 
 map_both : (xs ys : List Report) → map of_channel xs ++ map of_channel ys ≡ map of_channel (xs ++ ys)
@@ -52,7 +52,7 @@ heard_row number content held layer goes_on =
     ∙ ap (λ (b : Bool). layer.notices ++ map of_channel (reports ++ message_reports b held.stream.name content)) (sym goes_on))
 
 -- the step leaves a use
-step_use : (after : Option StreamUse) (stream : StreamUse) → slot_in after ≡ used stream → after ≡ Some stream
+step_use : (after : Option StreamUse) (stream : StreamUse) → slot_of_use after ≡ used stream → after ≡ Some stream
 step_use (Some other) stream is = cc
 step_use None stream is = absurd cc
 

@@ -13,7 +13,7 @@ use Rattle.dcsctp_channel_calls.specs.Sending.{row_taken_if_held}
 use Rattle.dcsctp_channel_calls.specs.Opening.{BeginsAll, begins, waits_on, none_waits, BeginsOn, FirstBegins, view_after_open, channels_waiting}
 use Rattle.dcsctp_channel_calls.specs.Events.{rows_taken, waiting_lost}
 use Rattle.dcsctp_channel_calls.specs.Polls.{NothingToTake, HasNothingToReport, NothingToDo, TakesNotice, HandlesNext, an_event, put_off, is_first_due, event_is_due, PollsAs, takes, goes_on, idle, PollsOrFails, PollsChannels}
-use Rattle.dcsctp_channels.specs.Layer.{DoesLateWhere, HandlesNextWhere, HandlesTold}
+use Rattle.dcsctp_channels.specs.Layer.{DoesLateUnlessNone, HandlesNextUnlessNone, HandlesFirstReported}
 use Rattle.dcsctp_channels.proofs.Keeping.{keeps_refl, keeps_same, keeps_then}
 
 -- what is left where nothing was taken from the front
@@ -147,37 +147,37 @@ polls_idle old new mid last on gathers nothing none same =
 none_told : (view : ChannelsView) → view.layer.told ≡ [] → event_is_due view ≡ false
 none_told view none = ap (λ (told : List ReportedEvent). is_first_due told view) none
 
-pub told_next : (handled : Bool) (old new : ChannelsView) → event_is_due old ≡ true → HandlesTold handled old new → HandlesNextWhere handled old new
+pub told_next : (handled : Bool) (old new : ChannelsView) → event_is_due old ≡ true → HandlesFirstReported handled old new → HandlesNextUnlessNone handled old new
 told_next true old new due told = an_event told.0 told.1 due told.2 told.3
 told_next false old new due none = absurd (true≢false (sym due ∙ none_told old none))
 
 -- what was put off is done where nothing is told
-pub late_next : (done : Bool) (old new : ChannelsView) → HasNothingToReport old → old.layer.over ≡ false → DoesLateWhere done old new → HandlesNextWhere done old new
+pub late_next : (done : Bool) (old new : ChannelsView) → HasNothingToReport old → old.layer.over ≡ false → DoesLateUnlessNone done old new → HandlesNextUnlessNone done old new
 late_next true old new quiet lasts late = put_off quiet lasts late
 late_next false old new quiet lasts (same, none) = (same, record { quiet = quiet; late = inr none })
 
-pub told_in_turn : {E : Type 0} (result : Result Bool E) (old new : ChannelsView) → event_is_due old ≡ true → PartGoes HandlesTold old result new → PartGoes HandlesNextWhere old result new
+pub told_in_turn : {E : Type 0} (result : Result Bool E) (old new : ChannelsView) → event_is_due old ≡ true → PartGoes HandlesFirstReported old result new → PartGoes HandlesNextUnlessNone old result new
 told_in_turn (Ok handled) old new due goes = (goes.0, told_next handled old new due goes.1)
 told_in_turn (Err error) old new due goes = (goes.0, tt)
 
-pub late_in_turn : {E : Type 0} (result : Result Bool E) (old new : ChannelsView) → HasNothingToReport old → old.layer.over ≡ false → PartGoes DoesLateWhere old result new
-    → PartGoes HandlesNextWhere old result new
+pub late_in_turn : {E : Type 0} (result : Result Bool E) (old new : ChannelsView) → HasNothingToReport old → old.layer.over ≡ false → PartGoes DoesLateUnlessNone old result new
+    → PartGoes HandlesNextUnlessNone old result new
 late_in_turn (Ok done) old new quiet lasts goes = (goes.0, late_next done old new quiet lasts goes.1)
 late_in_turn (Err error) old new quiet lasts goes = (goes.0, tt)
 
 -- the same, by what is left where there was nothing to take
 pub polls_next_from : (old new all : ChannelsView) (left : LayerView) (after : ChannelsView) (handled : Bool) → PollsFurther old new → all ≡ view_with_events new → KeepsTaking new.layer all.layer
-    → NothingToTake all.layer → left ≡ all.layer → HandlesNextWhere handled (record all { layer = left }) after → handled ≡ true → KeepsTaking left after.layer → PollsFurther old after
+    → NothingToTake all.layer → left ≡ all.layer → HandlesNextUnlessNone handled (record all { layer = left }) after → handled ≡ true → KeepsTaking left after.layer → PollsFurther old after
 polls_next_from old new all left after handled on gathers gathering nothing same next so keeps =
     polls_next old new all after on gathers gathering nothing
-    (subst (λ (b : Bool). HandlesNextWhere b all after) so (subst (λ (l : LayerView). HandlesNextWhere handled (record all { layer = l }) after) same next))
+    (subst (λ (b : Bool). HandlesNextUnlessNone b all after) so (subst (λ (l : LayerView). HandlesNextUnlessNone handled (record all { layer = l }) after) same next))
     (subst (λ (l : LayerView). KeepsTaking l after.layer) same keeps)
 
 pub polls_idle_from : (old new all : ChannelsView) (left : LayerView) (last : ChannelsView) (handled : Bool) → PollsFurther old new → all ≡ view_with_events new → KeepsTaking new.layer all.layer
-    → NothingToTake all.layer → left ≡ all.layer → HandlesNextWhere handled (record all { layer = left }) last → handled ≡ false
+    → NothingToTake all.layer → left ≡ all.layer → HandlesNextUnlessNone handled (record all { layer = left }) last → handled ≡ false
     → PollsAs old None last × (last.layer.failed ≡ old.layer.failed)
 polls_idle_from old new all left last handled on gathers gathering nothing same next so =
-    let none = subst (λ (b : Bool). HandlesNextWhere b all last) so (subst (λ (l : LayerView). HandlesNextWhere handled (record all { layer = l }) last) same next) in
+    let none = subst (λ (b : Bool). HandlesNextUnlessNone b all last) so (subst (λ (l : LayerView). HandlesNextUnlessNone handled (record all { layer = l }) last) same next) in
     (polls_idle old new all last on gathers nothing none.1 none.0, ap (λ (v : ChannelsView). v.layer.failed) none.0 ∙ gathering.runs ∙ on.keeps.runs)
 
 pub polls_takes_from : (old new all last : ChannelsView) (notice : ChannelNotice) → PollsFurther old new → all ≡ view_with_events new → KeepsTaking new.layer all.layer → TakesNotice all.layer notice last.layer

@@ -17,7 +17,7 @@ use Rattle.dcsctp_channel_handover.specs.Handover.{ChannelPlaces}
 use Rattle.dcsctp_channel_calls.specs.Late.{DoesLate, NothingIsLate}
 use Rattle.dcsctp_channel_calls.specs.Polls.{HandlesNext, NothingToDo}
 use Rattle.dcsctp_channels.specs.declared.arrivals.Kind.{Kind}
-use Rattle.dcsctp_channels.specs.Rows.{slot_in}
+use Rattle.dcsctp_channels.specs.Rows.{slot_of_use}
 use Rattle.dcsctp_channels.specs.declared.layer.Layer.{Layer}
 use Rattle.dcsctp_channels.specs.declared.layer.Told.{Told}
 use Rattle.dcsctp_channels.specs.declared.layer.Waiting.{Waiting}
@@ -26,8 +26,8 @@ use Rattle.dcsctp_channels.specs.declared.table.Table.{Table}
 abbrev pub waiting_said : Waiting → WaitingChannel
 waiting_said waiting = record { name = waiting.id.0; payload = waiting.payload.items; delivery = waiting.delivery; negotiated = waiting.negotiated }
 
-abbrev pub told_of : Told → ReportedEvent
-told_of told = record { after = told.after; event = event_content told.event }
+abbrev pub reported_event : Told → ReportedEvent
+reported_event told = record { after = told.after; event = event_content told.event }
 
 abbrev pub layer_view : Layer → LayerView
 layer_view layer =
@@ -43,7 +43,7 @@ layer_view layer =
       names = layer.table.names.entries;
       waiting = map waiting_said layer.waiting.items;
       named = layer.named;
-      told = map told_of layer.told.items;
+      told = map reported_event layer.told.items;
       taken = layer.taken;
       packets = map (λ packet. packet.items) layer.packets.items;
       notices = map notice_of layer.ready.items;
@@ -59,16 +59,16 @@ abbrev pub Leaves : {A E : Type 0} → LayerView → LayerView → Result A E �
 Leaves becomes old result new = KeepsTaking old new × OnOk result (new ≡ becomes)
 
 -- the stream has this use, and its channel this name
-abbrev pub put_at : ℕ → Option ℕ → HeldStream → LayerView → LayerView
-put_at number old held layer =
+abbrev pub layer_with_stream : ℕ → Option ℕ → HeldStream → LayerView → LayerView
+layer_with_stream number old held layer =
     record layer { streams = entry_put number held layer.streams; names = names_with number old held.stream.name layer.names }
 
 -- the stream is left so by a row
 abbrev pub stream_left : ℕ → HeldStream → Option StreamUse → LayerView → LayerView
 stream_left number held after layer =
     record layer {
-      streams = streams_with number (Some held) (slot_in after) (went_on layer.moment held) layer.streams;
-      names = names_with number held.stream.name (name_of_slot (slot_in after)) layer.names;
+      streams = streams_with number (Some held) (slot_of_use after) (went_on layer.moment held) layer.streams;
+      names = names_with number held.stream.name (name_of_slot (slot_of_use after)) layer.names;
     }
 
 -- a layer of which nothing is known yet
@@ -94,37 +94,37 @@ fresh_layer limits =
 
 -- the stream has the peer's channel, and one that it had before is over
 abbrev pub accepted_before : Option HeldStream → ℕ → ℕ → Delivery → LayerView → LayerView
-accepted_before None number name delivery layer = put_at number None (held_from layer.moment delivery (accepted_use name false)) layer
+accepted_before None number name delivery layer = layer_with_stream number None (held_from layer.moment delivery (accepted_use name false)) layer
 accepted_before (Some held) number name delivery layer =
-    put_at number held.stream.name (held_from layer.moment delivery (accepted_use name true)) (with_notices (map of_channel (ends_as (end_if_heard held.stream.heard) held.stream)) layer)
+    layer_with_stream number held.stream.name (held_from layer.moment delivery (accepted_use name true)) (with_notices (map of_channel (ends_as (end_if_heard held.stream.heard) held.stream)) layer)
 
-abbrev pub accepted_at : ℕ → ℕ → Delivery → LayerView → LayerView
-accepted_at number name delivery layer = accepted_before (held_stream_numbered layer number) number name delivery layer
+abbrev pub layer_after_accepting : ℕ → ℕ → Delivery → LayerView → LayerView
+layer_after_accepting number name delivery layer = accepted_before (held_stream_numbered layer number) number name delivery layer
 
 -- ---- what a user's message is by its identifier
 
-abbrev pub bytes_where : Bool → List ℕ → List ℕ
-bytes_where true payload = []
-bytes_where false payload = payload
+abbrev pub bytes_unless_empty : Bool → List ℕ → List ℕ
+bytes_unless_empty true payload = []
+bytes_unless_empty false payload = payload
 
 abbrev pub kind_content : List ℕ → Kind → ChannelContent
-kind_content payload kind = record { is_text = kind.is_text; bytes = bytes_where kind.is_empty payload }
+kind_content payload kind = record { is_text = kind.is_text; bytes = bytes_unless_empty kind.is_empty payload }
 
 -- ---- what is done next
 
 -- Was something done that had been put off?
-abbrev pub DoesLateWhere : Bool → ChannelsView → ChannelsView → Type 0
-DoesLateWhere true old new = DoesLate old new
-DoesLateWhere false old new = (new ≡ old) × NothingIsLate old
+abbrev pub DoesLateUnlessNone : Bool → ChannelsView → ChannelsView → Type 0
+DoesLateUnlessNone true old new = DoesLate old new
+DoesLateUnlessNone false old new = (new ≡ old) × NothingIsLate old
 
-abbrev pub HandlesNextWhere : Bool → ChannelsView → ChannelsView → Type 0
-HandlesNextWhere true old new = HandlesNext old new
-HandlesNextWhere false old new = (new ≡ old) × NothingToDo old
+abbrev pub HandlesNextUnlessNone : Bool → ChannelsView → ChannelsView → Type 0
+HandlesNextUnlessNone true old new = HandlesNext old new
+HandlesNextUnlessNone false old new = (new ≡ old) × NothingToDo old
 
 -- The first event was handled; there is always one.
-abbrev pub HandlesTold : Bool → ChannelsView → ChannelsView → Type 0
-HandlesTold true old new = (first : ReportedEvent) × (rest : List ReportedEvent) × (old.layer.told ≡ first ∷ rest) × HandlesEventUnlessEnded old.layer.over first.event (on_layer (λ layer. record layer { told = rest }) old) new
-HandlesTold false old new = old.layer.told ≡ []
+abbrev pub HandlesFirstReported : Bool → ChannelsView → ChannelsView → Type 0
+HandlesFirstReported true old new = (first : ReportedEvent) × (rest : List ReportedEvent) × (old.layer.told ≡ first ∷ rest) × HandlesEventUnlessEnded old.layer.over first.event (on_layer (λ layer. record layer { told = rest }) old) new
+HandlesFirstReported false old new = old.layer.told ≡ []
 
 abbrev pub place_from : ℕ → ℕ → List WaitingChannel → Option ℕ
 place_from place name [] = None

@@ -22,9 +22,9 @@ row_input Refused = was_refused
 row_input PeerReset = peer_resets
 row_input Lost = association_ends
 
-abbrev pub slot_in : Option StreamUse → StreamSlot
-slot_in None = free
-slot_in (Some stream) = used stream
+abbrev pub slot_of_use : Option StreamUse → StreamSlot
+slot_of_use None = free
+slot_of_use (Some stream) = used stream
 
 abbrev pub notice_reports : Option Notice → List Report
 notice_reports None = []
@@ -33,14 +33,14 @@ notice_reports (Some (Ended name why)) = ended name why ∷ []
 
 -- It leaves and reports what a row says.
 pub record IsStep (step : Step) (outcome : SlotOutcome) : Type 0 where
-  pub after : slot_in step.after ≡ outcome.after
+  pub after : slot_of_use step.after ≡ outcome.after
   pub reports : notice_reports step.notice ≡ outcome.reports
 
 -- the step is taken on a stream in use
 abbrev pub step_taken : ℕ → HeldStream → Step → LayerView → LayerView
 step_taken number held step layer =
     record layer {
-      streams = streams_with number (Some held) (slot_in step.after) (went_on layer.moment held) layer.streams;
-      names = names_with number held.stream.name (name_of_slot (slot_in step.after)) layer.names;
+      streams = streams_with number (Some held) (slot_of_use step.after) (went_on layer.moment held) layer.streams;
+      names = names_with number held.stream.name (name_of_slot (slot_of_use step.after)) layer.names;
       notices = layer.notices ++ map of_channel (notice_reports step.notice);
     }

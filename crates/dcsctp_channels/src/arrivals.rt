@@ -14,7 +14,7 @@ ghost use Rattle.dcsctp_channel_calls.specs.declared.channel.HeldStream.{HeldStr
 ghost use Rattle.dcsctp_channel_calls.specs.Calls.{PartGoes};
 ghost use Rattle.dcsctp_channel_calls.specs.Arrivals.{HandlesMessage, TakesRow, input_of, input_of_control, has_place, accepts_open, AcceptsOpen, AcksNow, SendsAck, ack_is_due, plain_delivery, message_taken};
 ghost use Rattle.dcsctp_channel_calls.specs.messages.Format.{control_of_bytes};
-ghost use Rattle.dcsctp_channels.specs.Layer.{layer_view, whole_view, Leaves, put_at, accepted_at, kind_content};
+ghost use Rattle.dcsctp_channels.specs.Layer.{layer_view, whole_view, Leaves, layer_with_stream, layer_after_accepting, kind_content};
 
 use crate::below::{has_stream, prepare_stream};
 use crate::layer::{Layer, begun, leave, report_notice, take_row};
@@ -220,7 +220,7 @@ fn plain_delivery() -> Delivery
 
 // A stream is in use until it is reset, without a user.
 fn begin_refused(layer: &mut Layer, stream: u16, delivery: Delivery) -> Result<(), AllocError>
-    ensures { Leaves (put_at stream None (held_from layer.old.moment delivery (refused_use false))
+    ensures { Leaves (layer_with_stream stream None (held_from layer.old.moment delivery (refused_use false))
         (layer_view layer.old)) (layer_view layer.old) result (layer_view layer.new) }
 {
     let held = begun(layer.moment, delivery, rows::refused_by_us(false));
@@ -316,7 +316,7 @@ fn take_accepted(
     id: ChannelId,
     delivery: Delivery,
 ) -> Result<(), AllocError>
-    ensures { Leaves (accepted_at stream id.0 delivery (layer_view layer.old))
+    ensures { Leaves (layer_after_accepting stream id.0 delivery (layer_view layer.old))
         (layer_view layer.old) result (layer_view layer.new) }
 {
     match layer.table.at(stream) {

@@ -13,7 +13,7 @@ ghost use Rattle.dcsctp_channel_calls.specs.Arrivals.{ack_is_due};
 ghost use Rattle.dcsctp_channel_calls.specs.Late.{NoResetIsDue, NoAckIsDue, ResetsStream, may_reset, reset_is_due, is_all_sent, patience_ends, may_begin_now};
 ghost use Rattle.dcsctp_channel_calls.specs.Polls.{sooner_if_ending, deadline_with};
 ghost use Rattle.dcsctp_channel_calls.specs.Opening.{channels_waiting};
-ghost use Rattle.dcsctp_channels.specs.Layer.{layer_view, whole_view, waiting_said, Leaves, DoesLateWhere, place_waiting};
+ghost use Rattle.dcsctp_channels.specs.Layer.{layer_view, whole_view, waiting_said, Leaves, DoesLateUnlessNone, place_waiting};
 
 use crate::arrivals::{ack_is_due, send_ack};
 use crate::layer::{Layer, take_row};
@@ -110,7 +110,7 @@ pub(crate) fn do_late<S: DcSctpSocket>(
     socket: &mut S,
     layer: &mut Layer,
 ) -> Result<bool, AllocError>
-    ensures { PartGoes DoesLateWhere (whole_view (S.user_view socket.old) layer.old) result
+    ensures { PartGoes DoesLateUnlessNone (whole_view (S.user_view socket.old) layer.old) result
         (whole_view (S.user_view socket.new) layer.new) }
 {
     if let Some(stream) = due_reset(socket, layer) {

@@ -5,7 +5,7 @@ ghost use Rattle.std.specs.List.{list_all};
 ghost use Rattle.dcsctp_channel_calls.specs.api.types.Snapshot.{snapshot, is_valid_snapshot};
 ghost use Rattle.dcsctp_channel_calls.specs.View.{stream_count};
 ghost use Rattle.dcsctp_channel_calls.specs.Calls.{PartGoes};
-ghost use Rattle.dcsctp_channel_handover.specs.Handover.{is_plain, has_settled, are_settled, is_all_taken, has_association, readiness_with_channels, carried_channel, carried_channels, channels_part, layer_handed_over, HandsOverNow, HandsOverChannels, ChannelPlaces, held_again, has_own_place, placed, places_beside, no_places, is_of_association, is_valid_below, streams_of_snapshot, is_unused, RestoresChannels, RestoresInto};
+ghost use Rattle.dcsctp_channel_handover.specs.Handover.{is_plain, has_settled, are_settled, is_all_taken, has_association, readiness_with_channels, carried_channel, carried_channels, channels_part, layer_handed_over, HandsOverNow, HandsOverChannels, ChannelPlaces, held_again, has_own_place, places_with_channel, places_beside, no_places, is_of_association, is_valid_below, streams_of_snapshot, is_unused, RestoresChannels, RestoresIfPlaced};
 ghost use Rattle.dcsctp_channels.specs.Layer.{layer_view, whole_view, Leaves, places_of, PlacesAre};
 
 use crate::below::{gather, stream_count};
@@ -199,7 +199,7 @@ fn has_own_place(count: u16, named: u64, channel: &HandoverChannel, table: &Tabl
 }
 
 fn place(moment: SocketTime, channel: &HandoverChannel, table: &mut Table) -> Result<(), AllocError>
-    ensures { OnOk result (places_of table.new ≡ placed moment channel.now (places_of table.old)) }
+    ensures { OnOk result (places_of table.new ≡ places_with_channel moment channel.now (places_of table.old)) }
 {
     table.rename(channel.stream, None, Some(channel.name))?;
     table.put(channel.stream, held_again(moment, channel))
@@ -306,7 +306,7 @@ fn continue_with<S: DcSctpSocket>(
     requires unused { is_unused (whole_view (S.user_view socket.old) layer.old) ≡ true }
     requires valid { is_valid_below (snapshot state.now.socket)
         (whole_view (S.user_view socket.old) layer.old) ≡ true }
-    ensures { PartGoes (RestoresInto (snapshot state.now.socket) (channels_part state.now.channels)
+    ensures { PartGoes (RestoresIfPlaced (snapshot state.now.socket) (channels_part state.now.channels)
         (Some (places_of table))) (whole_view (S.user_view socket.old) layer.old) result
         (whole_view (S.user_view socket.new) layer.new) }
 {

@@ -9,7 +9,7 @@ ghost use Rattle.dcsctp_channel_calls.specs.View.{of_channel, held_stream_number
 ghost use Rattle.dcsctp_channel_calls.specs.Sending.{row_taken_if_held};
 ghost use Rattle.dcsctp_channel_calls.specs.Events.{with_notices, rows_taken};
 ghost use Rattle.dcsctp_channel_calls.specs.Polls.{TakesNotice, NothingToTake};
-ghost use Rattle.dcsctp_channels.specs.Layer.{layer_view, fresh_layer, Leaves, put_at, stream_left};
+ghost use Rattle.dcsctp_channels.specs.Layer.{layer_view, fresh_layer, Leaves, layer_with_stream, stream_left};
 ghost use Rattle.dcsctp_channels.specs.Rows.{row_input, step_taken, notice_reports};
 
 use crate::rows::{self, Notice, Row, Step};
@@ -159,7 +159,7 @@ impl Layer {
         old: Option<u64>,
         held: HeldStream,
     ) -> Result<(), AllocError>
-        ensures { Leaves (put_at stream old held (layer_view self.old)) (layer_view self.old) result
+        ensures { Leaves (layer_with_stream stream old held (layer_view self.old)) (layer_view self.old) result
             (layer_view self.new) }
     {
         self.table.rename(stream, old, held.stream.name)?;

@@ -6,7 +6,7 @@ ghost use Rattle.dcsctp_channel_calls.specs.Notices.{notice_of};
 ghost use Rattle.dcsctp_channel_calls.specs.View.{ready_below};
 ghost use Rattle.dcsctp_channel_calls.specs.Calls.{PartGoes, KeepsTaking};
 ghost use Rattle.dcsctp_channel_calls.specs.Polls.{PollsAs, HandlesReady, event_is_due};
-ghost use Rattle.dcsctp_channels.specs.Layer.{layer_view, whole_view, HandlesNextWhere, HandlesTold};
+ghost use Rattle.dcsctp_channels.specs.Layer.{layer_view, whole_view, HandlesNextUnlessNone, HandlesFirstReported};
 
 use crate::arrivals::handle_message;
 use crate::below::gather;
@@ -41,7 +41,7 @@ pub(crate) fn poll<S: DcSctpSocket>(
 
 // Handles one thing that the socket has told, or that was put off. False: there is none.
 fn handle_next<S: DcSctpSocket>(socket: &mut S, layer: &mut Layer) -> Result<bool, AllocError>
-    ensures { PartGoes HandlesNextWhere (whole_view (S.user_view socket.old) layer.old) result
+    ensures { PartGoes HandlesNextUnlessNone (whole_view (S.user_view socket.old) layer.old) result
         (whole_view (S.user_view socket.new) layer.new) }
 {
     if event_is_due(socket, layer) {
@@ -81,7 +81,7 @@ fn event_is_due<S: DcSctpSocket>(socket: &S, layer: &Layer) -> bool
 }
 
 fn handle_told<S: DcSctpSocket>(socket: &mut S, layer: &mut Layer) -> Result<bool, AllocError>
-    ensures { PartGoes HandlesTold (whole_view (S.user_view socket.old) layer.old) result
+    ensures { PartGoes HandlesFirstReported (whole_view (S.user_view socket.old) layer.old) result
         (whole_view (S.user_view socket.new) layer.new) }
 {
     match layer.told.pop_front() {

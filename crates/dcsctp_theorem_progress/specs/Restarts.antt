@@ -32,7 +32,7 @@ pub record HasOlder (e : Endpoint) (cookie : Cookie) (moment : ℕ) : Type 0 whe
   pub anew : AreQueuesIdle (queues_begun e cookie).queue (queues_begun e cookie).transfer
 
 -- Both are Established and crossed, and each has told OnConnected once since.
-pub record HaveConnectedAnew (options : Both Options) (before after : Both (List Transition)) : Type 0 where
+pub record HaveConnectedAgain (options : Both Options) (before after : Both (List Transition)) : Type 0 where
   pub p : Pair
   pub q : Pair
   pub linked : AreLinked (endpoint_after options.a after.a) (endpoint_after options.b after.b) options.a options.b p q
@@ -48,7 +48,7 @@ OlderGivesWay options run =
     let f = other_endpoint options side earlier in
     KeepsOptions (of_side side options) e → KeepsOptions (of_other side options) f
     → HasEchoed e f cookie bytes → RetriesT1 e 1 → HasOlder f cookie (next_moment e) → next_moment e < next_moment f
-    → QuietRound options (counts_shown options (turns_after earlier)) earlier settled run → HaveConnectedAnew options (turns_after earlier) (turns_after run)
+    → QuietRound options (counts_shown options (turns_after earlier)) earlier settled run → HaveConnectedAgain options (turns_after earlier) (turns_after run)
 
 abbrev pub OlderAssociationsGiveWay : Type 0
 OlderAssociationsGiveWay = (options : Both Options) (run : List PerformedAct) → AreUsable options → AreFitting options → SocketRun options run → OlderGivesWay options run

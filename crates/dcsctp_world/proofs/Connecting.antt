@@ -17,7 +17,7 @@ use Rattle.dcsctp_theorem_progress.specs.Rounds.{counts_shown, QuietRound, Quiet
 use Rattle.dcsctp_world.specs.Acts.{Ran}
 use Rattle.dcsctp_world.specs.Promises.{Promises}
 use Rattle.dcsctp_world.specs.Recording.{Recording}
-use Rattle.dcsctp_world.specs.Rounds.{emitted_counts, ShowsRounds, Settles, CanConnect, ConnectedSince, HasSettled}
+use Rattle.dcsctp_world.specs.Rounds.{emitted_counts, ShowsRounds, Settles, CanConnect, HaveConnectedSince, HasSettled}
 use Rattle.dcsctp_world.specs.Run.{SideRuns, IsRun}
 use Rattle.dcsctp_world.specs.Shown.{ShownSide, WorldView, options_of}
 use Rattle.dcsctp_world.proofs.Agreeing.{connections_shown}
@@ -46,7 +46,7 @@ once_open options turns side h =
 
 -- by a run of each
 shows_connected : {R : Type 0} (old new : WorldView R) (before : IsRun (options_of old) old) (after : IsRun (options_of old) new)
-    → HaveConnected (options_of old) (turns_after before.steps) (turns_after after.steps) → ConnectedSince old new
+    → HaveConnected (options_of old) (turns_after before.steps) (turns_after after.steps) → HaveConnectedSince old new
 shows_connected old new before after h =
     let options : Both Options = options_of old in
     record {
@@ -63,7 +63,7 @@ shows_connected old new before after h =
     }
 
 pub round_connects : {R : Type 0} (old new : WorldView (Recording R)) (settled : Both ℕ) → Promises old → Promises new
-    → ((options : Both Options) (earlier : IsRun options old) → ShowsRounds options 1 (emitted_counts old) earlier.steps settled new) → CanConnect old → ConnectedSince old new
+    → ((options : Both Options) (earlier : IsRun options old) → ShowsRounds options 1 (emitted_counts old) earlier.steps settled new) → CanConnect old → HaveConnectedSince old new
 round_connects old new settled before after quiet can =
     let options : Both Options = options_of old in
     let run : IsRun options old = before.run in

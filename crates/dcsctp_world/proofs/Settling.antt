@@ -17,7 +17,7 @@ use Rattle.dcsctp_core.specs.api.declared.errors.SocketFault.TheVariants.{OutOfM
 use Rattle.dcsctp_world.specs.Acts.{Ran, RunsSteps}
 use Rattle.dcsctp_world.specs.Continuing.{ShowsAfter}
 use Rattle.dcsctp_world.specs.Recording.{Recording}
-use Rattle.dcsctp_world.specs.Rounds.{emitted_counts, earlier_moment, clock_steps, delivery_steps, exchange_steps, ExchangesOnce, ShowsRounds, Settles, SettlesOnce, SettlesIn}
+use Rattle.dcsctp_world.specs.Rounds.{emitted_counts, earlier_moment, clock_steps, delivery_steps, exchange_steps, ExchangesOnce, ShowsRounds, Settles, SettlesOnce, SettlesOrFails}
 use Rattle.dcsctp_world.specs.Run.{IsRun}
 use Rattle.dcsctp_world.specs.Shown.{WorldView}
 use Rattle.dcsctp_world.proofs.Following.{ran_further, ran_none_is, runs_further, stops_before, Stops}
@@ -205,7 +205,7 @@ module _ {R : Type 0} (stream : R → Stream) where
   round_stopped settled old new OutOfMemory h = h
   round_stopped settled old new Failed h = h
 
-  pub settle_stops : (count : ℕ) (old new : WorldView (Recording R)) (fault : SocketFault) → Stops stream old fault new → SettlesIn stream count old (Err fault) new
+  pub settle_stops : (count : ℕ) (old new : WorldView (Recording R)) (fault : SocketFault) → Stops stream old fault new → SettlesOrFails stream count old (Err fault) new
   settle_stops count old new OutOfMemory h = h
   settle_stops count old new Failed h = h
 

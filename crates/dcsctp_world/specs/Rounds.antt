@@ -87,7 +87,7 @@ pub record CanConnect {R : Type 0} (world : WorldView R) : Type 0 where
   pub trying : MayConnect 1 world.sides.a.socket.view.endpoint world.sides.b.socket.view.endpoint
 
 -- Both are Established and crossed, and each that wasn't open has reported OnConnected once more.
-pub record ConnectedSince {R : Type 0} (old new : WorldView R) : Type 0 where
+pub record HaveConnectedSince {R : Type 0} (old new : WorldView R) : Type 0 where
   pub a_pair : Pair
   pub b_pair : Pair
   pub linked : AreLinked new.sides.a.socket.view.endpoint new.sides.b.socket.view.endpoint old.sides.a.options old.sides.b.options a_pair b_pair
@@ -99,7 +99,7 @@ pub record HasSettled {R : Type 0} (stream : R → Stream) (count : ℕ) (old ne
   pub settled : Both ℕ
   pub rounds : Settles stream count (emitted_counts old) settled old new
   -- One connects two sockets that can.
-  pub connects : count ≡ 1 → CanConnect old → ConnectedSince old new
+  pub connects : count ≡ 1 → CanConnect old → HaveConnectedSince old new
 
-abbrev pub SettlesIn : {R : Type 0} → (R → Stream) → ℕ → WorldView (Recording R) → Result (Unit {0}) SocketFault → WorldView (Recording R) → Type 0
-SettlesIn stream count old result new = RunsOn stream (λ done. HasSettled stream count old new) old result new
+abbrev pub SettlesOrFails : {R : Type 0} → (R → Stream) → ℕ → WorldView (Recording R) → Result (Unit {0}) SocketFault → WorldView (Recording R) → Type 0
+SettlesOrFails stream count old result new = RunsOn stream (λ done. HasSettled stream count old new) old result new

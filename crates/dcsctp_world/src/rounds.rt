@@ -2,7 +2,7 @@
 
 ghost use Rattle.std.specs.Prelude.{◌≡◌, ◌-◌, min};
 ghost use Rattle.dcsctp_world.specs.Acts.{RunsSteps};
-ghost use Rattle.dcsctp_world.specs.Rounds.{emitted_counts, both_counts, earlier_moment, clock_steps, delivery_steps, ExchangesOnce, SettlesOnce, SettlesIn};
+ghost use Rattle.dcsctp_world.specs.Rounds.{emitted_counts, both_counts, earlier_moment, clock_steps, delivery_steps, ExchangesOnce, SettlesOnce, SettlesOrFails};
 
 use crate::world::World;
 use dcsctp_core::types::{Call, Side, Step};
@@ -107,7 +107,7 @@ impl<R: Rng + Drop> World<R> {
     ///
     /// The errors are those of `run`; if an allocation failed, the steps before it were applied.
     pub fn settle(&mut self, rounds: usize) -> Result<(), SocketFault>
-        ensures { SettlesIn R.stream rounds self.old result self.new }
+        ensures { SettlesOrFails R.stream rounds self.old result self.new }
     {
         self.run(&[])?;
         let mut settled = self.counts();
