@@ -44,7 +44,8 @@ pub extern "C" fn dcsctp_shutdown(handle: &mut Handle) -> i32
 /// Ends the association at once.
 #[unsafe(no_mangle)]
 pub extern "C" fn dcsctp_close(handle: &mut Handle) -> i32
-    ensures { CallsSession ClosesSession ChannelsAbort handle.old.slot.value result handle.new.slot.value }
+    ensures { CallsSession ClosesSession ChannelsAbort handle.old.slot.value result
+        handle.new.slot.value }
 {
     if !handle.is_open() {
         return Status::NoSocket.number();
@@ -149,8 +150,8 @@ pub extern "C" fn dcsctp_set_stream_priority(
     stream_id: u16,
     priority: u16,
 ) -> i32
-    ensures { CallsBelowChannels (MakesSetting (stream_priority stream_id priority)) handle.old.slot.value
-        result handle.new.slot.value }
+    ensures { CallsBelowChannels (MakesSetting (stream_priority stream_id priority))
+        handle.old.slot.value result handle.new.slot.value }
 {
     if !handle.is_open() {
         return Status::NoSocket.number();
@@ -168,8 +169,8 @@ pub extern "C" fn dcsctp_set_buffered_amount_low_threshold(
     stream_id: u16,
     bytes: usize,
 ) -> i32
-    ensures { CallsBelowChannels (MakesSetting (stream_low_threshold stream_id bytes)) handle.old.slot.value
-        result handle.new.slot.value }
+    ensures { CallsBelowChannels (MakesSetting (stream_low_threshold stream_id bytes))
+        handle.old.slot.value result handle.new.slot.value }
 {
     if !handle.is_open() {
         return Status::NoSocket.number();

@@ -77,8 +77,8 @@ pub extern "C" fn dcsctp_poll_timeout(handle: &mut Handle, moment: &mut u64) -> 
 
 // Writes the options of the socket, whatever the size that the record says.
 fn write_options(handle: &mut Handle, options: &mut OptionsRecord) -> i32
-    ensures answer { QueriesSession WritesOptions ChannelsWriteOptions handle.old.slot.value options.old
-        result options.new }
+    ensures answer { QueriesSession WritesOptions ChannelsWriteOptions handle.old.slot.value
+        options.old result options.new }
     ensures same { handle.new ≡ handle.old }
 {
     if !handle.is_open() {
@@ -115,8 +115,8 @@ pub extern "C" fn dcsctp_buffered_amount(
     stream_id: u16,
     bytes: &mut usize,
 ) -> i32
-    ensures answer { QueriesBelowChannels (WritesAnswer (AmountIs stream_id)) handle.old.slot.value bytes.old
-        result bytes.new }
+    ensures answer { QueriesBelowChannels (WritesAnswer (AmountIs stream_id)) handle.old.slot.value
+        bytes.old result bytes.new }
     ensures same { handle.new ≡ handle.old }
 {
     if !handle.is_open() {

@@ -32,9 +32,9 @@ pub extern "C" fn dcsctp_event_bytes(
     buffer: &mut [u8],
     length: &mut usize,
 ) -> i32
-    ensures answer { QueriesBelowChannels (CopiesFrom (λ session. bytes_of_polled session.taken.event))
-        handle.old.slot.value
-        (buffer_of buffer.old length.old) result (buffer_of buffer.new length.new) }
+    ensures answer { QueriesBelowChannels (CopiesFrom (λ session. bytes_of_polled
+        session.taken.event)) handle.old.slot.value (buffer_of buffer.old length.old) result
+        (buffer_of buffer.new length.new) }
     ensures same { handle.new ≡ handle.old }
 {
     if !handle.is_open() {
@@ -53,9 +53,9 @@ pub extern "C" fn dcsctp_event_view(
     bytes: &mut *const u8,
     length: &mut usize,
 ) -> i32
-    ensures answer { QueriesBelowChannels (ShowsFrom (λ session. packet_in_event session.taken.event))
-        handle.old.slot.value
-        (output_place bytes.old length.old) result (output_place bytes.new length.new) }
+    ensures answer { QueriesBelowChannels (ShowsFrom (λ session. packet_in_event
+        session.taken.event)) handle.old.slot.value (output_place bytes.old length.old) result
+        (output_place bytes.new length.new) }
     ensures same { handle.new ≡ handle.old }
 {
     if !handle.is_open() {
@@ -74,9 +74,9 @@ pub extern "C" fn dcsctp_event_streams(
     buffer: &mut [u16],
     count: &mut usize,
 ) -> i32
-    ensures answer { QueriesBelowChannels (CopiesFrom (λ session. streams_in_event session.taken.event))
-        handle.old.slot.value
-        (buffer_of buffer.old count.old) result (buffer_of buffer.new count.new) }
+    ensures answer { QueriesBelowChannels (CopiesFrom (λ session. streams_in_event
+        session.taken.event)) handle.old.slot.value (buffer_of buffer.old count.old) result
+        (buffer_of buffer.new count.new) }
     ensures same { handle.new ≡ handle.old }
 {
     if !handle.is_open() {
@@ -110,9 +110,9 @@ pub extern "C" fn dcsctp_message_bytes(
     buffer: &mut [u8],
     length: &mut usize,
 ) -> i32
-    ensures answer { QueriesBelowChannels (CopiesFrom (λ session. payload_of_taken session.taken.message))
-        handle.old.slot.value
-        (buffer_of buffer.old length.old) result (buffer_of buffer.new length.new) }
+    ensures answer { QueriesBelowChannels (CopiesFrom (λ session. payload_of_taken
+        session.taken.message)) handle.old.slot.value (buffer_of buffer.old length.old) result
+        (buffer_of buffer.new length.new) }
     ensures same { handle.new ≡ handle.old }
 {
     if !handle.is_open() {
@@ -131,9 +131,9 @@ pub extern "C" fn dcsctp_message_view(
     bytes: &mut *const u8,
     length: &mut usize,
 ) -> i32
-    ensures answer { QueriesBelowChannels (ShowsFrom (λ session. message_of_taken session.taken.message))
-        handle.old.slot.value
-        (output_place bytes.old length.old) result (output_place bytes.new length.new) }
+    ensures answer { QueriesBelowChannels (ShowsFrom (λ session. message_of_taken
+        session.taken.message)) handle.old.slot.value (output_place bytes.old length.old) result
+        (output_place bytes.new length.new) }
     ensures same { handle.new ≡ handle.old }
 {
     if !handle.is_open() {

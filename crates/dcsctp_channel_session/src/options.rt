@@ -124,7 +124,8 @@ impl ChannelOptionsRecord<'_> {
 
     /// The options that the numbers encode. `Err`: an allocation failed.
     pub fn options(&self, alloc: Global) -> Result<ChannelOptions, AllocError>
-        ensures opening { IfOk result (λ options. opening_of options ≡ opening_of_numbers self.now) }
+        ensures opening { IfOk result (λ options. opening_of options ≡ opening_of_numbers
+            self.now) }
         ensures agreed { IfOk result (λ options. options.negotiated ≡ stream_said self.now) }
     {
         Ok(ChannelOptions {

@@ -34,8 +34,8 @@ impl ChannelSession {
     /// Copies the packet or the message of the event that was taken last, and says how many bytes it has. A buffer
     /// that is too small is unchanged.
     pub fn event_bytes(&self, buffer: &mut [u8], length: &mut usize) -> Status
-        ensures { CopiesIfTaken (items_of_memory (memory_of_taken self.now.event)) buffer.old result buffer.new
-            length.new }
+        ensures { CopiesIfTaken (items_of_memory (memory_of_taken self.now.event)) buffer.old result
+            buffer.new length.new }
     {
         match &self.event {
             Some(ChannelEvent::SendPacket(packet)) => copy_bytes(packet.as_slice(), buffer, length),
@@ -54,7 +54,8 @@ impl ChannelSession {
     /// Says where the packet or the message of the event lies that was taken last, and how many bytes it has. It lies
     /// there until the next event is taken.
     pub fn event_view(&self, bytes: &mut *const u8, length: &mut usize) -> Status
-        ensures { ShowsPlace (memory_of_taken self.now.event) bytes.old result bytes.new length.new }
+        ensures { ShowsPlace (memory_of_taken self.now.event) bytes.old result bytes.new
+            length.new }
     {
         match &self.event {
             Some(ChannelEvent::SendPacket(packet)) => show_place(packet, bytes, length),

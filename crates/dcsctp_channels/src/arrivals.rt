@@ -220,8 +220,9 @@ fn plain_delivery() -> Delivery
 
 // A stream is in use until it is reset, without a user.
 fn begin_refused(layer: &mut Layer, stream: u16, delivery: Delivery) -> Result<(), AllocError>
-    ensures { Leaves (layer_with_stream stream None (held_from layer.old.moment delivery (refused_use false))
-        (layer_view layer.old)) (layer_view layer.old) result (layer_view layer.new) }
+    ensures { Leaves (layer_with_stream stream None (held_from layer.old.moment delivery
+        (refused_use false)) (layer_view layer.old)) (layer_view layer.old) result
+        (layer_view layer.new) }
 {
     let held = begun(layer.moment, delivery, rows::refused_by_us(false));
     layer.put(stream, None, held)
@@ -242,7 +243,8 @@ fn refuse(layer: &mut Layer, stream: u16) -> Result<(), AllocError>
 
 // Is the stream free, and is there room for one more; or is it given again?
 fn has_place(layer: &Layer, stream: u16) -> bool
-    ensures { result ≡ has_place (slot_numbered (layer_view layer.now) stream) (layer_view layer.now) }
+    ensures { result ≡ has_place (slot_numbered (layer_view layer.now) stream)
+        (layer_view layer.now) }
 {
     match layer.table.at(stream) {
         None => layer.table.channels.len() < layer.limits.channels,
@@ -362,9 +364,9 @@ pub(crate) fn send_ack<S: DcSctpSocket>(
     layer: &mut Layer,
     stream: u16,
 ) -> Result<(), AllocError>
-    ensures { (held : HeldStream) → held_stream_numbered (layer_view layer.old) stream ≡ Some held → PartGoes
-        (λ done. SendsAck stream held) (whole_view (S.user_view socket.old) layer.old) result
-        (whole_view (S.user_view socket.new) layer.new) }
+    ensures { (held : HeldStream) → held_stream_numbered (layer_view layer.old) stream ≡ Some held →
+        PartGoes (λ done. SendsAck stream held) (whole_view (S.user_view socket.old) layer.old)
+        result (whole_view (S.user_view socket.new) layer.new) }
 {
     let payload = write_ack(layer.alloc)?;
     let message = Message::new(StreamId(stream), PpId(CONTROL), payload);

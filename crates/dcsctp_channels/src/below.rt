@@ -14,8 +14,8 @@ use std::alloc::AllocError;
 
 // Takes over an event of the socket.
 fn tell(layer: &mut Layer, event: SocketEvent, ready: usize) -> Result<(), AllocError>
-    ensures { ByResult (λ done. layer_view layer.new ≡ layer_after_events (event_content event ∷ []) ready
-        (layer_view layer.old)) (layer_view layer.new ≡ layer_view layer.old) result }
+    ensures { ByResult (λ done. layer_view layer.new ≡ layer_after_events (event_content event ∷ [])
+        ready (layer_view layer.old)) (layer_view layer.new ≡ layer_view layer.old) result }
 {
     match event {
         SocketEvent::SendPacket(packet) => {

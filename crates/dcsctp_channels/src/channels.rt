@@ -133,7 +133,8 @@ impl<S: DcSctpSocket + Drop> Channels<S> {
     /// When the next `advance_time` is due. Allocates nothing.
     pub fn poll_timeout(&self) -> SocketTime
         ensures { result ≡ deadline_with (S.user_view self.now.socket)
-            (layer_view self.now.layer).streams (next_moment (S.user_view self.now.socket).endpoint) }
+            (layer_view self.now.layer).streams (next_moment (S.user_view
+            self.now.socket).endpoint) }
     {
         next_deadline(&self.socket, &self.layer)
     }

@@ -48,7 +48,8 @@ fn is_all_sent<S: DcSctpSocket>(socket: &S, layer: &Layer, stream: u16, held: &H
 }
 
 fn reset_is_due<S: DcSctpSocket>(socket: &S, layer: &Layer, stream: u16, held: &HeldStream) -> bool
-    ensures { result ≡ reset_is_due (whole_view (S.user_view socket.now) layer.now) stream held.now }
+    ensures { result ≡ reset_is_due (whole_view (S.user_view socket.now) layer.now) stream
+        held.now }
 {
     rows::may_reset(held.stream) && is_all_sent(socket, layer, stream, held)
 }
@@ -73,9 +74,9 @@ fn due_reset<S: DcSctpSocket>(socket: &S, layer: &Layer) -> Option<u16>
 
 // Asks for the reset of the own stream.
 fn reset<S: DcSctpSocket>(socket: &mut S, layer: &mut Layer, stream: u16) -> Result<(), AllocError>
-    ensures { (held : HeldStream) → held_stream_numbered (layer_view layer.old) stream ≡ Some held → PartGoes
-        (λ done. ResetsStream stream held) (whole_view (S.user_view socket.old) layer.old) result
-        (whole_view (S.user_view socket.new) layer.new) }
+    ensures { (held : HeldStream) → held_stream_numbered (layer_view layer.old) stream ≡ Some held →
+        PartGoes (λ done. ResetsStream stream held) (whole_view (S.user_view socket.old) layer.old)
+        result (whole_view (S.user_view socket.new) layer.new) }
 {
     match socket.reset_streams(&[StreamId(stream)]) {
         Ok(Ok(())) => take_row(layer, stream, Row::Asked),
@@ -161,8 +162,8 @@ pub(crate) fn place_of(layer: &Layer, id: ChannelId) -> Option<usize>
 }
 
 fn close_waiting(layer: &mut Layer, id: ChannelId) -> Result<(), AllocError>
-    ensures { Leaves (layer_after_close None id.0 (layer_view layer.old)) (layer_view layer.old) result
-        (layer_view layer.new) }
+    ensures { Leaves (layer_after_close None id.0 (layer_view layer.old)) (layer_view layer.old)
+        result (layer_view layer.new) }
 {
     let Some(place) = place_of(layer, id) else {
         return Ok(());

@@ -116,7 +116,8 @@ fn all_carried(layer: &Layer) -> Result<Vec<HandoverChannel>, AllocError>
 }
 
 fn carried_channels(layer: &Layer) -> Result<HandoverChannels, AllocError>
-    ensures { IfOk result (λ channels. channels_part channels ≡ carried_channels (layer_view layer.now)) }
+    ensures { IfOk result (λ channels. channels_part channels ≡ carried_channels
+        (layer_view layer.now)) }
 {
     let channels = all_carried(layer)?;
     Ok(HandoverChannels {
@@ -199,7 +200,8 @@ fn has_own_place(count: u16, named: u64, channel: &HandoverChannel, table: &Tabl
 }
 
 fn place(moment: SocketTime, channel: &HandoverChannel, table: &mut Table) -> Result<(), AllocError>
-    ensures { OnOk result (places_of table.new ≡ places_with_channel moment channel.now (places_of table.old)) }
+    ensures { OnOk result (places_of table.new ≡ places_with_channel moment channel.now
+        (places_of table.old)) }
 {
     table.rename(channel.stream, None, Some(channel.name))?;
     table.put(channel.stream, held_again(moment, channel))
@@ -263,8 +265,8 @@ pub(crate) fn restore<S: DcSctpSocket>(
     layer: &mut Layer,
     state: &ChannelsHandoverState,
 ) -> Result<Result<(), RestoreChannelsError>, AllocError>
-    ensures { PartGoes (RestoresChannels (snapshot state.now.socket) (channels_part state.now.channels))
-        (whole_view (S.user_view socket.old) layer.old) result
+    ensures { PartGoes (RestoresChannels (snapshot state.now.socket)
+        (channels_part state.now.channels)) (whole_view (S.user_view socket.old) layer.old) result
         (whole_view (S.user_view socket.new) layer.new) }
 {
     if !is_unused(socket, layer) {
@@ -306,8 +308,9 @@ fn continue_with<S: DcSctpSocket>(
     requires unused { is_unused (whole_view (S.user_view socket.old) layer.old) ≡ true }
     requires valid { is_valid_below (snapshot state.now.socket)
         (whole_view (S.user_view socket.old) layer.old) ≡ true }
-    ensures { PartGoes (RestoresIfPlaced (snapshot state.now.socket) (channels_part state.now.channels)
-        (Some (places_of table))) (whole_view (S.user_view socket.old) layer.old) result
+    ensures { PartGoes (RestoresIfPlaced (snapshot state.now.socket)
+        (channels_part state.now.channels) (Some (places_of table)))
+        (whole_view (S.user_view socket.old) layer.old) result
         (whole_view (S.user_view socket.new) layer.new) }
 {
     match socket.restore_from_state(&state.socket) {

@@ -159,8 +159,8 @@ impl Layer {
         old: Option<u64>,
         held: HeldStream,
     ) -> Result<(), AllocError>
-        ensures { Leaves (layer_with_stream stream old held (layer_view self.old)) (layer_view self.old) result
-            (layer_view self.new) }
+        ensures { Leaves (layer_with_stream stream old held (layer_view self.old))
+            (layer_view self.old) result (layer_view self.new) }
     {
         self.table.rename(stream, old, held.stream.name)?;
         self.table.put(stream, held)
@@ -245,8 +245,9 @@ fn take_step(
 
 /// Takes a row on a stream, if that is in use.
 pub(crate) fn take_row(layer: &mut Layer, stream: u16, row: Row) -> Result<(), AllocError>
-    ensures { Leaves (row_taken_if_held (held_stream_numbered (layer_view layer.old) stream) stream (row_input row)
-        (layer_view layer.old)) (layer_view layer.old) result (layer_view layer.new) }
+    ensures { Leaves (row_taken_if_held (held_stream_numbered (layer_view layer.old) stream) stream
+        (row_input row) (layer_view layer.old)) (layer_view layer.old) result
+        (layer_view layer.new) }
 {
     match layer.table.at(stream) {
         Some(held) => take_step(layer, stream, &held, rows::step_of(row, held.stream)),

@@ -69,7 +69,8 @@ fn begin_open(layer: &mut Layer, options: &ChannelOptions) -> Result<ChannelId, 
     requires protocol { length options.now.protocol.items < 2 ^ 16 }
     ensures { ByResult (λ id. (id.0 ≡ (layer_view layer.old).named) ×
         (layer_view layer.new ≡ named_next (opening_of options.now) options.now.negotiated
-        (layer_view layer.old))) (KeepsTaking (layer_view layer.old) (layer_view layer.new)) result }
+        (layer_view layer.old))) (KeepsTaking (layer_view layer.old) (layer_view layer.new))
+        result }
 {
     let message = OpenMessage {
         label: options.label.as_slice(),

@@ -65,7 +65,8 @@ fn status_at(refused: &[(usize, SendError)], before: usize, place: usize) -> (St
 
 // Writes what became of each message, by those that are refused, in ascending order.
 fn tell_each(refused: &[(usize, SendError)], results: &mut [i32])
-    ensures { results.new ≡ map status_number (statuses_from_place (length results.old) 0 refused.now) }
+    ensures { results.new ≡ map status_number (statuses_from_place (length results.old) 0
+        refused.now) }
 {
     let mut before = 0;
     for place in 0..results.len() {

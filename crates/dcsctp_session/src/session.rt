@@ -192,8 +192,11 @@ impl Session {
         payload: &[u8],
         options: &SendOptionsRecord,
     ) -> Status
-        ensures { SendsOneMessage (record { stream = stream_id; ppid = ppid; payload = payload.now })
-            options.now self.old result self.new }
+        ensures { SendsOneMessage (record {
+          stream = stream_id;
+          ppid = ppid;
+          payload = payload.now;
+        }) options.now self.old result self.new }
     {
         if !options.is_valid() {
             return Status::InvalidSendOptions;

@@ -105,8 +105,8 @@ impl Session {
     /// Copies the payload of the message that was taken last, and says how many bytes it has. A buffer that
     /// is too small is unchanged.
     pub fn message_bytes(&self, buffer: &mut [u8], length: &mut usize) -> Status
-        ensures { CopiesIfTaken (payload_of_taken self.now.taken.message) buffer.old result buffer.new
-            length.new }
+        ensures { CopiesIfTaken (payload_of_taken self.now.taken.message) buffer.old result
+            buffer.new length.new }
     {
         match &self.taken.message {
             Some(message) => copy_bytes(message.payload.as_slice(), buffer, length),

@@ -52,8 +52,9 @@ fn keep_other(
     answer: &Result<(), BatchSendError>,
     place: usize,
 ) -> Result<(), AllocError>
-    ensures { AddsAllOrFirst (other_unless_refused place (refused_of_many answer.now) (message_content message.now))
-        (map message_content sent.old.items) result (map message_content sent.new.items) }
+    ensures { AddsAllOrFirst (other_unless_refused place (refused_of_many answer.now)
+        (message_content message.now)) (map message_content sent.old.items) result
+        (map message_content sent.new.items) }
 {
     if !refuses(answer, place) {
         sent.push(message.copied()?)?;

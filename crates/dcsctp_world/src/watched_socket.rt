@@ -67,8 +67,8 @@ fn keep_event(
     packets: &mut Vec<Vec<u8>>,
     event: SocketEvent,
 ) -> Result<(), AllocError>
-    ensures { KeepsEvents (event_content event ∷ []) (kept_output events.old.items packets.old.items)
-        result (kept_output events.new.items packets.new.items) }
+    ensures { KeepsEvents (event_content event ∷ []) (kept_output events.old.items
+        packets.old.items) result (kept_output events.new.items packets.new.items) }
 {
     if let SocketEvent::SendPacket(packet) = &event {
         packets.push(packet.clone()?)?;
@@ -84,8 +84,9 @@ fn take_events<R: Rng + Drop>(
     events: &mut Vec<SocketEvent>,
     packets: &mut Vec<Vec<u8>>,
 ) -> Result<(), AllocError>
-    ensures { TakesAll (user_view_of R.stream socket.old) (kept_output events.old.items packets.old.items)
-        result (user_view_of R.stream socket.new) (kept_output events.new.items packets.new.items) }
+    ensures { TakesAll (user_view_of R.stream socket.old)
+        (kept_output events.old.items packets.old.items) result (user_view_of R.stream socket.new)
+        (kept_output events.new.items packets.new.items) }
 {
     while let Some(event) = socket.poll_event() {
         keep_event(events, packets, event)?;
@@ -259,7 +260,8 @@ impl<R: Rng + Drop> WatchedSocket<R> {
         rng: R,
     ) -> Result<WatchedSocket<R>, SocketFault>
         requires { IsValid options.now }
-        ensures fresh { IfOk result (λ watched. shown_side watched ≡ fresh_side_shown options.now rng) }
+        ensures fresh { IfOk result (λ watched. shown_side watched ≡ fresh_side_shown options.now
+            rng) }
         ensures fault { IsOkUnless result SocketFault.OutOfMemory }
     {
         let socket = Socket::new(alloc, name, options, rng)?;
@@ -293,10 +295,9 @@ impl<R: Rng + Drop> WatchedSocket<R> {
     // can't be kept.
     fn call(&mut self, call: &Call) -> Result<Reply, SocketFault>
         requires { self.old.socket.view.events ≡ [] }
-        ensures { HandlesAct R.stream
-            (UserTurns self.old.socket.view.endpoint (call_content call.now))
-            (IsCallReply self.old.socket.view.endpoint (call_content call.now)) (shown_side self.old)
-            result (shown_side self.new) }
+        ensures { HandlesAct R.stream (UserTurns self.old.socket.view.endpoint
+            (call_content call.now)) (IsCallReply self.old.socket.view.endpoint
+            (call_content call.now)) (shown_side self.old) result (shown_side self.new) }
     {
         let reply = make_call(&mut self.socket, call)?;
         keep_messages(&mut self.sent, &mut self.read, call, &reply)?;
@@ -334,7 +335,8 @@ impl<R: Rng + Drop> WatchedSocket<R> {
     fn hand_over_and_restore(&mut self) -> Result<Reply, SocketFault>
         requires { self.old.socket.view.events ≡ [] }
         ensures { HandlesAct R.stream (OutsideHandoverTurns self.old.socket.view.endpoint)
-            (IsHandoverReply self.old.socket.view.endpoint) (shown_side self.old) result (shown_side self.new) }
+            (IsHandoverReply self.old.socket.view.endpoint) (shown_side self.old) result
+            (shown_side self.new) }
     {
         let reply = hand_over_and_restore(&mut self.socket)?;
         self.keep_all()?;
@@ -344,10 +346,9 @@ impl<R: Rng + Drop> WatchedSocket<R> {
     // Restores the socket from this snapshot, if it is valid. The errors are as those of `call`.
     fn restore(&mut self, state: &SocketHandoverState) -> Result<Reply, SocketFault>
         requires { self.old.socket.view.events ≡ [] }
-        ensures { HandlesAct R.stream
-            (ValidTurns self.old.socket.view.endpoint (snapshot state.now))
-            (IsRestoredReply self.old.socket.view.endpoint (snapshot state.now)) (shown_side self.old)
-            result (shown_side self.new) }
+        ensures { HandlesAct R.stream (ValidTurns self.old.socket.view.endpoint
+            (snapshot state.now)) (IsRestoredReply self.old.socket.view.endpoint
+            (snapshot state.now)) (shown_side self.old) result (shown_side self.new) }
     {
         if !state.is_valid(&self.socket.options()) {
             return Ok(Reply::NoCall);
