@@ -46,7 +46,8 @@ fn write_role(out: &mut Vec<u8>, role: Option<Role>) -> Result<(), AllocError>
 
 #[tactic(auto, unfolding(crate::specs::Channels::leading_role, dcsctp_snapshot_bytes::specs::Fields::leading_optional))]
 fn read_role(reader: &mut Reader) -> Result<Option<Role>, ReadError>
-    ensures { ReadsFront (λ role. role) leading_role reader.old.rest.now result reader.new.rest.now }
+    ensures { ReadsFront (λ role. role) leading_role reader.old.rest.now result
+        reader.new.rest.now }
 {
     if reader.flag()? {
         Ok(Some(role_of(reader.flag()?)))
@@ -58,7 +59,8 @@ fn read_role(reader: &mut Reader) -> Result<Option<Role>, ReadError>
 // Writes channels one after another.
 #[tactic(auto, using(crate::proofs::ChannelLists::channel_written))]
 fn write_elements(out: &mut Vec<u8>, channels: &[HandoverChannel]) -> Result<(), AllocError>
-    ensures bytes { OnOk result (out.new.items ≡ out.old.items ++ flat_map channel_bytes channels.now) }
+    ensures bytes { OnOk result (out.new.items ≡ out.old.items ++ flat_map channel_bytes
+        channels.now) }
     ensures fits { OnOk result (AllByRecursion FitsChannel channels.now) }
 {
     for channel in channels {
@@ -124,7 +126,8 @@ pub(crate) fn read_channels(
     alloc: Global,
     reader: &mut Reader,
 ) -> Result<HandoverChannels, ReadError>
-    ensures { ReadsFront channels_part leading_channels reader.old.rest.now result reader.new.rest.now }
+    ensures { ReadsFront channels_part leading_channels reader.old.rest.now result
+        reader.new.rest.now }
 {
     let role = read_role(reader)?;
     let named = reader.u64()?;

@@ -123,8 +123,8 @@ impl<'a> Reader<'a> {
     /// A number of four bytes after a flag.
     #[tactic(auto, unfolding(dcsctp_snapshot_bytes::specs::Fields::leading_optional))]
     pub(crate) fn optional_u32(&mut self) -> Result<Option<u32>, ReadError>
-        ensures { ReadsFront (λ value. value) (leading_optional (number_of_width w32)) self.old.rest.now
-            result self.new.rest.now }
+        ensures { ReadsFront (λ value. value) (leading_optional (number_of_width w32))
+            self.old.rest.now result self.new.rest.now }
     {
         if self.flag()? {
             Ok(Some(self.u32()?))

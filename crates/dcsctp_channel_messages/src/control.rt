@@ -71,8 +71,8 @@ pub enum ControlError {
 /// peers send ACKs of four bytes. So is the reliability parameter of a reliable channel. Allocates nothing.
 #[tactic(auto, unfolding(crate::specs::Format::control_of_bytes))]
 pub fn read_control(bytes: &[u8]) -> Result<Control<'_>, ControlError>
-    ensures { MatchResult result (λ control. control_of_bytes bytes.now ≡ Ok (control_content control))
-        (λ error. control_of_bytes bytes.now ≡ Err error) }
+    ensures { MatchResult result (λ control. control_of_bytes bytes.now ≡ Ok
+        (control_content control)) (λ error. control_of_bytes bytes.now ≡ Err error) }
 {
     if bytes.is_empty() {
         return Err(ControlError::Empty);

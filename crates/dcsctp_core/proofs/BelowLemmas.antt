@@ -27,7 +27,7 @@ use Rattle.dcsctp_core.specs.View.{View, tcb_of, transfer_of, endpoint_of, view_
 use Rattle.dcsctp_core.specs.Handling.{TakesPossibleTurn}
 use Rattle.dcsctp_core.specs.Timing.{is_timer_due, ExpiryTurn, ExpiresAlways}
 use Rattle.dcsctp_core.specs.Flushing.{state_with}
-use Rattle.dcsctp_core.specs.Below.{ChangesQueues, ChangesOrKeeps, LosesAllInFlight, HandlesSackInTransfer, TakesFirst, TakesReady}
+use Rattle.dcsctp_core.specs.Below.{ChangesQueues, ChangesOrKeeps, LosesAllInFlight, HandlesSackInTransfer, TakesFirst, TakesReady, state_and_events}
 use Rattle.dcsctp_core.proofs.FirstLemmas.{endpoint_with}
 use Rattle.dcsctp_core.proofs.LendingLemmas.{found, lent, left_with}
 
@@ -111,9 +111,9 @@ loss_not_due stream old state b answer waits changes =
 -- ---- a SACK
 
 pub sacks_lent : (now : ℕ) (sack : SackContent) (old : State) (tcb : TransmissionControlBlock) (after : Transfer) (told telling : List (Event (List ℕ))) (result : Result HandledSack AllocError) → Some tcb ≡ tcb_of old
-    → HandlesSack now sack tcb.transfer told after telling result → HandlesSackInTransfer now sack (transfer_of old) old told (left_with old tcb after) telling result
+    → HandlesSack now sack tcb.transfer told after telling result → HandlesSackInTransfer now sack (transfer_of old) (state_and_events old told) (state_and_events (left_with old tcb after) telling) result
 sacks_lent now sack old tcb after told telling result holds h =
-    subst (λ (f : Option Transfer). HandlesSackInTransfer now sack f old told (left_with old tcb after) telling result) (sym (found old tcb holds)) (after, lent old tcb after holds, h)
+    subst (λ (f : Option Transfer). HandlesSackInTransfer now sack f (state_and_events old told) (state_and_events (left_with old tcb after) telling) result) (sym (found old tcb holds)) (after, lent old tcb after holds, h)
 
 -- ---- a message that is taken
 

@@ -5,7 +5,7 @@ use Rattle.dcsctp_transfer.specs.spec.queues.NextItem.{is_abandonment_due}
 use Rattle.dcsctp_transfer.proofs.spec_lemmas.FilledAnswers.{Completes}
 use Rattle.std.proofs.lemmas.Bool.Decides.{nat_tests}
 use Rattle.std.proofs.Common.{arith, ◌≡◌, Bool, List, None, Option, Some, [], ap, append_assoc, false, length, map, nat_lt, refl, subst, sym, true, ℕ, ◌&&◌, ◌++◌, ◌∙◌, ◌∷◌}
-use Rattle.dcsctp_transfer.specs.spec.endpoint.FlushOutcomes.{Ask, GivesUpThenForwards, FillingEvent, answer_contents, filled_draft, first_ask, goes_out, may_abandon, may_forward, stage_of, filling_event_content, filling_event}
+use Rattle.dcsctp_transfer.specs.spec.endpoint.FlushOutcomes.{Ask, GivesUpThenForwards, FillingEvent, answer_contents, filled_draft, first_ask, goes_out, may_abandon, may_forward, stage_of, filling_event_content, filling_event, forward_made}
 use Rattle.dcsctp_core.specs.Flushing.{CutsAsk, is_in_time}
 use Rattle.dcsctp_transfer.specs.spec.Packet.{Content, Emission, Plain}
 use Rattle.dcsctp_transfer.specs.spec.endpoint.Endpoint.{Endpoint}
@@ -81,7 +81,7 @@ busy_if ask e transfer may = go (is_idle e.queues.queue transfer) refl
 
 -- messages were abandoned, as far as that is so
 pub gave_up_completes : (b : Bool) (e : Endpoint) (draft : Emission) (transfer : Transfer) (room : ℕ) (gave_up : Stage) (next : Option ℕ) (forwards : List Plain) → e.queues.transfer ≡ Some transfer
-    → may_forward first_ask e transfer.retransmission ≡ b → GivesUpThenForwards b e.moment transfer room (stage_of e.queues.queue transfer.retransmission [] 0) gave_up next forwards
+    → may_forward first_ask e transfer.retransmission ≡ b → GivesUpThenForwards b e.moment transfer room (stage_of e.queues.queue transfer.retransmission [] 0) gave_up (forward_made next forwards)
     → Completes first_ask e draft gave_up.told
 gave_up_completes true e draft transfer room gave_up next forwards holds may h = answer_giving_up first_ask e draft transfer gave_up holds (busy_if first_ask e transfer may) may h.0
 gave_up_completes false e draft transfer room gave_up next forwards holds may h =

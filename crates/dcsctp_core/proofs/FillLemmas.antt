@@ -22,9 +22,9 @@ use Rattle.dcsctp_transfer.specs.types.declared.association.Held.{Held}
 use Rattle.dcsctp_transfer.specs.spec.endpoint.Endpoint.{Endpoint, Timers}
 use Rattle.dcsctp_transfer.specs.spec.association.Choices.{plain_contents}
 use Rattle.dcsctp_transfer.specs.spec.endpoint.BegunResets.{BegunReset, stream_field, streams_within, last_assigned_tsn, begun_if_ready, begun_if_connected, request_contents, queue_requesting, after_begun, retransmission_begun}
-use Rattle.dcsctp_transfer.specs.spec.endpoint.FlushOutcomes.{may_be_asked, FillingEvent, amount_is_low, total_amount_is_low, message_is_sent, message_may_have_expired, message_has_expired, message_ends, filling_event, Answer, answer_contents, filled_draft, Ask, first_ask, later_ask, own_sack, room_of_draft, where_fits, begun_by_ask, wants_sack, FitsPlain, Gives, GivesUnlessIdle, IsAnswerOfQueues, timers_with, nothing_waits, filling_event_content, FillsIfAllowed, GivesUpThenForwards, forward_moment, may_abandon, may_forward, stage_of}
+use Rattle.dcsctp_transfer.specs.spec.endpoint.FlushOutcomes.{may_be_asked, FillingEvent, amount_is_low, total_amount_is_low, message_is_sent, message_may_have_expired, message_has_expired, message_ends, filling_event, Answer, answer_contents, filled_draft, Ask, first_ask, later_ask, own_sack, room_of_draft, where_fits, begun_by_ask, wants_sack, FitsPlain, Gives, GivesUnlessIdle, IsAnswerOfQueues, timers_with, nothing_waits, filling_event_content, FillsIfAllowed, GivesUpThenForwards, forward_moment, may_abandon, may_forward, stage_of, forward_made}
 use Rattle.dcsctp_transfer.specs.api.Calls.{user_event}
-use Rattle.dcsctp_transfer.specs.Filling.{has_chunks, FillsDataPacket, with_chunk}
+use Rattle.dcsctp_transfer.specs.Filling.{has_chunks, FillsDataPacket, with_chunk, packet_stage}
 use Rattle.dcsctp_core.specs.View.{View}
 use Rattle.dcsctp_core.specs.Flushing.{packet_for, timers_if_filled, FillsAskedPacket, FillsPacketData}
 use Rattle.dcsctp_core.proofs.SentLemmas.{body_of, body_append, body_of_chunks, room_is}
@@ -201,9 +201,9 @@ may_not later_ask e state none = refl
 may_not first_ask e state none =
     and_none (nat_le e.no_forward_tsn_before e.moment) (may_abandon state) (and_none state.partial_reliability (nat_lt 0 (outstanding_count state)) (ap (nat_lt 0) none))
 
-no_forwards : (b : Bool) (now : ℕ) (transfer : Transfer) (room : ℕ) (old new : Stage) (next : Option ℕ) (chunks : List Plain) → b ≡ false → GivesUpThenForwards b now transfer room old new next chunks
+no_forwards : (b : Bool) (now : ℕ) (transfer : Transfer) (room : ℕ) (old new : Stage) (next : Option ℕ) (chunks : List Plain) → b ≡ false → GivesUpThenForwards b now transfer room old new (forward_made next chunks)
     → (new ≡ old) × (next ≡ None) × (chunks ≡ [])
-no_forwards b now transfer room old new next chunks is h = subst (λ (x : Bool). GivesUpThenForwards x now transfer room old new next chunks) is h
+no_forwards b now transfer room old new next chunks is h = subst (λ (x : Bool). GivesUpThenForwards x now transfer room old new (forward_made next chunks)) is h
 
 no_chunks : (outstanding : OutstandingState) (chunks : List ChunkContent) → AreChunksOfTsns outstanding [] (map unworked chunks) → chunks ≡ []
 no_chunks outstanding [] h = refl
@@ -391,7 +391,7 @@ filled_view old any left after telling =
 
 -- what a packet that was filled leaves
 pub view_filled : {R : Type 0} (old : View R) (transfer after : Transfer) (left : SendQueueState) (packet filled_packet : Building) (any : Bool) (new : View R)
-    → (h : FillsDataPacket old.endpoint.moment transfer old.endpoint.queues.queue old.events packet after left new.events filled_packet any) → new ≡ filled_view old any left after new.events
+    → (h : FillsDataPacket old.endpoint.moment transfer (packet_stage old.endpoint.queues.queue old.events packet) after (packet_stage left new.events filled_packet) any) → new ≡ filled_view old any left after new.events
     → new ≡ filled_view old (has_chunks h.chunks) h.sent.waiting (record transfer { retransmission = h.sent.queue }) (old.events ++ h.sent.told)
 view_filled old transfer after left packet filled_packet any new h is =
     is

@@ -13,7 +13,7 @@ use Rattle.dcsctp_transfer.specs.spec.endpoint.Endpoint.{Endpoint, Core, Outstan
 use Rattle.dcsctp_transfer.specs.spec.endpoint.Timers.{RunningTimer, TimerSettings, started_timer}
 use Rattle.dcsctp_transfer.specs.spec.association.Choices.{plain_contents}
 use Rattle.dcsctp_transfer.specs.spec.endpoint.BegunResets.{BegunReset, streams_within, last_assigned_tsn, begun_if_connected, request_contents, reconfiguration_settings, transfer_reset_begun, core_asking, after_begun, queue_requesting, retransmission_begun}
-use Rattle.dcsctp_transfer.specs.spec.endpoint.FlushOutcomes.{may_be_asked, own_sack, filled_draft, first_ask, room_of_draft, where_fits, wants_sack, FitsPlain, FillsIfAllowed, ForwardsIfAbandoned, GivesUpThenForwards, forward_moment, FillingEvent, begun_by_ask, may_abandon, may_forward, stage_of, filling_event_content}
+use Rattle.dcsctp_transfer.specs.spec.endpoint.FlushOutcomes.{may_be_asked, own_sack, filled_draft, first_ask, room_of_draft, where_fits, wants_sack, FitsPlain, FillsIfAllowed, ForwardsIfAbandoned, GivesUpThenForwards, forward_moment, FillingEvent, begun_by_ask, may_abandon, may_forward, stage_of, filling_event_content, forward_made}
 use Rattle.dcsctp_transfer.specs.wire.Content.{ChunkContent}
 use Rattle.dcsctp_transfer.specs.wire.Spelling.{chunk_bytes}
 use Rattle.dcsctp_transfer.specs.Filling.{is_sack_wanted, FillsRequestedSack, has_chunks}
@@ -167,7 +167,7 @@ record GivenUp {R : Type 0} (old : View R) (draft : Emission) (mid : Transfer) (
   next : Option ℕ
   forwards : List Plain
   gives_up : GivesUpThenForwards (may_forward first_ask old.endpoint mid.retransmission) old.endpoint.moment mid (room_of_draft old.endpoint draft)
-      (stage_of old.endpoint.queues.queue mid.retransmission [] 0) gave_up next forwards
+      (stage_of old.endpoint.queues.queue mid.retransmission [] 0) gave_up (forward_made next forwards)
   fit : AllByRecursion FitsPlain forwards
   told : List FillingEvent
   are_told : map filling_event_content told ≡ gave_up.told
@@ -183,7 +183,7 @@ given_up {R = R} old draft mid given before packet false early holds is h =
       gave_up = start;
       next = None;
       forwards = [];
-      gives_up = subst (λ (b : Bool). GivesUpThenForwards (b && may_abandon mid.retransmission) e.moment mid (room_of_draft e draft) start start None []) (sym early) (refl, refl, refl);
+      gives_up = subst (λ (b : Bool). GivesUpThenForwards (b && may_abandon mid.retransmission) e.moment mid (room_of_draft e draft) start start (forward_made None [])) (sym early) (refl, refl, refl);
       fit = tt;
       told = [];
       are_told = refl;
@@ -200,8 +200,8 @@ given_up {R = R} old draft mid given before packet true in_time holds is h =
       gave_up = forwards.gave_up;
       next = h.0;
       forwards = forwards.chunks;
-      gives_up = subst (λ (b : Bool). GivesUpThenForwards (b && may_abandon mid.retransmission) e.moment mid (room_of_draft e draft) start forwards.gave_up h.0 forwards.chunks) (sym in_time)
-          (subst (λ (room : ℕ). GivesUpThenForwards (may_abandon mid.retransmission) e.moment mid room start forwards.gave_up h.0 forwards.chunks) (room_is_left e draft before is) forwards.gives_up);
+      gives_up = subst (λ (b : Bool). GivesUpThenForwards (b && may_abandon mid.retransmission) e.moment mid (room_of_draft e draft) start forwards.gave_up (forward_made h.0 forwards.chunks)) (sym in_time)
+          (subst (λ (room : ℕ). GivesUpThenForwards (may_abandon mid.retransmission) e.moment mid room start forwards.gave_up (forward_made h.0 forwards.chunks)) (room_is_left e draft before is) forwards.gives_up);
       fit = forwards.fits;
       told = forwards.told;
       are_told = forwards.are_told;
@@ -238,7 +238,7 @@ forwards_before false now transfer tracker room state next chunks h = h
 forwards_before true now transfer tracker room state next chunks h = h
 
 gives_up_before : (b : Bool) (now : ℕ) (transfer : Transfer) (tracker : TrackerState) (room : ℕ) (old new : Stage) (next : Option ℕ) (chunks : List Plain)
-    → GivesUpThenForwards b now (record transfer { tracker = tracker }) room old new next chunks → GivesUpThenForwards b now transfer room old new next chunks
+    → GivesUpThenForwards b now (record transfer { tracker = tracker }) room old new (forward_made next chunks) → GivesUpThenForwards b now transfer room old new (forward_made next chunks)
 gives_up_before false now transfer tracker room old new next chunks h = h
 gives_up_before true now transfer tracker room old new next chunks h =
     (h.0, forwards_before (is_first_abandoned new.queue.outstanding.items) now transfer tracker room new.queue next chunks h.1)
@@ -252,7 +252,7 @@ pub record Forwarded {R : Type 0} (old : View R) (draft : Emission) (transfer : 
   pub next : Option ℕ
   pub forwards : List Plain
   pub gives_up : GivesUpThenForwards (may_forward first_ask old.endpoint transfer.retransmission) old.endpoint.moment transfer (room_of_draft old.endpoint (filled_draft draft (plain_contents sacks)))
-      (stage_of old.endpoint.queues.queue transfer.retransmission [] 0) gave_up next forwards
+      (stage_of old.endpoint.queues.queue transfer.retransmission [] 0) gave_up (forward_made next forwards)
   pub fit : AllByRecursion FitsPlain forwards
   pub told : List FillingEvent
   pub are_told : map filling_event_content told ≡ gave_up.told

@@ -13,6 +13,7 @@ use Rattle.dcsctp_core.specs.Flushing.{ForwardsInQueues, ForwardsNow, ForwardsIn
 use Rattle.dcsctp_transfer.specs.spec.endpoint.FlushOutcomes.{forward_moment}
 use Rattle.dcsctp_core.proofs.FirstLemmas.{endpoint_with}
 use Rattle.std.proofs.lemmas.Bool.Decides.{nat_tests}
+use Rattle.dcsctp_transfer.specs.Filling.{packet_stage}
 
 -- the endpoint with this queue, once the next FORWARD-TSN was put off
 abbrev put_off : {R : Type 0} → Context R → SendQueueState → Option ℕ → Endpoint → Endpoint
@@ -23,7 +24,7 @@ forwarded old state queue events next = record (view_of old) { endpoint = put_of
 
 pub forwards_below : {R : Type 0} (old : Context R) (new : View R) (found : Option Transfer) (state : State) (queue : SendQueueState) (events : List (Event (List ℕ))) (next : Option ℕ) (packet filled : Building)
     → transfer_of old.state ≡ found → nat_le old.no_forward_tsn_before old.moment ≡ true → new ≡ forwarded old state queue events next
-    → ForwardsInQueues old.moment found old.send_queue (view_of old).events packet old.state state queue events filled next → ForwardsInTime found (view_of old) packet new filled
+    → ForwardsInQueues old.moment found (packet_stage old.send_queue (view_of old).events packet) old.state state (packet_stage queue events filled) next → ForwardsInTime found (view_of old) packet new filled
 forwards_below old new None state queue events next packet filled holds in_time is h = (
   is
       ∙ ap (λ (s : State). forwarded old s queue events next) h.0
@@ -39,7 +40,7 @@ forwards_below {R = R} old new (Some transfer) state queue events next packet fi
       next,
       after,
       queue,
-      subst (λ (es : List (Event (List ℕ))). MakesForwardTsn old.moment transfer old.send_queue (view_of old).events packet after queue es filled next) told h.2,
+      subst (λ (es : List (Event (List ℕ))). MakesForwardTsn old.moment transfer (packet_stage old.send_queue (view_of old).events packet) after (packet_stage queue es filled) next) told h.2,
       is
           ∙ ap (λ (s : State). forwarded old s queue events next) h.1
           ∙ ap (λ (e : Endpoint). record (view_of old) { endpoint = put_off old queue next e; events = events }) (endpoint_with old transfer after holds)

@@ -12,7 +12,7 @@ use Rattle.dcsctp_transfer.specs.spec.association.FlushChanges.{reset_request}
 use Rattle.dcsctp_transfer.specs.spec.endpoint.BegunResets.{streams_within, stream_field, BegunReset, last_assigned_tsn, begun_if_connected, begun_if_ready, transfer_reset_begun, held_begun, core_asking, after_begun}
 use Rattle.dcsctp_transfer.proofs.spec_lemmas.PacketLengths.{request_len}
 use Rattle.std.proofs.lemmas.Bool.Decides.{nat_tests}
-use Rattle.dcsctp_core.specs.Resetting.{IsStream, StartsReset, BeginsReset, request_begun, timer_begun, BeginsOwnReset, BeginsInState, BeginsResetInQueues}
+use Rattle.dcsctp_core.specs.Resetting.{IsStream, StartsReset, BeginsReset, request_begun, timer_begun, BeginsOwnReset, BeginsInState, BeginsResetInQueues, reset_stage}
 use Rattle.std.specs.List.{AllByRecursion}
 use Rattle.std.specs.Prelude.{is_some}
 use Rattle.std.specs.Option.{option_map}
@@ -289,7 +289,7 @@ none_while_awaited old packet is = none_begins old (transfer_of old.state) packe
 
 begun_below : {R : Type 0} (old : Context R) (found : Option Transfer) (state : State) (queue : SendQueueState) (packet filled : Building) → transfer_of old.state ≡ found
     → (old.options.follow_rfc && is_cookie_echoed (core_of old.state)) ≡ false
-    → BeginsResetInQueues (start_of old) found old.send_queue old.state packet queue state filled → FillsResetRequest found (view_of old) packet (view_of (record old { state = state; send_queue = queue })) filled
+    → BeginsResetInQueues (start_of old) found (reset_stage old.send_queue old.state packet) (reset_stage queue state filled) → FillsResetRequest found (view_of old) packet (view_of (record old { state = state; send_queue = queue })) filled
 begun_below old None state queue packet filled holds may h =
     (ap (λ (s : State). view_of (record old { state = s; send_queue = queue })) h.0 ∙ ap (λ (q : SendQueueState). view_of (record old { send_queue = q })) h.1, h.2)
 begun_below old (Some transfer) state queue packet filled holds may h =
@@ -307,7 +307,7 @@ begun_below old (Some transfer) state queue packet filled holds may h =
 pub tries_reset : {R : Type 0} (old new : Context R) (state : State) (queue : SendQueueState) (packet filled : Building) (result : Result (Unit {0}) AllocError)
     → view_of new ≡ view_of (record old { state = state; send_queue = queue })
     → (old.options.follow_rfc && is_cookie_echoed (core_of old.state)) ≡ false
-    → OnOk result (BeginsResetInQueues (start_of old) (transfer_of old.state) old.send_queue old.state packet queue state filled) → TriesReset packet old result new filled
+    → OnOk result (BeginsResetInQueues (start_of old) (transfer_of old.state) (reset_stage old.send_queue old.state packet) (reset_stage queue state filled)) → TriesReset packet old result new filled
 tries_reset {R = R} old new state queue packet filled (Ok done) same may h =
     subst (λ (v : View R). FillsResetRequest (transfer_of old.state) (view_of old) packet v filled) (sym same) (begun_below old (transfer_of old.state) state queue packet filled refl may h)
 tries_reset {R = R} old new state queue packet filled (Err error) same may h = ap (λ (v : View R). v.events) same
@@ -323,12 +323,12 @@ begins_in now begun (Open opened) tcb after holds begins = (after, subst (λ (t 
 
 pub begins_lent : {R : Type 0} (old : Context R) (tcb after : TransmissionControlBlock) (queue : SendQueueState) (packet filled : Building) (result : Result (Unit {0}) AllocError) → Some tcb ≡ tcb_of old.state
     → OnOk result (BeginsReset (start_of old) old.send_queue tcb packet queue after filled)
-    → OnOk result (BeginsResetInQueues (start_of old) (transfer_of old.state) old.send_queue old.state packet queue (tcb_changed (λ _. after) old.state) filled)
+    → OnOk result (BeginsResetInQueues (start_of old) (transfer_of old.state) (reset_stage old.send_queue old.state packet) (reset_stage queue (tcb_changed (λ _. after) old.state) filled))
 begins_lent old tcb after queue packet filled (Err error) holds h = h
 begins_lent old tcb after queue packet filled (Ok done) holds h =
     let room = bytes_remaining packet in
     let last = last_assigned_tsn tcb.transfer.retransmission in
-    subst (λ (f : Option Transfer). BeginsResetInQueues (start_of old) f old.send_queue old.state packet queue (tcb_changed (λ _. after) old.state) filled) (sym (found old.state tcb holds))
+    subst (λ (f : Option Transfer). BeginsResetInQueues (start_of old) f (reset_stage old.send_queue old.state packet) (reset_stage queue (tcb_changed (λ _. after) old.state) filled)) (sym (found old.state tcb holds))
     (record {
       begun = h.begun;
       is = h.is ∙ ap (λ (held : Option Held). begun_if_connected old.options.follow_rfc held room last old.send_queue) (sym (held_by_tcb old.state tcb holds));

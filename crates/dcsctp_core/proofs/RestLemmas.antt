@@ -13,7 +13,7 @@ use Rattle.dcsctp_transfer.specs.spec.queues.Items.{marked_items, is_first_aband
 use Rattle.dcsctp_transfer.specs.spec.endpoint.Endpoint.{Endpoint, held_by_core}
 use Rattle.dcsctp_transfer.specs.spec.endpoint.BegunResets.{last_assigned_tsn}
 use Rattle.dcsctp_transfer.specs.spec.endpoint.DataOutcomes.{flush_to_peer, AnswersTo}
-use Rattle.dcsctp_transfer.specs.spec.endpoint.FlushOutcomes.{may_be_asked, draft_to, flush_of, packets_allowed, Ask, first_ask, later_ask, room_of_draft, begun_by_ask, Acknowledges, Gives, GivesUnlessIdle, IsAnswerOfQueues, nothing_waits, FillsIfAllowed, ForwardsIfAbandoned, GivesUpThenForwards, filled_draft, may_forward, stage_of}
+use Rattle.dcsctp_transfer.specs.spec.endpoint.FlushOutcomes.{may_be_asked, draft_to, flush_of, packets_allowed, Ask, first_ask, later_ask, room_of_draft, begun_by_ask, Acknowledges, Gives, GivesUnlessIdle, IsAnswerOfQueues, nothing_waits, FillsIfAllowed, ForwardsIfAbandoned, GivesUpThenForwards, filled_draft, may_forward, stage_of, forward_made}
 use Rattle.dcsctp_core.specs.declared.context.Context.{Context}
 use Rattle.dcsctp_core.specs.declared.transmission_control_block.TransmissionControlBlock.{TransmissionControlBlock}
 use Rattle.dcsctp_core.specs.View.{View, core_of, tcb_of, transfer_of, held_of, endpoint_of, view_of}
@@ -38,7 +38,7 @@ unmarked queue state is = go (marked_items state.outstanding.items) (has_queued_
 
 -- So no message is abandoned, and no FORWARD-TSN goes.
 no_forward : (b : Bool) (now : ℕ) (queue : SendQueueState) (transfer : Transfer) (room : ℕ) → (b ≡ true → is_first_abandoned transfer.retransmission.outstanding.items ≡ false) → may_give queue transfer.retransmission ≡ false
-    → GivesUpThenForwards b now transfer room (stage_of queue transfer.retransmission [] 0) (stage_of queue transfer.retransmission [] 0) None []
+    → GivesUpThenForwards b now transfer room (stage_of queue transfer.retransmission [] 0) (stage_of queue transfer.retransmission [] 0) (forward_made None [])
 no_forward false now queue transfer room first none = (refl, refl, refl)
 no_forward true now queue transfer room first none = (
   record { steps = no_step; none_left = none_due now transfer.retransmission (unmarked queue transfer.retransmission none) },

@@ -50,11 +50,19 @@ LosesAllInFlight now old new = new ≡ lost_all now old
 abbrev pub EndsPacketInQueues : ℕ → Transfer → Transfer → Type 0
 EndsPacketInQueues now old new = new ≡ record old { tracker = after_packet_end now old.tracker }
 
+-- the state, and the events so far
+pub record StateAndEvents : Type 0 where
+  pub state : State
+  pub events : List (Event (List ℕ))
+
+abbrev pub state_and_events : State → List (Event (List ℕ)) → StateAndEvents
+state_and_events state events = record { state = state; events = events }
+
 -- A SACK was taken into account at this moment, if the peer is known.
-abbrev pub HandlesSackInTransfer : ℕ → SackContent → Option Transfer → State → List (Event (List ℕ)) → State → List (Event (List ℕ)) → Result HandledSack AllocError → Type 0
-HandlesSackInTransfer now sack None old told new telling result = (new ≡ old) × (telling ≡ told)
-HandlesSackInTransfer now sack (Some transfer) old told new telling result =
-    (after : Transfer) × (new ≡ state_with old after) × HandlesSack now sack transfer told after telling result
+abbrev pub HandlesSackInTransfer : ℕ → SackContent → Option Transfer → StateAndEvents → StateAndEvents → Result HandledSack AllocError → Type 0
+HandlesSackInTransfer now sack None old new result = (new.state ≡ old.state) × (new.events ≡ old.events)
+HandlesSackInTransfer now sack (Some transfer) old new result =
+    (after : Transfer) × (new.state ≡ state_with old.state after) × HandlesSack now sack transfer old.events after new.events result
 
 -- What was lost was put into a packet.
 abbrev pub FillsLostAtOnce : ℕ → Option Transfer → State → Building → State → Building → Type 0

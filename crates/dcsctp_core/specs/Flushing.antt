@@ -21,7 +21,7 @@ use Rattle.dcsctp_transfer.specs.spec.endpoint.Outcome.{packet_counted}
 use Rattle.dcsctp_transfer.specs.spec.endpoint.BegunResets.{BegunReset, last_assigned_tsn, begun_if_connected, request_contents, after_begun, streams_within, queue_requesting, transfer_reset_begun}
 use Rattle.dcsctp_transfer.specs.spec.endpoint.FlushOutcomes.{may_be_asked, filling_event, Answer, answer_contents, filled_draft, asked_outcome, flush_of, packets_allowed, Ask, first_ask, wants_sack, IsAnswerOfQueues, timers_with, IsFlushAnswer, AreFlushAnswers, is_none, later_ask, draft_to, forward_moment}
 use Rattle.dcsctp_transfer.specs.api.Calls.{user_event}
-use Rattle.dcsctp_transfer.specs.Filling.{FillsDataPacket, AddsFirstOfFilling, FillsRequestedSack, is_sack_wanted}
+use Rattle.dcsctp_transfer.specs.Filling.{FillsDataPacket, AddsFirstOfFilling, FillsRequestedSack, is_sack_wanted, packet_stage, PacketStage}
 use Rattle.dcsctp_transfer.specs.Forwarding.{MakesForwardTsn, AddsFirstOfAbandoning}
 use Rattle.dcsctp_core.specs.declared.context.Context.{Context}
 use Rattle.dcsctp_core.specs.declared.state.State.{State}
@@ -60,11 +60,11 @@ AcknowledgesInQueues (Some transfer) along old packet new filled_draft =
     (after : Transfer) × (new ≡ state_with old after) × FillsRequestedSack (is_sack_wanted along transfer) transfer packet after filled_draft
 
 -- Messages may have been abandoned, if the peer is known; if a FORWARD-TSN was made, the result says when the next one may be.
-abbrev pub ForwardsInQueues : ℕ → Option Transfer → SendQueueState → List (Event (List ℕ)) → Building → State → State → SendQueueState → List (Event (List ℕ)) → Building → Option ℕ → Type 0
-ForwardsInQueues now None waiting events packet old new left telling filled_draft next =
-    (new ≡ old) × (left ≡ waiting) × (telling ≡ events) × (filled_draft ≡ packet) × (next ≡ None)
-ForwardsInQueues now (Some transfer) waiting events packet old new left telling filled_draft next =
-    (after : Transfer) × (new ≡ state_with old after) × MakesForwardTsn now transfer waiting events packet after left telling filled_draft next
+abbrev pub ForwardsInQueues : ℕ → Option Transfer → PacketStage → State → State → PacketStage → Option ℕ → Type 0
+ForwardsInQueues now None before old new after next =
+    (new ≡ old) × (after.waiting ≡ before.waiting) × (after.events ≡ before.events) × (after.packet ≡ before.packet) × (next ≡ None)
+ForwardsInQueues now (Some transfer) before old new after next =
+    (left : Transfer) × (new ≡ state_with old left) × MakesForwardTsn now transfer before left after next
 
 -- Without a peer, and where nothing waits and nothing is outstanding, there is no data.
 abbrev pub HasNoData : SendQueueState → Option Transfer → Type 0
@@ -108,7 +108,7 @@ abbrev pub ForwardsNow : {R : Type 0} → Bool → Transfer → View R → Build
 ForwardsNow false transfer old packet new filled_draft = (new ≡ old) × (filled_draft ≡ packet)
 ForwardsNow true transfer old packet new filled_draft =
     (next : Option ℕ) × (after : Transfer) × (left : SendQueueState)
-    × MakesForwardTsn old.endpoint.moment transfer old.endpoint.queues.queue old.events packet after left new.events filled_draft next
+    × MakesForwardTsn old.endpoint.moment transfer (packet_stage old.endpoint.queues.queue old.events packet) after (packet_stage left new.events filled_draft) next
     × (new ≡ record old {
       endpoint = record old.endpoint {
         no_forward_tsn_before = forward_moment next old.endpoint.no_forward_tsn_before;
@@ -143,7 +143,7 @@ abbrev pub FillsPacketData : {R : Type 0} → Option Transfer → View R → Bui
 FillsPacketData None old packet new filled_draft = (new ≡ old) × (filled_draft ≡ packet)
 FillsPacketData (Some transfer) old packet new filled_draft =
     (any : Bool) × (after : Transfer) × (left : SendQueueState)
-    × FillsDataPacket old.endpoint.moment transfer old.endpoint.queues.queue old.events packet after left new.events filled_draft any
+    × FillsDataPacket old.endpoint.moment transfer (packet_stage old.endpoint.queues.queue old.events packet) after (packet_stage left new.events filled_draft) any
     × (new ≡ record old {
       endpoint = record old.endpoint { timers = timers_if_filled any old.endpoint; queues = record { queue = left; transfer = Some after } };
       events = new.events;

@@ -91,14 +91,23 @@ BeginsInState now begun (CookieEchoed echoed) new =
     (tcb : TransmissionControlBlock) × BeginsOwnReset now begun echoed.tcb tcb × (new ≡ CookieEchoed (record echoed { tcb = tcb }))
 BeginsInState now begun (Open opened) new = (tcb : TransmissionControlBlock) × BeginsOwnReset now begun opened.tcb tcb × (new ≡ Open (record opened { tcb = tcb }))
 
-pub record BeginsIfAllowed (start : RequestStart) (transfer : Transfer) (queue : SendQueueState) (old : State) (packet : Building) (left : SendQueueState) (new : State) (filled : Building) : Type 0 where
+-- what waits in the send queue, the state, and the packet
+pub record ResetStage : Type 0 where
+  pub queue : SendQueueState
+  pub state : State
+  pub packet : Building
+
+abbrev pub reset_stage : SendQueueState → State → Building → ResetStage
+reset_stage queue state packet = record { queue = queue; state = state; packet = packet }
+
+pub record BeginsIfAllowed (start : RequestStart) (transfer : Transfer) (old new : ResetStage) : Type 0 where
   pub begun : Option BegunReset
-  pub is : begun ≡ begun_if_connected start.is_new (held_by_core (core_of old)) (bytes_remaining packet) (last_assigned_tsn transfer.retransmission) queue
-  pub begins : BeginsInState start.now begun old new
-  pub packet_is : filled ≡ with_request begun packet
-  pub hands_out : left ≡ queue_requesting (streams_within (bytes_remaining packet)) begun queue
+  pub is : begun ≡ begun_if_connected start.is_new (held_by_core (core_of old.state)) (bytes_remaining old.packet) (last_assigned_tsn transfer.retransmission) old.queue
+  pub begins : BeginsInState start.now begun old.state new.state
+  pub packet_is : new.packet ≡ with_request begun old.packet
+  pub hands_out : new.queue ≡ queue_requesting (streams_within (bytes_remaining old.packet)) begun old.queue
 
 -- Nothing happens if the peer isn't known.
-abbrev pub BeginsResetInQueues : RequestStart → Option Transfer → SendQueueState → State → Building → SendQueueState → State → Building → Type 0
-BeginsResetInQueues start None queue old packet left new filled = (new ≡ old) × (left ≡ queue) × (filled ≡ packet)
-BeginsResetInQueues start (Some transfer) queue old packet left new filled = BeginsIfAllowed start transfer queue old packet left new filled
+abbrev pub BeginsResetInQueues : RequestStart → Option Transfer → ResetStage → ResetStage → Type 0
+BeginsResetInQueues start None old new = (new.state ≡ old.state) × (new.queue ≡ old.queue) × (new.packet ≡ old.packet)
+BeginsResetInQueues start (Some transfer) old new = BeginsIfAllowed start transfer old new

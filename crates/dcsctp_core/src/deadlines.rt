@@ -175,8 +175,8 @@ fn put(entries: &mut [Entry; 7], count: usize, gap: usize, moment: SocketTime, k
     requires count { count ≤ 7 }
     requires listing { IsListing (besides gap count entries.old) }
     requires absent { IsAbsent kind (besides gap count entries.old) }
-    ensures placed { take count entries.new
-        ≡ entries_with_one (record { moment = moment; kind = kind }) (besides gap count entries.old) }
+    ensures placed { take count entries.new ≡ entries_with_one
+        (record { moment = moment; kind = kind }) (besides gap count entries.old) }
     ensures all { length entries.new ≡ 7 }
 {
     let new = Entry { moment, kind };

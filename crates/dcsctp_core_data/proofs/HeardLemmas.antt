@@ -9,7 +9,7 @@ use Rattle.dcsctp_core.specs.spec.queues.Transfer.{Transfer}
 use Rattle.dcsctp_core.specs.spec.endpoint.Endpoint.{Endpoint, Core, closed, cookie_wait, cookie_echoed, open_in, OpenPhase, established, shutdown_pending, shutdown_sent, shutdown_received, shutdown_ack_sent}
 use Rattle.dcsctp_core.specs.spec.endpoint.Outcome.{Outcome}
 use Rattle.dcsctp_core.specs.spec.endpoint.DataOutcomes.{TakesSackAndFlushes, HandlesSackIfValid, SackTurn}
-use Rattle.dcsctp_core.specs.spec.endpoint.HeardShutdown.{said_by_shutdown, acknowledges_by_shutdown, may_have_sent, HearsValidShutdown, HearsShutdown, ShutdownTurn}
+use Rattle.dcsctp_core.specs.spec.endpoint.HeardShutdown.{said_by_shutdown, acknowledges_by_shutdown, may_have_sent, HearsValidShutdown, HearsShutdown, ShutdownTurn, open_association}
 use Rattle.dcsctp_core.specs.spec.endpoint.ShutdownOutcomes.{endpoint_in_phase, shutdown_outcome}
 use Rattle.dcsctp_core.specs.declared.context.Context.{Context}
 use Rattle.dcsctp_core.specs.declared.state.OpenPhase as phase_types
@@ -33,7 +33,7 @@ unheeded_by : (e : Endpoint) (phase : OpenPhase) (my : Pair) (held : Held) (tran
     → HearsShutdown e phase my held transfer tsn (shutdown_outcome e (open_in phase my held))
 unheeded_by e phase my held None tsn none = refl
 unheeded_by e phase my held (Some transfer) tsn none =
-    subst (λ (b : Bool). HearsValidShutdown b e phase my held transfer tsn (shutdown_outcome e (open_in phase my held))) (sym none) refl
+    subst (λ (b : Bool). HearsValidShutdown b e (open_association phase my held) transfer tsn (shutdown_outcome e (open_in phase my held))) (sym none) refl
 
 unheeded : (e : Endpoint) (core : Core) (tsn : ℕ) → takes_shutdown_tsn e core e.queues.transfer tsn ≡ false → ShutdownTurn e core tsn (shutdown_outcome e core)
 unheeded e closed tsn none = refl
@@ -120,7 +120,7 @@ heard_turn old tsn window o r is h =
     subst (λ (w : ℕ). TakesSackAndFlushes there r.held r.transfer (said tsn w) o) (is ∙ ap window_of r.below) third in
     subst (λ (c : Core). ShutdownTurn e c tsn o) (sym r.core)
     (subst (λ (f : Option Transfer). HearsShutdown e r.phase r.my r.held f tsn o) (sym r.below)
-    (subst (λ (b : Bool). HearsValidShutdown b e r.phase r.my r.held r.transfer tsn o) (sym r.heeds) fourth))
+    (subst (λ (b : Bool). HearsValidShutdown b e (open_association r.phase r.my r.held) r.transfer tsn o) (sym r.heeds) fourth))
 
 heard_at : {R E : Type 0} (stream : R → Stream) (old : Context R) (result : Result (Unit {0}) E) (new : Context R) (tsn window : ℕ) → Received old old.state tsn
     → window ≡ window_of (transfer_of old.state) → TakesOne stream (ReceivesSack (said tsn window)) (moved old) result new → TakesOne stream (ReceivesShutdown tsn) old result new

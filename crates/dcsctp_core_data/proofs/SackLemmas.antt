@@ -32,7 +32,7 @@ use Rattle.dcsctp_core.specs.declared.state.State.{State}
 use Rattle.dcsctp_core.specs.View.{View, tcb_of, transfer_of, endpoint_of, view_of, Moves, CutsTurn}
 use Rattle.dcsctp_core.specs.Handling.{Tries, report_turn, TakesPossibleTurn, CutsSomeTurn, TakesOne}
 use Rattle.dcsctp_core.proofs.LendingLemmas.{nobody}
-use Rattle.dcsctp_core.specs.Below.{HandlesSackInTransfer}
+use Rattle.dcsctp_core.specs.Below.{HandlesSackInTransfer, state_and_events}
 use Rattle.dcsctp_core.proofs.BelowLemmas.{below_view}
 use Rattle.dcsctp_core.proofs.Composing.{behind, Adds, moves_behind, moves_as, cut_behind, cut_first}
 use Rattle.dcsctp_core.proofs.Moving.{moves_still}
@@ -165,7 +165,7 @@ pub record Taken {R : Type 0} (old : Context R) (sack : SackContent) (shows : Bo
 
 taken_by : {R : Type 0} (old : Context R) (sack : SackContent) (acknowledges shows : Bool) (state : State) (events : List SocketEvent) (b : Below old.state)
     → shows ≡ (acknowledges || counts_as_probe_answer old.options sack.a_rwnd)
-    → HandlesSackInTransfer old.moment sack (Some b.transfer) old.state (map event_content old.events) state (map event_content events) (Ok (Valid acknowledges)) → Taken old sack shows state events
+    → HandlesSackInTransfer old.moment sack (Some b.transfer) (state_and_events old.state (map event_content old.events)) (state_and_events state (map event_content events)) (Ok (Valid acknowledges)) → Taken old sack shows state events
 taken_by {R = R} old sack acknowledges shows state events b is h =
     let after : Transfer = h.0 in
     let seen : shows ≡ shows_peer old.options b.transfer after =
@@ -184,11 +184,11 @@ taken_by {R = R} old sack acknowledges shows state events b is h =
 
 pub taken : {R : Type 0} (old : Context R) (sack : SackContent) (acknowledges shows : Bool) (state : State) (events : List SocketEvent) → is_some (transfer_of old.state) ≡ true
     → shows ≡ (acknowledges || counts_as_probe_answer old.options sack.a_rwnd)
-    → HandlesSackInTransfer old.moment sack (transfer_of old.state) old.state (map event_content old.events) state (map event_content events) (Ok (Valid acknowledges)) → Taken old sack shows state events
+    → HandlesSackInTransfer old.moment sack (transfer_of old.state) (state_and_events old.state (map event_content old.events)) (state_and_events state (map event_content events)) (Ok (Valid acknowledges)) → Taken old sack shows state events
 taken old sack acknowledges shows state events some is h =
     let b = below_of old.state some in
     taken_by old sack acknowledges shows state events b is
-    (subst (λ (f : Option Transfer). HandlesSackInTransfer old.moment sack f old.state (map event_content old.events) state (map event_content events) (Ok (Valid acknowledges))) b.below h)
+    (subst (λ (f : Option Transfer). HandlesSackInTransfer old.moment sack f (state_and_events old.state (map event_content old.events)) (state_and_events state (map event_content events)) (Ok (Valid acknowledges))) b.below h)
 
 -- a peer is still held then
 pub still_held : {R : Type 0} (old : Context R) (sack : SackContent) (acknowledges : Bool) (state : State) (events : List SocketEvent) (mid : Context R) → Taken old sack acknowledges state events
@@ -208,7 +208,7 @@ sack_cut {R = R} old sack acknowledges state events mid new t is h =
 -- ---- where it isn't valid
 
 ignored_by : {R : Type 0} (stream : R → Stream) (old : Context R) (sack : SackContent) (state : State) (events : List SocketEvent) (b : Below old.state)
-    → HandlesSackInTransfer old.moment sack (Some b.transfer) old.state (map event_content old.events) state (map event_content events) (Ok Invalid) → TakesPossibleTurn stream (ReceivesSack sack) (view_of old) (with_both old state events)
+    → HandlesSackInTransfer old.moment sack (Some b.transfer) (state_and_events old.state (map event_content old.events)) (state_and_events state (map event_content events)) (Ok Invalid) → TakesPossibleTurn stream (ReceivesSack sack) (view_of old) (with_both old state events)
 ignored_by {R = R} stream old sack state events b h =
     let e : Endpoint = endpoint_of old in
     let same = below_view old state b.transfer h.0 b.below h.1 in
@@ -224,11 +224,11 @@ ignored_by {R = R} stream old sack state events b h =
     }
 
 pub sack_ignored : {R : Type 0} (stream : R → Stream) (old : Context R) (sack : SackContent) (state : State) (events : List SocketEvent) → is_some (transfer_of old.state) ≡ true
-    → HandlesSackInTransfer old.moment sack (transfer_of old.state) old.state (map event_content old.events) state (map event_content events) (Ok Invalid) → TakesPossibleTurn stream (ReceivesSack sack) (view_of old) (with_both old state events)
+    → HandlesSackInTransfer old.moment sack (transfer_of old.state) (state_and_events old.state (map event_content old.events)) (state_and_events state (map event_content events)) (Ok Invalid) → TakesPossibleTurn stream (ReceivesSack sack) (view_of old) (with_both old state events)
 sack_ignored stream old sack state events some h =
     let b = below_of old.state some in
     ignored_by stream old sack state events b
-    (subst (λ (f : Option Transfer). HandlesSackInTransfer old.moment sack f old.state (map event_content old.events) state (map event_content events) (Ok Invalid)) b.below h)
+    (subst (λ (f : Option Transfer). HandlesSackInTransfer old.moment sack f (state_and_events old.state (map event_content old.events)) (state_and_events state (map event_content events)) (Ok Invalid)) b.below h)
 
 -- ---- without a peer
 
@@ -285,10 +285,10 @@ refused_where old b sack front rest telling false valid parts told nothing =
     }
 
 pub sack_refused : {R : Type 0} (old : Context R) (sack : SackContent) (state : State) (events : List SocketEvent) (error : AllocError) → is_some (transfer_of old.state) ≡ true
-    → HandlesSackInTransfer old.moment sack (transfer_of old.state) old.state (map event_content old.events) state (map event_content events) (Err error) → CutsSomeTurn (ReceivesSack sack) (view_of old) (map event_content events)
+    → HandlesSackInTransfer old.moment sack (transfer_of old.state) (state_and_events old.state (map event_content old.events)) (state_and_events state (map event_content events)) (Err error) → CutsSomeTurn (ReceivesSack sack) (view_of old) (map event_content events)
 sack_refused old sack state events error some h =
     let b = below_of old.state some in
-    let here : HandlesSackInTransfer old.moment sack (Some b.transfer) old.state (map event_content old.events) state (map event_content events) (Err error) =
-    subst (λ (f : Option Transfer). HandlesSackInTransfer old.moment sack f old.state (map event_content old.events) state (map event_content events) (Err error)) b.below h in
+    let here : HandlesSackInTransfer old.moment sack (Some b.transfer) (state_and_events old.state (map event_content old.events)) (state_and_events state (map event_content events)) (Err error) =
+    subst (λ (f : Option Transfer). HandlesSackInTransfer old.moment sack f (state_and_events old.state (map event_content old.events)) (state_and_events state (map event_content events)) (Err error)) b.below h in
     let tells = here.2.1 in
     refused_where old b sack tells.front tells.rest (map event_content events) (is_sack_valid b.transfer.retransmission sack.cumulative_tsn_ack) refl tells.parts tells.told here.2.2

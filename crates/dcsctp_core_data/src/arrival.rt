@@ -113,7 +113,8 @@ impl<'a> DataPart<'a> {
 ///
 /// `Err`: an allocation failed; the first of its events may already have been added.
 pub fn handle_data<R: Rng>(context: &mut Context<R>, part: DataPart<'_>) -> Result<(), AllocError>
-    ensures { TakesOne R.stream (ReceivesDataChunk (part_arrival part.entry)) context.old result context.new }
+    ensures { TakesOne R.stream (ReceivesDataChunk (part_arrival part.entry)) context.old result
+        context.new }
 {
     if part.payload.is_empty() {
         return refuse_empty(context, part.tsn);

@@ -55,9 +55,8 @@ pub fn handle_forward_tsn<R: Rng>(
     context: &mut Context<R>,
     chunk: &ForwardTsnChunk<'_>,
 ) -> Result<(), AllocError>
-    ensures { TakesOne R.stream
-        (ReceivesForwardTsn chunk.now.new_cumulative_tsn (named_skips chunk.now.skipped_streams.now))
-        context.old result context.new }
+    ensures { TakesOne R.stream (ReceivesForwardTsn chunk.now.new_cumulative_tsn
+        (named_skips chunk.now.skipped_streams.now)) context.old result context.new }
 {
     let Some(tcb) = context.state.tcb_mut() else {
         return Ok(());

@@ -82,7 +82,8 @@ pub fn handle_sack<R: Rng>(
     context: &mut Context<R>,
     chunk: &SackChunk<'_>,
 ) -> Result<(), AllocError>
-    ensures { TakesOne R.stream (ReceivesSack (sack_content chunk.now)) context.old result context.new }
+    ensures { TakesOne R.stream (ReceivesSack (sack_content chunk.now)) context.old result
+        context.new }
 {
     let Some(tcb) = context.state.tcb_mut() else {
         return report_no_tcb(context);

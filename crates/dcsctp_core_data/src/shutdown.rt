@@ -63,7 +63,8 @@ fn acknowledge_and_receive<R: Rng>(
 ) -> Result<(), AllocError>
     requires { takes_shutdown_tsn (endpoint_of context.old) (core_of context.old.state)
         (transfer_of context.old.state) cumulative_tsn_ack ≡ true }
-    ensures { TakesOne R.stream (ReceivesShutdown cumulative_tsn_ack) context.old result context.new }
+    ensures { TakesOne R.stream (ReceivesShutdown cumulative_tsn_ack) context.old result
+        context.new }
 {
     let sack = SackChunk {
         cumulative_tsn_ack,

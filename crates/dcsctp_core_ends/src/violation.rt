@@ -63,7 +63,8 @@ fn i_forward_tsn_violation(capabilities: &Capabilities) -> Option<Violation>
 /// 8260 if and only if message interleaving is negotiated. Without partial reliability nothing is skipped.
 /// Allocates nothing.
 pub fn violation_of(state: &State, chunk: &Chunk<'_>) -> Option<Violation>
-    ensures { result ≡ violation_of_content (core_of state.now) (content_of_chunk (chunk_content chunk.now)) }
+    ensures { result ≡ violation_of_content (core_of state.now)
+        (content_of_chunk (chunk_content chunk.now)) }
 {
     let tcb = state.tcb()?;
     match chunk {

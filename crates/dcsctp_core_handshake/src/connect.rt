@@ -166,7 +166,8 @@ pub(crate) fn send_cookie_echo<R: Rng>(context: &mut Context<R>) -> Result<(), A
 
 /// The peer that an INIT ACK shows.
 fn peer_by_init_ack(options: &Options, init_ack: &InitChunk<'_>) -> Peer
-    ensures { result ≡ peer_by_init_ack options.now (introduction_of_init (init_content init_ack.now)) }
+    ensures { result ≡ peer_by_init_ack options.now (introduction_of_init
+        (init_content init_ack.now)) }
 {
     let offered = Capabilities::from_parameters(
         init_ack.nbr_outbound_streams,
@@ -227,8 +228,9 @@ pub fn handle_init_ack<R: Rng>(
     context: &mut Context<R>,
     init_ack: &InitChunk<'_>,
 ) -> Result<Following, AllocError>
-    ensures { HandlesPossibleTurn R.stream (ReceivesInitAck (introduction_of_init (init_content init_ack.now))
-        (first_cookie (init_content init_ack.now).parameters)) context.old result context.new }
+    ensures { HandlesPossibleTurn R.stream (ReceivesInitAck
+        (introduction_of_init (init_content init_ack.now)) (first_cookie
+        (init_content init_ack.now).parameters)) context.old result context.new }
 {
     let my = match &context.state {
         State::CookieWait(wait) => wait.my,

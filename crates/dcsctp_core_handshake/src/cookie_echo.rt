@@ -123,8 +123,8 @@ fn take_over<R: Rng>(context: &mut Context<R>, cookie: &StateCookie, tie_tag: u6
 ///
 /// `Err`: an allocation failed; the first of its events may already have been added.
 fn establish<R: Rng>(context: &mut Context<R>, cookie: &StateCookie) -> Result<(), AllocError>
-    ensures { TakesOne R.stream (EstablishesAssociation R.stream (cookie_of cookie.now)) context.old result
-        context.new }
+    ensures { TakesOne R.stream (EstablishesAssociation R.stream (cookie_of cookie.now)) context.old
+        result context.new }
 {
     let tie_tag = context.draw_u64()?;
     context.events.add(SocketEvent::OnConnected())?;
@@ -137,8 +137,8 @@ fn establish<R: Rng>(context: &mut Context<R>, cookie: &StateCookie) -> Result<(
 ///
 /// `Err`: an allocation failed; the first of its events may already have been added.
 fn replace<R: Rng>(context: &mut Context<R>, cookie: &StateCookie) -> Result<(), AllocError>
-    ensures { TakesOne R.stream (ReplacesAssociation R.stream (cookie_of cookie.now)) context.old result
-        context.new }
+    ensures { TakesOne R.stream (ReplacesAssociation R.stream (cookie_of cookie.now)) context.old
+        result context.new }
 {
     context.send_queue.reset();
     establish(context, cookie)?;
@@ -149,8 +149,8 @@ fn replace<R: Rng>(context: &mut Context<R>, cookie: &StateCookie) -> Result<(),
 ///
 /// `Err`: an allocation failed; the first of its events may already have been added.
 fn outlast<R: Rng>(context: &mut Context<R>, cookie: &StateCookie) -> Result<(), AllocError>
-    ensures { TakesOne R.stream (OutlastsAssociation R.stream (cookie_of cookie.now)) context.old result
-        context.new }
+    ensures { TakesOne R.stream (OutlastsAssociation R.stream (cookie_of cookie.now)) context.old
+        result context.new }
 {
     let tie_tag = context.draw_u64()?;
     context.events.add(SocketEvent::OnConnected())?;
@@ -164,8 +164,8 @@ fn outlast<R: Rng>(context: &mut Context<R>, cookie: &StateCookie) -> Result<(),
 ///
 /// `Err`: an allocation failed; the first of its events may already have been added.
 fn collide<R: Rng>(context: &mut Context<R>, cookie: &StateCookie) -> Result<(), AllocError>
-    ensures { TakesOne R.stream (CollidesWithPeer R.stream (cookie_of cookie.now)) context.old result
-        context.new }
+    ensures { TakesOne R.stream (CollidesWithPeer R.stream (cookie_of cookie.now)) context.old
+        result context.new }
 {
     if outlasts(context, cookie) {
         return outlast(context, cookie);
@@ -178,8 +178,8 @@ fn collide<R: Rng>(context: &mut Context<R>, cookie: &StateCookie) -> Result<(),
 ///
 /// `Err`: an allocation failed; the first of its events may already have been added.
 fn establish_new<R: Rng>(context: &mut Context<R>, cookie: &StateCookie) -> Result<(), AllocError>
-    ensures { TakesOne R.stream (EstablishesFirst R.stream (cookie_of cookie.now)) context.old result
-        context.new }
+    ensures { TakesOne R.stream (EstablishesFirst R.stream (cookie_of cookie.now)) context.old
+        result context.new }
 {
     if context.options.follow_rfc {
         replace(context, cookie)
@@ -192,8 +192,8 @@ fn establish_new<R: Rng>(context: &mut Context<R>, cookie: &StateCookie) -> Resu
 ///
 /// `Err`: an allocation failed; the first of its events may already have been added.
 fn restart<R: Rng>(context: &mut Context<R>, cookie: &StateCookie) -> Result<(), AllocError>
-    ensures { TakesOne R.stream (RestartsAssociation R.stream (cookie_of cookie.now)) context.old result
-        context.new }
+    ensures { TakesOne R.stream (RestartsAssociation R.stream (cookie_of cookie.now)) context.old
+        result context.new }
 {
     context.events.add(SocketEvent::OnConnectionRestarted())?;
     replace(context, cookie)?;
@@ -252,8 +252,8 @@ fn restart_where_open<R: Rng>(
     context: &mut Context<R>,
     cookie: &StateCookie,
 ) -> Result<Following, AllocError>
-    ensures { HandlesPossibleTurn R.stream (RestartsUnlessShuttingDown R.stream (cookie_of cookie.now))
-        context.old result context.new }
+    ensures { HandlesPossibleTurn R.stream (RestartsUnlessShuttingDown R.stream
+        (cookie_of cookie.now)) context.old result context.new }
 {
     if awaits_complete(&context.state) {
         return refuse_restart(context);

@@ -147,8 +147,8 @@ fn answer_init<R: Rng>(context: &mut Context<R>, init: &InitChunk<'_>) -> Result
 ///
 /// `Err`: an allocation failed, and nothing has changed but the random words that were drawn.
 pub fn handle_init<R: Rng>(context: &mut Context<R>, init: &InitChunk<'_>) -> Result<(), AllocError>
-    ensures { TriesDrawing R.stream (init_turn R.stream (introduction_of_init (init_content init.now)))
-        context.old result context.new }
+    ensures { TriesDrawing R.stream (init_turn R.stream (introduction_of_init
+        (init_content init.now))) context.old result context.new }
 {
     if !context.may_answer() {
         return Ok(());

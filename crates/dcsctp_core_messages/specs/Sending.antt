@@ -49,13 +49,21 @@ RecordsAnswer place (Some refusal) old new =
     (refused_messages new.refused.items ≡ refused_messages old.refused.items ++ record { place = place; refusal = refusal } ∷ [])
     × (new.has_taken ≡ old.has_taken)
 
+-- the answers so far, and the association
+pub record Queueing (R : Type 0) : Type 0 where
+  pub queued : QueuedAll
+  pub context : Context R
+
+abbrev pub queueing : {R : Type 0} → QueuedAll → Context R → Queueing R
+queueing queued context = record { queued = queued; context = context }
+
 -- The message of this place was taken or refused, and that was recorded. Or an allocation failed, and the first of its events may
 -- have been added.
-abbrev pub QueuesAndRecords : {R E : Type 0} → (R → Stream) → ℕ → Sending → QueuedAll → Context R → Result (Unit {0}) E → QueuedAll → Context R → Type 0
-QueuesAndRecords stream place message queued old result queued_then new =
-    ByResult (λ done. RecordsAnswer place (sending_refusal (view_of old).endpoint message) queued queued_then
-    × Moves stream (view_of old) (queue_one (view_of old).endpoint message) (view_of new))
-    (CutsTurn (view_of old) (queue_one (view_of old).endpoint message) (view_of new).events) result
+abbrev pub QueuesAndRecords : {R E : Type 0} → (R → Stream) → ℕ → Sending → Queueing R → Result (Unit {0}) E → Queueing R → Type 0
+QueuesAndRecords stream place message old result new =
+    ByResult (λ done. RecordsAnswer place (sending_refusal (view_of old.context).endpoint message) old.queued new.queued
+    × Moves stream (view_of old.context) (queue_one (view_of old.context).endpoint message) (view_of new.context))
+    (CutsTurn (view_of old.context) (queue_one (view_of old.context).endpoint message) (view_of new.context).events) result
 
 -- Each of these was taken or refused.
 pub record AreQueued {R : Type 0} (stream : R → Stream) (messages : List Sending) (old : View R) (queued : QueuedAll) (new : View R) : Type 0 where

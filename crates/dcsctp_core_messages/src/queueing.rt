@@ -4,7 +4,7 @@ ghost use Rattle.std.specs.Prelude.{◌<◌, vec_len, map};
 ghost use Rattle.dcsctp_core.specs.types.queues.Messages.{message_content};
 ghost use Rattle.dcsctp_core.specs.spec.endpoint.MessageOutcomes.{sending_of};
 ghost use Rattle.dcsctp_core.specs.Handling.{Tries};
-ghost use Rattle.dcsctp_core_messages.specs.Sending.{queued_turn, Queues, QueuesAndRecords, QueuesAll};
+ghost use Rattle.dcsctp_core_messages.specs.Sending.{queued_turn, Queues, QueuesAndRecords, QueuesAll, queueing};
 
 use crate::refusal::{refusal, tell_refusal};
 use dcsctp_core::Context;
@@ -70,8 +70,8 @@ fn queue_at<R: Rng>(
     options: &SendOptions,
     queued: &mut QueuedAll,
 ) -> Result<(), AllocError>
-    ensures { QueuesAndRecords R.stream place (sending_of options.now (message_content message)) queued.old
-        context.old result queued.new context.new }
+    ensures { QueuesAndRecords R.stream place (sending_of options.now (message_content message))
+        (queueing queued.old context.old) result (queueing queued.new context.new) }
 {
     match queue_message(context, message, options)? {
         Some(error) => queued.refused.push((place, error))?,

@@ -67,8 +67,8 @@ fn prepare_streams<R: Rng>(
     context: &mut Context<R>,
     stream_ids: &[StreamId],
 ) -> Result<(), AllocError>
-    ensures { TakesOne R.stream (PreparesSomeStreams (stream_numbers stream_ids.now)) context.old result
-        context.new }
+    ensures { TakesOne R.stream (PreparesSomeStreams (stream_numbers stream_ids.now)) context.old
+        result context.new }
 {
     for stream_id in stream_ids {
         prepare_stream(context, *stream_id)?;

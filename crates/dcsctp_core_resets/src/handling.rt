@@ -163,8 +163,8 @@ fn decide(
     follows: bool,
     parameters: &[Parameter<'_>],
 ) -> Result<HandledRequests, AllocError>
-    ensures { IfOk result (λ worked. HandlesForConnection follows (performed_reset kept.now) (Some tcb.now)
-        (reset_parameters parameters.now) worked) }
+    ensures { IfOk result (λ worked. HandlesForConnection follows (performed_reset kept.now)
+        (Some tcb.now) (reset_parameters parameters.now) worked) }
 {
     let last = LastRequest {
         number: tcb.last_processed_req_seq_nbr,
@@ -280,7 +280,8 @@ fn perform<R: Rng>(
     context: &mut Context<R>,
     request: &OutgoingSsnResetRequestParameter<'_>,
 ) -> Result<(), AllocError>
-    ensures { TreatsReset Performed (Some (reset_of_request request.now)) context.old result context.new }
+    ensures { TreatsReset Performed (Some (reset_of_request request.now)) context.old result
+        context.new }
 {
     let streams = streams_of(context.alloc, request)?;
     reset_streams(&mut context.state, &streams)?;
@@ -296,7 +297,8 @@ fn reset_again<R: Rng>(
     context: &mut Context<R>,
     request: &OutgoingSsnResetRequestParameter<'_>,
 ) -> Result<(), AllocError>
-    ensures { TreatsReset Renewed (Some (reset_of_request request.now)) context.old result context.new }
+    ensures { TreatsReset Renewed (Some (reset_of_request request.now)) context.old result
+        context.new }
 {
     let streams = streams_of(context.alloc, request)?;
     reset_streams(&mut context.state, &streams)?;
@@ -503,8 +505,8 @@ fn handle_parameters<R: Rng>(
     context: &mut Context<R>,
     parameters: &[Parameter<'_>],
 ) -> Result<(), AllocError>
-    ensures { TakesOne R.stream (ReceivesReConfig (reset_parameters parameters.now)) context.old result
-        context.new }
+    ensures { TakesOne R.stream (ReceivesReConfig (reset_parameters parameters.now)) context.old
+        result context.new }
 {
     let Some(tcb) = context.state.tcb() else {
         return Ok(());

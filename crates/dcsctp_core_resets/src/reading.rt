@@ -16,7 +16,8 @@ use std::alloc::{AllocError, Global};
 pub(crate) fn requested<'a>(
     parameters: &[Parameter<'a>],
 ) -> Option<OutgoingSsnResetRequestParameter<'a>>
-    ensures wanted { option_map reset_of_request result ≡ first_reset_request (reset_parameters parameters.now) }
+    ensures wanted { option_map reset_of_request result ≡ first_reset_request
+        (reset_parameters parameters.now) }
     ensures number { option_map asked_number result
         ≡ first_request_number (reset_parameters parameters.now) }
 {

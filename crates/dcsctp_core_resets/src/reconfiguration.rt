@@ -33,7 +33,8 @@ fn last_tsn_of(request: &ResetRequest) -> u32
 
 // The number under which the request is sent: its own, or the next one.
 fn number_of(tcb: &TransmissionControlBlock, request: &ResetRequest, is_renewed: bool) -> u32
-    ensures { result ≡ number_if_new is_renewed request.now.number tcb.now.next_outgoing_reset_req_seq_nbr }
+    ensures { result ≡ number_if_new is_renewed request.now.number
+        tcb.now.next_outgoing_reset_req_seq_nbr }
 {
     if is_renewed {
         tcb.next_outgoing_reset_req_seq_nbr

@@ -194,8 +194,8 @@ fn is_due(state: RequestState) -> bool
 
 // The last request again is answered as before; one in progress is handled again.
 fn repeated(last: LastRequest, is_reached: bool) -> AnsweredRequest
-    ensures { (base : Held)
-        → AnswersAs base result (changes.repeated_request_outcome (held_with base last) last.result is_reached) }
+    ensures { (base : Held) → AnswersAs base result (changes.repeated_request_outcome
+        (held_with base last) last.result is_reached) }
 {
     match last.result {
         ReconfigurationResponseResult::InProgress => perform_or_defer(last.number, is_reached),
@@ -214,7 +214,8 @@ fn repeated(last: LastRequest, is_reached: bool) -> AnsweredRequest
 
 // A request whose number is neither the last nor the next is refused.
 fn refused(last: LastRequest) -> AnsweredRequest
-    ensures { (base : Held) → AnswersAs base result (changes.refused_outcome (held_with base last)) }
+    ensures { (base : Held) → AnswersAs base result (changes.refused_outcome
+        (held_with base last)) }
 {
     AnsweredRequest {
         last,

@@ -21,7 +21,7 @@ use Rattle.dcsctp_delivery_directions.proofs.Marking.{directions_deliver_for_goo
 use Rattle.dcsctp_delivery_turns.proofs.Beginnings.{fresh_at_zero}
 use Rattle.dcsctp_delivery_turns.proofs.Unbegun.{fresh_is_at_zero}
 use Rattle.dcsctp_delivery_turns.proofs.Runs.{senders_begin}
-use Rattle.dcsctp_delivery_associations.specs.Ends.{SendingEnd, direction_of_ends, new_end, Ends, MarksLeft, Awaits, chunks_before, Between}
+use Rattle.dcsctp_delivery_associations.specs.Ends.{SendingEnd, direction_of_ends, new_end, Ends, MarksLeft, Awaits, chunks_before, Between, sending_side, receiving_side}
 use Rattle.dcsctp_delivery_associations.specs.Laws.{AreEnds}
 use Rattle.dcsctp_delivery_associations.specs.Reads.{ReadMessage, Reading, nothing_read, with_key, messages_of}
 use Rattle.dcsctp_delivery_associations.proofs.Growing.{AllFound, set_all}
@@ -101,7 +101,7 @@ were_unmarked marks queued (place ∷ places) (content ∷ contents) found were 
 -- ---- all associations
 
 module _ (options : Options) (ends : Ends) (e : Endpoint) (queued : List Message) (past : List Effect) (packets : List Emission) (other : Endpoint) (their_past : List Effect) (reading : Reading)
-    (h : Between options ends e queued past packets other their_past reading) (many : length queued < 2 ^ 64) (few : (tag : ℕ) → chunks_before (ends.former tag) packets + chunks_to (ends.latest tag) packets < 2 ^ 30) where
+    (h : Between options ends (sending_side e queued past packets) (receiving_side other their_past reading)) (many : length queued < 2 ^ 64) (few : (tag : ℕ) → chunks_before (ends.former tag) packets + chunks_to (ends.latest tag) packets < 2 ^ 30) where
   delivered : (tag : ℕ) → AreDeliveredForGood (direction_of_ends (ends.sends tag) (ends.gets tag))
   delivered tag =
       let fewer = h.sender.short tag in
@@ -139,7 +139,7 @@ module _ (options : Options) (ends : Ends) (e : Endpoint) (queued : List Message
 
 -- ---- two sockets that were just made
 
-pub ends_begin : (never_resets : ℕ → Bool) (mine options : Options) → AreEnds never_resets [] options (fresh_endpoint mine) [] [] [] (fresh_endpoint options) [] nothing_read
+pub ends_begin : (never_resets : ℕ → Bool) (mine options : Options) → AreEnds never_resets [] options (sending_side (fresh_endpoint mine) [] [] []) (receiving_side (fresh_endpoint options) [] nothing_read)
 ends_begin never_resets mine options =
     record {
       ends = record { sends = λ tag. nothing; gets = λ tag. new_end options 0; firsts = λ tag. 0; latest = λ tag. 0; former = λ tag. None; never_resets = never_resets };

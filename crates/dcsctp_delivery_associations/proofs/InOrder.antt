@@ -34,7 +34,7 @@ use Rattle.dcsctp_delivery_order.proofs.FewDirections.{plain_few_deliver_in_orde
 use Rattle.dcsctp_delivery_order.specs.PlainDirections.{FewOnEachStream}
 use Rattle.dcsctp_delivery_associations.proofs.FewMarks.{few_marks}
 use Rattle.dcsctp_delivery_order.proofs.PlainFront.{plain_streams_deliver_without_gaps, plain_directions_deliver_without_gaps}
-use Rattle.dcsctp_delivery_associations.specs.Ends.{ReceivingEnd, direction_of_ends, Ends, sender_key, HadKind, IsOnlyOwn, NumbersFromZero, Awaits, chunks_before, IsCurrentEnd, Between}
+use Rattle.dcsctp_delivery_associations.specs.Ends.{ReceivingEnd, direction_of_ends, Ends, sender_key, HadKind, IsOnlyOwn, NumbersFromZero, Awaits, chunks_before, IsCurrentEnd, Between, sending_side, receiving_side}
 use Rattle.dcsctp_delivery_associations.specs.InOrder.{InterleavesUnder, IsReliableKept, AreThrough}
 use Rattle.dcsctp_delivery_associations.specs.Reads.{Reading, with_key}
 use Rattle.dcsctp_delivery_associations.proofs.Delivers.{were_unmarked}
@@ -193,7 +193,7 @@ read_none queued none (content ∷ contents) [] were = absurd were
 read_none queued none (content ∷ contents) (place ∷ places) were = (let nowhere : at_place place [] ≡ Some were.0.message = subst (λ (l : List Message). at_place place l ≡ Some were.0.message) none were.0.at in absurd (cc))
 
 module _ (options : Options) (ends : Ends) (e : Endpoint) (queued : List Message) (past : List Effect) (packets : List Emission) (other : Endpoint) (their_past : List Effect) (reading : Reading)
-    (h : Between options ends e queued past packets other their_past reading) (many : length queued < 2 ^ 64) (few : (tag : ℕ) → chunks_before (ends.former tag) packets + chunks_to (ends.latest tag) packets < 2 ^ 30) where
+    (h : Between options ends (sending_side e queued past packets) (receiving_side other their_past reading)) (many : length queued < 2 ^ 64) (few : (tag : ℕ) → chunks_before (ends.former tag) packets + chunks_to (ends.latest tag) packets < 2 ^ 30) where
   -- fewer TSNs were assigned under a tag than can be distinguished
   module _ (tag : ℕ) where
     short : length (ends.sends tag).queued < 2 ^ 64

@@ -27,7 +27,7 @@ use Rattle.dcsctp_delivery_turns.specs.ToldResets.{ReportsResets}
 use Rattle.dcsctp_delivery_turns.specs.Reporting.{IsReachedBetween, TurnReports, reports_on, reports_anew, reports_nothing, reports_nowhere}
 use Rattle.dcsctp_delivery_turns.specs.Asking.{own_of, AsksFit}
 use Rattle.dcsctp_delivery_turns.specs.Runs.{OpensAssociation}
-use Rattle.dcsctp_delivery_associations.specs.Ends.{SendingEnd, ReceivingEnd, direction_of_ends, new_end, Ends, sender_key, HadPeer, Awaits, Sender, NewTag, HadTag, Receiver, unbegun_end, MetOrAlone, AreHeard, AreSeen, Between}
+use Rattle.dcsctp_delivery_associations.specs.Ends.{SendingEnd, ReceivingEnd, direction_of_ends, new_end, Ends, sender_key, HadPeer, Awaits, Sender, NewTag, HadTag, Receiver, unbegun_end, MetOrAlone, AreHeard, AreSeen, Between, sending_side, receiving_side}
 use Rattle.dcsctp_delivery_associations.specs.Reads.{Tags, tags_of, Reading, tags_or, with_key}
 use Rattle.dcsctp_delivery_associations.proofs.Growing.{set_all}
 use Rattle.dcsctp_delivery_associations.proofs.Growing.{set_three}
@@ -69,7 +69,7 @@ known ends key to below queued past their_past packets new s is =
     of_had had = sym had.first_is ∙ ap (λ (p : Pair). p.first_tsn) (is.match had.link had.held had.tag_is)
 
 module _ (options : Options) (ends : Ends) (e : Endpoint) (queued : List Message) (past : List Effect) (packets : List Emission) (d : Endpoint) (their_past : List Effect) (reading : Reading)
-    (h : Between options ends e queued past packets d their_past reading) (few : length queued < 2 ^ 64) (same : SameOptions options d.options) (input : Input) (o : Outcome) (w : AreAnswered ends e past d their_past) (may : IsCall input) (turn : Turn d input o) (seen : List (Event Emission)) (reported : AreSeen ends d their_past seen) (reports : TurnReports d input o) (tells : ReportsResets d input o) where
+    (h : Between options ends (sending_side e queued past packets) (receiving_side d their_past reading)) (few : length queued < 2 ^ 64) (same : SameOptions options d.options) (input : Input) (o : Outcome) (w : AreAnswered ends e past d their_past) (may : IsCall input) (turn : Turn d input o) (seen : List (Event Emission)) (reported : AreSeen ends d their_past seen) (reports : TurnReports d input o) (tells : ReportsResets d input o) where
   module _ (opens : OpensAssociation d input o) (is : NewTag their_past past (identity_of opens.begun.my opens.begun.held)) where
     abbrev tag : ℕ
     tag = opens.begun.held.peer.tag
@@ -205,7 +205,7 @@ module _ (options : Options) (ends : Ends) (e : Endpoint) (queued : List Message
         seen_turn ends (record ends { sends = ends.sends; gets = table_with tag got ends.gets; firsts = firsts }) e past d their_past seen input o w (λ t some begun has. has) heard_opened tells
         (λ my number has. absurd (none_performed o.effects (calm_asks_nothing d input o (opening_calm (content_of_input input) opens.opening) may turn) my number has)) reported
 
-    crossed_opens : ends.firsts tag ≡ first → ends.gets tag ≡ new_end options (ends.firsts tag) → AreEnds ends.never_resets (seen ++ o.events) options e queued past packets o.after (after_effects o.effects their_past) (record { reads = reading.reads; last = tags_of (identity_of opens.begun.my opens.begun.held) })
+    crossed_opens : ends.firsts tag ≡ first → ends.gets tag ≡ new_end options (ends.firsts tag) → AreEnds ends.never_resets (seen ++ o.events) options (sending_side e queued past packets) (receiving_side o.after (after_effects o.effects their_past) (record { reads = reading.reads; last = tags_of (identity_of opens.begun.my opens.begun.held) }))
     crossed_opens here fresh =
         let end : ends.gets tag ≡ new_end options first = fresh ∙ ap (new_end options) here in
         let start : DirectionRun options first options.max_receiver_window_buffer_size (direction_of_ends (ends.sends tag) (new_end options first)) =
@@ -233,7 +233,7 @@ module _ (options : Options) (ends : Ends) (e : Endpoint) (queued : List Message
           reported = seen_opened ends.firsts;
         }
 
-    awaited_opens : Awaits (ends.sends tag) → tag ≢ sender_key e.core → ends.gets tag ≡ new_end options (ends.firsts tag) → AreEnds ends.never_resets (seen ++ o.events) options e queued past packets o.after (after_effects o.effects their_past) (record { reads = reading.reads; last = tags_of (identity_of opens.begun.my opens.begun.held) })
+    awaited_opens : Awaits (ends.sends tag) → tag ≢ sender_key e.core → ends.gets tag ≡ new_end options (ends.firsts tag) → AreEnds ends.never_resets (seen ++ o.events) options (sending_side e queued past packets) (receiving_side o.after (after_effects o.effects their_past) (record { reads = reading.reads; last = tags_of (identity_of opens.begun.my opens.begun.held) }))
     awaited_opens waits apart fresh =
         let queues = direction_queues options (ends.firsts tag) options.max_receiver_window_buffer_size (direction_of_ends (ends.sends tag) (ends.gets tag)) (h.runs tag) (h.small tag)
         (let short = h.sender.short tag in omega (arith, few, short)) in
@@ -274,17 +274,17 @@ module _ (options : Options) (ends : Ends) (e : Endpoint) (queued : List Message
           reported = seen_opened (table_with tag first ends.firsts);
         }
 
-    opens_last : AreEnds ends.never_resets (seen ++ o.events) options e queued past packets o.after (after_effects o.effects their_past) (record { reads = reading.reads; last = tags_of (identity_of opens.begun.my opens.begun.held) })
+    opens_last : AreEnds ends.never_resets (seen ++ o.events) options (sending_side e queued past packets) (receiving_side o.after (after_effects o.effects their_past) (record { reads = reading.reads; last = tags_of (identity_of opens.begun.my opens.begun.held) }))
     opens_last =
         elim (h.receiver.begun tag) [
           | inl fresh ↦ go fresh (known ends (sender_key e.core) (peer_tag e.core) e.queues queued past their_past packets (identity_of opens.begun.my opens.begun.held) h.sender is)
           | inr had ↦ absurd (is.other had.link had.held had.tag_is)
         ]
       where
-        go : ends.gets tag ≡ new_end options (ends.firsts tag) → Known ends (sender_key e.core) (identity_of opens.begun.my opens.begun.held) → AreEnds ends.never_resets (seen ++ o.events) options e queued past packets o.after (after_effects o.effects their_past) (record { reads = reading.reads; last = tags_of (identity_of opens.begun.my opens.begun.held) })
+        go : ends.gets tag ≡ new_end options (ends.firsts tag) → Known ends (sender_key e.core) (identity_of opens.begun.my opens.begun.held) → AreEnds ends.never_resets (seen ++ o.events) options (sending_side e queued past packets) (receiving_side o.after (after_effects o.effects their_past) (record { reads = reading.reads; last = tags_of (identity_of opens.begun.my opens.begun.held) }))
         go fresh (is_crossed here) = crossed_opens here fresh
         go fresh (is_awaited waits apart) = awaited_opens waits apart fresh
 
-    pub opens_goes : AreEnds ends.never_resets (seen ++ o.events) options e queued past packets o.after (after_effects o.effects their_past) (record { reads = reading.reads; last = tags_or reading.last (identity_of_core o.after.core) })
+    pub opens_goes : AreEnds ends.never_resets (seen ++ o.events) options (sending_side e queued past packets) (receiving_side o.after (after_effects o.effects their_past) (record { reads = reading.reads; last = tags_or reading.last (identity_of_core o.after.core) }))
     opens_goes =
-        subst (λ (n : Tags). AreEnds ends.never_resets (seen ++ o.events) options e queued past packets o.after (after_effects o.effects their_past) (record { reads = reading.reads; last = n })) (sym (ap (tags_or reading.last) opens.linked)) opens_last
+        subst (λ (n : Tags). AreEnds ends.never_resets (seen ++ o.events) options (sending_side e queued past packets) (receiving_side o.after (after_effects o.effects their_past) (record { reads = reading.reads; last = n }))) (sym (ap (tags_or reading.last) opens.linked)) opens_last

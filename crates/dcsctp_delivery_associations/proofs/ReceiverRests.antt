@@ -27,7 +27,7 @@ use Rattle.dcsctp_spec_lemmas.specs.types.declared.association.Pair.{Pair}
 use Rattle.dcsctp_spec_runs.specs.Past.{WasPerformed}
 use Rattle.dcsctp_delivery_turns.specs.Actions.{peer_tag, IsCall}
 use Rattle.dcsctp_delivery_turns.specs.Asking.{own_of, SomeFit}
-use Rattle.dcsctp_delivery_associations.specs.Ends.{ReceivingEnd, direction_of_ends, new_end, Ends, sender_key, HadTag, LeavesReady, unbegun_end, MetOrAlone, AreHeard, AreSeen, Between}
+use Rattle.dcsctp_delivery_associations.specs.Ends.{ReceivingEnd, direction_of_ends, new_end, Ends, sender_key, HadTag, LeavesReady, unbegun_end, MetOrAlone, AreHeard, AreSeen, Between, sending_side, receiving_side}
 use Rattle.dcsctp_delivery_associations.specs.Reads.{Tags, ReadMessage, Reading, tags_or, reading_after, tagged_after, and_first, with_key}
 use Rattle.dcsctp_delivery_associations.proofs.WhatIsLeft.{left_idle, left_taken}
 use Rattle.dcsctp_delivery_associations.proofs.WhatIsRead.{all_of_first, all_of_later, of_link_later, MayRead, reads_first, reads_none, may_read, first_own, first_other}
@@ -42,21 +42,21 @@ use Rattle.dcsctp_delivery_associations.proofs.Senders.{no_peer, alone_later, me
 use Rattle.dcsctp_delivery_associations.proofs.ReceiverStays.{tag_later, begun_later, sender_same}
 
 module _ (options : Options) (ends : Ends) (e : Endpoint) (queued : List Message) (past : List Effect) (packets : List Emission) (d : Endpoint) (their_past : List Effect) (reading : Reading)
-    (h : Between options ends e queued past packets d their_past reading) (input : Input) (o : Outcome) (w : AreAnswered ends e past d their_past) (may : IsCall input) (turn : Turn d input o) (seen : List (Event Emission)) (reported : AreSeen ends d their_past seen) (reports : TurnReports d input o) (tells : ReportsResets d input o) where
+    (h : Between options ends (sending_side e queued past packets) (receiving_side d their_past reading)) (input : Input) (o : Outcome) (w : AreAnswered ends e past d their_past) (may : IsCall input) (turn : Turn d input o) (seen : List (Event Emission)) (reported : AreSeen ends d their_past seen) (reports : TurnReports d input o) (tells : ReportsResets d input o) where
   -- what is to be shown of the turn
   abbrev Turned : Type 0
-  Turned = AreEnds ends.never_resets (seen ++ o.events) options e queued past packets o.after (after_effects o.effects their_past) (reading_after d input o.after reading)
+  Turned = AreEnds ends.never_resets (seen ++ o.events) options (sending_side e queued past packets) (receiving_side o.after (after_effects o.effects their_past) (reading_after d input o.after reading))
 
   -- what is known after the turn, once this was read
   abbrev After : List ReadMessage → Type 0
-  After reads = AreEnds ends.never_resets (seen ++ o.events) options e queued past packets o.after (after_effects o.effects their_past) (record { reads = reads; last = tags_or reading.last (identity_of_core o.after.core) })
+  After reads = AreEnds ends.never_resets (seen ++ o.events) options (sending_side e queued past packets) (receiving_side o.after (after_effects o.effects their_past) (record { reads = reads; last = tags_or reading.last (identity_of_core o.after.core) }))
 
   unread_goes : tagged_after reading.last d input reading.reads ≡ reading.reads → After reading.reads → Turned
   unread_goes unread goes = subst After (sym unread) goes
 
   -- Without an association the last one stays the last.
-  still_last : identity_of_core o.after.core ≡ None → (reads : List ReadMessage) → AreEnds ends.never_resets (seen ++ o.events) options e queued past packets o.after (after_effects o.effects their_past) (record { reads = reads; last = reading.last }) → After reads
-  still_last unlinked reads = subst (λ (n : Tags). AreEnds ends.never_resets (seen ++ o.events) options e queued past packets o.after (after_effects o.effects their_past) (record { reads = reads; last = n })) (sym (ap (tags_or reading.last) unlinked))
+  still_last : identity_of_core o.after.core ≡ None → (reads : List ReadMessage) → AreEnds ends.never_resets (seen ++ o.events) options (sending_side e queued past packets) (receiving_side o.after (after_effects o.effects their_past) (record { reads = reads; last = reading.last })) → After reads
+  still_last unlinked reads = subst (λ (n : Tags). AreEnds ends.never_resets (seen ++ o.events) options (sending_side e queued past packets) (receiving_side o.after (after_effects o.effects their_past) (record { reads = reads; last = n }))) (sym (ap (tags_or reading.last) unlinked))
 
   -- What is reported in the turn is seen.
   heard_resting : o.after.queues.transfer ≡ None → identity_of_core o.after.core ≡ None → AreHeard ends.gets (after_effects o.effects their_past) (packets_of_events (seen ++ o.events))

@@ -37,10 +37,10 @@ use Rattle.dcsctp_delivery_turns.specs.Actions.{AreReports, IsOpening, content_o
 use Rattle.dcsctp_delivery_turns.specs.Reporting.{IsReachedBetween, TurnReports, reports_on, reports_anew, reports_nothing, reports_nowhere}
 use Rattle.dcsctp_delivery_turns.specs.Asking.{own_of, SomeFit}
 use Rattle.dcsctp_delivery_turns.specs.Sides.{WasSent, receiving}
-use Rattle.dcsctp_delivery_turns.specs.Runs.{ReceiverTurns, receiver_goes_on, receiver_ends, receiver_begins, IdleTurns, idle_stays, idle_begins}
+use Rattle.dcsctp_delivery_turns.specs.Runs.{ReceiverTurns, receiver_goes_on, receiver_ends, receiver_begins, IdleTurns, idle_stays, idle_begins, taken_turn}
 use Rattle.dcsctp_delivery_turns.proofs.Runs.{receivers_go_on, receivers_begin}
 use Rattle.dcsctp_delivery_turns.proofs.Reporting.{turns_report}
-use Rattle.dcsctp_delivery_associations.specs.Ends.{LeavesReady, ReceivingEnd, direction_of_ends, new_end, Ends, sender_key, HadBoth, NewTag, HadTag, IsCurrentEnd, unbegun_end, MetOrAlone, AreHeard, AreSeen, Between}
+use Rattle.dcsctp_delivery_associations.specs.Ends.{LeavesReady, ReceivingEnd, direction_of_ends, new_end, Ends, sender_key, HadBoth, NewTag, HadTag, IsCurrentEnd, unbegun_end, MetOrAlone, AreHeard, AreSeen, Between, sending_side, receiving_side}
 use Rattle.dcsctp_delivery_associations.specs.Reads.{Tags, tags_of, ReadMessage, Reading, tags_or, reading_after, tagged_after, with_key}
 use Rattle.dcsctp_delivery_associations.proofs.WhatIsLeft.{goes_left, ends_left}
 use Rattle.dcsctp_delivery_associations.proofs.WhatIsRead.{all_of_after, all_of_later, reads_still, opening_still, own_read, other_read}
@@ -58,21 +58,21 @@ use Rattle.dcsctp_delivery_associations.proofs.ReceiverBegins.{opens_goes}
 use Rattle.dcsctp_delivery_associations.proofs.ReceiverRests.{rests, idle_rests}
 
 module _ (options : Options) (ends : Ends) (e : Endpoint) (queued : List Message) (past : List Effect) (packets : List Emission) (d : Endpoint) (their_past : List Effect) (reading : Reading)
-    (h : Between options ends e queued past packets d their_past reading) (few : length queued < 2 ^ 64) (same : SameOptions options d.options) (input : Input) (o : Outcome)
+    (h : Between options ends (sending_side e queued past packets) (receiving_side d their_past reading)) (few : length queued < 2 ^ 64) (same : SameOptions options d.options) (input : Input) (o : Outcome)
     (new : (begun : BeginsAssociation d o) → IsOpening (content_of_input input) → identity_of_core o.after.core ≡ Some (identity_of begun.my begun.held) → NewTag their_past past (identity_of begun.my begun.held)) (w : AreAnswered ends e past d their_past)
     (little : AsksLittle packets) (new_tags : (link old : AssociationIdentity) → HasEffect (holds link) o.effects → HasEffect (holds old) their_past → old.peer.tag ≢ link.peer.tag) (may : IsCall input) (turn : Turn d input o) (seen : List (Event Emission)) (reported : AreSeen ends d their_past seen) where
   -- what is to be shown of the turn
   abbrev pub Turned : Type 0
-  Turned = AreEnds ends.never_resets (seen ++ o.events) options e queued past packets o.after (after_effects o.effects their_past) (reading_after d input o.after reading)
+  Turned = AreEnds ends.never_resets (seen ++ o.events) options (sending_side e queued past packets) (receiving_side o.after (after_effects o.effects their_past) (reading_after d input o.after reading))
 
   -- what its packets report
   reports : TurnReports d input o
   reports = turns_report d input o h.receiver.fits (λ begun opening linked. (new begun opening linked).own_small) may turn
 
   unread_goes : tagged_after reading.last d input reading.reads ≡ reading.reads
-      → AreEnds ends.never_resets (seen ++ o.events) options e queued past packets o.after (after_effects o.effects their_past) (record { reads = reading.reads; last = tags_or reading.last (identity_of_core o.after.core) }) → Turned
+      → AreEnds ends.never_resets (seen ++ o.events) options (sending_side e queued past packets) (receiving_side o.after (after_effects o.effects their_past) (record { reads = reading.reads; last = tags_or reading.last (identity_of_core o.after.core) })) → Turned
   unread_goes unread goes =
-      subst (λ (l : List ReadMessage). AreEnds ends.never_resets (seen ++ o.events) options e queued past packets o.after (after_effects o.effects their_past) (record { reads = l; last = tags_or reading.last (identity_of_core o.after.core) })) (sym unread) goes
+      subst (λ (l : List ReadMessage). AreEnds ends.never_resets (seen ++ o.events) options (sending_side e queued past packets) (receiving_side o.after (after_effects o.effects their_past) (record { reads = l; last = tags_or reading.last (identity_of_core o.after.core) }))) (sym unread) goes
 
   -- ---- an association continues
 
@@ -94,7 +94,7 @@ module _ (options : Options) (ends : Ends) (e : Endpoint) (queued : List Message
         one : (found : Option Transfer) (first second : Transfer) → found ≡ Some first → found ≡ Some second → first ≡ second
         one found first second a b = cc
 
-        go : ReceiverTurns false options (ends.firsts c.link.peer.tag) options.max_receiver_window_buffer_size (direction_of_ends (unbegun_end options) (ends.gets c.link.peer.tag)) transfer d input o
+        go : ReceiverTurns false options (ends.firsts c.link.peer.tag) options.max_receiver_window_buffer_size (direction_of_ends (unbegun_end options) (ends.gets c.link.peer.tag)) transfer (taken_turn d input o)
             → DirectionRun options (ends.firsts c.link.peer.tag) options.max_receiver_window_buffer_size (direction_of_ends (unbegun_end options) (alone_end left))
         go (receiver_goes_on linked other there' fits asking by run') =
             subst (λ (t : Transfer). DirectionRun options (ends.firsts c.link.peer.tag) options.max_receiver_window_buffer_size (direction_of_ends (unbegun_end options) (alone_end t))) (one o.after.queues.transfer other left there' is)
@@ -183,8 +183,8 @@ module _ (options : Options) (ends : Ends) (e : Endpoint) (queued : List Message
     receives linked left is fits asking still fit answered tells stay named met run =
         let tag : ℕ = c.link.peer.tag in
         let got : ReceivingEnd = record { first_tsn = (ends.gets tag).first_tsn; tracker = left.tracker; reassembly = left.reassembly; read = read_after d input (ends.gets tag).read } in
-        subst (λ (n : Tags). AreEnds ends.never_resets (seen ++ o.events) options e queued past packets o.after (after_effects o.effects their_past) (record { reads = tagged_after n d input reading.reads; last = tags_or reading.last (identity_of_core o.after.core) })) (sym (h.receiver.last c.link c.linked))
-        (subst (λ (n : Tags). AreEnds ends.never_resets (seen ++ o.events) options e queued past packets o.after (after_effects o.effects their_past) (record { reads = tagged_after (tags_of c.link) d input reading.reads; last = n })) (sym (ap (tags_or reading.last) (linked ∙ c.linked)))
+        subst (λ (n : Tags). AreEnds ends.never_resets (seen ++ o.events) options (sending_side e queued past packets) (receiving_side o.after (after_effects o.effects their_past) (record { reads = tagged_after n d input reading.reads; last = tags_or reading.last (identity_of_core o.after.core) }))) (sym (h.receiver.last c.link c.linked))
+        (subst (λ (n : Tags). AreEnds ends.never_resets (seen ++ o.events) options (sending_side e queued past packets) (receiving_side o.after (after_effects o.effects their_past) (record { reads = tagged_after (tags_of c.link) d input reading.reads; last = n }))) (sym (ap (tags_or reading.last) (linked ∙ c.linked)))
         (record {
           ends = asked_ends ends tag asking got;
           is = refl;
@@ -327,7 +327,7 @@ module _ (options : Options) (ends : Ends) (e : Endpoint) (queued : List Message
       by_turn : (is_known : Bool)
           → ((left : Transfer) (is : o.after.queues.transfer ≡ Some left) → Standing ends e past d their_past w input o may turn new_tags c.link c.linked transfer left there is options.max_receiver_window_buffer_size options
           (direction_of_ends (ends.sends c.link.peer.tag) (ends.gets c.link.peer.tag)) (ends.firsts c.link.peer.tag) (h.runs c.link.peer.tag) refl sent few_asked knows is_known)
-          → ReceiverTurns is_known options (ends.firsts c.link.peer.tag) options.max_receiver_window_buffer_size (direction_of_ends (ends.sends c.link.peer.tag) (ends.gets c.link.peer.tag)) transfer d input o → Turned
+          → ReceiverTurns is_known options (ends.firsts c.link.peer.tag) options.max_receiver_window_buffer_size (direction_of_ends (ends.sends c.link.peer.tag) (ends.gets c.link.peer.tag)) transfer (taken_turn d input o) → Turned
       by_turn is_known stands (receiver_goes_on linked left is fits asking by run) =
           receives linked left is fits asking (still_nothing is_known asking by left is)
           (λ first own fit. subst (λ (a : Asking). AsksFit first own a) (sym by.3) (fits_performed is_known by.0 first own (ends.sends c.link.peer.tag).asking fit))
@@ -344,7 +344,7 @@ module _ (options : Options) (ends : Ends) (e : Endpoint) (queued : List Message
           unread_goes (opening_still reading.last d input reading.reads opens.opening) (opens_goes options ends e queued past packets d their_past reading h few same input o w may turn seen reported reports tells opens (new opens.begun opens.opening opens.linked))
 
       goes_known : (is_known : Bool) → KnowsRequest is_known (direction_of_ends (ends.sends c.link.peer.tag) (ends.gets c.link.peer.tag)) transfer (content_of_input input) o.effects
-          → ReceiverTurns is_known options (ends.firsts c.link.peer.tag) options.max_receiver_window_buffer_size (direction_of_ends (ends.sends c.link.peer.tag) (ends.gets c.link.peer.tag)) transfer d input o
+          → ReceiverTurns is_known options (ends.firsts c.link.peer.tag) options.max_receiver_window_buffer_size (direction_of_ends (ends.sends c.link.peer.tag) (ends.gets c.link.peer.tag)) transfer (taken_turn d input o)
       goes_known is_known newest =
           receivers_go_on is_known options (ends.firsts c.link.peer.tag) options.max_receiver_window_buffer_size (direction_of_ends (ends.sends c.link.peer.tag) (ends.gets c.link.peer.tag)) transfer d input o now there sent newest h.receiver.fits
           (λ begun opening linked. (new begun opening linked).own_small) may turn

@@ -25,7 +25,7 @@ use Rattle.dcsctp_delivery_turns.specs.ToldResets.{IsReportedReset, ReportsReset
 use Rattle.dcsctp_delivery_turns.proofs.Completing.{completes_own}
 use Rattle.dcsctp_delivery_turns.proofs.Telling.{entry_front}
 use Rattle.dcsctp_delivery_associations.specs.Answered.{request_numbered, AreAnswered}
-use Rattle.dcsctp_delivery_associations.specs.Ends.{Ends, SendingEnd, direction_of_ends, sender_key, AreHeard, WasNamed, AreSeen, Between}
+use Rattle.dcsctp_delivery_associations.specs.Ends.{Ends, SendingEnd, direction_of_ends, sender_key, AreHeard, WasNamed, AreSeen, Between, sending_side, receiving_side}
 use Rattle.dcsctp_delivery_associations.specs.Laws.{CompletesPerformed, AsksLittle, ResetsWereSeen}
 use Rattle.dcsctp_delivery_associations.specs.Reads.{Reading}
 use Rattle.dcsctp_delivery_associations.proofs.AnsweringRests.{after_split}
@@ -167,7 +167,7 @@ module _ (options : Options) (ends : Ends) (e : Endpoint) (past : List Effect) (
 
 -- This holds for each turn of the sender.
 pub resets_were_seen : (seen : List (Event Emission)) (options : Options) (ends : Ends) (e : Endpoint) (queued : List Message) (past : List Effect) (packets : List Emission) (d : Endpoint) (their_past : List Effect) (reading : Reading) (input : Input) (o : Outcome)
-    → Between options ends e queued past packets d their_past reading → AreAnswered ends e past d their_past → AreSeen ends d their_past seen → AsksLittle packets → CompletesPerformed their_past o → IsCall input → Turn e input o
+    → Between options ends (sending_side e queued past packets) (receiving_side d their_past reading) → AreAnswered ends e past d their_past → AreSeen ends d their_past seen → AsksLittle packets → CompletesPerformed their_past o → IsCall input → Turn e input o
     → ResetsWereSeen seen o
 resets_were_seen seen options ends e queued past packets d their_past reading input o h w shows little completes_so may turn =
     resets_shown options ends e past d their_past seen w shows h.asks few_now input o completes_so may turn

@@ -31,7 +31,7 @@ use Rattle.dcsctp_delivery_turns.proofs.Beginnings.{begun_at_zero}
 use Rattle.dcsctp_delivery_turns.proofs.Runs.{senders_begin}
 use Rattle.dcsctp_delivery_turns.proofs.Unbegun.{unbegun_begins_at_zero, unbegun_begins_waiting}
 use Rattle.dcsctp_delivery_associations.proofs.Held.{never_held, none_held, some_held}
-use Rattle.dcsctp_delivery_associations.specs.Ends.{SendingEnd, ReceivingEnd, direction_of_ends, new_end, Ends, HadPeer, HadKind, HadBoth, sender_key, unbegun_end, MetOrAlone, KeepsThese, KeepsOnlyThese, NumbersFromZero, Awaits, Sender, NewPeer, HadTag, IsCurrentEnd, Receiver, AreSeen, Between, IsOnlyOwn, IsBefore}
+use Rattle.dcsctp_delivery_associations.specs.Ends.{SendingEnd, ReceivingEnd, direction_of_ends, new_end, Ends, HadPeer, HadKind, HadBoth, sender_key, unbegun_end, MetOrAlone, KeepsThese, KeepsOnlyThese, NumbersFromZero, Awaits, Sender, NewPeer, HadTag, IsCurrentEnd, Receiver, AreSeen, Between, IsOnlyOwn, IsBefore, sending_side, receiving_side}
 use Rattle.dcsctp_delivery_directions.proofs.RequestCounts.{requests_more_to, requests_are_sent}
 use Rattle.dcsctp_delivery_associations.specs.Answered.{AnswersRequests, requests_of, waiting_deferral, AreAnswered}
 use Rattle.dcsctp_delivery_associations.proofs.AskedOn.{MayBegin}
@@ -119,7 +119,7 @@ receiver_renewed options ends sends latest former d past reading tag first r fre
     other t ne (inr had) = inr (subst (λ (n : ℕ). HadTag past t n) (sym (set_other tag t first ends.firsts ne)) had)
 
 module _ (options : Options) (ends : Ends) (e : Endpoint) (queued : List Message) (past : List Effect) (packets : List Emission) (d : Endpoint) (their_past : List Effect) (reading : Reading)
-    (h : Between options ends e queued past packets d their_past reading) (input : Input) (o : Outcome) (w : AreAnswered ends e past d their_past) (little : AsksLittle (packets ++ packets_of_events o.events)) (begun : BeginsAssociation e o) (only_one : (each : AssociationIdentity) → HasEffect (holds each) o.effects → identity_of_core o.after.core ≡ Some each) (follows : o.after.options.follow_rfc ≡ e.options.follow_rfc) (same_kind : o.after.queues.queue.is_interleaved ≡ begun.held.capabilities.message_interleaving) where
+    (h : Between options ends (sending_side e queued past packets) (receiving_side d their_past reading)) (input : Input) (o : Outcome) (w : AreAnswered ends e past d their_past) (little : AsksLittle (packets ++ packets_of_events o.events)) (begun : BeginsAssociation e o) (only_one : (each : AssociationIdentity) → HasEffect (holds each) o.effects → identity_of_core o.after.core ≡ Some each) (follows : o.after.options.follow_rfc ≡ e.options.follow_rfc) (same_kind : o.after.queues.queue.is_interleaved ≡ begun.held.capabilities.message_interleaving) where
   abbrev pub new : AssociationIdentity
   new = identity_of begun.my begun.held
 
@@ -291,7 +291,7 @@ module _ (options : Options) (ends : Ends) (e : Endpoint) (queued : List Message
 
   crossed_begins : (seen : List (Event Emission)) → AreSeen ends d their_past seen → NewPeer past their_past new → Awaits (ends.sends begun.my.tag) → identity_of_core o.after.core ≡ Some new → AreAddressed begun.held.peer.tag (packets_of_events o.events)
       → QueueWaits marks e.queues.queue → AllByRecursion Fits marks → Later → ends.firsts begun.my.tag ≡ begun.my.first_tsn
-      → AreEnds ends.never_resets seen options o.after queued (after_effects o.effects past) (packets ++ packets_of_events o.events) d their_past reading
+      → AreEnds ends.never_resets seen options (sending_side o.after queued (after_effects o.effects past) (packets ++ packets_of_events o.events)) (receiving_side d their_past reading)
   crossed_begins seen reported is waits linked addressed shown fit later same =
       let to : ℕ = begun.my.tag in
       let ps : List Emission = packets_of_events o.events in
@@ -332,7 +332,7 @@ module _ (options : Options) (ends : Ends) (e : Endpoint) (queued : List Message
   fresh_begins : (seen : List (Event Emission)) → AreSeen ends d their_past seen → NewPeer past their_past new → Awaits (ends.sends begun.my.tag) → identity_of_core o.after.core ≡ Some new → AreAddressed begun.held.peer.tag (packets_of_events o.events)
       → QueueWaits marks e.queues.queue → AllByRecursion Fits marks → Later → ends.gets begun.my.tag ≡ new_end options (ends.firsts begun.my.tag)
       → ((transfer : Transfer) (link : AssociationIdentity) → d.queues.transfer ≡ Some transfer → identity_of_core d.core ≡ Some link → link.peer.tag ≢ begun.my.tag)
-      → AreEnds ends.never_resets seen options o.after queued (after_effects o.effects past) (packets ++ packets_of_events o.events) d their_past reading
+      → AreEnds ends.never_resets seen options (sending_side o.after queued (after_effects o.effects past) (packets ++ packets_of_events o.events)) (receiving_side d their_past reading)
   fresh_begins seen reported is waits linked addressed shown fit later fresh apart =
       let to : ℕ = begun.my.tag in
       let first : ℕ = begun.my.first_tsn in
@@ -398,7 +398,7 @@ module _ (options : Options) (ends : Ends) (e : Endpoint) (queued : List Message
 
   pub begins : (seen : List (Event Emission)) → AreSeen ends d their_past seen → NewPeer past their_past new → identity_of_core o.after.core ≡ Some new → AreAddressed begun.held.peer.tag (packets_of_events o.events)
       → QueueWaits (ends.sends (sender_key e.core)).queued e.queues.queue → AllByRecursion Fits (ends.sends (sender_key e.core)).queued → Later
-      → AreEnds ends.never_resets seen options o.after queued (after_effects o.effects past) (packets ++ packets_of_events o.events) d their_past reading
+      → AreEnds ends.never_resets seen options (sending_side o.after queued (after_effects o.effects past) (packets ++ packets_of_events o.events)) (receiving_side d their_past reading)
   begins seen reported is linked addressed shown fit later =
       elim (h.sender.begun begun.my.tag is.some) [
         | inl waits ↦ go waits (known options ends d past their_past reading h.receiver new is d.queues.transfer refl)
@@ -413,6 +413,6 @@ module _ (options : Options) (ends : Ends) (e : Endpoint) (queued : List Message
       fit_marks : AllByRecursion Fits marks
       fit_marks = all_marked_fit (length (ends.sends (sender_key e.core)).queued) (ends.sends (sender_key e.core)).queues.queue.streams (ends.sends (sender_key e.core)).queued fit
 
-      go : Awaits (ends.sends begun.my.tag) → Known options ends d new → AreEnds ends.never_resets seen options o.after queued (after_effects o.effects past) (packets ++ packets_of_events o.events) d their_past reading
+      go : Awaits (ends.sends begun.my.tag) → Known options ends d new → AreEnds ends.never_resets seen options (sending_side o.after queued (after_effects o.effects past) (packets ++ packets_of_events o.events)) (receiving_side d their_past reading)
       go waits (is_crossed same) = crossed_begins seen reported is waits linked addressed holds_marks fit_marks later same
       go waits (is_fresh fresh apart) = fresh_begins seen reported is waits linked addressed holds_marks fit_marks later fresh apart

@@ -25,8 +25,8 @@ use Rattle.dcsctp_delivery_directions.specs.Requests.{requests_among_packets, re
 use Rattle.dcsctp_delivery_directions.proofs.RequestCounts.{requests_more, requests_more_to, requests_are_sent, unasked_sends_none, nothing_was_asked}
 use Rattle.dcsctp_delivery_turns.specs.Actions.{content_of_input, peer_tag, Collides}
 use Rattle.dcsctp_delivery_turns.specs.Asking.{Own, own_of_core, own_of, IsAsking, AsksFit, AskingGrows}
-use Rattle.dcsctp_delivery_turns.specs.Runs.{direction_with_sender, Outlasts}
-use Rattle.dcsctp_delivery_associations.specs.Ends.{SendingEnd, direction_of_ends, Ends, HadKind, IsBefore, PlaceWasTaken, sender_key, chunks_before, Sender, NumbersFromZero, KeepsThese, KeepsOnlyThese, Between, IsOnlyOwn, AreSeen, WentBefore}
+use Rattle.dcsctp_delivery_turns.specs.Runs.{direction_with_sender, Outlasts, taken_turn}
+use Rattle.dcsctp_delivery_associations.specs.Ends.{SendingEnd, direction_of_ends, Ends, HadKind, IsBefore, PlaceWasTaken, sender_key, chunks_before, Sender, NumbersFromZero, KeepsThese, KeepsOnlyThese, Between, IsOnlyOwn, AreSeen, WentBefore, sending_side, receiving_side}
 use Rattle.dcsctp_delivery_associations.specs.Answered.{AnswersRequests, Requests, requests_of, waiting_deferral, AreAnswered, SenderHadPeer, WasJoined}
 use Rattle.dcsctp_delivery_associations.specs.Laws.{AreEnds, AsksLittle}
 use Rattle.dcsctp_delivery_associations.proofs.Seen.{RequestsStay, nothing_stays, seen_still}
@@ -76,7 +76,7 @@ unlinked (cookie_echoed my held cookie) request link there none = absurd (cc)
 unlinked (open_in phase my held) request link there none = absurd (cc)
 
 module _ (options : Options) (ends : Ends) (e : Endpoint) (queued : List Message) (past : List Effect) (packets : List Emission) (d : Endpoint) (their_past : List Effect) (reading : Reading)
-    (h : Between options ends e queued past packets d their_past reading) where
+    (h : Between options ends (sending_side e queued past packets) (receiving_side d their_past reading)) where
   -- Where the next number of a request is the first, none was begun.
   pub nothing_begun : (old : AssociationIdentity) → identity_of_core e.core ≡ Some old → ends.firsts (sender_key e.core) ≡ old.my.first_tsn → ((own : Own) → own_of e ≡ Some own → own.next ≡ old.my.first_tsn)
       → length (ends.sends (sender_key e.core)).asking.requests < 2 ^ 32 - 1 → (ends.sends (sender_key e.core)).asking.requests ≡ []
@@ -101,10 +101,10 @@ pub record GoesOn (past : List Effect) (e : Endpoint) (input : Input) (o : Outco
   pub only : (each : AssociationIdentity) → HasEffect (holds each) past → each.my.tag ≡ collision.opened.link.my.tag → each ≡ collision.old
 
 module _ (options : Options) (ends : Ends) (e : Endpoint) (queued : List Message) (past : List Effect) (packets : List Emission) (d : Endpoint) (their_past : List Effect) (reading : Reading)
-    (h : Between options ends e queued past packets d their_past reading) (input : Input) (o : Outcome) (w : AreAnswered ends e past d their_past) (little : AsksLittle (packets ++ packets_of_events o.events))
+    (h : Between options ends (sending_side e queued past packets) (receiving_side d their_past reading)) (input : Input) (o : Outcome) (w : AreAnswered ends e past d their_past) (little : AsksLittle (packets ++ packets_of_events o.events))
     (goes : GoesOn past e input o)
     (goes_on_so : ends.firsts (sender_key e.core) ≡ goes.collision.opened.link.my.first_tsn → (ends.sends (sender_key e.core)).asking ≡ nothing_asked
-    → Outlasts options (ends.firsts (sender_key e.core)) options.max_receiver_window_buffer_size (direction_of_ends (ends.sends (sender_key e.core)) (ends.gets (sender_key e.core))) e input o goes.collision) (only_one : (each : AssociationIdentity) → HasEffect (holds each) o.effects → identity_of_core o.after.core ≡ Some each) where
+    → Outlasts options (ends.firsts (sender_key e.core)) options.max_receiver_window_buffer_size (direction_of_ends (ends.sends (sender_key e.core)) (ends.gets (sender_key e.core))) (taken_turn e input o) goes.collision) (only_one : (each : AssociationIdentity) → HasEffect (holds each) o.effects → identity_of_core o.after.core ≡ Some each) where
   collision : Collides (content_of_input input) e o
   collision = goes.collision
 
@@ -327,7 +327,7 @@ module _ (options : Options) (ends : Ends) (e : Endpoint) (queued : List Message
 
   -- ---- after the turn
 
-  outlasts : Outlasts options (ends.firsts (sender_key e.core)) options.max_receiver_window_buffer_size (direction_of_ends (ends.sends (sender_key e.core)) (ends.gets (sender_key e.core))) e input o goes.collision
+  outlasts : Outlasts options (ends.firsts (sender_key e.core)) options.max_receiver_window_buffer_size (direction_of_ends (ends.sends (sender_key e.core)) (ends.gets (sender_key e.core))) (taken_turn e input o) goes.collision
   outlasts = goes_on_so first_is asked_nothing
 
   abbrev end : SendingEnd
@@ -374,7 +374,7 @@ module _ (options : Options) (ends : Ends) (e : Endpoint) (queued : List Message
   only_before : (tag : ℕ) → IsOnlyOwn (after_effects o.effects past) tag → IsOnlyOwn past tag
   only_before tag only = λ each has. only each (within (holds each) has)
 
-  pub outlasts_goes_on : (seen : List (Event Emission)) → AreSeen ends d their_past seen → o.after.options.follow_rfc ≡ e.options.follow_rfc → AreEnds ends.never_resets seen options o.after queued (after_effects o.effects past) (packets ++ packets_of_events o.events) d their_past reading
+  pub outlasts_goes_on : (seen : List (Event Emission)) → AreSeen ends d their_past seen → o.after.options.follow_rfc ≡ e.options.follow_rfc → AreEnds ends.never_resets seen options (sending_side o.after queued (after_effects o.effects past) (packets ++ packets_of_events o.events)) (receiving_side d their_past reading)
   outlasts_goes_on seen reported follows =
       record {
         ends = later;

@@ -27,7 +27,7 @@ use Rattle.dcsctp_delivery_turns.specs.Asking.{own_of, AsksFit}
 use Rattle.dcsctp_delivery_turns.specs.Addressed.{AreAddressed}
 use Rattle.dcsctp_delivery_turns.specs.Runs.{direction_with_sender}
 use Rattle.dcsctp_delivery_turns.proofs.Runs.{begins_anew}
-use Rattle.dcsctp_delivery_associations.specs.Ends.{SendingEnd, ReceivingEnd, direction_of_ends, new_end, Ends, IsUnbegun, NeverHeld, KeepsThese, KeepsOnlyThese, NumbersFromZero, sender_key, Sender, Receiver, AreSeen, Between, IsOnlyOwn, IsBefore}
+use Rattle.dcsctp_delivery_associations.specs.Ends.{SendingEnd, ReceivingEnd, direction_of_ends, new_end, Ends, IsUnbegun, NeverHeld, KeepsThese, KeepsOnlyThese, NumbersFromZero, sender_key, Sender, Receiver, AreSeen, Between, IsOnlyOwn, IsBefore, sending_side, receiving_side}
 use Rattle.dcsctp_delivery_associations.specs.Answered.{AreAnswered}
 use Rattle.dcsctp_delivery_associations.specs.Laws.{AreEnds}
 use Rattle.dcsctp_delivery_associations.proofs.Seen.{RequestsStay, seen_still}
@@ -64,7 +64,7 @@ unbegun_marked never_resets count marking queued e u =
     record { unlinked = u.unlinked; idle = u.idle; zero = u.zero; all = λ id never. all_wait_marked id count marking queued e.queues.queue.streams (u.all id never) }
 
 module _ (options : Options) (ends : Ends) (e : Endpoint) (queued : List Message) (past : List Effect) (packets : List Emission) (d : Endpoint) (their_past : List Effect) (reading : Reading)
-    (h : Between options ends e queued past packets d their_past reading) (input : Input) (o : Outcome) where
+    (h : Between options ends (sending_side e queued past packets) (receiving_side d their_past reading)) (input : Input) (o : Outcome) where
   abbrev pub more : List Message
   more = queued_after e input []
 
@@ -78,7 +78,7 @@ module _ (options : Options) (ends : Ends) (e : Endpoint) (queued : List Message
 
   -- what is to be shown of the turn
   abbrev pub Turned : List (Event Emission) → Type 0
-  Turned seen = AreEnds ends.never_resets seen options o.after (queued_after e input queued) (after_effects o.effects past) (packets ++ packets_of_events o.events) d their_past reading
+  Turned seen = AreEnds ends.never_resets seen options (sending_side o.after (queued_after e input queued) (after_effects o.effects past) (packets ++ packets_of_events o.events)) (receiving_side d their_past reading)
 
   pub goes_on : (seen : List (Event Emission)) → AreSeen ends d their_past seen → AreAnswered ends e past d their_past → ((each : AssociationIdentity) → HasEffect (holds each) (after_effects o.effects past) → HasEffect (holds each) past) → o.after.options.follow_rfc ≡ e.options.follow_rfc → (NeverHeld (after_effects o.effects past) → IsUnbegun ends.never_resets (queued_after e input (ends.sends (sender_key e.core)).queued) o.after) → identity_of_core o.after.core ≡ identity_of_core e.core → o.after.queues.queue.is_interleaved ≡ e.queues.queue.is_interleaved → AreAddressed (peer_tag e.core) (packets_of_events o.events) → (acknowledged : ℕ) (asking : Asking) → RequestsStay (ends.sends (sender_key e.core)).asking asking → AsksFit (ends.firsts (sender_key e.core)) (own_of o.after) asking
       → AreAnswered (grown_ends ends (sender_key e.core) (peer_tag e.core) e.queues queued past packets h.sender o.effects more o.after.queues acknowledged (packets_of_events o.events) asking) o.after (after_effects o.effects past) d their_past

@@ -24,14 +24,14 @@ use Rattle.dcsctp_delivery_directions.proofs.RequestCounts.{requests_more, reque
 use Rattle.dcsctp_delivery_turns.specs.Actions.{IsOpening, content_of_input, peer_tag, queued_after, resets_stream, BeginsAssociation, IsCall, Collides}
 use Rattle.dcsctp_delivery_turns.specs.Addressed.{AreAddressed}
 use Rattle.dcsctp_delivery_turns.specs.Asking.{own_with, own_of_core, own_of, AsksFit, AskingGrows}
-use Rattle.dcsctp_delivery_turns.specs.Runs.{direction_with_sender, IsBetween, EndsPerformed, RefusesNone, SenderTurns, run_goes_on, run_ends, run_begins, run_outlasts, MayDrop, IsTrueAcknowledgement, Outlasts, IdleTurns, idle_stays, idle_begins}
+use Rattle.dcsctp_delivery_turns.specs.Runs.{direction_with_sender, IsBetween, EndsPerformed, RefusesNone, SenderTurns, run_goes_on, run_ends, run_begins, run_outlasts, MayDrop, IsTrueAcknowledgement, Outlasts, IdleTurns, idle_stays, idle_begins, taken_turn}
 use Rattle.dcsctp_delivery_turns.proofs.Completing.{completes_own}
 use Rattle.dcsctp_delivery_turns.proofs.ResetInputs.{named_by}
 use Rattle.dcsctp_delivery_turns.proofs.Runs.{senders_go_on, receivers_begin}
 use Rattle.dcsctp_delivery_turns.specs.Unbegun.{UnbegunTurns, stays_unbegun, begins_first}
 use Rattle.dcsctp_delivery_turns.proofs.Unbegun.{stays_at_zero}
 use Rattle.dcsctp_spec_runs.specs.Past.{HasEffect}
-use Rattle.dcsctp_delivery_associations.specs.Ends.{SendingEnd, direction_of_ends, Ends, sender_key, TakesOver, IsUnbegun, NeverHeld, NewPeer, AreSeen, CameBack, Between}
+use Rattle.dcsctp_delivery_associations.specs.Ends.{SendingEnd, direction_of_ends, Ends, sender_key, TakesOver, IsUnbegun, NeverHeld, NewPeer, AreSeen, CameBack, Between, sending_side, receiving_side}
 use Rattle.dcsctp_delivery_associations.specs.Answered.{AnswersRequests, requests_of, waiting_deferral, AreAnswered}
 use Rattle.dcsctp_delivery_associations.specs.Laws.{CompletesPerformed, AsksLittle, AreEnds, ResetsAs}
 use Rattle.dcsctp_delivery_associations.proofs.Seen.{between_stays, grows_stays}
@@ -69,7 +69,7 @@ queues_none more queued same = no_message more (let long = length-append more qu
 -- ---- each turn
 
 module _ (options : Options) (ends : Ends) (e : Endpoint) (queued : List Message) (past : List Effect) (packets : List Emission) (d : Endpoint) (their_past : List Effect) (reading : Reading)
-    (h : Between options ends e queued past packets d their_past reading) (input : Input) (o : Outcome) (new : (begun : BeginsAssociation e o) → IsOpening (content_of_input input) → identity_of_core o.after.core ≡ Some (identity_of begun.my begun.held) → NewPeer past their_past (identity_of begun.my begun.held) ⊎ TakesOver past their_past e input (identity_of begun.my begun.held))
+    (h : Between options ends (sending_side e queued past packets) (receiving_side d their_past reading)) (input : Input) (o : Outcome) (new : (begun : BeginsAssociation e o) → IsOpening (content_of_input input) → identity_of_core o.after.core ≡ Some (identity_of begun.my begun.held) → NewPeer past their_past (identity_of begun.my begun.held) ⊎ TakesOver past their_past e input (identity_of begun.my begun.held))
     (w : AreAnswered ends e past d their_past) (little : AsksLittle (packets ++ packets_of_events o.events)) (seen : List (Event Emission)) (reported : AreSeen ends d their_past seen) where
   abbrev key : ℕ
   key = sender_key e.core
@@ -279,13 +279,13 @@ module _ (options : Options) (ends : Ends) (e : Endpoint) (queued : List Message
   replaces : o.after.options.follow_rfc ≡ e.options.follow_rfc → IsCall input → Turn e input o → queued_after e input (ends.sends (sender_key e.core)).queued ≡ (ends.sends (sender_key e.core)).queued → (collision : Collides (content_of_input input) e o)
       → TakesOver past their_past e input (identity_of (other_begun e input o collision).my (other_begun e input o collision).held)
       → (ends.firsts (sender_key e.core) ≡ collision.opened.link.my.first_tsn → (ends.sends (sender_key e.core)).asking ≡ nothing_asked
-      → Outlasts options (ends.firsts (sender_key e.core)) options.max_receiver_window_buffer_size (direction_of_ends (ends.sends (sender_key e.core)) (ends.gets (sender_key e.core))) e input o collision)
-      → AreEnds ends.never_resets seen options o.after (queued_after e input queued) (after_effects o.effects past) (packets ++ packets_of_events o.events) d their_past reading
+      → Outlasts options (ends.firsts (sender_key e.core)) options.max_receiver_window_buffer_size (direction_of_ends (ends.sends (sender_key e.core)) (ends.gets (sender_key e.core))) (taken_turn e input o) collision)
+      → AreEnds ends.never_resets seen options (sending_side o.after (queued_after e input queued) (after_effects o.effects past) (packets ++ packets_of_events o.events)) (receiving_side d their_past reading)
   unfolding goes_so
   replaces follows may turn same collision takes later =
       let none : queued_after e input [] ≡ [] = queues_none (queued_after e input []) (ends.sends (sender_key e.core)).queued (sym (input_adds e input (ends.sends (sender_key e.core)).queued) ∙ same) in
       let stays : queued_after e input queued ≡ queued = input_adds e input queued ∙ ap (λ (l : List Message). l ++ queued) none in
-      subst (λ (l : List Message). AreEnds ends.never_resets seen options o.after l (after_effects o.effects past) (packets ++ packets_of_events o.events) d their_past reading) (sym stays)
+      subst (λ (l : List Message). AreEnds ends.never_resets seen options (sending_side o.after l (after_effects o.effects past) (packets ++ packets_of_events o.events)) (receiving_side d their_past reading)) (sym stays)
       (outlasts_goes_on options ends e queued past packets d their_past reading h input o w little (goes_so collision takes) later (λ each has. holds_mean e input o each may turn has) seen reported follows)
 
   -- Where it takes the place of the one that is there, what was sent goes on.
@@ -312,7 +312,7 @@ module _ (options : Options) (ends : Ends) (e : Endpoint) (queued : List Message
 
   replaced : o.after.options.follow_rfc ≡ e.options.follow_rfc → IsCall input → Turn e input o → queued_after e input (ends.sends (sender_key e.core)).queued ≡ (ends.sends (sender_key e.core)).queued → (begun : BeginsAssociation e o) → IsOpening (content_of_input input)
       → identity_of_core o.after.core ≡ Some (identity_of begun.my begun.held) → TakesOver past their_past e input (identity_of begun.my begun.held)
-      → AreEnds ends.never_resets seen options o.after (queued_after e input queued) (after_effects o.effects past) (packets ++ packets_of_events o.events) d their_past reading
+      → AreEnds ends.never_resets seen options (sending_side o.after (queued_after e input queued) (after_effects o.effects past) (packets ++ packets_of_events o.events)) (receiving_side d their_past reading)
   replaced follows may turn same begun opening linked takes =
       let there : GoesThere (content_of_input input) e o = collided begun opening takes turn in
       let one : identity_of begun.my begun.held ≡ there.collision.opened.link = one_link (identity_of begun.my begun.held) there.collision.opened.link linked there.collision.opened.linked in
@@ -358,7 +358,7 @@ module _ (options : Options) (ends : Ends) (e : Endpoint) (queued : List Message
 
   by_turn : length (queued_after e input queued) < 2 ^ 64 → o.after.options.follow_rfc ≡ e.options.follow_rfc → ResetsAs ends.never_resets input → IsCall input → Turn e input o → RefusesNone e o → CompletesPerformed their_past o
       → SenderTurns options (ends.firsts (sender_key e.core)) options.max_receiver_window_buffer_size (direction_of_ends (ends.sends (sender_key e.core)) (ends.gets (sender_key e.core))) e input o
-      → AreEnds ends.never_resets seen options o.after (queued_after e input queued) (after_effects o.effects past) (packets ++ packets_of_events o.events) d their_past reading
+      → AreEnds ends.never_resets seen options (sending_side o.after (queued_after e input queued) (after_effects o.effects past) (packets ++ packets_of_events o.events)) (receiving_side d their_past reading)
   by_turn few follows resets may turn refuses completes_so (run_goes_on linked addressed kind' acknowledged between asking is grows fit run) =
       goes_on options ends e queued past packets d their_past reading h input o seen reported w (none_then may turn (h.mine, linked)) follows (unbegun_after few resets may turn) linked kind' addressed acknowledged asking
       (λ begun has. grows_stays between asking grows begun (between_stays o.effects (ends.sends (sender_key e.core)).asking between is begun has)) fit
@@ -374,7 +374,7 @@ module _ (options : Options) (ends : Ends) (e : Endpoint) (queued : List Message
       let stays : queued_after e input queued ≡ queued = input_adds e input queued ∙ ap (λ (l : List Message). l ++ queued) none in
       elim (new begun opening linked) [
         | inl is ↦
-            subst (λ (l : List Message). AreEnds ends.never_resets seen options o.after l (after_effects o.effects past) (packets ++ packets_of_events o.events) d their_past reading) (sym stays)
+            subst (λ (l : List Message). AreEnds ends.never_resets seen options (sending_side o.after l (after_effects o.effects past) (packets ++ packets_of_events o.events)) (receiving_side d their_past reading)) (sym stays)
             (begins options ends e queued past packets d their_past reading h input o w little begun (λ each has. holds_mean e input o each may turn has) follows kind' seen reported is linked addressed shown fit later)
         | inr takes ↦ replaced follows may turn same begun opening linked takes
       ]
@@ -401,7 +401,7 @@ module _ (options : Options) (ends : Ends) (e : Endpoint) (queued : List Message
       among_dropped (id ∷ some) each = (each id (rw (eq-eqb id id refl) refl), among_dropped some (λ other named. each other (rw named (or_true (id == other)))))
 
   pub sender_turns : ((link : AssociationIdentity) → identity_of_core e.core ≡ Some link → CameBack (packets_of_events seen) link.my.tag (content_of_input input)) → length (queued_after e input queued) < 2 ^ 64 → RefusesNone e o → ResetsAs ends.never_resets input → CompletesPerformed their_past o → o.after.options.follow_rfc ≡ e.options.follow_rfc → IsCall input → Turn e input o
-      → AreEnds ends.never_resets seen options o.after (queued_after e input queued) (after_effects o.effects past) (packets ++ packets_of_events o.events) d their_past reading
+      → AreEnds ends.never_resets seen options (sending_side o.after (queued_after e input queued) (after_effects o.effects past) (packets ++ packets_of_events o.events)) (receiving_side d their_past reading)
   sender_turns back few refuses resets completes_so follows may turn =
       by_turn few follows resets may turn refuses completes_so
       (senders_go_on options (ends.firsts key) options.max_receiver_window_buffer_size now e input o (h.runs key) (h.small key) h.sender.queues_are h.asks

@@ -13,7 +13,7 @@ use Rattle.dcsctp_delivery_sending.specs.Log.{Message}
 use Rattle.dcsctp_delivery_sending.specs.Places.{HasEntry}
 use Rattle.dcsctp_delivery_directions.specs.Directions.{DirectionRun}
 use Rattle.dcsctp_delivery_directions.proofs.Directions.{directions_deliver}
-use Rattle.dcsctp_delivery_associations.specs.Ends.{ReceivingEnd, direction_of_ends, Ends, HadBoth, unbegun_end, Between}
+use Rattle.dcsctp_delivery_associations.specs.Ends.{ReceivingEnd, direction_of_ends, Ends, HadBoth, unbegun_end, Between, sending_side, receiving_side}
 use Rattle.dcsctp_delivery_associations.specs.Reads.{Tags, ReadMessage, Reading, with_tag, with_key, AreOfLink, AllOfLinks}
 use Rattle.dcsctp_delivery_associations.proofs.InOrder.{read_none}
 
@@ -88,7 +88,7 @@ pub data ReadUnder (past their_past : List Effect) (reading : Reading) (own : �
   under_key : (key : ℕ) → with_tag own reading.reads ≡ with_key key reading.reads → HadBoth past key own → (theirs : AssociationIdentity) → HasEffect (holds theirs) their_past → theirs.my.tag ≡ own → ReadUnder past their_past reading own
 
 module _ (options : Options) (ends : Ends) (e : Endpoint) (queued : List Message) (past : List Effect) (packets : List Emission) (other : Endpoint) (their_past : List Effect) (reading : Reading)
-    (h : Between options ends e queued past packets other their_past reading) (mine_differ : PeersDiffer past) (theirs_differ : PeersDiffer their_past) where
+    (h : Between options ends (sending_side e queued past packets) (receiving_side other their_past reading)) (mine_differ : PeersDiffer past) (theirs_differ : PeersDiffer their_past) where
   -- Nothing is read where no association crosses.
   none_alone : (key : ℕ) → DirectionRun options (ends.firsts key) options.max_receiver_window_buffer_size (direction_of_ends (unbegun_end options) (ends.gets key)) → with_key key reading.reads ≡ []
   none_alone key run =

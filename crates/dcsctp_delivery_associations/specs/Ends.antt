@@ -363,16 +363,35 @@ pub record AreSeen (ends : Ends) (e : Endpoint) (past : List Effect) (seen : Lis
 
 -- ---- all
 
-pub record Between (options : Options) (ends : Ends) (e : Endpoint) (queued : List Message) (past : List Effect) (packets : List Emission) (other : Endpoint) (their_past : List Effect) (reading : Reading) : Type 0 where
+-- what the side that sends has, what its user has sent, what it has done, and its packets
+pub record SendingSide : Type 0 where
+  pub endpoint : Endpoint
+  pub queued : List Message
+  pub past : List Effect
+  pub packets : List Emission
+
+abbrev pub sending_side : Endpoint → List Message → List Effect → List Emission → SendingSide
+sending_side endpoint queued past packets = record { endpoint = endpoint; queued = queued; past = past; packets = packets }
+
+-- what the side that receives has, what it has done, and what its user has read
+pub record ReceivingSide : Type 0 where
+  pub endpoint : Endpoint
+  pub past : List Effect
+  pub reading : Reading
+
+abbrev pub receiving_side : Endpoint → List Effect → Reading → ReceivingSide
+receiving_side endpoint past reading = record { endpoint = endpoint; past = past; reading = reading }
+
+pub record Between (options : Options) (ends : Ends) (from : SendingSide) (to : ReceivingSide) : Type 0 where
   pub runs : EndsRun options ends
   pub small : (tag : ℕ) → ends.firsts tag < 2 ^ 32
-  pub sender : Sender ends (sender_key e.core) (peer_tag e.core) e.queues queued past packets
-  pub mine : (link : AssociationIdentity) → identity_of_core e.core ≡ Some link → HasEffect (holds link) past
-  pub idle : identity_of_core e.core ≡ None → e.queues.transfer ≡ None
-  pub asks : AsksFit (ends.firsts (sender_key e.core)) (own_of e) (ends.sends (sender_key e.core)).asking
-  pub numbered : (tag : ℕ) → tag ≢ 0 → NumbersFromZero e past tag → (ends.sends tag).beginning.from_zero ≡ true
-  pub kept : (tag : ℕ) → tag ≢ 0 → IsOnlyOwn past tag → KeepsThese ends.never_resets (ends.sends tag).beginning
+  pub sender : Sender ends (sender_key from.endpoint.core) (peer_tag from.endpoint.core) from.endpoint.queues from.queued from.past from.packets
+  pub mine : (link : AssociationIdentity) → identity_of_core from.endpoint.core ≡ Some link → HasEffect (holds link) from.past
+  pub idle : identity_of_core from.endpoint.core ≡ None → from.endpoint.queues.transfer ≡ None
+  pub asks : AsksFit (ends.firsts (sender_key from.endpoint.core)) (own_of from.endpoint) (ends.sends (sender_key from.endpoint.core)).asking
+  pub numbered : (tag : ℕ) → tag ≢ 0 → NumbersFromZero from.endpoint from.past tag → (ends.sends tag).beginning.from_zero ≡ true
+  pub kept : (tag : ℕ) → tag ≢ 0 → IsOnlyOwn from.past tag → KeepsThese ends.never_resets (ends.sends tag).beginning
   pub dropping : (tag : ℕ) → KeepsOnlyThese ends.never_resets (ends.sends tag).beginning
-  pub unbegun : NeverHeld past → IsUnbegun ends.never_resets (ends.sends (sender_key e.core)).queued e
-  pub receiver : Receiver options ends other their_past reading
-  pub alone : (tag : ℕ) → MetOrAlone options ends past their_past tag
+  pub unbegun : NeverHeld from.past → IsUnbegun ends.never_resets (ends.sends (sender_key from.endpoint.core)).queued from.endpoint
+  pub receiver : Receiver options ends to.endpoint to.past to.reading
+  pub alone : (tag : ℕ) → MetOrAlone options ends from.past to.past tag

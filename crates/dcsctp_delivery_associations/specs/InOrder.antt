@@ -15,7 +15,7 @@ use Rattle.dcsctp_delivery_order.specs.PlainDirections.{FewOnEachStream}
 use Rattle.dcsctp_delivery_order.specs.Delivered.{AreDeliveredInOrder, AreDeliveredWithoutGaps}
 use Rattle.dcsctp_delivery_order.specs.Streams.{AreDeliveredByStream, AreDeliveredOnStreams}
 use Rattle.dcsctp_delivery_order.specs.Complete.{HasNothingLeft, AreAllDelivered}
-use Rattle.dcsctp_delivery_associations.specs.Ends.{Ends, IsOnlyOwn, NumbersFromZero, chunks_before, Between}
+use Rattle.dcsctp_delivery_associations.specs.Ends.{Ends, IsOnlyOwn, NumbersFromZero, chunks_before, Between, sending_side, receiving_side}
 use Rattle.dcsctp_delivery_associations.specs.Reads.{Reading, with_key}
 
 -- In the association of the sender whose peer has this tag messages interleave (RFC 8260).
@@ -30,7 +30,7 @@ InterleavesUnder past tag = (link : AssociationIdentity) × HasEffect (holds lin
 abbrev pub EndsDeliverInOrder : Type 0
 EndsDeliverInOrder =
     (options : Options) (ends : Ends) (e : Endpoint) (queued : List Message) (past : List Effect) (packets : List Emission) (other : Endpoint) (their_past : List Effect) (reading : Reading)
-    → Between options ends e queued past packets other their_past reading → length queued < 2 ^ 64 → ((tag : ℕ) → chunks_before (ends.former tag) packets + chunks_to (ends.latest tag) packets < 2 ^ 30)
+    → Between options ends (sending_side e queued past packets) (receiving_side other their_past reading) → length queued < 2 ^ 64 → ((tag : ℕ) → chunks_before (ends.former tag) packets + chunks_to (ends.latest tag) packets < 2 ^ 30)
     → (tag : ℕ) → NumbersFromZero e past tag → InterleavesUnder past tag → AreDeliveredInOrder queued (with_key tag reading.reads)
 
 -- Also where they don't it holds, if besides no message may be abandoned, or few ordered ones were queued on each stream; and no
@@ -38,7 +38,7 @@ EndsDeliverInOrder =
 abbrev pub EndsDeliverDataInOrder : Type 0
 EndsDeliverDataInOrder =
     (options : Options) (ends : Ends) (e : Endpoint) (queued : List Message) (past : List Effect) (packets : List Emission) (other : Endpoint) (their_past : List Effect) (reading : Reading)
-    → Between options ends e queued past packets other their_past reading → length queued < 2 ^ 64 → ((tag : ℕ) → chunks_before (ends.former tag) packets + chunks_to (ends.latest tag) packets < 2 ^ 30) → options.max_receiver_window_buffer_size < 2 ^ 32
+    → Between options ends (sending_side e queued past packets) (receiving_side other their_past reading) → length queued < 2 ^ 64 → ((tag : ℕ) → chunks_before (ends.former tag) packets + chunks_to (ends.latest tag) packets < 2 ^ 30) → options.max_receiver_window_buffer_size < 2 ^ 32
     → AreUnlimited queued ⊎ FewOnEachStream queued → (tag : ℕ) → NumbersFromZero e past tag → requests_to (ends.latest tag) packets ≡ 0 → AreDeliveredInOrder queued (with_key tag reading.reads)
 
 -- Where messages interleave, and the sender has had no other own tag, what was read of a stream's ordered messages is a prefix of what
@@ -46,7 +46,7 @@ EndsDeliverDataInOrder =
 abbrev pub EndsDeliverByStream : Type 0
 EndsDeliverByStream =
     (options : Options) (ends : Ends) (e : Endpoint) (queued : List Message) (past : List Effect) (packets : List Emission) (other : Endpoint) (their_past : List Effect) (reading : Reading)
-    → Between options ends e queued past packets other their_past reading → length queued < 2 ^ 64 → ((tag : ℕ) → chunks_before (ends.former tag) packets + chunks_to (ends.latest tag) packets < 2 ^ 30)
+    → Between options ends (sending_side e queued past packets) (receiving_side other their_past reading) → length queued < 2 ^ 64 → ((tag : ℕ) → chunks_before (ends.former tag) packets + chunks_to (ends.latest tag) packets < 2 ^ 30)
     → (tag : ℕ) → IsOnlyOwn past tag → InterleavesUnder past tag → AreDeliveredByStream ends.never_resets queued (with_key tag reading.reads)
 
 -- The stream is never reset, and no message on it may be abandoned.
@@ -58,14 +58,14 @@ pub record IsReliableKept (never_resets : ℕ → Bool) (queued : List Message) 
 abbrev pub EndsDeliverOnStreams : Type 0
 EndsDeliverOnStreams =
     (these : ℕ → Bool) (options : Options) (ends : Ends) (e : Endpoint) (queued : List Message) (past : List Effect) (packets : List Emission) (other : Endpoint) (their_past : List Effect) (reading : Reading)
-    → Between options ends e queued past packets other their_past reading → length queued < 2 ^ 64 → ((tag : ℕ) → chunks_before (ends.former tag) packets + chunks_to (ends.latest tag) packets < 2 ^ 30) → options.max_receiver_window_buffer_size < 2 ^ 32
+    → Between options ends (sending_side e queued past packets) (receiving_side other their_past reading) → length queued < 2 ^ 64 → ((tag : ℕ) → chunks_before (ends.former tag) packets + chunks_to (ends.latest tag) packets < 2 ^ 30) → options.max_receiver_window_buffer_size < 2 ^ 32
     → ((id : ℕ) → these id ≡ true → IsReliableKept ends.never_resets queued id) → (tag : ℕ) → IsOnlyOwn past tag → AreDeliveredOnStreams these queued (with_key tag reading.reads)
 
 -- So it is of all, if no stream is reset.
 abbrev pub EndsDeliverWithoutGaps : Type 0
 EndsDeliverWithoutGaps =
     (options : Options) (ends : Ends) (e : Endpoint) (queued : List Message) (past : List Effect) (packets : List Emission) (other : Endpoint) (their_past : List Effect) (reading : Reading)
-    → Between options ends e queued past packets other their_past reading → length queued < 2 ^ 64 → ((tag : ℕ) → chunks_before (ends.former tag) packets + chunks_to (ends.latest tag) packets < 2 ^ 30) → options.max_receiver_window_buffer_size < 2 ^ 32
+    → Between options ends (sending_side e queued past packets) (receiving_side other their_past reading) → length queued < 2 ^ 64 → ((tag : ℕ) → chunks_before (ends.former tag) packets + chunks_to (ends.latest tag) packets < 2 ^ 30) → options.max_receiver_window_buffer_size < 2 ^ 32
     → AreUnlimited queued → ((id : ℕ) → ends.never_resets id ≡ true) → (tag : ℕ) → IsOnlyOwn past tag → AreDeliveredWithoutGaps queued (with_key tag reading.reads)
 
 -- ---- all of it
@@ -88,5 +88,5 @@ pub record AreThrough (e other : Endpoint) : Type 0 where
 abbrev pub EndsArrive : Type 0
 EndsArrive =
     (these : ℕ → Bool) (options : Options) (ends : Ends) (e : Endpoint) (queued : List Message) (past : List Effect) (packets : List Emission) (other : Endpoint) (their_past : List Effect) (reading : Reading)
-    → Between options ends e queued past packets other their_past reading → length queued < 2 ^ 64 → ((tag : ℕ) → chunks_before (ends.former tag) packets + chunks_to (ends.latest tag) packets < 2 ^ 30) → options.max_receiver_window_buffer_size < 2 ^ 32
+    → Between options ends (sending_side e queued past packets) (receiving_side other their_past reading) → length queued < 2 ^ 64 → ((tag : ℕ) → chunks_before (ends.former tag) packets + chunks_to (ends.latest tag) packets < 2 ^ 30) → options.max_receiver_window_buffer_size < 2 ^ 32
     → ((id : ℕ) → these id ≡ true → IsReliableKept ends.never_resets queued id) → (through : AreThrough e other) → IsOnlyOwn past through.link.my.tag → AreAllDelivered these queued (with_key through.link.my.tag reading.reads)

@@ -25,7 +25,7 @@ use Rattle.dcsctp_spec_lemmas.specs.spec.association.Effect.{holds, completes}
 use Rattle.dcsctp_delivery_directions.specs.Requests.{requests_to}
 use Rattle.dcsctp_delivery_associations.specs.Answered.{request_numbered, AreAnswered}
 use Rattle.dcsctp_delivery_turns.specs.Sides.{WasSent}
-use Rattle.dcsctp_delivery_associations.specs.Ends.{Ends, NewPeer, TakesOver, NewTag, chunks_before, HadBoth, AreSeen, CameBack, Between}
+use Rattle.dcsctp_delivery_associations.specs.Ends.{Ends, NewPeer, TakesOver, NewTag, chunks_before, HadBoth, AreSeen, CameBack, Between, sending_side, receiving_side, SendingSide, ReceivingSide}
 use Rattle.dcsctp_delivery_associations.specs.Reads.{Reading, nothing_read, reading_after, messages_of}
 
 -- A request of ours that ends as performed was performed by the peer, or it is the 2^32nd of its association.
@@ -42,12 +42,12 @@ ResetsAs never_resets input = (id : ℕ) → never_resets id ≡ true → resets
 
 -- There are ends for what was done so far, and for what was read, where the sender's user never resets these streams. What the
 -- receiver's packets among these events report was reached, and its user was told of each reset that it has performed.
-pub record AreEnds (never_resets : ℕ → Bool) (seen : List (Event Emission)) (options : Options) (e : Endpoint) (queued : List Message) (past : List Effect) (packets : List Emission) (other : Endpoint) (their_past : List Effect) (reading : Reading) : Type 0 where
+pub record AreEnds (never_resets : ℕ → Bool) (seen : List (Event Emission)) (options : Options) (from : SendingSide) (to : ReceivingSide) : Type 0 where
   pub ends : Ends
   pub is : ends.never_resets ≡ never_resets
-  pub between : Between options ends e queued past packets other their_past reading
-  pub answered : AreAnswered ends e past other their_past
-  pub reported : AreSeen ends other their_past seen
+  pub between : Between options ends from to
+  pub answered : AreAnswered ends from.endpoint from.past to.endpoint to.past
+  pub reported : AreSeen ends to.endpoint to.past seen
 
 -- Of each reset of ours that ends as performed in this turn, the receiver's user was told in these events: it names the same streams,
 -- each as a field of 16 bits has it.
@@ -56,7 +56,7 @@ ResetsWereSeen seen o = (my : Pair) (number : ℕ) (streams : List ℕ) → HasE
 
 -- Two sockets that were just made have them; `options` are those of the receiver.
 abbrev pub EndsBegin : Type 0
-EndsBegin = (never_resets : ℕ → Bool) (mine options : Options) → AreEnds never_resets [] options (fresh_endpoint mine) [] [] [] (fresh_endpoint options) [] nothing_read
+EndsBegin = (never_resets : ℕ → Bool) (mine options : Options) → AreEnds never_resets [] options (sending_side (fresh_endpoint mine) [] [] []) (receiving_side (fresh_endpoint options) [] nothing_read)
 
 -- Each association that is recorded has another peer's tag than those before.
 abbrev pub NewPeerTags : List Effect → Outcome → Type 0
@@ -68,26 +68,26 @@ NewPeerTags past o = (link old : AssociationIdentity) → HasEffect (holds link)
 abbrev pub SendersTurn : Type 0
 SendersTurn =
     (seen : List (Event Emission)) (options : Options) (ends : Ends) (e : Endpoint) (queued : List Message) (past : List Effect) (packets : List Emission) (other : Endpoint) (their_past : List Effect) (reading : Reading) (input : Input) (o : Outcome)
-    → Between options ends e queued past packets other their_past reading → AreAnswered ends e past other their_past → AreSeen ends other their_past seen
+    → Between options ends (sending_side e queued past packets) (receiving_side other their_past reading) → AreAnswered ends e past other their_past → AreSeen ends other their_past seen
     → ((link : AssociationIdentity) → identity_of_core e.core ≡ Some link → CameBack (packets_of_events seen) link.my.tag (content_of_input input)) → ((begun : BeginsAssociation e o) → IsOpening (content_of_input input) → identity_of_core o.after.core ≡ Some (identity_of begun.my begun.held) → NewPeer past their_past (identity_of begun.my begun.held) ⊎ TakesOver past their_past e input (identity_of begun.my begun.held)) → length (queued_after e input queued) < 2 ^ 64 → AsksLittle (packets ++ packets_of_events o.events)
-    → RefusesNone e o → ResetsAs ends.never_resets input → CompletesPerformed their_past o → o.after.options.follow_rfc ≡ e.options.follow_rfc → IsCall input → Turn e input o → AreEnds ends.never_resets seen options o.after (queued_after e input queued) (after_effects o.effects past) (packets ++ packets_of_events o.events) other their_past reading
+    → RefusesNone e o → ResetsAs ends.never_resets input → CompletesPerformed their_past o → o.after.options.follow_rfc ≡ e.options.follow_rfc → IsCall input → Turn e input o → AreEnds ends.never_resets seen options (sending_side o.after (queued_after e input queued) (after_effects o.effects past) (packets ++ packets_of_events o.events)) (receiving_side other their_past reading)
 
 -- So does one of the receiver, if what is handled in its association was sent in it, the peer of each association that is recorded
 -- has a new tag, and few requests went to each tag.
 abbrev pub ReceiversTurn : Type 0
 ReceiversTurn =
     (seen : List (Event Emission)) (options : Options) (ends : Ends) (e : Endpoint) (queued : List Message) (past : List Effect) (packets : List Emission) (other : Endpoint) (their_past : List Effect) (reading : Reading) (input : Input) (o : Outcome)
-    → Between options ends e queued past packets other their_past reading → AreAnswered ends e past other their_past → AreSeen ends other their_past seen → length queued < 2 ^ 64 → AsksLittle packets → SameOptions options other.options → KnowsPeerOfCore their_past other.core
+    → Between options ends (sending_side e queued past packets) (receiving_side other their_past reading) → AreAnswered ends e past other their_past → AreSeen ends other their_past seen → length queued < 2 ^ 64 → AsksLittle packets → SameOptions options other.options → KnowsPeerOfCore their_past other.core
     → NewPeerTags their_past o → ((begun : BeginsAssociation other o) → IsOpening (content_of_input input) → identity_of_core o.after.core ≡ Some (identity_of begun.my begun.held) → NewTag their_past past (identity_of begun.my begun.held))
     → ((transfer : Transfer) (link : AssociationIdentity) → other.queues.transfer ≡ Some transfer → identity_of_core other.core ≡ Some link → WasSent (ends.sends link.peer.tag).sent (content_of_input input) × (HadBoth past link.peer.tag link.my.tag ⊎ WasSent [] (content_of_input input))) → IsCall input → Turn other input o
-    → AreEnds ends.never_resets (seen ++ o.events) options e queued past packets o.after (after_effects o.effects their_past) (reading_after other input o.after reading)
+    → AreEnds ends.never_resets (seen ++ o.events) options (sending_side e queued past packets) (receiving_side o.after (after_effects o.effects their_past) (reading_after other input o.after reading))
 
 -- A turn of the sender tells its user of no reset of which the receiver's wasn't told, if few requests went to each tag, and one that
 -- ends as performed was performed by the receiver.
 abbrev pub SendersResets : Type 0
 SendersResets =
     (seen : List (Event Emission)) (options : Options) (ends : Ends) (e : Endpoint) (queued : List Message) (past : List Effect) (packets : List Emission) (other : Endpoint) (their_past : List Effect) (reading : Reading) (input : Input) (o : Outcome)
-    → Between options ends e queued past packets other their_past reading → AreAnswered ends e past other their_past → AreSeen ends other their_past seen → AsksLittle packets
+    → Between options ends (sending_side e queued past packets) (receiving_side other their_past reading) → AreAnswered ends e past other their_past → AreSeen ends other their_past seen → AsksLittle packets
     → CompletesPerformed their_past o → IsCall input → Turn e input o → ResetsWereSeen seen o
 
 -- Each message that was read, in any association or after it, was queued, and none twice, if fewer than 2^30 chunks of data
@@ -95,5 +95,5 @@ SendersResets =
 abbrev pub EndsDeliver : Type 0
 EndsDeliver =
     (options : Options) (ends : Ends) (e : Endpoint) (queued : List Message) (past : List Effect) (packets : List Emission) (other : Endpoint) (their_past : List Effect) (reading : Reading)
-    → Between options ends e queued past packets other their_past reading → length queued < 2 ^ 64 → ((tag : ℕ) → chunks_before (ends.former tag) packets + chunks_to (ends.latest tag) packets < 2 ^ 30)
+    → Between options ends (sending_side e queued past packets) (receiving_side other their_past reading) → length queued < 2 ^ 64 → ((tag : ℕ) → chunks_before (ends.former tag) packets + chunks_to (ends.latest tag) packets < 2 ^ 30)
     → AreDelivered queued (messages_of reading.reads)

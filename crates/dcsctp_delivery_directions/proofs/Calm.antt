@@ -6,7 +6,7 @@ use Rattle.dcsctp_spec.specs.Packet.{Emission}
 use Rattle.dcsctp_spec.specs.endpoint.BegunResets.{BegunReset}
 use Rattle.dcsctp_spec.specs.queues.Transfer.{EndpointQueues}
 use Rattle.dcsctp_delivery_sending.specs.Places.{HasEntry}
-use Rattle.dcsctp_delivery_sending.specs.Log.{Slot, Mark, History}
+use Rattle.dcsctp_delivery_sending.specs.Log.{Slot, Mark, History, sent_messages}
 use Rattle.dcsctp_delivery_sending.specs.Flushes.{SendsLogged, begun_reset_of}
 use Rattle.dcsctp_delivery_sending.specs.Numbers.{AreCurrent}
 use Rattle.dcsctp_delivery_directions.specs.Calm.{ResetsNothing}
@@ -35,7 +35,7 @@ continues_same history = record { more = []; log = refl; floors = refl; current 
 
 module _ (first : ℕ) (old : Direction) (s : Stands first old) (below : EndpointQueues) (events : List (Event Emission)) (next : below.queue.next_message_id ≡ old.queues.queue.next_message_id)
     (kind : below.queue.is_interleaved ≡ old.queues.queue.is_interleaved) where
-  flushed_continues : (begun : Option BegunReset) (sends : SendsLogged old.queued s.history first old.acknowledged old.queues.queue begun below events) → Continues s.history (flushed first old s below events next kind begun sends).history
+  flushed_continues : (begun : Option BegunReset) (sends : SendsLogged (sent_messages old.queued s.history) first old.acknowledged old.queues.queue begun below events) → Continues s.history (flushed first old s below events next kind begun sends).history
   unfolding flushed
   flushed_continues None sends = record { more = sends.more; log = refl; floors = refl; current = sends.current; marks = (extends_grown sends.more s.history).later }
   flushed_continues (Some begun) sends =

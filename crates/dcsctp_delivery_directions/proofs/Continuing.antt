@@ -11,7 +11,7 @@ use Rattle.dcsctp_spec.specs.queues.Reassembly.{names_stream}
 use Rattle.dcsctp_spec.specs.queues.Transfer.{EndpointQueues}
 use Rattle.dcsctp_spec.specs.types.queues.SendStreams.{Stream}
 use Rattle.dcsctp_delivery_sending.specs.Places.{HasEntry, at_place}
-use Rattle.dcsctp_delivery_sending.specs.Log.{Fits, Message, Piece, Slot, Mark, History, Resets, new_history, log_extended, with_mark, mark_renewed, with_renewed}
+use Rattle.dcsctp_delivery_sending.specs.Log.{Fits, Message, Piece, Slot, Mark, History, Resets, new_history, log_extended, with_mark, mark_renewed, with_renewed, sent_messages}
 use Rattle.dcsctp_delivery_sending.specs.Flushes.{SendsLogged, AreHandedFor}
 use Rattle.dcsctp_delivery_sending.specs.Numbers.{AreCurrent, AreKept, is_handed_out, stream_named}
 use Rattle.dcsctp_delivery_sending.specs.Queueing.{QueueWaits, floors_raised}
@@ -126,7 +126,7 @@ module _ (more : List Slot) (history : History) (before after : List Stream) (cu
 
 module _ (first : ℕ) (old : Direction) (s : Stands first old) (below : EndpointQueues) (events : List (Event Emission)) (next : below.queue.next_message_id ≡ old.queues.queue.next_message_id)
     (kind : below.queue.is_interleaved ≡ old.queues.queue.is_interleaved) where
-  flushed_continues : (begun : Option BegunReset) (sends : SendsLogged old.queued s.history first old.acknowledged old.queues.queue begun below events)
+  flushed_continues : (begun : Option BegunReset) (sends : SendsLogged (sent_messages old.queued s.history) first old.acknowledged old.queues.queue begun below events)
       → Continues s.history (flushed first old s below events next kind begun sends).history old.queues.queue.streams below.queue.streams old.asking.out (asking_with begun old.asking).out
   unfolding flushed
   flushed_continues None sends = continues_grown sends.more s.history old.queues.queue.streams below.queue.streams sends.current sends.kept sends.stay old.asking.out

@@ -8,7 +8,7 @@ use Rattle.dcsctp_spec.specs.Packet.{Emission}
 use Rattle.dcsctp_spec.specs.queues.Transfer.{EndpointQueues}
 use Rattle.dcsctp_spec.specs.endpoint.BegunResets.{BegunReset}
 use Rattle.dcsctp_spec.specs.endpoint.FlushOutcomes.{first_ask, packets_allowed, Answer, FlushAnswers, flush_of}
-use Rattle.dcsctp_delivery_sending.specs.Log.{History, Slot, log_extended, with_mark}
+use Rattle.dcsctp_delivery_sending.specs.Log.{History, Slot, log_extended, with_mark, sent_messages}
 use Rattle.dcsctp_delivery_sending.specs.Flushes.{NoData, QueuesFollowLog, SendsLogged, AreHandedFor, begun_reset_of}
 use Rattle.dcsctp_delivery_sending.specs.Numbers.{is_handed_out, stream_named}
 use Rattle.dcsctp_spec.specs.queues.Reassembly.{names_stream}
@@ -26,7 +26,7 @@ few_before more log little = omega (arith, little, length-append more log)
 
 module _ (first : ℕ) (old : Direction) (s : Stands first old) where
   module _ (below : EndpointQueues) (events : List (Event Emission)) (next : below.queue.next_message_id ≡ old.queues.queue.next_message_id) (kind : below.queue.is_interleaved ≡ old.queues.queue.is_interleaved) where
-    unfoldable pub flushed : (begun : Option BegunReset) → SendsLogged old.queued s.history first old.acknowledged old.queues.queue begun below events
+    unfoldable pub flushed : (begun : Option BegunReset) → SendsLogged (sent_messages old.queued s.history) first old.acknowledged old.queues.queue begun below events
         → Stands first (record old { queues = below; sent = old.sent ++ packets_of_events events; asking = asking_with begun old.asking })
     flushed None sends =
         let fewer : Fewer below.queue.streams old.queues.queue.streams = λ id handed. elim (sends.handed id handed) [ inl was ↦ was | inr named ↦ absurd named ] in
@@ -85,16 +85,16 @@ module _ (first : ℕ) (old : Direction) (s : Stands first old) where
   stepped_flushes e draft answers same no_data allowed =
       let after : EndpointQueues = (flush_of e draft answers).after.queues in
       let events = (flush_of e draft answers).events in
-      let sends : SendsLogged old.queued s.history first old.acknowledged e.queues.queue (begun_reset_of answers) after events =
+      let sends : SendsLogged (sent_messages old.queued s.history) first old.acknowledged e.queues.queue (begun_reset_of answers) after events =
       flush_sends old.queued s.history first old.acknowledged e draft answers (subst (λ (b : EndpointQueues). QueuesFollowLog old.queued s.history first old.acknowledged b) (sym same) s.queues) (none_said s.history first old.acknowledged draft.packet.contents no_data) allowed in
       flushed after events (flush_next first_ask (packets_allowed e.options.max_burst e.core) e draft answers allowed ∙ ap (λ (b : EndpointQueues). b.queue.next_message_id) same) (flush_kind first_ask (packets_allowed e.options.max_burst e.core) e draft answers allowed ∙ ap (λ (b : EndpointQueues). b.queue.is_interleaved) same) (begun_reset_of answers)
-      (subst (λ (b : EndpointQueues). SendsLogged old.queued s.history first old.acknowledged b.queue (begun_reset_of answers) after events) same sends)
+      (subst (λ (b : EndpointQueues). SendsLogged (sent_messages old.queued s.history) first old.acknowledged b.queue (begun_reset_of answers) after events) same sends)
 
   -- The streams that the request of a flush names are handed out then.
   pub flush_hands : (e : Endpoint) (draft : Emission) (answers : List Answer) → e.queues ≡ old.queues → NoData draft.packet.contents → FlushAnswers e draft answers → (begun : BegunReset) → begun_reset_of answers ≡ Some begun
       → (id : ℕ) → names_stream begun.reset.streams id ≡ true → is_handed_out (stream_named id (flush_of e draft answers).after.queues.queue.streams).pause ≡ true
   flush_hands e draft answers same no_data allowed begun is id names =
       let after : EndpointQueues = (flush_of e draft answers).after.queues in
-      let sends : SendsLogged old.queued s.history first old.acknowledged e.queues.queue (begun_reset_of answers) after (flush_of e draft answers).events =
+      let sends : SendsLogged (sent_messages old.queued s.history) first old.acknowledged e.queues.queue (begun_reset_of answers) after (flush_of e draft answers).events =
       flush_sends old.queued s.history first old.acknowledged e draft answers (subst (λ (b : EndpointQueues). QueuesFollowLog old.queued s.history first old.acknowledged b) (sym same) s.queues) (none_said s.history first old.acknowledged draft.packet.contents no_data) allowed in
       (subst (λ (b : Option BegunReset). AreHandedFor b sends.ids after.queue.streams) is sends.named id names).1

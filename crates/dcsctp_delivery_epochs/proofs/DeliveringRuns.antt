@@ -4,7 +4,7 @@ use Rattle.std.specs.Prelude.{◌⊎◌, Option, None, Some, if◌then◌else◌
 use Rattle.dcsctp_spec.specs.types.declared.options.Options.{Options}
 use Rattle.dcsctp_spec.specs.queues.Incoming.{stream_on}
 use Rattle.dcsctp_spec.specs.queues.OwnResets.{queue_committed}
-use Rattle.dcsctp_delivery_sending.specs.Log.{Message, History}
+use Rattle.dcsctp_delivery_sending.specs.Log.{Message, History, sent_messages}
 use Rattle.dcsctp_delivery_sending.specs.Numbers.{is_handed_out, stream_named}
 use Rattle.dcsctp_delivery_sending.specs.Queueing.{floors_raised}
 use Rattle.dcsctp_delivery_sending.proofs.Chunks.{kinds_of}
@@ -154,7 +154,7 @@ directions_deliver_by_epoch options first size direction run small little few in
     go s a.quiet a.received.got a.places a.were a.once counts a.received.holds
   where
     read : (s : Stands first direction) (quiet : ℕ → Bool) (got : List ℕ) (base : ℕ) (places : List ℕ) → WereQueued direction.queued places direction.read → AreDistinct places → ((id : ℕ) → CountsFromZero s.history id)
-        → IncomingOrdered (watch_of (cuts_of options first size direction run)) direction.queued s.history quiet got base places direction.reassembly.incoming → AreDeliveredByEpoch (cuts_of options first size direction run) direction.queued direction.read
+        → IncomingOrdered (watch_of (cuts_of options first size direction run)) (sent_messages direction.queued s.history) quiet got base places direction.reassembly.incoming → AreDeliveredByEpoch (cuts_of options first size direction run) direction.queued direction.read
     read s quiet got base places were once counts o =
         record {
           ordered = record {
@@ -166,6 +166,6 @@ directions_deliver_by_epoch options first size direction run small little few in
         }
 
     go : (s : Stands first direction) (quiet : ℕ → Bool) (got places : List ℕ) → WereQueued direction.queued places direction.read → AreDistinct places → ((id : ℕ) → CountsFromZero s.history id)
-        → ReassemblesInOrder (watch_of (cuts_of options first size direction run)) direction.queued s.history quiet first got places direction.reassembly.incoming → AreDeliveredByEpoch (cuts_of options first size direction run) direction.queued direction.read
+        → ReassemblesInOrder (watch_of (cuts_of options first size direction run)) (sent_messages direction.queued s.history) quiet first got places direction.reassembly.incoming → AreDeliveredByEpoch (cuts_of options first size direction run) direction.queued direction.read
     go s quiet got places were once counts (none_handled none' last empty') = read s quiet [] 0 places were once counts (empty' 0)
     go s quiet got places were once counts (some_handled base is holds) = read s quiet got base places were once counts holds

@@ -11,7 +11,7 @@ use Rattle.dcsctp_spec.specs.types.queues.SendStreams.{Waiting, stream_at, front
 use Rattle.dcsctp_spec.specs.endpoint.Event.{Event}
 use Rattle.dcsctp_spec.specs.endpoint.Endpoint.{Endpoint}
 use Rattle.dcsctp_spec.specs.endpoint.BegunResets.{BegunReset, streams_within, request_contents, queue_requesting, retransmission_begun}
-use Rattle.dcsctp_spec.specs.endpoint.FlushOutcomes.{Ask, Gives, room_of_draft, stage_of, may_forward, filling_event, Answer, answer_contents, filled_draft, asked_outcome, next_draft, later_ask, flush_of, GivesUpThenForwards, FillsIfAllowed, GivesUnlessIdle, IsAnswerOfQueues, IsFlushAnswer, AreFlushAnswers, at_limit, at_empty, after_packet}
+use Rattle.dcsctp_spec.specs.endpoint.FlushOutcomes.{Ask, Gives, room_of_draft, stage_of, may_forward, filling_event, Answer, answer_contents, filled_draft, asked_outcome, next_draft, later_ask, flush_of, GivesUpThenForwards, FillsIfAllowed, GivesUnlessIdle, IsAnswerOfQueues, IsFlushAnswer, AreFlushAnswers, at_limit, at_empty, after_packet, forward_made}
 use Rattle.dcsctp_spec.specs.queues.Abandoning.{GivesUpFirst, GivesUpAll}
 use Rattle.dcsctp_spec.specs.queues.Filling.{Stage, ClosesMessage, DropsRestOfMessage, GivesUpItem, SendsMarked, payload_room, SendsNew, FindsNone, StepAgain, StepNew, StageSteps, none as no_steps, more as more_steps, resent_packet_counted, FillsPacket}
 use Rattle.dcsctp_spec.specs.queues.ItemMessages.{EndsDropped}
@@ -215,7 +215,7 @@ module _ (P W : ℕ → Type 0) (a id from : ℕ) where
   gives_up_feeds : (now : ℕ) (old new : Stage) → StageFeeds old → GivesUpAll now old new → StageFeeds new
   gives_up_feeds now old new f gives = steps_feed (GivesUpFirst now) (λ o n g step. given_up_feeds now step.place o n g step.gives_up) old new f gives.steps
 
-  gives_up_where : (b : Bool) (now room : ℕ) (transfer : Transfer) (old new : Stage) (next : Option ℕ) (chunks : List Plain) → StageFeeds old → GivesUpThenForwards b now transfer room old new next chunks → StageFeeds new
+  gives_up_where : (b : Bool) (now room : ℕ) (transfer : Transfer) (old new : Stage) (next : Option ℕ) (chunks : List Plain) → StageFeeds old → GivesUpThenForwards b now transfer room old new (forward_made next chunks) → StageFeeds new
   gives_up_where true now room transfer old new next chunks f gives = gives_up_feeds now old new f gives.0
   gives_up_where false now room transfer old new next chunks f gives = same_stage old new gives.0 f
 

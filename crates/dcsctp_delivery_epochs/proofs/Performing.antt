@@ -7,7 +7,7 @@ use Rattle.dcsctp_spec.specs.queues.Incoming.{stream_on}
 use Rattle.dcsctp_spec.specs.queues.IncomingStreams.{StreamModel}
 use Rattle.dcsctp_spec.specs.queues.OwnResets.{is_open_pause}
 use Rattle.dcsctp_spec.specs.queues.Reassembly.{ReassemblyState, names_stream, EndsDeferral}
-use Rattle.dcsctp_delivery_sending.specs.Log.{Message}
+use Rattle.dcsctp_delivery_sending.specs.Log.{Message, sent_messages}
 use Rattle.dcsctp_delivery_sending.specs.Numbers.{is_handed_out, stream_named}
 use Rattle.dcsctp_delivery_sending.specs.Places.{HasEntry}
 use Rattle.dcsctp_delivery_receiving.specs.Clear.{IsOwn}
@@ -92,23 +92,23 @@ module _ (first : ℕ) (old : Direction) (small : first < 2 ^ 32) (opened : ℕ 
           go None same e = absurd (cc)
           go (Some other) same e = let one : other ≡ place = cc in subst (λ (k : ℕ). HaltsBefore stands.history old.queues.queue id k) one (e.stops shut)
 
-      recut_stream : (id : ℕ) (all waits : List ℕ) (stream : StreamModel) → length all ≡ index → IsOrderedOrReset (watch_of cuts id) (performed.quiet id) old.queued stands.history id all waits stream
-          → IsOrderedOrReset (watch_of added id) (performed.quiet id) old.queued stands.history id all waits stream
+      recut_stream : (id : ℕ) (all waits : List ℕ) (stream : StreamModel) → length all ≡ index → IsOrderedOrReset (watch_of cuts id) (performed.quiet id) (sent_messages old.queued stands.history) id all waits stream
+          → IsOrderedOrReset (watch_of added id) (performed.quiet id) (sent_messages old.queued stands.history) id all waits stream
       recut_stream id all waits stream size ordered = go (names_stream newest.reset.streams id) refl (asked id).newest refl
         where
           go : (b : Bool) → names_stream newest.reset.streams id ≡ b → (o : Option ℕ) → (asked id).newest ≡ o
-              → IsOrderedOrReset (record { is_gapless = false; cuts = if b then cut_added index o (cuts id) else cuts id }) (performed.quiet id) old.queued stands.history id all waits stream
+              → IsOrderedOrReset (record { is_gapless = false; cuts = if b then cut_added index o (cuts id) else cuts id }) (performed.quiet id) (sent_messages old.queued stands.history) id all waits stream
           go false names o is = ordered
           go true names None is = ordered
           go true names (Some place) is =
               let both : IsBetweenResets old.queued stands.history id all × AreSeparated old.queued id (cuts id) all =
-              subst (λ (b : Bool). IsOrderedOrReset (watch_of cuts id) b old.queued stands.history id all waits stream) (named_quiet id names) ordered in
+              subst (λ (b : Bool). IsOrderedOrReset (watch_of cuts id) b (sent_messages old.queued stands.history) id all waits stream) (named_quiet id names) ordered in
               let its = stops id place names is in
               let cut : Separates old.queued id index place all =
               subst (λ (k : ℕ). Separates old.queued id k place all) size
               (all_separate old.queued id place all
               (λ p has on. (let (mid, sent) = both.0.sent p has on in let low = its.sent sent.offset sent.piece sent.at sent.stream in let same = sent.is in omega (arith, low, same)))) in
-              subst (λ (b : Bool). IsOrderedOrReset (record { is_gapless = false; cuts = record { index = index; place = place } ∷ cuts id }) b old.queued stands.history id all waits stream) (sym (named_quiet id names)) (
+              subst (λ (b : Bool). IsOrderedOrReset (record { is_gapless = false; cuts = record { index = index; place = place } ∷ cuts id }) b (sent_messages old.queued stands.history) id all waits stream) (sym (named_quiet id names)) (
                 both.0,
                 λ c has. elim has [
                   | inl e ↦ subst (λ (x : Cut). (x.index ≤ length all) × Separates old.queued id x.index x.place all) (sym e) (omega (arith, size), cut)
@@ -116,7 +116,7 @@ module _ (first : ℕ) (old : Direction) (small : first < 2 ^ 32) (opened : ℕ 
                 ],
               )
 
-      recut_incoming : (got : List ℕ) (base : ℕ) → IncomingOrdered (watch_of cuts) old.queued stands.history performed.quiet got base performed.places new.incoming → IncomingOrdered (watch_of added) old.queued stands.history performed.quiet got base performed.places new.incoming
+      recut_incoming : (got : List ℕ) (base : ℕ) → IncomingOrdered (watch_of cuts) (sent_messages old.queued stands.history) performed.quiet got base performed.places new.incoming → IncomingOrdered (watch_of added) (sent_messages old.queued stands.history) performed.quiet got base performed.places new.incoming
       recut_incoming got base o =
           record {
             holds = o.holds;
@@ -125,8 +125,8 @@ module _ (first : ℕ) (old : Direction) (small : first < 2 ^ 32) (opened : ℕ 
                 ∙ (let one = were_length old.queued performed.places old.read performed.were in let two = were_length old.queued o.holds.places new.incoming.ready o.holds.were_queued in omega (arith, one, two))) (o.order id counts);
           }
 
-      recut_reassembles : (got : List ℕ) → ReassemblesInOrder (watch_of cuts) old.queued stands.history performed.quiet first got performed.places new.incoming
-          → ReassemblesInOrder (watch_of added) old.queued stands.history performed.quiet first got performed.places new.incoming
+      recut_reassembles : (got : List ℕ) → ReassemblesInOrder (watch_of cuts) (sent_messages old.queued stands.history) performed.quiet first got performed.places new.incoming
+          → ReassemblesInOrder (watch_of added) (sent_messages old.queued stands.history) performed.quiet first got performed.places new.incoming
       recut_reassembles got (none_handled none last empty) = none_handled none last (λ base. recut_incoming [] base (empty base))
       recut_reassembles got (some_handled base is holds) = some_handled base is (recut_incoming got base holds)
 

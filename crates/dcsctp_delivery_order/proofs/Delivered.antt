@@ -3,7 +3,7 @@ use Rattle.std.proofs.Common.{◌≡◌, ℕ, Bool, true, false, ◌<◌, List, 
 use Rattle.dcsctp_spec_lemmas.specs.types.queues.Messages.{MessageContent}
 use Rattle.dcsctp_spec_lemmas.specs.spec.queues.Incoming.{IncomingModel, stream_on}
 use Rattle.dcsctp_delivery_sending.specs.Places.{HasEntry}
-use Rattle.dcsctp_delivery_sending.specs.Log.{Message, History}
+use Rattle.dcsctp_delivery_sending.specs.Log.{Message, History, sent_messages}
 use Rattle.dcsctp_delivery_receiving.specs.Ready.{AreDistinct, WereQueued}
 use Rattle.dcsctp_delivery_receiving.proofs.Distinct.{has_left, has_right, has_either}
 use Rattle.dcsctp_delivery_order.specs.Queue.{IsOrderedOn, ComeInOrder, LeaveNoGap}
@@ -15,7 +15,7 @@ use Rattle.dcsctp_delivery_order.proofs.Gaps.{filled_no_gap}
 use Rattle.dcsctp_delivery_order.proofs.Incoming.{ordered_was_read}
 
 pub read_is_in_order : (watch : ℕ → Watch) (queued : List Message) (history : History) (quiet : ℕ → Bool) (got : List ℕ) (base : ℕ) (places : List ℕ) (incoming : IncomingModel) (read : List MessageContent)
-    → WereQueued queued places read → AreDistinct places → ((id : ℕ) → CountsFromZero history id) → IncomingOrdered watch queued history quiet got base places incoming → AreDeliveredInOrder queued read
+    → WereQueued queued places read → AreDistinct places → ((id : ℕ) → CountsFromZero history id) → IncomingOrdered watch (sent_messages queued history) quiet got base places incoming → AreDeliveredInOrder queued read
 read_is_in_order watch queued history quiet got base places incoming read were once counts o =
     record {
       delivered = record { places = places; were_queued = were; once = once };
@@ -43,7 +43,7 @@ module _ (queued : List Message) (id : ℕ) where
 
 pub read_is_front : (queued : List Message) (history : History) (got : List ℕ) (base : ℕ) (places : List ℕ) (incoming : IncomingModel) (read : List MessageContent)
     → WereQueued queued places read → AreDistinct places → ((id : ℕ) → CountsFromZero history id) → ((id : ℕ) → SendsInTurn queued history id)
-    → IncomingOrdered (uncut (λ id. true)) queued history (λ id. false) got base places incoming → AreDeliveredWithoutGaps queued read
+    → IncomingOrdered (uncut (λ id. true)) (sent_messages queued history) (λ id. false) got base places incoming → AreDeliveredWithoutGaps queued read
 read_is_front queued history got base places incoming read were once counts sends o =
     record {
       ordered = record {

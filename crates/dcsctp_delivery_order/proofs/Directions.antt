@@ -9,7 +9,7 @@ use Rattle.dcsctp_spec_lemmas.specs.spec.endpoint.FlushOutcomes.{first_ask, pack
 use Rattle.dcsctp_spec_lemmas.specs.spec.queues.OwnResets.{queue_committed}
 use Rattle.dcsctp_spec_lemmas.specs.spec.queues.Transfer.{EndpointQueues}
 use Rattle.dcsctp_delivery_sending.specs.Flushes.{begun_reset_of}
-use Rattle.dcsctp_delivery_sending.specs.Log.{Fits, Message, Slot, History, new_history}
+use Rattle.dcsctp_delivery_sending.specs.Log.{Fits, Message, Slot, History, new_history, sent_messages}
 use Rattle.dcsctp_delivery_sending.specs.Numbers.{is_handed_out, stream_named}
 use Rattle.dcsctp_delivery_sending.specs.Queueing.{QueueWaits}
 use Rattle.dcsctp_delivery_sending.proofs.Chunks.{kinds_of}
@@ -232,6 +232,6 @@ directions_deliver_in_order options first size direction run small little few in
     go s a.quiet a.received.got a.places a.were a.once counts a.received.holds
   where
     go : (s : Stands first direction) (quiet : ℕ → Bool) (got places : List ℕ) → WereQueued direction.queued places direction.read → AreDistinct places → ((id : ℕ) → CountsFromZero s.history id)
-        → ReassemblesInOrder (uncut none_gapless) direction.queued s.history quiet first got places direction.reassembly.incoming → AreDeliveredInOrder direction.queued direction.read
+        → ReassemblesInOrder (uncut none_gapless) (sent_messages direction.queued s.history) quiet first got places direction.reassembly.incoming → AreDeliveredInOrder direction.queued direction.read
     go s quiet got places were once counts (none_handled none' last empty') = read_is_in_order (uncut none_gapless) direction.queued s.history quiet [] 0 places direction.reassembly.incoming direction.read were once counts (empty' 0)
     go s quiet got places were once counts (some_handled base is holds) = read_is_in_order (uncut none_gapless) direction.queued s.history quiet got base places direction.reassembly.incoming direction.read were once counts holds

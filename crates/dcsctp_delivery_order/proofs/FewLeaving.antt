@@ -8,10 +8,10 @@ use Rattle.dcsctp_spec_lemmas.specs.spec.queues.Runs.{RunModel, PartModel, Whole
 use Rattle.dcsctp_spec_lemmas.specs.spec.queues.IncomingStreams.{StreamModel, delivered_as, next_after, due, not_due, ready_with, WaitsAmong, OrderedOutcome, UnorderedOutcome, TakesOrdered}
 use Rattle.dcsctp_spec_lemmas.specs.spec.queues.Incoming.{IncomingModel, stream_on}
 use Rattle.dcsctp_delivery_sending.specs.Places.{HasEntry, table_with}
-use Rattle.dcsctp_delivery_sending.specs.Log.{Message, Piece, History, IsLogOfPieces}
+use Rattle.dcsctp_delivery_sending.specs.Log.{Message, Piece, History, IsLogOfPieces, sent_messages}
 use Rattle.dcsctp_delivery_sending.proofs.Places.{decide, set_same, set_other}
 use Rattle.dcsctp_delivery_receiving.specs.Rows.{AreRows, Spent, IsQueued, MakesQueued}
-use Rattle.dcsctp_delivery_receiving.specs.Ready.{IsOn, IsOfStream, unordered_base, StreamRows, StreamHolds, AreDistinct, WereQueued, WaitQueued, HoldsAll}
+use Rattle.dcsctp_delivery_receiving.specs.Ready.{IsOn, IsOfStream, unordered_base, StreamRows, StreamHolds, AreDistinct, WereQueued, WaitQueued, HoldsAll, held_messages}
 use Rattle.dcsctp_delivery_receiving.proofs.Distinct.{appended, has_left, has_either, distinct_with, distinct_left, distinct_apart}
 use Rattle.dcsctp_delivery_receiving.proofs.SpentRows.{of_message, IsOfMessage}
 use Rattle.dcsctp_delivery_receiving.proofs.Waiting.{OfStream, both_queued, wait_spent, split_due}
@@ -168,7 +168,7 @@ module _ (queued : List Message) (history : History) (cut : IsLogOfPieces queued
 
 -- All that is held was queued, and each stream is in order.
 pub record HoldsFew (queued : List Message) (history : History) (got : List ℕ) (known : ℕ → Bool) (base : ℕ) (read : List ℕ) (streams : ℕ → StreamModel) (unordered : List RunModel) (ready : List MessageContent) : Type 0 where
-  pub holds : HoldsAll queued history got base read streams unordered ready
+  pub holds : HoldsAll (sent_messages queued history) got base read (held_messages streams unordered ready)
   pub order : (id : ℕ) → FewStream queued history known id (read ++ holds.places) (holds.waits id) (streams id)
 
 abbrev pub IncomingFew : List Message → History → List ℕ → (ℕ → Bool) → ℕ → List ℕ → IncomingModel → Type 0

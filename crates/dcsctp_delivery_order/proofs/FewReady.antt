@@ -8,7 +8,7 @@ use Rattle.dcsctp_spec_lemmas.specs.types.declared.arrivals.Numbering.TheVariant
 use Rattle.dcsctp_spec_lemmas.specs.types.declared.arrivals.Taken.{Taken}
 use Rattle.dcsctp_spec_lemmas.specs.spec.queues.Numbers.{number_near, short_number_from, fragment_place}
 use Rattle.dcsctp_spec_lemmas.specs.spec.queues.Runs.{RunModel, Assembly, part_dropped, part_kept, message_whole}
-use Rattle.dcsctp_spec_lemmas.specs.spec.queues.IncomingStreams.{StreamModel, ChunkModel, data_part, delivered_as, UnorderedOutcome, TakesAhead, TakesNumbered}
+use Rattle.dcsctp_spec_lemmas.specs.spec.queues.IncomingStreams.{StreamModel, ChunkModel, data_part, delivered_as, UnorderedOutcome, TakesAhead, TakesNumberedPart, numbered_part}
 use Rattle.dcsctp_spec_lemmas.specs.spec.queues.Incoming.{IncomingModel, stream_on, TakesChunk, TakesIncomingChunk}
 use Rattle.dcsctp_delivery_sending.specs.Places.{HasEntry}
 use Rattle.dcsctp_delivery_sending.specs.Log.{Message, Piece, History, IsLogOfPieces}
@@ -169,7 +169,7 @@ module _ (queued : List Message) (history : History) (cut : IsLogOfPieces queued
       let number : short_number_from (stream_on chunk.stream old.streams).next ssn ≡ number_of_tsn chunk.stream bears.offset history.log = ap (short_number_from (stream_on chunk.stream old.streams).next) numbered.2 ∙ reads.1 in
       let does : TakesAhead (data_part chunk (fragment_place (short_number_from (stream_on chunk.stream old.streams).next ssn) tsn_number) (short_number_from (stream_on chunk.stream old.streams).next ssn))
       (stream_on chunk.stream old.streams) old.ready takes.taken (stream_on chunk.stream new.streams) new.ready =
-      subst (λ (n : Numbering). TakesNumbered tsn_number chunk n (stream_on chunk.stream old.streams) old.ready takes.taken (stream_on chunk.stream new.streams) new.ready) is takes.does in
+      subst (λ (n : Numbering). TakesNumberedPart (numbered_part tsn_number chunk n (stream_on chunk.stream old.streams)) (stream_on chunk.stream old.streams) old.ready takes.taken (stream_on chunk.stream new.streams) new.ready) is takes.does in
       ahead tsn_number chunk bears is_new has_known (λ id. stream_on id old.streams) old.unordered old.ready o (λ id. stream_on id new.streams) new.unordered new.ready takes.taken numbered.0 numbered.1 reads.0 takes.unordered takes.others
       (subst (λ (k : ℕ). TakesAhead (data_part chunk (fragment_place k tsn_number) k) (stream_on chunk.stream old.streams) old.ready takes.taken (stream_on chunk.stream new.streams) new.ready) number does)
   by_numbering tsn_number Unordered chunk old new is bears numbered is_new unknown has_known o takes =

@@ -7,23 +7,23 @@ use Rattle.dcsctp_spec_lemmas.specs.spec.queues.IncomingStreams.{StreamModel, ne
 use Rattle.dcsctp_spec_lemmas.specs.spec.queues.Incoming.{IncomingModel, nothing, stream_on, is_named, ResetsStreams}
 use Rattle.dcsctp_spec_lemmas.specs.spec.queues.Reassembly.{names_stream}
 use Rattle.dcsctp_delivery_sending.specs.Places.{HasEntry, at_place}
-use Rattle.dcsctp_delivery_sending.specs.Log.{Message, History}
+use Rattle.dcsctp_delivery_sending.specs.Log.{Message, History, sent_messages}
 use Rattle.dcsctp_delivery_sending.proofs.Extended.{at_more}
 use Rattle.dcsctp_delivery_receiving.specs.Rows.{AreRows}
-use Rattle.dcsctp_delivery_receiving.specs.Ready.{IsOfStream, unordered_base, AreDistinct, WereQueued}
+use Rattle.dcsctp_delivery_receiving.specs.Ready.{IsOfStream, unordered_base, AreDistinct, WereQueued, held_messages}
 use Rattle.dcsctp_delivery_receiving.proofs.Distinct.{has_right, appended, distinct_left}
 use Rattle.dcsctp_delivery_receiving.proofs.Skipping.{rows_filter, new_rows, holds_renewed}
 use Rattle.dcsctp_delivery_order.specs.Queue.{IsOrderedOn, ComeInOrder, AreSeparated}
 use Rattle.dcsctp_delivery_order.specs.Order.{IsSentAs, AreReadAs, IsBetweenResets}
 use Rattle.dcsctp_delivery_order.specs.Reading.{CountsFromZero, Watch, uncut, ComeSince}
-use Rattle.dcsctp_delivery_order.specs.Incoming.{IsOrderedOrReset, HoldsOrdered, IncomingOrdered, ReadsInOrder, IsWithin}
+use Rattle.dcsctp_delivery_order.specs.Incoming.{IsOrderedOrReset, HoldsOrdered, IncomingOrdered, ReadsInOrder, IsWithin, first_ready}
 use Rattle.dcsctp_delivery_order.proofs.Order.{come_between, new_in_order}
 use Rattle.dcsctp_delivery_order.proofs.Gaps.{new_filled}
 use Rattle.dcsctp_delivery_order.proofs.Separated.{separated_queued}
 
 -- ---- an association that was just begun
 
-pub beginning_in_order : (gapless : ℕ → Bool) (queued : List Message) (history : History) (quiet : ℕ → Bool) (base : ℕ) → IncomingOrdered (uncut gapless) queued history quiet [] base [] nothing
+pub beginning_in_order : (gapless : ℕ → Bool) (queued : List Message) (history : History) (quiet : ℕ → Bool) (base : ℕ) → IncomingOrdered (uncut gapless) (sent_messages queued history) quiet [] base [] nothing
 beginning_in_order gapless queued history quiet base =
     record {
       holds = record {
@@ -38,46 +38,46 @@ beginning_in_order gapless queued history quiet base =
       order = λ id counts. first id (quiet id);
     }
   where
-    first : (id : ℕ) (b : Bool) → IsOrderedOrReset (uncut gapless id) b queued history id [] [] (new_stream id)
+    first : (id : ℕ) (b : Bool) → IsOrderedOrReset (uncut gapless id) b (sent_messages queued history) id [] [] (new_stream id)
     first id false = record { order = new_in_order queued history id; reach = record { from = omega arith; up_to = omega arith }; filled = λ is. new_filled history id; separated = λ cut has. absurd has; since = λ cut has. absurd has }
     first id true = (record { in_order = tt; sent = λ place has on. absurd has }, λ cut has. absurd has)
 
 -- ---- streams that are reset
 
-pub quiet_where : (watch : Watch) (queued : List Message) (history : History) (b : Bool) (id : ℕ) (all waits : List ℕ) (stream : StreamModel) → IsOrderedOrReset watch b queued history id all waits stream → IsBetweenResets queued history id all
+pub quiet_where : (watch : Watch) (queued : List Message) (history : History) (b : Bool) (id : ℕ) (all waits : List ℕ) (stream : StreamModel) → IsOrderedOrReset watch b (sent_messages queued history) id all waits stream → IsBetweenResets queued history id all
 quiet_where watch queued history false id all waits stream o = come_between queued history id all waits stream o.order
 quiet_where watch queued history true id all waits stream between = between.0
 
-pub separated_where : (watch : Watch) (queued : List Message) (history : History) (b : Bool) (id : ℕ) (all waits : List ℕ) (stream : StreamModel) → IsOrderedOrReset watch b queued history id all waits stream → AreSeparated queued id watch.cuts all
+pub separated_where : (watch : Watch) (queued : List Message) (history : History) (b : Bool) (id : ℕ) (all waits : List ℕ) (stream : StreamModel) → IsOrderedOrReset watch b (sent_messages queued history) id all waits stream → AreSeparated queued id watch.cuts all
 separated_where watch queued history false id all waits stream o = o.separated
 separated_where watch queued history true id all waits stream between = between.1
 
 module _ (watch : ℕ → Watch) (queued : List Message) (history : History) (quiet : ℕ → Bool) (got : List ℕ) (base : ℕ) (read : List ℕ) where
   renewed : (named : ℕ → Bool) (streams later : ℕ → StreamModel) (unordered others : List RunModel) (ready : List MessageContent) → ((id : ℕ) → later id ≡ (if named id then new_stream id else streams id))
-      → AreRows history.log got (unordered_base base) IsOfStream others → HoldsOrdered watch queued history quiet got base read streams unordered ready
-      → HoldsOrdered watch queued history (λ id. quiet id || named id) got base read later others ready
+      → AreRows history.log got (unordered_base base) IsOfStream others → HoldsOrdered watch (sent_messages queued history) quiet got base read (held_messages streams unordered ready)
+      → HoldsOrdered watch (sent_messages queued history) (λ id. quiet id || named id) got base read (held_messages later others ready)
   unfolding holds_renewed
   renewed named streams later unordered others ready are rows o =
       record {
         holds = holds_renewed queued history got base read named streams later unordered others ready are rows o.holds;
-        order = λ id counts. subst (λ (s : StreamModel). IsOrderedOrReset (watch id) (quiet id || named id) queued history id (read ++ o.holds.places) (if named id then [] else o.holds.waits id) s) (sym (are id))
+        order = λ id counts. subst (λ (s : StreamModel). IsOrderedOrReset (watch id) (quiet id || named id) (sent_messages queued history) id (read ++ o.holds.places) (if named id then [] else o.holds.waits id) s) (sym (are id))
             (left_order id (quiet id) (named id) (o.order id counts));
       }
     where
-      left_order : (id : ℕ) (was b : Bool) → IsOrderedOrReset (watch id) was queued history id (read ++ o.holds.places) (o.holds.waits id) (streams id)
-          → IsOrderedOrReset (watch id) (was || b) queued history id (read ++ o.holds.places) (if b then [] else o.holds.waits id) (if b then new_stream id else streams id)
+      left_order : (id : ℕ) (was b : Bool) → IsOrderedOrReset (watch id) was (sent_messages queued history) id (read ++ o.holds.places) (o.holds.waits id) (streams id)
+          → IsOrderedOrReset (watch id) (was || b) (sent_messages queued history) id (read ++ o.holds.places) (if b then [] else o.holds.waits id) (if b then new_stream id else streams id)
       left_order id true true between = between
       left_order id true false between = between
       left_order id false true ordered = (quiet_where (watch id) queued history false id (read ++ o.holds.places) (o.holds.waits id) (streams id) ordered, ordered.separated)
       left_order id false false ordered = ordered
 
-  pub resetting_in_order : (streams : List ℕ) (old new : IncomingModel) → IncomingOrdered watch queued history quiet got base read old → ResetsStreams streams old new → IncomingOrdered watch queued history (λ id. quiet id || names_stream streams id) got base read new
+  pub resetting_in_order : (streams : List ℕ) (old new : IncomingModel) → IncomingOrdered watch (sent_messages queued history) quiet got base read old → ResetsStreams streams old new → IncomingOrdered watch (sent_messages queued history) (λ id. quiet id || names_stream streams id) got base read new
   resetting_in_order [] old new o resets =
-      subst (λ (l : List MessageContent). HoldsOrdered watch queued history (λ id. quiet id || true) got base read (λ id. stream_on id new.streams) new.unordered l) (sym resets.kept.ready)
+      subst (λ (l : List MessageContent). HoldsOrdered watch (sent_messages queued history) (λ id. quiet id || true) got base read (held_messages (λ id. stream_on id new.streams) new.unordered l)) (sym resets.kept.ready)
       (renewed (λ id. true) (λ id. stream_on id old.streams) (λ id. stream_on id new.streams) old.unordered new.unordered old.ready resets.streams
       (subst (λ (l : List RunModel). AreRows history.log got (unordered_base base) IsOfStream l) (sym resets.unordered) tt) o)
   resetting_in_order (reset ∷ others) old new o resets =
-      subst (λ (l : List MessageContent). HoldsOrdered watch queued history (λ id. quiet id || is_named (reset ∷ others) id) got base read (λ id. stream_on id new.streams) new.unordered l) (sym resets.kept.ready)
+      subst (λ (l : List MessageContent). HoldsOrdered watch (sent_messages queued history) (λ id. quiet id || is_named (reset ∷ others) id) got base read (held_messages (λ id. stream_on id new.streams) new.unordered l)) (sym resets.kept.ready)
       (renewed (is_named (reset ∷ others)) (λ id. stream_on id old.streams) (λ id. stream_on id new.streams) old.unordered new.unordered old.ready resets.streams
       (subst (λ (l : List RunModel). AreRows history.log got (unordered_base base) IsOfStream l) (sym resets.unordered) (rows_filter queued history got base read (unordered_base base) IsOfStream (λ run. not (is_named (reset ∷ others) run.number)) old.unordered o.holds.rows)) o)
 
@@ -91,11 +91,11 @@ module _ (watch : ℕ → Watch) (queued : List Message) (history : History) (qu
         | inr t ↦ not_twice p xs ys distinct.1 t
       ]
 
-  pub taking_in_order : (incoming : IncomingModel) (message : MessageContent) (messages : List MessageContent) → incoming.ready ≡ message ∷ messages → IncomingOrdered watch queued history quiet got base read incoming
-      → ReadsInOrder watch queued history quiet got base read incoming message messages
+  pub taking_in_order : (incoming : IncomingModel) (message : MessageContent) (messages : List MessageContent) → incoming.ready ≡ message ∷ messages → IncomingOrdered watch (sent_messages queued history) quiet got base read incoming
+      → ReadsInOrder watch (sent_messages queued history) quiet got base read (first_ready incoming message messages)
   taking_in_order incoming message messages is o = go o.holds.places refl (subst (λ (l : List MessageContent). WereQueued queued o.holds.places l) is o.holds.were_queued)
     where
-      go : (places : List ℕ) → o.holds.places ≡ places → WereQueued queued places (message ∷ messages) → ReadsInOrder watch queued history quiet got base read incoming message messages
+      go : (places : List ℕ) → o.holds.places ≡ places → WereQueued queued places (message ∷ messages) → ReadsInOrder watch (sent_messages queued history) quiet got base read (first_ready incoming message messages)
       go [] e were = absurd were
       go (p ∷ places) e were =
           let all : read ++ o.holds.places ≡ (read ++ p ∷ []) ++ places = ap (λ (l : List ℕ). read ++ l) e ∙ sym (appended read (p ∷ []) places) in
@@ -113,7 +113,7 @@ module _ (watch : ℕ → Watch) (queued : List Message) (history : History) (qu
                 spent = λ q h. o.holds.spent q (subst (λ (l : List ℕ). HasEntry q l) (sym all) h);
                 once = λ id. subst (λ (l : List ℕ). AreDistinct (l ++ o.holds.waits id)) all (o.holds.once id);
               };
-              order = λ id counts. subst (λ (l : List ℕ). IsOrderedOrReset (watch id) (quiet id) queued history id l (o.holds.waits id) (stream_on id incoming.streams)) all (o.order id counts);
+              order = λ id counts. subst (λ (l : List ℕ). IsOrderedOrReset (watch id) (quiet id) (sent_messages queued history) id l (o.holds.waits id) (stream_on id incoming.streams)) all (o.order id counts);
             };
           }
 
@@ -125,7 +125,7 @@ module _ (watch : ℕ → Watch) (queued : List Message) (history : History) (qu
       among p [] h = absurd h
       among p (z ∷ zs) h = elim h [ inl e ↦ inl e | inr t ↦ inr (among p zs t) ]
 
-  pub ordered_was_read : (incoming : IncomingModel) (id : ℕ) → CountsFromZero history id → IncomingOrdered watch queued history quiet got base read incoming → ComeInOrder queued id read
+  pub ordered_was_read : (incoming : IncomingModel) (id : ℕ) → CountsFromZero history id → IncomingOrdered watch (sent_messages queued history) quiet got base read incoming → ComeInOrder queued id read
   ordered_was_read incoming id counts o = in_order_front id read o.holds.places (quiet_where (watch id) queued history (quiet id) id (read ++ o.holds.places) (o.holds.waits id) (stream_on id incoming.streams) (o.order id counts)).in_order
 
 -- ---- more that the peer queues and sends
@@ -176,8 +176,8 @@ module _ (queued more : List Message) (history later : History) (id : ℕ) (with
   read_more (p ∷ places) (w ∷ wholes) are = (record { mid = are.0.mid; sent = sent_more p are.0.mid are.0.sent; counted = (let counted = are.0.counted in omega (arith, counted, same_floor)) }, read_more places wholes are.1)
 
 pub growing_in_order : (watch : Watch) (queued more : List Message) (history later : History) (quiet : Bool) (id : ℕ) (all waits : List ℕ) (contents : List MessageContent) (stream : StreamModel)
-    → IsWithin history later → (quiet ≡ false → ComeSince history id watch.cuts → ComeSince later id watch.cuts) → WereQueued queued all contents → CountsFromZero later id → (CountsFromZero history id → IsOrderedOrReset watch quiet queued history id all waits stream)
-    → IsOrderedOrReset watch quiet (more ++ queued) later id all waits stream
+    → IsWithin history later → (quiet ≡ false → ComeSince history id watch.cuts → ComeSince later id watch.cuts) → WereQueued queued all contents → CountsFromZero later id → (CountsFromZero history id → IsOrderedOrReset watch quiet (sent_messages queued history) id all waits stream)
+    → IsOrderedOrReset watch quiet (sent_messages (more ++ queued) later) id all waits stream
 growing_in_order watch queued more history later false id all waits contents stream within fresh were counts ordered =
     let o = ordered (counts_before queued more history later id within counts) in
     record {

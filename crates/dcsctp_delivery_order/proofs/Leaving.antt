@@ -7,7 +7,7 @@ use Rattle.dcsctp_spec_lemmas.specs.types.declared.arrivals.Taken.{Taken}
 use Rattle.dcsctp_spec_lemmas.specs.spec.queues.Runs.{PartModel, WholeModel, Assembly, part_dropped, part_kept, message_whole}
 use Rattle.dcsctp_spec_lemmas.specs.spec.queues.IncomingStreams.{StreamModel, delivered_as, next_after, due, not_due, ready_with, WaitsAmong, OrderedOutcome, UnorderedOutcome, TakesOrdered}
 use Rattle.dcsctp_delivery_sending.specs.Places.{HasEntry, at_place}
-use Rattle.dcsctp_delivery_sending.specs.Log.{Message, History}
+use Rattle.dcsctp_delivery_sending.specs.Log.{Message, History, sent_messages}
 use Rattle.dcsctp_delivery_receiving.specs.Rows.{Spent, IsQueued, MakesQueued}
 use Rattle.dcsctp_delivery_receiving.specs.Ready.{IsOn, AreDistinct, WasQueued, WereQueued, WaitQueued}
 use Rattle.dcsctp_delivery_receiving.proofs.Distinct.{appended, has_left, has_right, distinct_with}
@@ -66,7 +66,7 @@ alike_ordered watch queued history id all waits old new next waiting o =
 
 -- messages of other streams, or unordered ones
 pub others_where : (watch : Watch) (queued : List Message) (history : History) (quiet : Bool) (id : ℕ) (all waits more : List ℕ) (stream : StreamModel) → ((place : ℕ) → HasEntry place more → IsOrderedOn queued id place → ⊥)
-    → IsOrderedOrReset watch quiet queued history id all waits stream → IsOrderedOrReset watch quiet queued history id (all ++ more) waits stream
+    → IsOrderedOrReset watch quiet (sent_messages queued history) id all waits stream → IsOrderedOrReset watch quiet (sent_messages queued history) id (all ++ more) waits stream
 others_where watch queued history false id all waits more stream none o = record { order = others_stay queued history id all waits more stream none o.order; reach = o.reach; filled = λ is. more_filled history id stream.next all more (o.filled is); separated = separated_others queued id watch.cuts all more none o.separated; since = o.since }
 others_where watch queued history true id all waits more stream none between = (others_between queued history id all more none between.0, separated_others queued id watch.cuts all more none between.1)
 

@@ -8,9 +8,9 @@ use Rattle.dcsctp_spec_lemmas.specs.spec.queues.Incoming.{IncomingModel, is_name
 use Rattle.dcsctp_spec_lemmas.specs.spec.queues.Reassembly.{WaitingModel, DeferralModel, ReassemblyState, names_stream, HandlesAll, waiting_of, begun_deferral, deferring, EndsDeferral}
 use Rattle.dcsctp_spec_lemmas.specs.spec.queues.Tracker.{TrackerState}
 use Rattle.dcsctp_delivery_sending.specs.Places.{HasEntry, at_place}
-use Rattle.dcsctp_delivery_sending.specs.Log.{Message, Piece, History, IsLogOfPieces}
+use Rattle.dcsctp_delivery_sending.specs.Log.{Message, Piece, History, IsLogOfPieces, sent_messages}
 use Rattle.dcsctp_delivery_receiving.specs.Rows.{AreRows}
-use Rattle.dcsctp_delivery_receiving.specs.Ready.{IsOfStream, unordered_base, AreDistinct}
+use Rattle.dcsctp_delivery_receiving.specs.Ready.{IsOfStream, unordered_base, AreDistinct, held_messages}
 use Rattle.dcsctp_delivery_receiving.specs.Received.{CountsFromBase, DefersData, ForwardsWait}
 use Rattle.dcsctp_delivery_order.proofs.PlainSkipping.{skips_plain}
 use Rattle.dcsctp_delivery_order.specs.Plain.{CountsThese, PlainStream, HoldsPlain, IncomingPlain}
@@ -26,27 +26,27 @@ AreUnnamed these streams = (id : ℕ) → these id ≡ true → names_stream str
 module _ (these : ℕ → Bool) (queued : List Message) (history : History) (got : List ℕ) (base : ℕ) (read : List ℕ) where
   renewed_plain : (named : ℕ → Bool) (streams later : ℕ → StreamModel) (unordered others : List RunModel) (ready : List MessageContent) → ((id : ℕ) → later id ≡ (if named id then new_stream id else streams id))
       → AreRows history.log got (unordered_base base) IsOfStream others → ((id : ℕ) → these id ≡ true → named id ≡ false)
-      → HoldsPlain these queued history got base read streams unordered ready → HoldsPlain these queued history got base read later others ready
+      → HoldsPlain these (sent_messages queued history) got base read (held_messages streams unordered ready) → HoldsPlain these (sent_messages queued history) got base read (held_messages later others ready)
   unfolding holds_renewed
   renewed_plain named streams later unordered others ready are rows apart o =
       record {
         holds = holds_renewed queued history got base read named streams later unordered others ready are rows o.holds;
-        order = λ id kept. subst (λ (s : StreamModel). PlainStream queued history got base id (read ++ o.holds.places) (if named id then [] else o.holds.waits id) s) (sym (are id))
+        order = λ id kept. subst (λ (s : StreamModel). PlainStream (sent_messages queued history) got base id (read ++ o.holds.places) (if named id then [] else o.holds.waits id) s) (sym (are id))
             (left id (named id) (apart id kept) (o.order id kept));
       }
     where
-      left : (id : ℕ) (b : Bool) → b ≡ false → PlainStream queued history got base id (read ++ o.holds.places) (o.holds.waits id) (streams id)
-          → PlainStream queued history got base id (read ++ o.holds.places) (if b then [] else o.holds.waits id) (if b then new_stream id else streams id)
+      left : (id : ℕ) (b : Bool) → b ≡ false → PlainStream (sent_messages queued history) got base id (read ++ o.holds.places) (o.holds.waits id) (streams id)
+          → PlainStream (sent_messages queued history) got base id (read ++ o.holds.places) (if b then [] else o.holds.waits id) (if b then new_stream id else streams id)
       left id true is s = absurd (cc)
       left id false is s = s
 
   resetting_plain : (streams : List ℕ) (old new : IncomingModel) → AreUnnamed these streams → IncomingPlain these queued history got base read old → ResetsStreams streams old new → IncomingPlain these queued history got base read new
   resetting_plain [] old new apart o resets =
-      subst (λ (l : List MessageContent). HoldsPlain these queued history got base read (λ id. stream_on id new.streams) new.unordered l) (sym resets.kept.ready)
+      subst (λ (l : List MessageContent). HoldsPlain these (sent_messages queued history) got base read (held_messages (λ id. stream_on id new.streams) new.unordered l)) (sym resets.kept.ready)
       (renewed_plain (λ id. true) (λ id. stream_on id old.streams) (λ id. stream_on id new.streams) old.unordered new.unordered old.ready resets.streams
       (subst (λ (l : List RunModel). AreRows history.log got (unordered_base base) IsOfStream l) (sym resets.unordered) tt) apart o)
   resetting_plain (reset ∷ others) old new apart o resets =
-      subst (λ (l : List MessageContent). HoldsPlain these queued history got base read (λ id. stream_on id new.streams) new.unordered l) (sym resets.kept.ready)
+      subst (λ (l : List MessageContent). HoldsPlain these (sent_messages queued history) got base read (held_messages (λ id. stream_on id new.streams) new.unordered l)) (sym resets.kept.ready)
       (renewed_plain (is_named (reset ∷ others)) (λ id. stream_on id old.streams) (λ id. stream_on id new.streams) old.unordered new.unordered old.ready resets.streams
       (subst (λ (l : List RunModel). AreRows history.log got (unordered_base base) IsOfStream l) (sym resets.unordered) (rows_filter queued history got base read (unordered_base base) IsOfStream (λ run. not (is_named (reset ∷ others) run.number)) old.unordered o.holds.rows)) apart o)
 

@@ -10,7 +10,7 @@ use Rattle.dcsctp_spec_lemmas.specs.spec.queues.Incoming.{IncomingModel, stream_
 use Rattle.dcsctp_spec_lemmas.specs.spec.queues.Tracker.{TrackerState, has_received}
 use Rattle.dcsctp_spec_lemmas.specs.spec.queues.Reassembly.{ReassemblyState, waiting_of, with_ready}
 use Rattle.dcsctp_delivery_sending.specs.Places.{HasEntry, at_place}
-use Rattle.dcsctp_delivery_sending.specs.Log.{Message, Piece, Slot, History}
+use Rattle.dcsctp_delivery_sending.specs.Log.{Message, Piece, Slot, History, sent_messages}
 use Rattle.dcsctp_delivery_sending.specs.Turns.{turn_of_tsn, IsSsnOfTurn}
 use Rattle.dcsctp_delivery_sending.proofs.Extended.{at_more}
 use Rattle.dcsctp_delivery_sending.proofs.Places.{at_some, at_below}
@@ -80,7 +80,7 @@ reads_plain these queued history got base read incoming message messages is o = 
               spent = λ q h. o.holds.spent q (subst (λ (l : List ℕ). HasEntry q l) (sym all) h);
               once = λ id. subst (λ (l : List ℕ). AreDistinct (l ++ o.holds.waits id)) all (o.holds.once id);
             };
-            order = λ id kept. subst (λ (l : List ℕ). PlainStream queued history got base id l (o.holds.waits id) (stream_on id incoming.streams)) all (o.order id kept);
+            order = λ id kept. subst (λ (l : List ℕ). PlainStream (sent_messages queued history) got base id l (o.holds.waits id) (stream_on id incoming.streams)) all (o.order id kept);
           };
         }
 
@@ -166,7 +166,7 @@ module _ (queued more : List Message) (history later : History) (slots : List Sl
       record { at = at ∙ ap (λ (x : Piece). Some (Some x)) (sym same); stream = of.stream; ordered = of.ordered }
 
   stream_more : (got : List ℕ) (base id : ℕ) (all waits : List ℕ) (texts : List MessageContent) (stream : StreamModel) → ((k : ℕ) → HasEntry k got → (f : Piece) × (at_place k history.log ≡ Some (Some f))) → WereQueued queued all texts
-      → PlainStream queued history got base id all waits stream → PlainStream (more ++ queued) later got base id all waits stream
+      → PlainStream (sent_messages queued history) got base id all waits stream → PlainStream (sent_messages (more ++ queued) later) got base id all waits stream
   unfolding within
   stream_more got base id all waits texts stream pieces queued_all s =
       record {

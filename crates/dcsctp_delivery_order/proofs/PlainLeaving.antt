@@ -8,7 +8,7 @@ use Rattle.dcsctp_spec_lemmas.specs.spec.queues.Numbers.{fragment_place}
 use Rattle.dcsctp_spec_lemmas.specs.spec.queues.Runs.{PartModel, WholeModel, Assembly, part_dropped, part_kept, message_whole}
 use Rattle.dcsctp_spec_lemmas.specs.spec.queues.IncomingStreams.{StreamModel, delivered_as, next_after, due, not_due, ready_with, WaitsAmong, OrderedOutcome, UnorderedOutcome, TakesOrdered}
 use Rattle.dcsctp_delivery_sending.specs.Places.{HasEntry}
-use Rattle.dcsctp_delivery_sending.specs.Log.{Message, Piece, History, IsLogOfPieces}
+use Rattle.dcsctp_delivery_sending.specs.Log.{Message, Piece, History, IsLogOfPieces, sent_messages}
 use Rattle.dcsctp_delivery_receiving.specs.Rows.{AreRows, Spent, IsQueued, MakesQueued}
 use Rattle.dcsctp_delivery_receiving.specs.Ready.{IsOn, ordered_base, AreDistinct, WereQueued, WaitQueued}
 use Rattle.dcsctp_delivery_receiving.proofs.Distinct.{appended, has_left, distinct_with}
@@ -31,7 +31,7 @@ use Rattle.dcsctp_delivery_order.proofs.PlainHeld.{rise_end, runs_stay, held_sta
 
 -- messages of other streams, or unordered ones
 pub others_plain : (queued : List Message) (history : History) (got : List ℕ) (n base id : ℕ) (all waits more : List ℕ) (stream : StreamModel) → ((f : Piece) → CarriesOrdered history.log id n f → ⊥)
-    → ((place : ℕ) → HasEntry place more → IsOrderedOn queued id place → ⊥) → PlainStream queued history got base id all waits stream → PlainStream queued history (n ∷ got) base id (all ++ more) waits stream
+    → ((place : ℕ) → HasEntry place more → IsOrderedOn queued id place → ⊥) → PlainStream (sent_messages queued history) got base id all waits stream → PlainStream (sent_messages queued history) (n ∷ got) base id (all ++ more) waits stream
 others_plain queued history got n base id all waits more stream other none s =
     record {
       order = others_stay queued (with_turns history) id all waits more stream none s.order;
@@ -58,10 +58,10 @@ module _ (queued : List Message) (history : History) (now : List ℕ) (base : �
     pub once : AreDistinct ((all ++ more) ++ waits)
     pub on : (q : ℕ) → HasEntry q more → IsOnIt queued id q
     pub spent : (q : ℕ) → HasEntry q more → Spent history.log now q
-    pub order : PlainStream queued history now base id (all ++ more) waits new
+    pub order : PlainStream (sent_messages queued history) now base id (all ++ more) waits new
 
   pub none_left : (all places waits : List ℕ) (id : ℕ) (new : StreamModel) (before after : List MessageContent) → WereQueued queued places before → WaitQueued queued history now id waits new.waiting → AreDistinct (all ++ waits) → after ≡ before
-      → PlainStream queued history now base id (all ++ []) waits new → LeavesPlain all places id new after
+      → PlainStream (sent_messages queued history) now base id (all ++ []) waits new → LeavesPlain all places id new after
   none_left all places waits id new before after were wait once same order =
       record {
         more = [];
@@ -76,7 +76,7 @@ module _ (queued : List Message) (history : History) (now : List ℕ) (base : �
 
   one_left : (all places waits : List ℕ) (id p : ℕ) (whole : WholeModel) (new : StreamModel) (before after : List MessageContent) → WereQueued queued places before → WaitQueued queued history now id waits new.waiting
       → IsQueued queued history.log now (OfStream id) p whole → AreDistinct (all ++ waits) → (HasEntry p (all ++ waits) → ⊥) → after ≡ before ++ delivered_as id whole ∷ []
-      → PlainStream queued history now base id (all ++ p ∷ []) waits new → LeavesPlain all places id new after
+      → PlainStream (sent_messages queued history) now base id (all ++ p ∷ []) waits new → LeavesPlain all places id new after
   one_left all places waits id p whole new before after were wait is once fresh e order =
       record {
         more = p ∷ [];
@@ -93,7 +93,7 @@ module _ (queued : List Message) (history : History) (now : List ℕ) (base : �
 
   pub apart_left : (all places waits : List ℕ) (id p : ℕ) (part : PartModel) (new : StreamModel) (before after : List MessageContent) (outcome : Assembly) (taken : Taken)
       → WereQueued queued places before → WaitQueued queued history now id waits new.waiting → MakesQueued queued history.log now (OfStream id) p outcome → AreDistinct (all ++ waits) → (HasEntry p (all ++ waits) → ⊥)
-      → ((more : List ℕ) → ((q : ℕ) → HasEntry q more → q ≡ p) → PlainStream queued history now base id (all ++ more) waits new)
+      → ((more : List ℕ) → ((q : ℕ) → HasEntry q more → q ≡ p) → PlainStream (sent_messages queued history) now base id (all ++ more) waits new)
       → UnorderedOutcome part (delivered_as id) before outcome taken after → LeavesPlain all places id new after
   apart_left all places waits id p part new before after outcome taken were wait makes once fresh ordered does = go outcome makes does
     where
@@ -108,7 +108,7 @@ module _ (queued : List Message) (history : History) (now : List ℕ) (base : �
 module _ (queued : List Message) (history : History) (cut : IsLogOfPieces queued history.log) (id : ℕ) (counts : CountsPlain id history) (got : List ℕ) (base : ℕ) (small : base + 2 ^ 32 < 2 ^ 64) (n : ℕ) (f : Piece) (is : CarriesOrdered history.log id n f) (is_new : HasEntry n got → ⊥)
     (part : PartModel) (number_is : part.number ≡ number_of_tsn id n history.log) (place_is : part.place ≡ fragment_place part.number base + n)
     (old new : StreamModel) (rows : AreRows history.log got (ordered_base base) (IsOn history id) old.ordered) (before after : List MessageContent) (taken : Taken) (does : TakesOrdered part old before taken new after)
-    (all places waits : List ℕ) (s : PlainStream queued history got base id all waits old) (from : old.next ≤ part.number)
+    (all places waits : List ℕ) (s : PlainStream (sent_messages queued history) got base id all waits old) (from : old.next ≤ part.number)
     (same : id ≡ old.id) (were : WereQueued queued places before) (wait : WaitQueued queued history (n ∷ got) id waits old.waiting) (once : AreDistinct (all ++ waits)) (fresh : HasEntry f.place (all ++ waits) → ⊥)
     (ahead : IsAhead part old) where
   abbrev now : List ℕ
@@ -122,7 +122,7 @@ module _ (queued : List Message) (history : History) (cut : IsLogOfPieces queued
 
   -- the stream once these are delivered
   then_plain : (more later : List ℕ) (delivered : List WholeModel) → DeliversRow old before new after delivered → AreReadAs (with_turns history) id more delivered → AreReadAs (with_turns history) id later new.waiting
-      → PlainStream queued history now base id (all ++ more) later new
+      → PlainStream (sent_messages queued history) now base id (all ++ more) later new
   unfolding row
   then_plain more later delivered delivers are left =
       record {

@@ -6,7 +6,7 @@ use Rattle.dcsctp_spec_lemmas.specs.spec.queues.Numbers.{short_number_from}
 use Rattle.dcsctp_spec_lemmas.specs.spec.queues.Runs.{PartModel, WholeModel}
 use Rattle.dcsctp_spec_lemmas.specs.spec.queues.IncomingStreams.{StreamModel, is_number_waiting}
 use Rattle.dcsctp_delivery_sending.specs.Places.{HasEntry}
-use Rattle.dcsctp_delivery_sending.specs.Log.{Message, Piece, History, IsLogOfPieces}
+use Rattle.dcsctp_delivery_sending.specs.Log.{Message, Piece, History, IsLogOfPieces, sent_messages}
 use Rattle.dcsctp_delivery_sending.specs.Turns.{turn_of_tsn, IsSsnOfTurn}
 use Rattle.dcsctp_delivery_sending.proofs.Places.{at_below}
 use Rattle.dcsctp_delivery_receiving.specs.Rows.{AreRows, Spent}
@@ -58,7 +58,7 @@ module _ (queued : List Message) (history : History) (cut : IsLogOfPieces queued
         | inr e ↦ rw e.0 (none_waits n f is waits waiting are.1 (λ has. fresh (inr has)))
       ]
 
-  module _ (got : List ℕ) (base : ℕ) (all waits : List ℕ) (stream : StreamModel) (s : PlainStream queued history got base id all waits stream) where
+  module _ (got : List ℕ) (base : ℕ) (all waits : List ℕ) (stream : StreamModel) (s : PlainStream (sent_messages queued history) got base id all waits stream) where
     pub plain_ahead : (n : ℕ) (f : Piece) (part : PartModel) → CarriesOrdered history.log id n f → part.number ≡ number_of_tsn id n history.log → stream.next ≤ part.number → (HasEntry f.place waits → ⊥) → IsAhead part stream
     plain_ahead n f part is number from fresh =
         record {

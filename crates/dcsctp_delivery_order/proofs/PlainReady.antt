@@ -7,14 +7,14 @@ use Rattle.dcsctp_spec_lemmas.specs.types.declared.arrivals.Numbering.TheVariant
 use Rattle.dcsctp_spec_lemmas.specs.types.declared.arrivals.Taken.{Taken}
 use Rattle.dcsctp_spec_lemmas.specs.spec.queues.Numbers.{number_near, short_number_from, fragment_place}
 use Rattle.dcsctp_spec_lemmas.specs.spec.queues.Runs.{RunModel, Assembly, part_dropped, part_kept, message_whole}
-use Rattle.dcsctp_spec_lemmas.specs.spec.queues.IncomingStreams.{StreamModel, ChunkModel, data_part, delivered_as, UnorderedOutcome, TakesAhead, TakesNumbered}
+use Rattle.dcsctp_spec_lemmas.specs.spec.queues.IncomingStreams.{StreamModel, ChunkModel, data_part, delivered_as, UnorderedOutcome, TakesAhead, TakesNumberedPart, numbered_part}
 use Rattle.dcsctp_spec_lemmas.specs.spec.queues.Incoming.{IncomingModel, stream_on, TakesChunk, TakesIncomingChunk}
 use Rattle.dcsctp_delivery_sending.specs.Places.{HasEntry, table_with}
-use Rattle.dcsctp_delivery_sending.specs.Log.{Message, Piece, History, IsLogOfPieces}
+use Rattle.dcsctp_delivery_sending.specs.Log.{Message, Piece, History, IsLogOfPieces, sent_messages}
 use Rattle.dcsctp_delivery_sending.specs.Numbers.{IsUnambiguous, plain}
 use Rattle.dcsctp_delivery_sending.proofs.Places.{decide, set_same, set_other}
 use Rattle.dcsctp_delivery_receiving.specs.Rows.{IsPart, AreRows, Spent, MakesQueued}
-use Rattle.dcsctp_delivery_receiving.specs.Ready.{IsOn, IsApart, IsOfStream, ReadsMids, ordered_base, unordered_base, StreamRows, AreDistinct, WaitQueued, StreamHolds, IsNumbered, BearsPiece}
+use Rattle.dcsctp_delivery_receiving.specs.Ready.{IsOn, IsApart, IsOfStream, ReadsMids, ordered_base, unordered_base, StreamRows, AreDistinct, WaitQueued, StreamHolds, IsNumbered, BearsPiece, held_messages}
 use Rattle.dcsctp_delivery_receiving.proofs.Chaining.{one_kind}
 use Rattle.dcsctp_delivery_receiving.proofs.SpentRows.{stay_rows, rows_got, spent_got, was_handled, of_message, IsOfMessage}
 use Rattle.dcsctp_delivery_receiving.proofs.Distinct.{distinct_left, distinct_apart, appended, has_either, has_right}
@@ -38,7 +38,7 @@ module _ (queued : List Message) (history : History) (cut : IsLogOfPieces queued
   told = plain counts.kinds
 
   module _ (tsn_number : ℕ) (chunk : ChunkModel) (bears : BearsPiece history base tsn_number chunk) (is_new : HasEntry bears.offset got → ⊥)
-      (streams : ℕ → StreamModel) (unordered : List RunModel) (ready : List MessageContent) (o : HoldsPlain these queued history got base read streams unordered ready) where
+      (streams : ℕ → StreamModel) (unordered : List RunModel) (ready : List MessageContent) (o : HoldsPlain these (sent_messages queued history) got base read (held_messages streams unordered ready)) where
     all : List ℕ
     all = read ++ o.holds.places
 
@@ -69,17 +69,17 @@ module _ (queued : List Message) (history : History) (cut : IsLogOfPieces queued
 
     -- other streams stay in order
     others_then : (other : ℕ) → these other ≡ true → (more : List ℕ) → ((q : ℕ) → HasEntry q more → IsOnIt queued chunk.stream q) → other ≢ chunk.stream
-        → PlainStream queued history now base other (read ++ (o.holds.places ++ more)) (o.holds.waits other) (streams other)
+        → PlainStream (sent_messages queued history) now base other (read ++ (o.holds.places ++ more)) (o.holds.waits other) (streams other)
     unfolding all
     others_then other kept more on ne =
-        subst (λ (l : List ℕ). PlainStream queued history now base other l (o.holds.waits other) (streams other)) (all_then more)
+        subst (λ (l : List ℕ). PlainStream (sent_messages queued history) now base other l (o.holds.waits other) (streams other)) (all_then more)
         (others_plain queued history got bears.offset base other all (o.holds.waits other) more (streams other) (not_of other ne)
         (λ place h is. ne (sym (one_stream queued chunk.stream other place (on place h) (is.message, is.at, is.stream)))) (o.order other kept))
 
     -- the invariant once its stream is left so
     holds_then : (later : ℕ → StreamModel) (runs : List RunModel) (after : List MessageContent) → StreamRows history now base chunk.stream (later chunk.stream)
         → AreRows history.log now (unordered_base base) IsOfStream runs → ((other : ℕ) → other ≢ chunk.stream → later other ≡ streams other) → LeavesPlain queued history now base all o.holds.places chunk.stream (later chunk.stream) after
-        → HoldsPlain these queued history now base read later runs after
+        → HoldsPlain these (sent_messages queued history) now base read (held_messages later runs after)
     unfolding all
     holds_then later runs after rows apart others leaves =
         record {
@@ -113,12 +113,12 @@ module _ (queued : List Message) (history : History) (cut : IsLogOfPieces queued
           };
           order = λ other kept. elim (decide other chunk.stream) [
             | inl e ↦
-                subst (λ (k : ℕ). PlainStream queued history now base k (read ++ (o.holds.places ++ leaves.more)) (table_with chunk.stream leaves.waits o.holds.waits k) (later k)) (sym e)
-                (subst (λ (l : List ℕ). PlainStream queued history now base chunk.stream (read ++ (o.holds.places ++ leaves.more)) l (later chunk.stream)) (sym (set_same chunk.stream leaves.waits o.holds.waits))
-                (subst (λ (l : List ℕ). PlainStream queued history now base chunk.stream l leaves.waits (later chunk.stream)) (all_then leaves.more) leaves.order))
+                subst (λ (k : ℕ). PlainStream (sent_messages queued history) now base k (read ++ (o.holds.places ++ leaves.more)) (table_with chunk.stream leaves.waits o.holds.waits k) (later k)) (sym e)
+                (subst (λ (l : List ℕ). PlainStream (sent_messages queued history) now base chunk.stream (read ++ (o.holds.places ++ leaves.more)) l (later chunk.stream)) (sym (set_same chunk.stream leaves.waits o.holds.waits))
+                (subst (λ (l : List ℕ). PlainStream (sent_messages queued history) now base chunk.stream l leaves.waits (later chunk.stream)) (all_then leaves.more) leaves.order))
             | inr ne ↦
-                subst (λ (l : List ℕ). PlainStream queued history now base other (read ++ (o.holds.places ++ leaves.more)) l (later other)) (sym (set_other chunk.stream other leaves.waits o.holds.waits ne))
-                (subst (λ (s : StreamModel). PlainStream queued history now base other (read ++ (o.holds.places ++ leaves.more)) (o.holds.waits other) s) (sym (others other ne)) (others_then other kept leaves.more leaves.on ne))
+                subst (λ (l : List ℕ). PlainStream (sent_messages queued history) now base other (read ++ (o.holds.places ++ leaves.more)) l (later other)) (sym (set_other chunk.stream other leaves.waits o.holds.waits ne))
+                (subst (λ (s : StreamModel). PlainStream (sent_messages queued history) now base other (read ++ (o.holds.places ++ leaves.more)) (o.holds.waits other) s) (sym (others other ne)) (others_then other kept leaves.more leaves.on ne))
           ];
         }
 
@@ -126,7 +126,7 @@ module _ (queued : List Message) (history : History) (cut : IsLogOfPieces queued
     here : StreamHolds queued history got base chunk.stream (o.holds.waits chunk.stream) (streams chunk.stream)
     here = o.holds.streams_hold chunk.stream
 
-    here_order : these chunk.stream ≡ true → PlainStream queued history got base chunk.stream all (o.holds.waits chunk.stream) (streams chunk.stream)
+    here_order : these chunk.stream ≡ true → PlainStream (sent_messages queued history) got base chunk.stream all (o.holds.waits chunk.stream) (streams chunk.stream)
     unfolding all
     here_order mine = o.order chunk.stream mine
 
@@ -152,7 +152,7 @@ module _ (queued : List Message) (history : History) (cut : IsLogOfPieces queued
 
     ahead : these chunk.stream ≡ true → (later : ℕ → StreamModel) (runs : List RunModel) (after : List MessageContent) (taken : Taken) → bears.piece.is_interleaved ≡ false → bears.piece.message.is_unordered ≡ false → (streams chunk.stream).next ≤ own_number
         → runs ≡ unordered → ((other : ℕ) → other ≢ chunk.stream → later other ≡ streams other)
-        → TakesAhead (data_part chunk (fragment_place own_number tsn_number) own_number) (streams chunk.stream) ready taken (later chunk.stream) after → HoldsPlain these queued history now base read later runs after
+        → TakesAhead (data_part chunk (fragment_place own_number tsn_number) own_number) (streams chunk.stream) ready taken (later chunk.stream) after → HoldsPlain these (sent_messages queued history) now base read (held_messages later runs after)
     unfolding here all
     ahead mine later runs after taken kind ordered from kept others takes =
         let part : IsPart history.log (ordered_base base) (IsOn history chunk.stream) (data_part chunk (fragment_place own_number tsn_number) own_number) =
@@ -201,10 +201,10 @@ module _ (queued : List Message) (history : History) (cut : IsLogOfPieces queued
 
     unordered_chunk : these chunk.stream ≡ true → (later : ℕ → StreamModel) (runs : List RunModel) (after : List MessageContent) (outcome : Assembly) (taken : Taken) → bears.piece.message.is_unordered ≡ true → later ≡ streams
         → AreRows history.log now (unordered_base base) IsOfStream runs → MakesQueued queued history.log now (OfStream chunk.stream) bears.piece.place outcome
-        → UnorderedOutcome (data_part chunk tsn_number chunk.stream) (delivered_as chunk.stream) ready outcome taken after → HoldsPlain these queued history now base read later runs after
+        → UnorderedOutcome (data_part chunk tsn_number chunk.stream) (delivered_as chunk.stream) ready outcome taken after → HoldsPlain these (sent_messages queued history) now base read (held_messages later runs after)
     unfolding all
     unordered_chunk mine later runs after outcome taken unordered_is same rows makes does =
-        subst (λ (s : ℕ → StreamModel). HoldsPlain these queued history now base read s runs after) (sym same)
+        subst (λ (s : ℕ → StreamModel). HoldsPlain these (sent_messages queued history) now base read (held_messages s runs after)) (sym same)
         (holds_then streams runs after here_rows rows (λ other ne. refl)
         (apart_left queued history now base all o.holds.places (o.holds.waits chunk.stream) chunk.stream bears.piece.place (data_part chunk tsn_number chunk.stream) (streams chunk.stream) ready after outcome taken
         o.holds.were_queued here_wait makes (o.holds.once chunk.stream) (fresh chunk.stream)
@@ -214,15 +214,15 @@ module _ (queued : List Message) (history : History) (cut : IsLogOfPieces queued
     -- ---- one of another stream
 
     besides : (later : ℕ → StreamModel) (runs : List RunModel) (after : List MessageContent) → these chunk.stream ≡ false → ((other : ℕ) → other ≢ chunk.stream → later other ≡ streams other)
-        → HoldsBeside queued history now base read (λ other. other ≡ chunk.stream) o.holds.waits o.holds.places later runs after → HoldsPlain these queued history now base read later runs after
+        → HoldsBeside queued history now base read (λ other. other ≡ chunk.stream) o.holds.waits o.holds.places later runs after → HoldsPlain these (sent_messages queued history) now base read (held_messages later runs after)
     besides later runs after apart others b =
         record {
           holds = b.holds;
           order = λ other kept. (
               let ne : other ≢ chunk.stream = λ same. absurd (let clash : true ≡ false = sym kept ∙ ap these same ∙ apart in cc) in
-              subst (λ (l : List ℕ). PlainStream queued history now base other (read ++ l) (b.holds.waits other) (later other)) (sym b.places_are)
-              (subst (λ (l : List ℕ). PlainStream queued history now base other (read ++ (o.holds.places ++ b.more)) l (later other)) (sym (b.others other ne))
-              (subst (λ (x : StreamModel). PlainStream queued history now base other (read ++ (o.holds.places ++ b.more)) (o.holds.waits other) x) (sym (others other ne))
+              subst (λ (l : List ℕ). PlainStream (sent_messages queued history) now base other (read ++ l) (b.holds.waits other) (later other)) (sym b.places_are)
+              (subst (λ (l : List ℕ). PlainStream (sent_messages queued history) now base other (read ++ (o.holds.places ++ b.more)) l (later other)) (sym (b.others other ne))
+              (subst (λ (x : StreamModel). PlainStream (sent_messages queued history) now base other (read ++ (o.holds.places ++ b.more)) (o.holds.waits other) x) (sym (others other ne))
               (others_then other kept b.more (λ q h. (let on = b.on q h in (on.2.0, on.2.1, on.2.2 ∙ on.1))) ne)))
               );
         }
@@ -253,7 +253,7 @@ module _ (queued : List Message) (history : History) (cut : IsLogOfPieces queued
         let number : short_number_from (stream_on chunk.stream old.streams).next ssn ≡ number_of_tsn chunk.stream bears.offset history.log = ap (short_number_from (stream_on chunk.stream old.streams).next) numbered.2 ∙ reads.1 in
         let does : TakesAhead (data_part chunk (fragment_place (short_number_from (stream_on chunk.stream old.streams).next ssn) tsn_number) (short_number_from (stream_on chunk.stream old.streams).next ssn))
         (stream_on chunk.stream old.streams) old.ready takes.taken (stream_on chunk.stream new.streams) new.ready =
-        subst (λ (n : Numbering). TakesNumbered tsn_number chunk n (stream_on chunk.stream old.streams) old.ready takes.taken (stream_on chunk.stream new.streams) new.ready) is takes.does in
+        subst (λ (n : Numbering). TakesNumberedPart (numbered_part tsn_number chunk n (stream_on chunk.stream old.streams)) (stream_on chunk.stream old.streams) old.ready takes.taken (stream_on chunk.stream new.streams) new.ready) is takes.does in
         ahead tsn_number chunk bears is_new (λ id. stream_on id old.streams) old.unordered old.ready o mine (λ id. stream_on id new.streams) new.unordered new.ready takes.taken numbered.0 numbered.1 reads.0 takes.unordered takes.others
         (subst (λ (k : ℕ). TakesAhead (data_part chunk (fragment_place k tsn_number) k) (stream_on chunk.stream old.streams) old.ready takes.taken (stream_on chunk.stream new.streams) new.ready) number does)
     by_numbering tsn_number Unordered chunk old new is bears numbered is_new window mine o takes =

@@ -12,7 +12,7 @@ use Rattle.dcsctp_spec_lemmas.specs.spec.queues.Tracker.{TrackerState, has_recei
 use Rattle.dcsctp_spec_lemmas.specs.spec.queues.Transfer.{Transfer}
 use Rattle.dcsctp_spec_lemmas.specs.spec.endpoint.TransferMoves.{SkipsIfMoved, MovesIfForward, MovesForward}
 use Rattle.dcsctp_delivery_sending.specs.Places.{HasEntry, at_place}
-use Rattle.dcsctp_delivery_sending.specs.Log.{Message, Piece, History, IsLogOfPieces}
+use Rattle.dcsctp_delivery_sending.specs.Log.{Message, Piece, History, IsLogOfPieces, sent_messages}
 use Rattle.dcsctp_delivery_sending.specs.Numbers.{AreOfKind}
 use Rattle.dcsctp_delivery_receiving.specs.Ready.{AreNamed, IsNamedEntry, SkipAll}
 use Rattle.dcsctp_delivery_receiving.specs.Received.{IsTsn, DefersData, SkipsWait, ForwardsWait, kept_entries}
@@ -33,7 +33,7 @@ use Rattle.dcsctp_delivery_order.proofs.PlainReceived.{ReassemblesPlain, none_ha
 
 -- messages of other streams became ready
 apart_plain : (queued : List Message) (history : History) (got : List ℕ) (base id : ℕ) (all waits more : List ℕ) (stream : StreamModel)
-    → ((place : ℕ) → HasEntry place more → IsOrderedOn queued id place → ⊥) → PlainStream queued history got base id all waits stream → PlainStream queued history got base id (all ++ more) waits stream
+    → ((place : ℕ) → HasEntry place more → IsOrderedOn queued id place → ⊥) → PlainStream (sent_messages queued history) got base id all waits stream → PlainStream (sent_messages queued history) got base id (all ++ more) waits stream
 apart_plain queued history got base id all waits more stream none s =
     record {
       order = others_stay queued (with_turns history) id all waits more stream none s.order;
@@ -82,10 +82,10 @@ module _ (these : ℕ → Bool) (queued : List Message) (history : History) (got
         order = λ id mine. (
             let none : IsSkipped entries id → ⊥ = not_skipped these entries id others mine in
             let same : stream_on id new.streams ≡ stream_on id old.streams = moves.streams id ∙ left_alone entries id (stream_on id old.streams) none in
-            subst (λ (l : List ℕ). PlainStream queued history got base id (read ++ l) (b.holds.waits id) (stream_on id new.streams)) (sym b.places_are)
-            (subst (λ (l : List ℕ). PlainStream queued history got base id (read ++ (o.holds.places ++ b.more)) l (stream_on id new.streams)) (sym (b.others id none))
-            (subst (λ (s : StreamModel). PlainStream queued history got base id (read ++ (o.holds.places ++ b.more)) (o.holds.waits id) s) (sym same)
-            (subst (λ (l : List ℕ). PlainStream queued history got base id l (o.holds.waits id) (stream_on id old.streams)) (appended read o.holds.places b.more)
+            subst (λ (l : List ℕ). PlainStream (sent_messages queued history) got base id (read ++ l) (b.holds.waits id) (stream_on id new.streams)) (sym b.places_are)
+            (subst (λ (l : List ℕ). PlainStream (sent_messages queued history) got base id (read ++ (o.holds.places ++ b.more)) l (stream_on id new.streams)) (sym (b.others id none))
+            (subst (λ (s : StreamModel). PlainStream (sent_messages queued history) got base id (read ++ (o.holds.places ++ b.more)) (o.holds.waits id) s) (sym same)
+            (subst (λ (l : List ℕ). PlainStream (sent_messages queued history) got base id l (o.holds.waits id) (stream_on id old.streams)) (appended read o.holds.places b.more)
             (apart_plain queued history got base id (read ++ o.holds.places) (o.holds.waits id) b.more (stream_on id old.streams)
             (λ place h is. (let on = b.on place h in none (subst (λ (k : ℕ). IsSkipped entries k) (one_stream queued on.0 id place on.2 (is.message, is.at, is.stream)) on.1))) (o.order id mine)))))
             );

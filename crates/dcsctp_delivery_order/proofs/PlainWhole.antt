@@ -4,7 +4,7 @@ use Rattle.std.specs.Prelude.{Some}
 use Rattle.std.proofs.lemmas.Bool.Decides.{eqb_tells, leb_tells}
 use Rattle.dcsctp_spec_lemmas.specs.spec.queues.IncomingStreams.{StreamModel}
 use Rattle.dcsctp_delivery_sending.specs.Places.{HasEntry}
-use Rattle.dcsctp_delivery_sending.specs.Log.{Message, Piece, History, IsLogOfPieces, is_end}
+use Rattle.dcsctp_delivery_sending.specs.Log.{Message, Piece, History, IsLogOfPieces, is_end, sent_messages}
 use Rattle.dcsctp_delivery_sending.specs.Turns.{turn_of_tsn}
 use Rattle.dcsctp_delivery_sending.proofs.Places.{at_below}
 use Rattle.dcsctp_delivery_receiving.specs.Rows.{AreRows}
@@ -16,7 +16,7 @@ use Rattle.dcsctp_delivery_order.proofs.PlainRows.{RowOf, row_of, some_turn}
 use Rattle.dcsctp_delivery_order.proofs.PlainTurns.{FirstOf, first_with, one_first, turn_up}
 
 module _ (queued : List Message) (history : History) (cut : IsLogOfPieces queued history.log) (id : ℕ) (counts : CountsPlain id history) (got : List ℕ) (base : ℕ) (all waits : List ℕ) (stream : StreamModel)
-    (s : PlainStream queued history got base id all waits stream) (rows : AreRows history.log got (ordered_base base) (IsOn history id) stream.ordered) where
+    (s : PlainStream (sent_messages queued history) got base id all waits stream) (rows : AreRows history.log got (ordered_base base) (IsOn history id) stream.ordered) where
   module _ (n : ℕ) (f : Piece) (of : CarriesOrdered history.log id n f) (ends : is_end f ≡ true) (passed : (k : ℕ) → k ≤ n → PassedOn history.log got id k) where
     -- The next message isn't this one, nor one before it.
     not_next : stream.next ≤ number_of_tsn id n history.log → ⊥

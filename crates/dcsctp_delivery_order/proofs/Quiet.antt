@@ -13,7 +13,7 @@ use Rattle.dcsctp_spec_lemmas.specs.spec.queues.Numbers.{is_tsn_beyond}
 use Rattle.dcsctp_spec_lemmas.specs.spec.queues.Reassembly.{ReassemblyState, names_stream, waiting_of, skips_of, EndsDeferral}
 use Rattle.dcsctp_spec_lemmas.specs.spec.queues.Tracker.{TrackerState}
 use Rattle.dcsctp_delivery_sending.specs.Places.{HasEntry, at_place}
-use Rattle.dcsctp_delivery_sending.specs.Log.{Message, Slot, Mark, History}
+use Rattle.dcsctp_delivery_sending.specs.Log.{Message, Slot, Mark, History, sent_messages}
 use Rattle.dcsctp_delivery_sending.specs.Numbers.{is_handed_out, stream_named}
 use Rattle.dcsctp_delivery_sending.proofs.Extended.{at_more}
 use Rattle.dcsctp_delivery_receiving.specs.Clear.{NoneSkips, NoneWaits, IsClear, IsOver, IsOwn}
@@ -51,7 +51,7 @@ pub record Arrives (watch : ℕ → Watch) (first : ℕ) (history : History) (qu
   pub were : WereQueued queued places read
   pub once : AreDistinct places
   pub quiet : ℕ → Bool
-  pub received : HasReceivedInOrder watch queued history quiet first places tracker reassembly
+  pub received : HasReceivedInOrder watch (sent_messages queued history) quiet first places tracker reassembly
   pub silent : AreSilent quiet history first tracker.cumulative streams reassembly
 
 -- ---- the history continues

@@ -9,7 +9,7 @@ use Rattle.dcsctp_spec_lemmas.specs.spec.queues.Reassembly.{ReassemblyState, wai
 use Rattle.dcsctp_spec_lemmas.specs.types.queues.SendStreams.{Stream}
 use Rattle.dcsctp_spec_lemmas.specs.spec.queues.Tracker.{TrackerState}
 use Rattle.dcsctp_delivery_sending.specs.Places.{at_place}
-use Rattle.dcsctp_delivery_sending.specs.Log.{Message, Piece, History, IsLogOfPieces}
+use Rattle.dcsctp_delivery_sending.specs.Log.{Message, Piece, History, IsLogOfPieces, sent_messages}
 use Rattle.dcsctp_delivery_sending.specs.Numbers.{AreOfKind, is_handed_out, stream_named}
 use Rattle.dcsctp_delivery_sending.specs.Queueing.{floors_raised}
 use Rattle.dcsctp_delivery_receiving.specs.Clear.{IsClear, IsOver, Unsent}
@@ -87,7 +87,7 @@ module _ (watch : ℕ → Watch) (queued : List Message) (history : History) (st
       let few = (counts id).few n f at on ordered in
       subst (λ (b : Bool). f.mid < (if b then 2 ^ 32 * (history.floors id false + length history.log + 1) else history.floors id false)) (sym handed) (omega (arith, few))
 
-  ordered_raised : (got : List ℕ) (base : ℕ) (read : List ℕ) → IncomingOrdered watch queued history quiet got base read reassembly.incoming → IncomingOrdered watch queued raised none_quiet got base read reassembly.incoming
+  ordered_raised : (got : List ℕ) (base : ℕ) (read : List ℕ) → IncomingOrdered watch (sent_messages queued history) quiet got base read reassembly.incoming → IncomingOrdered watch (sent_messages queued raised) none_quiet got base read reassembly.incoming
   unfolding holds_raised holds_keeps
   ordered_raised got base read o =
       record {
@@ -120,9 +120,9 @@ module _ (watch : ℕ → Watch) (queued : List Message) (history : History) (st
           let same : raised.floors id false ≡ history.floors id false =
           subst (λ (b : Bool). (if b then 2 ^ 32 * (history.floors id false + length history.log + 1) else history.floors id false) ≡ history.floors id false) (sym shut) refl in
           ordered_now queued history raised.floors id same (watch id) (read ++ o.holds.places) (o.holds.waits id) (stream_on id reassembly.incoming.streams)
-          (subst (λ (b : Bool). IsOrderedOrReset (watch id) b queued history id (read ++ o.holds.places) (o.holds.waits id) (stream_on id reassembly.incoming.streams)) loud (o.order id (counts id)))
+          (subst (λ (b : Bool). IsOrderedOrReset (watch id) b (sent_messages queued history) id (read ++ o.holds.places) (o.holds.waits id) (stream_on id reassembly.incoming.streams)) loud (o.order id (counts id)))
 
-  pub raised_in_order : (read : List ℕ) (tracker : TrackerState) → HasReceivedInOrder watch queued history quiet first read tracker reassembly → HasReceivedInOrder watch queued raised none_quiet first read tracker reassembly
+  pub raised_in_order : (read : List ℕ) (tracker : TrackerState) → HasReceivedInOrder watch (sent_messages queued history) quiet first read tracker reassembly → HasReceivedInOrder watch (sent_messages queued raised) none_quiet first read tracker reassembly
   raised_in_order read tracker r =
       record {
         taken = r.taken;
@@ -137,6 +137,6 @@ module _ (watch : ℕ → Watch) (queued : List Message) (history : History) (st
         defers = defers_keeps queued history streams first r.later (waiting_of reassembly.deferral) (λ id. elim (kept id) [ inl keep ↦ inl keep | inr c ↦ inr c.1.none ]) r.defers;
       }
     where
-      go : ReassemblesInOrder watch queued history quiet first r.got read reassembly.incoming → ReassemblesInOrder watch queued raised none_quiet first r.got read reassembly.incoming
+      go : ReassemblesInOrder watch (sent_messages queued history) quiet first r.got read reassembly.incoming → ReassemblesInOrder watch (sent_messages queued raised) none_quiet first r.got read reassembly.incoming
       go (none_handled none last empty) = none_handled none last (λ base. ordered_raised [] base read (empty base))
       go (some_handled base is holds) = some_handled base is (ordered_raised r.got base read holds)

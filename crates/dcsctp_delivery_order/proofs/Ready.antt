@@ -6,12 +6,12 @@ use Rattle.dcsctp_spec_lemmas.specs.types.declared.arrivals.Numbering.TheVariant
 use Rattle.dcsctp_spec_lemmas.specs.types.declared.arrivals.Taken.{Taken}
 use Rattle.dcsctp_spec_lemmas.specs.spec.queues.Numbers.{number_near, short_number_from, fragment_place}
 use Rattle.dcsctp_spec_lemmas.specs.spec.queues.Runs.{RunModel, WholeModel, Assembly, part_dropped, part_kept, message_whole}
-use Rattle.dcsctp_spec_lemmas.specs.spec.queues.IncomingStreams.{StreamModel, ChunkModel, data_part, delivered_as, UnorderedOutcome, TakesAhead, TakesInOrder, TakesOutOfOrder, is_number_waiting, TakesNumbered}
+use Rattle.dcsctp_spec_lemmas.specs.spec.queues.IncomingStreams.{StreamModel, ChunkModel, data_part, delivered_as, UnorderedOutcome, TakesAhead, TakesInOrder, TakesOutOfOrder, is_number_waiting, TakesNumberedPart, numbered_part}
 use Rattle.dcsctp_spec_lemmas.specs.spec.queues.Incoming.{IncomingModel, stream_on, TakesChunk, TakesIncomingChunk}
 use Rattle.dcsctp_delivery_sending.specs.Places.{HasEntry, table_with}
-use Rattle.dcsctp_delivery_sending.specs.Log.{Message, History, IsLogOfPieces}
+use Rattle.dcsctp_delivery_sending.specs.Log.{Message, History, IsLogOfPieces, sent_messages}
 use Rattle.dcsctp_delivery_receiving.specs.Rows.{IsPiecePlaced, IsPart, AreRows, Spent, MakesQueued}
-use Rattle.dcsctp_delivery_receiving.specs.Ready.{IsOn, IsApart, IsOfStream, ReadsMids, ordered_base, unordered_base, StreamRows, AreDistinct, WaitQueued, StreamHolds, IsNumbered, BearsPiece}
+use Rattle.dcsctp_delivery_receiving.specs.Ready.{IsOn, IsApart, IsOfStream, ReadsMids, ordered_base, unordered_base, StreamRows, AreDistinct, WaitQueued, StreamHolds, IsNumbered, BearsPiece, held_messages}
 use Rattle.dcsctp_delivery_sending.proofs.Places.{decide, set_same, set_other}
 use Rattle.dcsctp_delivery_receiving.proofs.Chaining.{one_kind}
 use Rattle.dcsctp_delivery_receiving.proofs.SpentRows.{stay_rows, rows_got, spent_got, was_handled, of_message, IsOfMessage}
@@ -35,7 +35,7 @@ use Rattle.dcsctp_delivery_order.proofs.Leaving.{IsOnIt, one_stream, wait_on_it,
 
 module _ (watch : ℕ → Watch) (queued : List Message) (history : History) (quiet : ℕ → Bool) (cut : IsLogOfPieces queued history.log) (told : IsUnambiguous history) (got : List ℕ) (base : ℕ) (read : List ℕ) where
   module _ (tsn_number : ℕ) (chunk : ChunkModel) (bears : BearsPiece history base tsn_number chunk) (is_new : HasEntry bears.offset got → ⊥) (aloud : quiet chunk.stream ≡ false) (streams : ℕ → StreamModel) (unordered : List RunModel) (ready : List MessageContent)
-      (o : HoldsOrdered watch queued history quiet got base read streams unordered ready) where
+      (o : HoldsOrdered watch (sent_messages queued history) quiet got base read (held_messages streams unordered ready)) where
     all : List ℕ
     all = read ++ o.holds.places
 
@@ -59,16 +59,16 @@ module _ (watch : ℕ → Watch) (queued : List Message) (history : History) (qu
 
     -- other streams stay in order
     others_then : (id other : ℕ) (more : List ℕ) → ((q : ℕ) → HasEntry q more → IsOnIt queued id q) → other ≢ id → CountsFromZero history other
-        → IsOrderedOrReset (watch other) (quiet other) queued history other (read ++ (o.holds.places ++ more)) (o.holds.waits other) (streams other)
+        → IsOrderedOrReset (watch other) (quiet other) (sent_messages queued history) other (read ++ (o.holds.places ++ more)) (o.holds.waits other) (streams other)
     unfolding all
     others_then id other more on ne counts =
-        subst (λ (l : List ℕ). IsOrderedOrReset (watch other) (quiet other) queued history other l (o.holds.waits other) (streams other)) (all_then more)
+        subst (λ (l : List ℕ). IsOrderedOrReset (watch other) (quiet other) (sent_messages queued history) other l (o.holds.waits other) (streams other)) (all_then more)
         (others_where (watch other) queued history (quiet other) other all (o.holds.waits other) more (streams other) (λ place h is. ne (sym (one_stream queued id other place (on place h) (is.message, is.at, is.stream)))) (o.order other counts))
 
     -- the invariant once its stream is left so
     holds_then : (id : ℕ) → quiet id ≡ false → (later : ℕ → StreamModel) (runs : List RunModel) (after : List MessageContent) → StreamRows history now base id (later id)
         → AreRows history.log now (unordered_base base) IsOfStream runs → ((other : ℕ) → other ≢ id → later other ≡ streams other) → LeavesOrder (watch id) queued history now all o.holds.places id (later id) after
-        → HoldsOrdered watch queued history quiet now base read later runs after
+        → HoldsOrdered watch (sent_messages queued history) quiet now base read (held_messages later runs after)
     unfolding all
     holds_then id loud later runs after rows apart others leaves =
         record {
@@ -102,13 +102,13 @@ module _ (watch : ℕ → Watch) (queued : List Message) (history : History) (qu
           };
           order = λ other counts. elim (decide other id) [
             | inl e ↦
-                subst (λ (k : ℕ). IsOrderedOrReset (watch k) (quiet k) queued history k (read ++ (o.holds.places ++ leaves.more)) (table_with id leaves.waits o.holds.waits k) (later k)) (sym e)
-                (subst (λ (l : List ℕ). IsOrderedOrReset (watch id) (quiet id) queued history id (read ++ (o.holds.places ++ leaves.more)) l (later id)) (sym (set_same id leaves.waits o.holds.waits))
-                (subst (λ (b : Bool). IsOrderedOrReset (watch id) b queued history id (read ++ (o.holds.places ++ leaves.more)) leaves.waits (later id)) (sym loud)
+                subst (λ (k : ℕ). IsOrderedOrReset (watch k) (quiet k) (sent_messages queued history) k (read ++ (o.holds.places ++ leaves.more)) (table_with id leaves.waits o.holds.waits k) (later k)) (sym e)
+                (subst (λ (l : List ℕ). IsOrderedOrReset (watch id) (quiet id) (sent_messages queued history) id (read ++ (o.holds.places ++ leaves.more)) l (later id)) (sym (set_same id leaves.waits o.holds.waits))
+                (subst (λ (b : Bool). IsOrderedOrReset (watch id) b (sent_messages queued history) id (read ++ (o.holds.places ++ leaves.more)) leaves.waits (later id)) (sym loud)
                 (subst (λ (l : List ℕ). OrderedStream (watch id) queued history id l leaves.waits (later id)) (all_then leaves.more) (leaves.order (subst (λ (k : ℕ). CountsFromZero history k) e counts)))))
             | inr ne ↦
-                subst (λ (l : List ℕ). IsOrderedOrReset (watch other) (quiet other) queued history other (read ++ (o.holds.places ++ leaves.more)) l (later other)) (sym (set_other id other leaves.waits o.holds.waits ne))
-                (subst (λ (s : StreamModel). IsOrderedOrReset (watch other) (quiet other) queued history other (read ++ (o.holds.places ++ leaves.more)) (o.holds.waits other) s) (sym (others other ne))
+                subst (λ (l : List ℕ). IsOrderedOrReset (watch other) (quiet other) (sent_messages queued history) other (read ++ (o.holds.places ++ leaves.more)) l (later other)) (sym (set_other id other leaves.waits o.holds.waits ne))
+                (subst (λ (s : StreamModel). IsOrderedOrReset (watch other) (quiet other) (sent_messages queued history) other (read ++ (o.holds.places ++ leaves.more)) (o.holds.waits other) s) (sym (others other ne))
                 (others_then id other leaves.more leaves.on ne counts))
           ];
         }
@@ -116,7 +116,7 @@ module _ (watch : ℕ → Watch) (queued : List Message) (history : History) (qu
     -- its stream is in order, and stays so where nothing changes
     here_order : CountsFromZero history chunk.stream → OrderedStream (watch chunk.stream) queued history chunk.stream all (o.holds.waits chunk.stream) (streams chunk.stream)
     unfolding all
-    here_order counts = subst (λ (b : Bool). IsOrderedOrReset (watch chunk.stream) b queued history chunk.stream all (o.holds.waits chunk.stream) (streams chunk.stream)) aloud (o.order chunk.stream counts)
+    here_order counts = subst (λ (b : Bool). IsOrderedOrReset (watch chunk.stream) b (sent_messages queued history) chunk.stream all (o.holds.waits chunk.stream) (streams chunk.stream)) aloud (o.order chunk.stream counts)
 
     same_order : (later : StreamModel) → later.next ≡ (streams chunk.stream).next → later.waiting ≡ (streams chunk.stream).waiting → CountsFromZero history chunk.stream → OrderedStream (watch chunk.stream) queued history chunk.stream all (o.holds.waits chunk.stream) later
     same_order later next waiting counts = alike_ordered (watch chunk.stream) queued history chunk.stream all (o.holds.waits chunk.stream) (streams chunk.stream) later next waiting (here_order counts)
@@ -144,7 +144,7 @@ module _ (watch : ℕ → Watch) (queued : List Message) (history : History) (qu
 
     -- nothing changes
     passed : (later : ℕ → StreamModel) (runs : List RunModel) (after : List MessageContent) → runs ≡ unordered → ((other : ℕ) → other ≢ chunk.stream → later other ≡ streams other)
-        → later chunk.stream ≡ streams chunk.stream → after ≡ ready → HoldsOrdered watch queued history quiet now base read later runs after
+        → later chunk.stream ≡ streams chunk.stream → after ≡ ready → HoldsOrdered watch (sent_messages queued history) quiet now base read (held_messages later runs after)
     unfolding all
     passed later runs after kept others same same' =
         holds_then chunk.stream aloud later runs after (subst (λ (s : StreamModel). StreamRows history now base chunk.stream s) (sym same) here_rows) (rows_kept runs kept) others
@@ -157,7 +157,7 @@ module _ (watch : ℕ → Watch) (queued : List Message) (history : History) (qu
     ahead : (place number : ℕ) (later : ℕ → StreamModel) (runs : List RunModel) (after : List MessageContent) (taken : Taken) → IsPiecePlaced (ordered_base base) bears.offset bears.piece number place → IsOn history chunk.stream bears.piece number
         → (CountsFromZero history chunk.stream → IsReadAs history chunk.stream bears.piece.place number) → (CountsFromZero history chunk.stream → (streams chunk.stream).next ≤ number)
         → runs ≡ unordered → ((other : ℕ) → other ≢ chunk.stream → later other ≡ streams other)
-        → TakesAhead (data_part chunk place number) (streams chunk.stream) ready taken (later chunk.stream) after → HoldsOrdered watch queued history quiet now base read later runs after
+        → TakesAhead (data_part chunk place number) (streams chunk.stream) ready taken (later chunk.stream) after → HoldsOrdered watch (sent_messages queued history) quiet now base read (held_messages later runs after)
     unfolding all here
     ahead place number later runs after taken placed named reads from kept others takes = go (is_number_waiting number (streams chunk.stream).waiting) refl
       where
@@ -172,7 +172,7 @@ module _ (watch : ℕ → Watch) (queued : List Message) (history : History) (qu
             let clash : true ≡ false = sym e ∙ ahead_of.fresh in
             absurd (cc)
 
-        go : (b : Bool) → is_number_waiting number (streams chunk.stream).waiting ≡ b → HoldsOrdered watch queued history quiet now base read later runs after
+        go : (b : Bool) → is_number_waiting number (streams chunk.stream).waiting ≡ b → HoldsOrdered watch (sent_messages queued history) quiet now base read (held_messages later runs after)
         go false e =
             let does = takes.fresh e in
             let rows = stay_rows queued history.log cut (one_kind history told) got (ordered_base base) (IsOn history chunk.stream) (λ m n f g k. tells_as history told false chunk.stream m n f g k) (data_part chunk place number) (streams chunk.stream).ordered (later chunk.stream).ordered does.outcome part here.rows.ordered does.parts in
@@ -205,7 +205,7 @@ module _ (watch : ℕ → Watch) (queued : List Message) (history : History) (qu
     -- one of I-DATA
     in_order : (place number : ℕ) (later : ℕ → StreamModel) (runs : List RunModel) (after : List MessageContent) (taken : Taken) → IsPiecePlaced (ordered_base base) bears.offset bears.piece number place → IsOn history chunk.stream bears.piece number
         → (CountsFromZero history chunk.stream → IsReadAs history chunk.stream bears.piece.place number) → runs ≡ unordered → ((other : ℕ) → other ≢ chunk.stream → later other ≡ streams other)
-        → TakesInOrder (data_part chunk place number) (streams chunk.stream) ready taken (later chunk.stream) after → HoldsOrdered watch queued history quiet now base read later runs after
+        → TakesInOrder (data_part chunk place number) (streams chunk.stream) ready taken (later chunk.stream) after → HoldsOrdered watch (sent_messages queued history) quiet now base read (held_messages later runs after)
     in_order place number later runs after taken placed named reads kept others takes =
         elim (leb_tells (streams chunk.stream).next number) [
           | inl e ↦ ahead place number later runs after taken placed named reads (λ counts. e.1) kept others (takes.ahead e.1)
@@ -223,7 +223,7 @@ module _ (watch : ℕ → Watch) (queued : List Message) (history : History) (qu
     -- an unordered one of I-DATA
     out_of_order : (place number : ℕ) (later : ℕ → StreamModel) (runs : List RunModel) (after : List MessageContent) (taken : Taken) → IsPiecePlaced (ordered_base base) bears.offset bears.piece number place → IsApart history chunk.stream bears.piece number
         → bears.piece.message.is_unordered ≡ true → ReadsMids history chunk.stream true number → runs ≡ unordered → ((other : ℕ) → other ≢ chunk.stream → later other ≡ streams other)
-        → TakesOutOfOrder (data_part chunk place number) (streams chunk.stream) ready taken (later chunk.stream) after → HoldsOrdered watch queued history quiet now base read later runs after
+        → TakesOutOfOrder (data_part chunk place number) (streams chunk.stream) ready taken (later chunk.stream) after → HoldsOrdered watch (sent_messages queued history) quiet now base read (held_messages later runs after)
     unfolding all here
     out_of_order place number later runs after taken placed named unordered_is reads kept others takes =
         let part : IsPart history.log (ordered_base base) (IsApart history chunk.stream) (data_part chunk place number) = part_of history base (ordered_base base) (IsApart history chunk.stream) tsn_number place number chunk bears placed named in
@@ -249,20 +249,20 @@ module _ (watch : ℕ → Watch) (queued : List Message) (history : History) (qu
         record { offset = makes.offset; head = makes.head; at = makes.at; is = makes.is; queued_at = makes.queued_at; number = makes.number.0 ∙ of ∙ same; ppid = makes.ppid; payload = makes.payload; spent = makes.spent }
 
     unordered_chunk : (later : ℕ → StreamModel) (runs : List RunModel) (after : List MessageContent) (outcome : Assembly) (taken : Taken) → bears.piece.is_interleaved ≡ false → later ≡ streams → AreRows history.log now (unordered_base base) IsOfStream runs
-        → MakesQueued queued history.log now (OfStream chunk.stream) bears.piece.place outcome → UnorderedOutcome (data_part chunk tsn_number chunk.stream) (delivered_as chunk.stream) ready outcome taken after → HoldsOrdered watch queued history quiet now base read later runs after
+        → MakesQueued queued history.log now (OfStream chunk.stream) bears.piece.place outcome → UnorderedOutcome (data_part chunk tsn_number chunk.stream) (delivered_as chunk.stream) ready outcome taken after → HoldsOrdered watch (sent_messages queued history) quiet now base read (held_messages later runs after)
     unfolding all
     unordered_chunk later runs after outcome taken kind same rows makes does =
-        subst (λ (f : ℕ → StreamModel). HoldsOrdered watch queued history quiet now base read f runs after) (sym same)
+        subst (λ (f : ℕ → StreamModel). HoldsOrdered watch (sent_messages queued history) quiet now base read (held_messages f runs after)) (sym same)
         (holds_then chunk.stream aloud streams runs after here_rows rows (λ other ne. refl)
         (apart_left (watch chunk.stream) queued history now all o.holds.places (o.holds.waits chunk.stream) chunk.stream chunk.stream bears.piece.place (data_part chunk tsn_number chunk.stream) (streams chunk.stream) ready after outcome taken
         refl o.holds.were_queued here_wait makes (o.holds.once chunk.stream) (fresh chunk.stream) (same_order (streams chunk.stream) refl refl) (λ counts on. is_data counts kind) does))
 
   by_numbering : (tsn_number : ℕ) (numbering : Numbering) (chunk : ChunkModel) (old new : IncomingModel) → chunk.numbering ≡ numbering
-      → (bears : BearsPiece history base tsn_number chunk) → IsNumbered bears.piece numbering → (HasEntry bears.offset got → ⊥) → quiet chunk.stream ≡ false → IncomingOrdered watch queued history quiet got base read old → TakesChunk tsn_number numbering chunk old new → IncomingOrdered watch queued history quiet (bears.offset ∷ got) base read new
+      → (bears : BearsPiece history base tsn_number chunk) → IsNumbered bears.piece numbering → (HasEntry bears.offset got → ⊥) → quiet chunk.stream ≡ false → IncomingOrdered watch (sent_messages queued history) quiet got base read old → TakesChunk tsn_number numbering chunk old new → IncomingOrdered watch (sent_messages queued history) quiet (bears.offset ∷ got) base read new
   by_numbering tsn_number (Ordered ssn) chunk old new is bears numbered is_new aloud o takes =
       let number : ℕ = short_number_from (stream_on chunk.stream old.streams).next ssn in
       let does : TakesAhead (data_part chunk (fragment_place number tsn_number) number) (stream_on chunk.stream old.streams) old.ready takes.taken (stream_on chunk.stream new.streams) new.ready =
-      subst (λ (n : Numbering). TakesNumbered tsn_number chunk n (stream_on chunk.stream old.streams) old.ready takes.taken (stream_on chunk.stream new.streams) new.ready) is takes.does in
+      subst (λ (n : Numbering). TakesNumberedPart (numbered_part tsn_number chunk n (stream_on chunk.stream old.streams)) (stream_on chunk.stream old.streams) old.ready takes.taken (stream_on chunk.stream new.streams) new.ready) is takes.does in
       ahead tsn_number chunk bears is_new aloud (λ id. stream_on id old.streams) old.unordered old.ready o (fragment_place number tsn_number) number (λ id. stream_on id new.streams) new.unordered new.ready takes.taken
       (ordered_placed history base tsn_number number chunk bears numbered.0) (sym bears.stream, λ i. absurd (let clash : true ≡ false = sym i ∙ numbered.0 in cc))
       (λ counts. absurd (is_plain counts numbered.0)) (λ counts. absurd (is_plain counts numbered.0)) takes.unordered takes.others does
@@ -280,26 +280,26 @@ module _ (watch : ℕ → Watch) (queued : List Message) (history : History) (qu
       let next : ℕ = (stream_on chunk.stream old.streams).next in
       let named = named_so history base told tsn_number mid false chunk bears next numbered.0 numbered.1 numbered.2 (o.holds.streams_hold chunk.stream).rows.next in
       let does : TakesInOrder (data_part chunk (fragment_place (number_near next mid) fsn) (number_near next mid)) (stream_on chunk.stream old.streams) old.ready takes.taken (stream_on chunk.stream new.streams) new.ready =
-      subst (λ (n : Numbering). TakesNumbered tsn_number chunk n (stream_on chunk.stream old.streams) old.ready takes.taken (stream_on chunk.stream new.streams) new.ready) is takes.does in
+      subst (λ (n : Numbering). TakesNumberedPart (numbered_part tsn_number chunk n (stream_on chunk.stream old.streams)) (stream_on chunk.stream old.streams) old.ready takes.taken (stream_on chunk.stream new.streams) new.ready) is takes.does in
       in_order tsn_number chunk bears is_new aloud (λ id. stream_on id old.streams) old.unordered old.ready o (fragment_place (number_near next mid) fsn) (number_near next mid) (λ id. stream_on id new.streams) new.unordered new.ready takes.taken
       (apart_placed history base tsn_number (number_near next mid) fsn chunk bears numbered.0 numbered.3) (sym bears.stream, named.0) (λ counts. reads counts) takes.unordered takes.others does
     where
       reads : CountsFromZero history chunk.stream → IsReadAs history chunk.stream bears.piece.place (number_near (stream_on chunk.stream old.streams).next mid)
       reads counts =
           subst (λ (k : ℕ). IsReadAs history chunk.stream bears.piece.place (number_near (stream_on chunk.stream old.streams).next k)) (sym numbered.2)
-          (mids_are_read history chunk.stream bears.offset bears.piece (stream_on chunk.stream old.streams) counts (subst (λ (b : Bool). IsOrderedOrReset (watch chunk.stream) b queued history chunk.stream (read ++ o.holds.places) (o.holds.waits chunk.stream) (stream_on chunk.stream old.streams)) aloud (o.order chunk.stream counts)).reach (record { at = bears.at; stream = sym bears.stream; ordered = numbered.1; current = bears.current numbered.0 }))
+          (mids_are_read history chunk.stream bears.offset bears.piece (stream_on chunk.stream old.streams) counts (subst (λ (b : Bool). IsOrderedOrReset (watch chunk.stream) b (sent_messages queued history) chunk.stream (read ++ o.holds.places) (o.holds.waits chunk.stream) (stream_on chunk.stream old.streams)) aloud (o.order chunk.stream counts)).reach (record { at = bears.at; stream = sym bears.stream; ordered = numbered.1; current = bears.current numbered.0 }))
   by_numbering tsn_number (InterleavedUnordered mid fsn) chunk old new is bears numbered is_new aloud o takes =
       let last : ℕ = (stream_on chunk.stream old.streams).last_unordered in
       let named = named_so history base told tsn_number mid true chunk bears last numbered.0 numbered.1 numbered.2 (o.holds.streams_hold chunk.stream).rows.last in
       let does : TakesOutOfOrder (data_part chunk (fragment_place (number_near last mid) fsn) (number_near last mid)) (stream_on chunk.stream old.streams) old.ready takes.taken (stream_on chunk.stream new.streams) new.ready =
-      subst (λ (n : Numbering). TakesNumbered tsn_number chunk n (stream_on chunk.stream old.streams) old.ready takes.taken (stream_on chunk.stream new.streams) new.ready) is takes.does in
+      subst (λ (n : Numbering). TakesNumberedPart (numbered_part tsn_number chunk n (stream_on chunk.stream old.streams)) (stream_on chunk.stream old.streams) old.ready takes.taken (stream_on chunk.stream new.streams) new.ready) is takes.does in
       out_of_order tsn_number chunk bears is_new aloud (λ id. stream_on id old.streams) old.unordered old.ready o (fragment_place (number_near last mid) fsn) (number_near last mid) (λ id. stream_on id new.streams) new.unordered new.ready takes.taken
       (apart_placed history base tsn_number (number_near last mid) fsn chunk bears numbered.0 numbered.3) (sym bears.stream, named.0) numbered.1 named.1 takes.unordered takes.others does
 
 pub ready_in_order : (watch : ℕ → Watch) (queued : List Message) (history : History) (quiet : ℕ → Bool) → IsLogOfPieces queued history.log → IsUnambiguous history
     → (got : List ℕ) (base tsn : ℕ) (read : List ℕ) (chunk : ChunkModel) (old new : IncomingModel)
     → (bears : BearsPiece history base (number_near old.last_tsn_number tsn) chunk) → (HasEntry bears.offset got → ⊥) → quiet chunk.stream ≡ false
-    → IncomingOrdered watch queued history quiet got base read old → TakesIncomingChunk tsn chunk old new
-    → IncomingOrdered watch queued history quiet (bears.offset ∷ got) base read new
+    → IncomingOrdered watch (sent_messages queued history) quiet got base read old → TakesIncomingChunk tsn chunk old new
+    → IncomingOrdered watch (sent_messages queued history) quiet (bears.offset ∷ got) base read new
 ready_in_order watch queued history quiet cut told got base tsn read chunk old new bears is_new aloud o takes =
     by_numbering watch queued history quiet cut told got base read (number_near old.last_tsn_number tsn) chunk.numbering chunk old new refl bears bears.numbered is_new aloud o takes.takes

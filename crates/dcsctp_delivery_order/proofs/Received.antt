@@ -14,7 +14,7 @@ use Rattle.dcsctp_spec_lemmas.specs.spec.queues.Tracker.{TrackerState, has_recei
 use Rattle.dcsctp_spec_lemmas.specs.spec.queues.Transfer.{Transfer}
 use Rattle.dcsctp_spec_lemmas.specs.spec.endpoint.TransferMoves.{AddsIfNew, has_room, dropping, ReceivesIfRoom, SkipsIfMoved, GoesForward, MovesIfForward, ReceivesData, MovesForward, TakesData as TakesArrival}
 use Rattle.dcsctp_delivery_sending.specs.Places.{HasEntry}
-use Rattle.dcsctp_delivery_sending.specs.Log.{Message, History, IsLogOfPieces}
+use Rattle.dcsctp_delivery_sending.specs.Log.{Message, History, IsLogOfPieces, sent_messages}
 use Rattle.dcsctp_delivery_sending.specs.Numbers.{AreOfKind, IsUnambiguous}
 use Rattle.dcsctp_delivery_sending.proofs.Places.{at_below}
 use Rattle.dcsctp_delivery_receiving.specs.Ready.{AreDistinct, AreNamed, IsNamedEntry, SkipAll}
@@ -52,7 +52,7 @@ loud_entries quiet (entry ∷ entries) none = (loud_by quiet (skipped_stream ent
 
 module _ (queued : List Message) (history : History) (first : ℕ) (cut : IsLogOfPieces queued history.log) (told : IsUnambiguous history) (f : Few history first) (quiet : ℕ → Bool) (read : List ℕ) where
   pub data_in_order : (watch : ℕ → Watch) (got : List ℕ) (offset tsn : ℕ) (chunk : ChunkModel) (old new : IncomingModel) → CarriesCurrent history first offset tsn chunk → (HasEntry offset got → ⊥) → quiet chunk.stream ≡ false
-      → ReassemblesInOrder watch queued history quiet first got read old → TakesIncomingChunk tsn chunk old new → ReassemblesInOrder watch queued history quiet first (offset ∷ got) read new
+      → ReassemblesInOrder watch (sent_messages queued history) quiet first got read old → TakesIncomingChunk tsn chunk old new → ReassemblesInOrder watch (sent_messages queued history) quiet first (offset ∷ got) read new
   unfolding bears_of
   data_in_order watch got offset tsn chunk old new c is_new loud (some_handled base is holds) takes =
       let few = few_behind history first offset tsn chunk f c in
@@ -66,10 +66,10 @@ module _ (queued : List Message) (history : History) (first : ℕ) (cut : IsLogO
       let number : number_near old.last_tsn_number tsn ≡ base + offset = ap (λ (l : ℕ). number_near l tsn) last ∙ ap (number_near (2 ^ 32)) c.carries.is ∙ omega (arith, up) in
       some_handled base (record { same = first_base first offset f.small few; near = first_near first offset f.small few; worked = offset; few = few; is = takes.last ∙ number })
       (ready_in_order watch queued history quiet cut told got base tsn read chunk old new (bears_of history first base offset tsn (number_near old.last_tsn_number tsn) chunk c number) is_new loud
-      (subst (λ (l : List ℕ). IncomingOrdered watch queued history quiet l base read old) (sym none) (empty base)) takes)
+      (subst (λ (l : List ℕ). IncomingOrdered watch (sent_messages queued history) quiet l base read old) (sym none) (empty base)) takes)
 
   pub forward_in_order : (watch : ℕ → Watch) → NoneLimitedOn watch history.log → (got : List ℕ) (tsn : ℕ) (entries : List SkippedTo) (old new : IncomingModel) → IsTsn history.log first tsn → AreNamed history entries → NoneIsQuiet quiet entries
-      → ReassemblesInOrder watch queued history quiet first got read old → MovesOn tsn entries old new → ReassemblesInOrder watch queued history quiet first got read new
+      → ReassemblesInOrder watch (sent_messages queued history) quiet first got read old → MovesOn tsn entries old new → ReassemblesInOrder watch (sent_messages queued history) quiet first got read new
   forward_in_order watch free got tsn entries old new t names loud (some_handled base is holds) moves =
       let few : t.offset < 2 ^ 31 = omega (arith, f.few, t.below) in
       let number = number_read first base old.last_tsn_number t.offset tsn is few t.is in
@@ -81,7 +81,7 @@ module _ (queued : List Message) (history : History) (first : ℕ) (cut : IsLogO
       let up = first_number first t.offset f.small few in
       let number : number_near old.last_tsn_number tsn ≡ base + t.offset = ap (λ (l : ℕ). number_near l tsn) last ∙ ap (number_near (2 ^ 32)) t.is ∙ omega (arith, up) in
       some_handled base (record { same = first_base first t.offset f.small few; near = first_near first t.offset f.small few; worked = t.offset; few = few; is = moves.last ∙ number })
-      (skipping_in_order watch queued history free quiet got base read tsn entries old new names loud (subst (λ (l : List ℕ). IncomingOrdered watch queued history quiet l base read old) (sym none) (empty base)) moves)
+      (skipping_in_order watch queued history free quiet got base read tsn entries old new names loud (subst (λ (l : List ℕ). IncomingOrdered watch (sent_messages queued history) quiet l base read old) (sym none) (empty base)) moves)
 
 -- ---- the tracker
 
@@ -104,8 +104,8 @@ tracks_alike first count taken tracker now same same' t =
 
 module _ (watch : ℕ → Watch) (queued : List Message) (history : History) (quiet : ℕ → Bool) (first : ℕ) (read : List ℕ) where
   -- the tracker moves alone
-  tracked_on : (tracker now : TrackerState) (reassembly : ReassemblyState) (r : HasReceivedInOrder watch queued history quiet first read tracker reassembly) → Tracks first (length history.log) r.taken now
-      → HasReceivedInOrder watch queued history quiet first read now reassembly
+  tracked_on : (tracker now : TrackerState) (reassembly : ReassemblyState) (r : HasReceivedInOrder watch (sent_messages queued history) quiet first read tracker reassembly) → Tracks first (length history.log) r.taken now
+      → HasReceivedInOrder watch (sent_messages queued history) quiet first read now reassembly
   tracked_on tracker now reassembly r tracks =
       record {
         taken = r.taken;
@@ -120,13 +120,13 @@ module _ (watch : ℕ → Watch) (queued : List Message) (history : History) (qu
         defers = r.defers;
       }
 
-  pub tracked_in_order : (tracker now : TrackerState) (reassembly : ReassemblyState) → now.cumulative ≡ tracker.cumulative → now.ranges ≡ tracker.ranges → HasReceivedInOrder watch queued history quiet first read tracker reassembly
-      → HasReceivedInOrder watch queued history quiet first read now reassembly
+  pub tracked_in_order : (tracker now : TrackerState) (reassembly : ReassemblyState) → now.cumulative ≡ tracker.cumulative → now.ranges ≡ tracker.ranges → HasReceivedInOrder watch (sent_messages queued history) quiet first read tracker reassembly
+      → HasReceivedInOrder watch (sent_messages queued history) quiet first read now reassembly
   tracked_in_order tracker now reassembly same same' r = tracked_on tracker now reassembly r (tracks_alike first (length history.log) r.taken tracker now same same' r.tracks)
 
   -- a reset is deferred
-  pub deferring_in_order : (last_tsn : ℕ) (streams : List ℕ) (tracker : TrackerState) (reassembly : ReassemblyState) → HasReceivedInOrder watch queued history quiet first read tracker reassembly
-      → HasReceivedInOrder watch queued history quiet first read tracker (deferring last_tsn streams reassembly)
+  pub deferring_in_order : (last_tsn : ℕ) (streams : List ℕ) (tracker : TrackerState) (reassembly : ReassemblyState) → HasReceivedInOrder watch (sent_messages queued history) quiet first read tracker reassembly
+      → HasReceivedInOrder watch (sent_messages queued history) quiet first read tracker (deferring last_tsn streams reassembly)
   deferring_in_order last_tsn streams tracker reassembly r =
       record {
         taken = r.taken;
@@ -153,16 +153,16 @@ QuietAreOver history quiet first cumulative = (id : ℕ) → quiet id ≡ true �
 
 module _ (watch : ℕ → Watch) (queued : List Message) (history : History) (first : ℕ) (cut : IsLogOfPieces queued history.log) (told : IsUnambiguous history) (f : Few history first) (free : NoneLimitedOn watch history.log) (quiet : ℕ → Bool) (read : List ℕ) where
   -- a chunk whose TSN is new
-  added : (offset tsn : ℕ) (chunk : ChunkModel) (tracker now : TrackerState) (old new : ReassemblyState) → CarriesCurrent history first offset tsn chunk → (r : HasReceivedInOrder watch queued history quiet first read tracker old)
-      → Tracks first (length history.log) (offset ∷ r.taken) now → (HasEntry offset r.taken → ⊥) → quiet chunk.stream ≡ false → AddsData tsn chunk old new → HasReceivedInOrder watch queued history quiet first read now new
+  added : (offset tsn : ℕ) (chunk : ChunkModel) (tracker now : TrackerState) (old new : ReassemblyState) → CarriesCurrent history first offset tsn chunk → (r : HasReceivedInOrder watch (sent_messages queued history) quiet first read tracker old)
+      → Tracks first (length history.log) (offset ∷ r.taken) now → (HasEntry offset r.taken → ⊥) → quiet chunk.stream ≡ false → AddsData tsn chunk old new → HasReceivedInOrder watch (sent_messages queued history) quiet first read now new
   added offset tsn chunk tracker now old new c r tracks is_new loud adds = go (can_count (length chunk.payload) old) refl (is_data_deferred tsn chunk.stream old.deferral) refl
     where
-      go : (counts : Bool) → can_count (length chunk.payload) old ≡ counts → (waits : Bool) → is_data_deferred tsn chunk.stream old.deferral ≡ waits → HasReceivedInOrder watch queued history quiet first read now new
+      go : (counts : Bool) → can_count (length chunk.payload) old ≡ counts → (waits : Bool) → is_data_deferred tsn chunk.stream old.deferral ≡ waits → HasReceivedInOrder watch (sent_messages queued history) quiet first read now new
       go false counts waits deferred =
-          subst (λ (s : ReassemblyState). HasReceivedInOrder watch queued history quiet first read now s) (sym (adds.too_much counts))
+          subst (λ (s : ReassemblyState). HasReceivedInOrder watch (sent_messages queued history) quiet first read now s) (sym (adds.too_much counts))
           (tracked_on watch queued history quiet first read tracker now old r (tracks_fewer first (length history.log) (offset ∷ r.taken) r.taken now (λ k h. inr h) tracks))
       go true counts true deferred =
-          subst (λ (s : ReassemblyState). HasReceivedInOrder watch queued history quiet first read now s) (sym (adds.deferred counts deferred))
+          subst (λ (s : ReassemblyState). HasReceivedInOrder watch (sent_messages queued history) quiet first read now s) (sym (adds.deferred counts deferred))
           (record {
             taken = offset ∷ r.taken;
             got = r.got;
@@ -198,9 +198,9 @@ module _ (watch : ℕ → Watch) (queued : List Message) (history : History) (fi
           }
 
   taken_in_order : (offset : ℕ) (arrival : Arrival) (old new : Transfer) → Carries history.log first offset arrival.tsn arrival.chunk → OthersArePast history first old.tracker.cumulative → QuietAreOver history quiet first old.tracker.cumulative
-      → HasReceivedInOrder watch queued history quiet first read old.tracker old.reassembly → TakesArrival arrival old new → HasReceivedInOrder watch queued history quiet first read new.tracker new.reassembly
+      → HasReceivedInOrder watch (sent_messages queued history) quiet first read old.tracker old.reassembly → TakesArrival arrival old new → HasReceivedInOrder watch (sent_messages queued history) quiet first read new.tracker new.reassembly
   taken_in_order offset arrival old new c past over r takes =
-      subst (λ (t : TrackerState). HasReceivedInOrder watch queued history quiet first read t new.reassembly) (sym (ap (λ (t : Transfer). t.tracker) takes.rest)) (go (is_new_tsn arrival.tsn old.tracker) refl takes.reassembly)
+      subst (λ (t : TrackerState). HasReceivedInOrder watch (sent_messages queued history) quiet first read t new.reassembly) (sym (ap (λ (t : Transfer). t.tracker) takes.rest)) (go (is_new_tsn arrival.tsn old.tracker) refl takes.reassembly)
     where
       now : TrackerState
       now = tracker_after_data arrival.tsn arrival.immediate_ack old.tracker
@@ -222,28 +222,28 @@ module _ (watch : ℕ → Watch) (queued : List Message) (history : History) (fi
           old_tsn first (length history.log) offset o.mark.bound r.taken old.tracker f.small f.few below r.tracks (o.below offset c.piece c.at (sym c.stream)) o.passed (by_offset is)))
 
       go : (b : Bool) → is_new_tsn arrival.tsn old.tracker ≡ b → AddsIfNew b arrival.tsn arrival.chunk old.reassembly new.reassembly
-          → HasReceivedInOrder watch queued history quiet first read (tracker_after_data arrival.tsn arrival.immediate_ack old.tracker) new.reassembly
+          → HasReceivedInOrder watch (sent_messages queued history) quiet first read (tracker_after_data arrival.tsn arrival.immediate_ack old.tracker) new.reassembly
       go true is adds =
           added offset arrival.tsn arrival.chunk old.tracker now old.reassembly new.reassembly
           (carries_current history first old.tracker.cumulative past offset arrival.tsn arrival.chunk (new_beyond first (length history.log) offset r.taken old.tracker f.small f.few below r.tracks (by_offset is)) c) r tracks
           ((new_is_new first (length history.log) offset arrival.immediate_ack r.taken old.tracker f.small f.few below r.tracks).1 (by_offset is)) (loud is) adds
       go false is adds =
-          subst (λ (s : ReassemblyState). HasReceivedInOrder watch queued history quiet first read now s) (sym adds)
+          subst (λ (s : ReassemblyState). HasReceivedInOrder watch (sent_messages queued history) quiet first read now s) (sym adds)
           (tracked_on watch queued history quiet first read old.tracker now old.reassembly r (tracks_fewer first (length history.log) (offset ∷ r.taken) r.taken now (λ k h. inr h) tracks))
 
-  same_transfer : (old new : Transfer) → new ≡ old → HasReceivedInOrder watch queued history quiet first read old.tracker old.reassembly → HasReceivedInOrder watch queued history quiet first read new.tracker new.reassembly
-  same_transfer old new same r = subst (λ (t : Transfer). HasReceivedInOrder watch queued history quiet first read t.tracker t.reassembly) (sym same) r
+  same_transfer : (old new : Transfer) → new ≡ old → HasReceivedInOrder watch (sent_messages queued history) quiet first read old.tracker old.reassembly → HasReceivedInOrder watch (sent_messages queued history) quiet first read new.tracker new.reassembly
+  same_transfer old new same r = subst (λ (t : Transfer). HasReceivedInOrder watch (sent_messages queued history) quiet first read t.tracker t.reassembly) (sym same) r
 
-  dropped_in_order : (b : Bool) (old new : Transfer) → new ≡ dropping b old → HasReceivedInOrder watch queued history quiet first read old.tracker old.reassembly → HasReceivedInOrder watch queued history quiet first read new.tracker new.reassembly
+  dropped_in_order : (b : Bool) (old new : Transfer) → new ≡ dropping b old → HasReceivedInOrder watch (sent_messages queued history) quiet first read old.tracker old.reassembly → HasReceivedInOrder watch (sent_messages queued history) quiet first read new.tracker new.reassembly
   dropped_in_order true old new same r =
       same_transfer (dropping true old) new same (tracked_on watch queued history quiet first read old.tracker (delay_over old.tracker) old.reassembly r (delayed_tracks first (length history.log) r.taken old.tracker r.tracks))
   dropped_in_order false old new same r = same_transfer old new same r
 
   pub received_in_order : (offset : ℕ) (arrival : Arrival) (old new : Transfer) → Carries history.log first offset arrival.tsn arrival.chunk → OthersArePast history first old.tracker.cumulative
-      → QuietAreOver history quiet first old.tracker.cumulative → HasReceivedInOrder watch queued history quiet first read old.tracker old.reassembly → ReceivesData arrival old new → HasReceivedInOrder watch queued history quiet first read new.tracker new.reassembly
+      → QuietAreOver history quiet first old.tracker.cumulative → HasReceivedInOrder watch (sent_messages queued history) quiet first read old.tracker old.reassembly → ReceivesData arrival old new → HasReceivedInOrder watch (sent_messages queued history) quiet first read new.tracker new.reassembly
   received_in_order offset arrival old new c past over r receives = go (has_room arrival.tsn old && is_valid_tsn old.tracker.cumulative arrival.tsn) receives
     where
-      go : (b : Bool) → ReceivesIfRoom b arrival old new → HasReceivedInOrder watch queued history quiet first read new.tracker new.reassembly
+      go : (b : Bool) → ReceivesIfRoom b arrival old new → HasReceivedInOrder watch (sent_messages queued history) quiet first read new.tracker new.reassembly
       go true takes = taken_in_order offset arrival old new c past over r takes
       go false same = dropped_in_order (old.tracker.follows_rfc && is_valid_tsn old.tracker.cumulative arrival.tsn) old new same r
 
@@ -252,21 +252,21 @@ module _ (watch : ℕ → Watch) (queued : List Message) (history : History) (fi
   not_passed : (tsn : ℕ) (tracker : TrackerState) → is_forward tracker.cumulative tsn ≡ false → after_forward tsn tracker ≡ delay_over tracker
   not_passed tsn tracker is = subst (λ (c : Bool). (if c then moved_forward tsn tracker else delay_over tracker) ≡ delay_over tracker) (sym is) refl
 
-  delayed : (tsn : ℕ) (tracker : TrackerState) (old new : ReassemblyState) → is_forward tracker.cumulative tsn ≡ false → new ≡ old → HasReceivedInOrder watch queued history quiet first read tracker old
-      → HasReceivedInOrder watch queued history quiet first read (after_forward tsn tracker) new
+  delayed : (tsn : ℕ) (tracker : TrackerState) (old new : ReassemblyState) → is_forward tracker.cumulative tsn ≡ false → new ≡ old → HasReceivedInOrder watch (sent_messages queued history) quiet first read tracker old
+      → HasReceivedInOrder watch (sent_messages queued history) quiet first read (after_forward tsn tracker) new
   delayed tsn tracker old new is same r =
-      subst (λ (s : ReassemblyState). HasReceivedInOrder watch queued history quiet first read (after_forward tsn tracker) s) (sym same)
+      subst (λ (s : ReassemblyState). HasReceivedInOrder watch (sent_messages queued history) quiet first read (after_forward tsn tracker) s) (sym same)
       (tracked_on watch queued history quiet first read tracker (after_forward tsn tracker) old r
       (subst (λ (k : TrackerState). Tracks first (length history.log) r.taken k) (sym (not_passed tsn tracker is)) (delayed_tracks first (length history.log) r.taken tracker r.tracks)))
 
-  skipped_in_order : (tsn : ℕ) (entries : List SkippedTo) (tracker now : TrackerState) (old new : ReassemblyState) → SkipsTo history first tsn entries → NoneIsQuiet quiet entries → (r : HasReceivedInOrder watch queued history quiet first read tracker old)
-      → Tracks first (length history.log) r.taken now → SkipsData tsn entries old new → HasReceivedInOrder watch queued history quiet first read now new
+  skipped_in_order : (tsn : ℕ) (entries : List SkippedTo) (tracker now : TrackerState) (old new : ReassemblyState) → SkipsTo history first tsn entries → NoneIsQuiet quiet entries → (r : HasReceivedInOrder watch (sent_messages queued history) quiet first read tracker old)
+      → Tracks first (length history.log) r.taken now → SkipsData tsn entries old new → HasReceivedInOrder watch (sent_messages queued history) quiet first read now new
   skipped_in_order tsn entries tracker now old new to loud r tracks skips = go (is_forward_deferred tsn old.deferral) refl
     where
       named : AreNamed history entries
       named = each_named history first (to.tsn_is.offset + 1) entries to.names
 
-      left : (holds : ReassemblesInOrder watch queued history quiet first r.got read new.incoming) → DefersData history first r.later (waiting_of new.deferral) → HasReceivedInOrder watch queued history quiet first read now new
+      left : (holds : ReassemblesInOrder watch (sent_messages queued history) quiet first r.got read new.incoming) → DefersData history first r.later (waiting_of new.deferral) → HasReceivedInOrder watch (sent_messages queued history) quiet first read now new
       left holds defers =
           record {
             taken = r.taken;
@@ -281,7 +281,7 @@ module _ (watch : ℕ → Watch) (queued : List Message) (history : History) (fi
             defers = defers;
           }
 
-      go : (b : Bool) → is_forward_deferred tsn old.deferral ≡ b → HasReceivedInOrder watch queued history quiet first read now new
+      go : (b : Bool) → is_forward_deferred tsn old.deferral ≡ b → HasReceivedInOrder watch (sent_messages queued history) quiet first read now new
       go true is =
           let (waits, same, far) = deferred_by tsn old.deferral is in
           let beside = skips.deferred is waits same in
@@ -296,9 +296,9 @@ module _ (watch : ℕ → Watch) (queued : List Message) (history : History) (fi
           (subst (λ (d : Option DeferralModel). DefersData history first r.later (waiting_of d)) (sym moved.deferral) r.defers)
 
   gone_in_order : (tsn : ℕ) (entries : List SkippedTo) (old new : Transfer) → (t : IsTsn history.log first tsn) → SkipAll history (t.offset + 1) entries → AreOfKind true history.log → OthersArePast history first old.tracker.cumulative
-      → QuietAreOver history quiet first old.tracker.cumulative → HasReceivedInOrder watch queued history quiet first read old.tracker old.reassembly → GoesForward tsn entries old new → HasReceivedInOrder watch queued history quiet first read new.tracker new.reassembly
+      → QuietAreOver history quiet first old.tracker.cumulative → HasReceivedInOrder watch (sent_messages queued history) quiet first read old.tracker old.reassembly → GoesForward tsn entries old new → HasReceivedInOrder watch (sent_messages queued history) quiet first read new.tracker new.reassembly
   gone_in_order tsn entries old new t skip kinds past over r goes =
-      subst (λ (k : TrackerState). HasReceivedInOrder watch queued history quiet first read k new.reassembly) (sym (ap (λ (k : Transfer). k.tracker) goes.rest)) (go (is_forward old.tracker.cumulative tsn) refl goes.reassembly)
+      subst (λ (k : TrackerState). HasReceivedInOrder watch (sent_messages queued history) quiet first read k new.reassembly) (sym (ap (λ (k : Transfer). k.tracker) goes.rest)) (go (is_forward old.tracker.cumulative tsn) refl goes.reassembly)
     where
       by_offset : is_forward old.tracker.cumulative tsn ≡ true → is_forward old.tracker.cumulative ((first + t.offset) % 2 ^ 32) ≡ true
       by_offset is = subst (λ (n : ℕ). is_forward old.tracker.cumulative n ≡ true) t.is is
@@ -315,7 +315,7 @@ module _ (watch : ℕ → Watch) (queued : List Message) (history : History) (fi
           (λ id silent. (let o = over id silent in
           all_skip_others history (t.offset + 1) id o.mark kinds o.has o.names o.below (forward_behind first (length history.log) t.offset o.mark.bound r.taken old.tracker f.small f.few t.below r.tracks o.passed (by_offset is)) entries skip))
 
-      go : (b : Bool) → is_forward old.tracker.cumulative tsn ≡ b → SkipsIfMoved b tsn entries old.reassembly new.reassembly → HasReceivedInOrder watch queued history quiet first read (after_forward tsn old.tracker) new.reassembly
+      go : (b : Bool) → is_forward old.tracker.cumulative tsn ≡ b → SkipsIfMoved b tsn entries old.reassembly new.reassembly → HasReceivedInOrder watch (sent_messages queued history) quiet first read (after_forward tsn old.tracker) new.reassembly
       go true is skips =
           let to : SkipsTo history first tsn entries =
           skips_to history first old.tracker.cumulative past tsn entries t (forward_beyond first (length history.log) t.offset r.taken old.tracker f.small f.few t.below r.tracks (by_offset is)) skip in
@@ -323,23 +323,23 @@ module _ (watch : ℕ → Watch) (queued : List Message) (history : History) (fi
       go false is same = delayed tsn old.tracker old.reassembly new.reassembly is same r
 
   pub forwarded_in_order : (tsn : ℕ) (entries : List SkippedTo) (old new : Transfer) → (t : IsTsn history.log first tsn) → SkipAll history (t.offset + 1) entries → AreOfKind true history.log → OthersArePast history first old.tracker.cumulative
-      → QuietAreOver history quiet first old.tracker.cumulative → HasReceivedInOrder watch queued history quiet first read old.tracker old.reassembly → MovesForward tsn entries old new → HasReceivedInOrder watch queued history quiet first read new.tracker new.reassembly
+      → QuietAreOver history quiet first old.tracker.cumulative → HasReceivedInOrder watch (sent_messages queued history) quiet first read old.tracker old.reassembly → MovesForward tsn entries old new → HasReceivedInOrder watch (sent_messages queued history) quiet first read new.tracker new.reassembly
   forwarded_in_order tsn entries old new t skip kinds past over r moves = go (is_valid_tsn old.tracker.cumulative tsn) moves
     where
-      go : (b : Bool) → MovesIfForward b tsn entries old new → HasReceivedInOrder watch queued history quiet first read new.tracker new.reassembly
+      go : (b : Bool) → MovesIfForward b tsn entries old new → HasReceivedInOrder watch (sent_messages queued history) quiet first read new.tracker new.reassembly
       go true goes = gone_in_order tsn entries old new t skip kinds past over r goes
       go false same = same_transfer old new same r
 
   -- none is passed
   pub nothing_in_order : (tsn : ℕ) (entries : List SkippedTo) (old new : Transfer) → tsn ≡ (first + 0 + (2 ^ 32 - 1)) % 2 ^ 32
-      → HasReceivedInOrder watch queued history quiet first read old.tracker old.reassembly → MovesForward tsn entries old new → HasReceivedInOrder watch queued history quiet first read new.tracker new.reassembly
+      → HasReceivedInOrder watch (sent_messages queued history) quiet first read old.tracker old.reassembly → MovesForward tsn entries old new → HasReceivedInOrder watch (sent_messages queued history) quiet first read new.tracker new.reassembly
   nothing_in_order tsn entries old new is r moves = go (is_valid_tsn old.tracker.cumulative tsn) moves
     where
       none : is_forward old.tracker.cumulative tsn ≡ false
       none = nothing_passed first (length history.log) old.tracker.cumulative tsn f.small f.few r.tracks.reached r.tracks.started is
 
-      go : (b : Bool) → MovesIfForward b tsn entries old new → HasReceivedInOrder watch queued history quiet first read new.tracker new.reassembly
+      go : (b : Bool) → MovesIfForward b tsn entries old new → HasReceivedInOrder watch (sent_messages queued history) quiet first read new.tracker new.reassembly
       go false same = same_transfer old new same r
       go true goes =
-          subst (λ (k : TrackerState). HasReceivedInOrder watch queued history quiet first read k new.reassembly) (sym (ap (λ (k : Transfer). k.tracker) goes.rest))
+          subst (λ (k : TrackerState). HasReceivedInOrder watch (sent_messages queued history) quiet first read k new.reassembly) (sym (ap (λ (k : Transfer). k.tracker) goes.rest))
           (delayed tsn old.tracker old.reassembly new.reassembly none (subst (λ (c : Bool). SkipsIfMoved c tsn entries old.reassembly new.reassembly) none goes.reassembly) r)

@@ -12,9 +12,9 @@ use Rattle.dcsctp_spec_lemmas.specs.spec.queues.Runs.{RunModel, WholeModel, behi
 use Rattle.dcsctp_spec_lemmas.specs.spec.queues.IncomingStreams.{StreamModel, delivered_as, due, not_due, next_past, skipped_stream, stream_after_skip, skip_deliveries}
 use Rattle.dcsctp_spec_lemmas.specs.spec.queues.Incoming.{IncomingModel, stream_on, skipped_on, stream_skipping, deliveries_of_skips, MovesOn}
 use Rattle.dcsctp_delivery_sending.specs.Places.{HasEntry, table_with}
-use Rattle.dcsctp_delivery_sending.specs.Log.{Message, Piece, History}
+use Rattle.dcsctp_delivery_sending.specs.Log.{Message, Piece, History, sent_messages}
 use Rattle.dcsctp_delivery_receiving.specs.Rows.{AreRows}
-use Rattle.dcsctp_delivery_receiving.specs.Ready.{IsOn, IsApart, IsOfStream, ReadsMids, ordered_base, unordered_base, NamesCurrent, AreNamed, StreamRows, AreDistinct, WereQueued, WaitQueued, StreamHolds}
+use Rattle.dcsctp_delivery_receiving.specs.Ready.{IsOn, IsApart, IsOfStream, ReadsMids, ordered_base, unordered_base, NamesCurrent, AreNamed, StreamRows, AreDistinct, WereQueued, WaitQueued, StreamHolds, held_messages}
 use Rattle.dcsctp_delivery_sending.proofs.Places.{decide, set_same, set_other}
 use Rattle.dcsctp_delivery_receiving.proofs.Distinct.{has_left, has_either, appended, distinct_left, distinct_apart}
 use Rattle.dcsctp_delivery_receiving.proofs.Reading.{reads_moved, reads_past, reads_due}
@@ -47,8 +47,8 @@ module _ (watch : ℕ → Watch) (queued : List Message) (history : History) (fr
       go false rest = are
 
   -- streams that are the same
-  holds_same : (streams others : ℕ → StreamModel) (unordered : List RunModel) (ready : List MessageContent) → ((id : ℕ) → others id ≡ streams id) → HoldsOrdered watch queued history quiet got base read streams unordered ready
-      → HoldsOrdered watch queued history quiet got base read others unordered ready
+  holds_same : (streams others : ℕ → StreamModel) (unordered : List RunModel) (ready : List MessageContent) → ((id : ℕ) → others id ≡ streams id) → HoldsOrdered watch (sent_messages queued history) quiet got base read (held_messages streams unordered ready)
+      → HoldsOrdered watch (sent_messages queued history) quiet got base read (held_messages others unordered ready)
   holds_same streams others unordered ready same o =
       record {
         holds = record {
@@ -60,13 +60,13 @@ module _ (watch : ℕ → Watch) (queued : List Message) (history : History) (fr
           spent = o.holds.spent;
           once = o.holds.once;
         };
-        order = λ id counts. subst (λ (s : StreamModel). IsOrderedOrReset (watch id) (quiet id) queued history id (read ++ o.holds.places) (o.holds.waits id) s) (sym (same id)) (o.order id counts);
+        order = λ id counts. subst (λ (s : StreamModel). IsOrderedOrReset (watch id) (quiet id) (sent_messages queued history) id (read ++ o.holds.places) (o.holds.waits id) s) (sym (same id)) (o.order id counts);
       }
 
   -- one stream is left so
-  holds_left : (id : ℕ) → quiet id ≡ false → (streams later : ℕ → StreamModel) (unordered : List RunModel) (ready after : List MessageContent) (o : HoldsOrdered watch queued history quiet got base read streams unordered ready)
+  holds_left : (id : ℕ) → quiet id ≡ false → (streams later : ℕ → StreamModel) (unordered : List RunModel) (ready after : List MessageContent) (o : HoldsOrdered watch (sent_messages queued history) quiet got base read (held_messages streams unordered ready))
       → StreamRows history got base id (later id) → ((other : ℕ) → other ≢ id → later other ≡ streams other)
-      → LeavesOrder (watch id) queued history got (read ++ o.holds.places) o.holds.places id (later id) after → HoldsOrdered watch queued history quiet got base read later unordered after
+      → LeavesOrder (watch id) queued history got (read ++ o.holds.places) o.holds.places id (later id) after → HoldsOrdered watch (sent_messages queued history) quiet got base read (held_messages later unordered after)
   holds_left id loud streams later unordered ready after o rows others leaves =
       record {
         holds = record {
@@ -98,14 +98,14 @@ module _ (watch : ℕ → Watch) (queued : List Message) (history : History) (fr
         };
         order = λ other counts. elim (decide other id) [
           | inl e ↦
-              subst (λ (k : ℕ). IsOrderedOrReset (watch k) (quiet k) queued history k (read ++ (o.holds.places ++ leaves.more)) (table_with id leaves.waits o.holds.waits k) (later k)) (sym e)
-              (subst (λ (l : List ℕ). IsOrderedOrReset (watch id) (quiet id) queued history id (read ++ (o.holds.places ++ leaves.more)) l (later id)) (sym (set_same id leaves.waits o.holds.waits))
-              (subst (λ (b : Bool). IsOrderedOrReset (watch id) b queued history id (read ++ (o.holds.places ++ leaves.more)) leaves.waits (later id)) (sym loud)
+              subst (λ (k : ℕ). IsOrderedOrReset (watch k) (quiet k) (sent_messages queued history) k (read ++ (o.holds.places ++ leaves.more)) (table_with id leaves.waits o.holds.waits k) (later k)) (sym e)
+              (subst (λ (l : List ℕ). IsOrderedOrReset (watch id) (quiet id) (sent_messages queued history) id (read ++ (o.holds.places ++ leaves.more)) l (later id)) (sym (set_same id leaves.waits o.holds.waits))
+              (subst (λ (b : Bool). IsOrderedOrReset (watch id) b (sent_messages queued history) id (read ++ (o.holds.places ++ leaves.more)) leaves.waits (later id)) (sym loud)
               (subst (λ (l : List ℕ). OrderedStream (watch id) queued history id l leaves.waits (later id)) (appended read o.holds.places leaves.more) (leaves.order (subst (λ (k : ℕ). CountsFromZero history k) e counts)))))
           | inr ne ↦
-              subst (λ (l : List ℕ). IsOrderedOrReset (watch other) (quiet other) queued history other (read ++ (o.holds.places ++ leaves.more)) l (later other)) (sym (set_other id other leaves.waits o.holds.waits ne))
-              (subst (λ (s : StreamModel). IsOrderedOrReset (watch other) (quiet other) queued history other (read ++ (o.holds.places ++ leaves.more)) (o.holds.waits other) s) (sym (others other ne))
-              (subst (λ (l : List ℕ). IsOrderedOrReset (watch other) (quiet other) queued history other l (o.holds.waits other) (streams other)) (appended read o.holds.places leaves.more)
+              subst (λ (l : List ℕ). IsOrderedOrReset (watch other) (quiet other) (sent_messages queued history) other (read ++ (o.holds.places ++ leaves.more)) l (later other)) (sym (set_other id other leaves.waits o.holds.waits ne))
+              (subst (λ (s : StreamModel). IsOrderedOrReset (watch other) (quiet other) (sent_messages queued history) other (read ++ (o.holds.places ++ leaves.more)) (o.holds.waits other) s) (sym (others other ne))
+              (subst (λ (l : List ℕ). IsOrderedOrReset (watch other) (quiet other) (sent_messages queued history) other l (o.holds.waits other) (streams other)) (appended read o.holds.places leaves.more)
               (others_where (watch other) queued history (quiet other) other (read ++ o.holds.places) (o.holds.waits other) leaves.more (streams other)
               (λ place h is. ne (sym (one_stream queued id other place (leaves.on place h) (is.message, is.at, is.stream)))) (o.order other counts))))
         ];
@@ -211,8 +211,8 @@ module _ (watch : ℕ → Watch) (queued : List Message) (history : History) (fr
       go true e = absurd (cc)
       go false e = refl
 
-  one_skipped : (passed : ℕ) (entry : SkippedTo) (streams : ℕ → StreamModel) (unordered : List RunModel) (ready : List MessageContent) → HoldsOrdered watch queued history quiet got base read streams unordered ready
-      → quiet (skipped_stream entry) ≡ false → NamesCurrent history passed entry → HoldsOrdered watch queued history quiet got base read (λ id. skipped_on entry id (streams id)) unordered (ready ++ skip_deliveries entry (streams (skipped_stream entry)))
+  one_skipped : (passed : ℕ) (entry : SkippedTo) (streams : ℕ → StreamModel) (unordered : List RunModel) (ready : List MessageContent) → HoldsOrdered watch (sent_messages queued history) quiet got base read (held_messages streams unordered ready)
+      → quiet (skipped_stream entry) ≡ false → NamesCurrent history passed entry → HoldsOrdered watch (sent_messages queued history) quiet got base read (held_messages (λ id. skipped_on entry id (streams id)) unordered (ready ++ skip_deliveries entry (streams (skipped_stream entry))))
   one_skipped passed entry streams unordered ready o loud names =
       let id : ℕ = skipped_stream entry in
       let here : StreamHolds queued history got base id (o.holds.waits id) (streams id) = o.holds.streams_hold id in
@@ -222,13 +222,13 @@ module _ (watch : ℕ → Watch) (queued : List Message) (history : History) (fr
       (λ other ne. on_others entry other (streams other) ne)
       (subst (λ (s : StreamModel). LeavesOrder (watch id) queued history got (read ++ o.holds.places) o.holds.places id s (ready ++ skip_deliveries entry (streams id))) (sym is)
       (skipped_leaves passed (read ++ o.holds.places) o.holds.places (o.holds.waits id) entry (streams id) ready names here o.holds.were_queued (o.holds.once id)
-      (λ counts. subst (λ (b : Bool). IsOrderedOrReset (watch id) b queued history id (read ++ o.holds.places) (o.holds.waits id) (streams id)) loud (o.order id counts))))
+      (λ counts. subst (λ (b : Bool). IsOrderedOrReset (watch id) b (sent_messages queued history) id (read ++ o.holds.places) (o.holds.waits id) (streams id)) loud (o.order id counts))))
 
-  all_skipped : (entries : List SkippedTo) (streams : ℕ → StreamModel) (unordered : List RunModel) (ready : List MessageContent) → HoldsOrdered watch queued history quiet got base read streams unordered ready
-      → AreNamed history entries → NoneIsQuiet quiet entries → HoldsOrdered watch queued history quiet got base read (λ id. stream_skipping entries id (streams id)) unordered (ready ++ deliveries_of_skips entries streams)
-  all_skipped [] streams unordered ready holds names loud = subst (λ (l : List MessageContent). HoldsOrdered watch queued history quiet got base read streams unordered l) (sym (append-nil ready)) holds
+  all_skipped : (entries : List SkippedTo) (streams : ℕ → StreamModel) (unordered : List RunModel) (ready : List MessageContent) → HoldsOrdered watch (sent_messages queued history) quiet got base read (held_messages streams unordered ready)
+      → AreNamed history entries → NoneIsQuiet quiet entries → HoldsOrdered watch (sent_messages queued history) quiet got base read (held_messages (λ id. stream_skipping entries id (streams id)) unordered (ready ++ deliveries_of_skips entries streams))
+  all_skipped [] streams unordered ready holds names loud = subst (λ (l : List MessageContent). HoldsOrdered watch (sent_messages queued history) quiet got base read (held_messages streams unordered l)) (sym (append-nil ready)) holds
   all_skipped (entry ∷ entries) streams unordered ready holds names loud =
-      subst (λ (l : List MessageContent). HoldsOrdered watch queued history quiet got base read (λ id. stream_skipping (entry ∷ entries) id (streams id)) unordered l)
+      subst (λ (l : List MessageContent). HoldsOrdered watch (sent_messages queued history) quiet got base read (held_messages (λ id. stream_skipping (entry ∷ entries) id (streams id)) unordered l))
       (messages_appended ready (skip_deliveries entry (streams (skipped_stream entry))) (deliveries_of_skips entries (λ id. skipped_on entry id (streams id))))
       (all_skipped entries (λ id. skipped_on entry id (streams id)) unordered (ready ++ skip_deliveries entry (streams (skipped_stream entry))) (one_skipped names.0.0 entry streams unordered ready holds loud.0 names.0.1) names.1 loud.1)
     where
@@ -237,18 +237,18 @@ module _ (watch : ℕ → Watch) (queued : List Message) (history : History) (fr
       messages_appended (x ∷ xs) ys zs = ap (λ (l : List MessageContent). x ∷ l) (messages_appended xs ys zs)
 
   -- the runs of unordered messages are others
-  apart_rows : (streams : ℕ → StreamModel) (unordered others : List RunModel) (ready : List MessageContent) → HoldsOrdered watch queued history quiet got base read streams unordered ready → AreRows history.log got (unordered_base base) IsOfStream others
-      → HoldsOrdered watch queued history quiet got base read streams others ready
+  apart_rows : (streams : ℕ → StreamModel) (unordered others : List RunModel) (ready : List MessageContent) → HoldsOrdered watch (sent_messages queued history) quiet got base read (held_messages streams unordered ready) → AreRows history.log got (unordered_base base) IsOfStream others
+      → HoldsOrdered watch (sent_messages queued history) quiet got base read (held_messages streams others ready)
   apart_rows streams unordered others ready holds rows =
       record {
         holds = record { waits = holds.holds.waits; streams_hold = holds.holds.streams_hold; rows = rows; places = holds.holds.places; were_queued = holds.holds.were_queued; spent = holds.holds.spent; once = holds.holds.once };
         order = holds.order;
       }
 
-  pub skipping_in_order : (tsn : ℕ) (entries : List SkippedTo) (old new : IncomingModel) → AreNamed history entries → NoneIsQuiet quiet entries → IncomingOrdered watch queued history quiet got base read old → MovesOn tsn entries old new → IncomingOrdered watch queued history quiet got base read new
+  pub skipping_in_order : (tsn : ℕ) (entries : List SkippedTo) (old new : IncomingModel) → AreNamed history entries → NoneIsQuiet quiet entries → IncomingOrdered watch (sent_messages queued history) quiet got base read old → MovesOn tsn entries old new → IncomingOrdered watch (sent_messages queued history) quiet got base read new
   skipping_in_order tsn entries old new names loud holds moves =
       let skipped_all = all_skipped entries (λ id. stream_on id old.streams) old.unordered old.ready holds names loud in
       let rows : AreRows history.log got (unordered_base base) IsOfStream new.unordered = subst (λ (l : List RunModel). AreRows history.log got (unordered_base base) IsOfStream l) (sym moves.unordered) (rows_behind (unordered_base base) IsOfStream (number_near old.last_tsn_number tsn) old.unordered holds.holds.rows) in
-      subst (λ (l : List MessageContent). HoldsOrdered watch queued history quiet got base read (λ id. stream_on id new.streams) new.unordered l) (sym moves.ready)
+      subst (λ (l : List MessageContent). HoldsOrdered watch (sent_messages queued history) quiet got base read (held_messages (λ id. stream_on id new.streams) new.unordered l)) (sym moves.ready)
       (apart_rows (λ id. stream_on id new.streams) old.unordered new.unordered (old.ready ++ deliveries_of_skips entries (λ id. stream_on id old.streams))
       (holds_same (λ id. stream_skipping entries id (stream_on id old.streams)) (λ id. stream_on id new.streams) old.unordered (old.ready ++ deliveries_of_skips entries (λ id. stream_on id old.streams)) moves.streams skipped_all) rows)

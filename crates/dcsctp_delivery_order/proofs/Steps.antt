@@ -38,6 +38,7 @@ use Rattle.dcsctp_delivery_order.proofs.Quiet.{AreSilent, Arrives, arrives_later
 use Rattle.dcsctp_delivery_order.proofs.Raised.{raised_in_order}
 use Rattle.dcsctp_delivery_order.proofs.Received.{tracked_in_order, deferring_in_order, received_in_order, forwarded_in_order, nothing_in_order}
 use Rattle.dcsctp_delivery_order.proofs.Taken.{takes_in_order}
+use Rattle.dcsctp_delivery_sending.specs.Log.{sent_messages}
 
 module _ (watch : ℕ → Watch) (first : ℕ) (old : Direction) (small : first < 2 ^ 32) (s : Stands first old) (free : NoneLimitedOn watch s.history.log) (little : length s.history.log < 2 ^ 31) (interleaved : old.queues.queue.is_interleaved ≡ true) where
   abbrev arrived : Arrived first s.history old
@@ -56,7 +57,7 @@ module _ (watch : ℕ → Watch) (first : ℕ) (old : Direction) (small : first 
     whole : HasReceived old.queued s.history first arrived.places theirs.tracker theirs.reassembly
     whole = received_at first old small s theirs new same same' arrived
 
-    arrived_so : HasReceivedInOrder watch old.queued s.history before.quiet first before.places new.tracker new.reassembly → theirs.tracker.cumulative ≤ new.tracker.cumulative
+    arrived_so : HasReceivedInOrder watch (sent_messages old.queued s.history) before.quiet first before.places new.tracker new.reassembly → theirs.tracker.cumulative ≤ new.tracker.cumulative
         → ((id : ℕ) → IsOver s.history first theirs.tracker.cumulative id → IsClear id theirs.reassembly → IsClear id new.reassembly) → ArrivesWith new.tracker new.reassembly
     arrived_so received up stays =
         record {
@@ -88,7 +89,7 @@ module _ (watch : ℕ → Watch) (first : ℕ) (old : Direction) (small : first 
         arrived_so (go passed.passed passed.below passed.is skip) (forward_grows tsn entries theirs new does)
         (clears first old small s theirs new same same' tsn entries does passed.passed passed.below passed.is skip little arrived (known_kinds first old small s interleaved))
       where
-        go : (k : ℕ) → k ≤ length s.history.log → tsn ≡ (first + k + (2 ^ 32 - 1)) % 2 ^ 32 → SkipAll s.history k entries → HasReceivedInOrder watch old.queued s.history before.quiet first before.places new.tracker new.reassembly
+        go : (k : ℕ) → k ≤ length s.history.log → tsn ≡ (first + k + (2 ^ 32 - 1)) % 2 ^ 32 → SkipAll s.history k entries → HasReceivedInOrder watch (sent_messages old.queued s.history) before.quiet first before.places new.tracker new.reassembly
         go zero below is skip =
             nothing_in_order watch old.queued s.history first s.queues.cut (known_log first old small s little) (known_few first old small s little) free before.quiet before.places tsn entries theirs new is before.received does
         go (suc k) below is skip =

@@ -14,7 +14,7 @@ use Rattle.dcsctp_spec_lemmas.specs.spec.endpoint.FlushOutcomes.{first_ask, pack
 use Rattle.dcsctp_spec_lemmas.specs.spec.endpoint.MessageOutcomes.{sending_queued}
 use Rattle.dcsctp_spec_lemmas.specs.spec.endpoint.SettingOutcomes.{set_in_queue}
 use Rattle.dcsctp_delivery_sending.specs.Places.{at_place}
-use Rattle.dcsctp_delivery_sending.specs.Log.{Fits, Message, Slot, History, IsLogOfPieces, new_history}
+use Rattle.dcsctp_delivery_sending.specs.Log.{Fits, Message, Slot, History, IsLogOfPieces, new_history, sent_messages}
 use Rattle.dcsctp_delivery_sending.specs.Flushes.{InFlight}
 use Rattle.dcsctp_delivery_sending.specs.Losing.{IsOpenOn, AllWaitOn, AreUnlimited, AreUnlimitedOn, StillWaits, IsKept}
 use Rattle.dcsctp_delivery_sending.specs.Numbers.{is_handed_out, stream_named}
@@ -419,7 +419,7 @@ gapless_of direction id = direction.beginning.keeps id && are_unlimited_on id di
 module _ (direction : Direction) (history : History) (counts : (id : ℕ) → CountsFromZero history id)
     (turns : (id : ℕ) → gapless_of direction id ≡ true → SendsInTurn direction.queued history id) where
   read_gapless : (quiet : ℕ → Bool) → ((id : ℕ) → gapless_of direction id ≡ true → quiet id ≡ false) → (got : List ℕ) (base : ℕ) (places : List ℕ) → WereQueued direction.queued places direction.read → AreDistinct places
-      → IncomingOrdered (uncut (gapless_of direction)) direction.queued history quiet got base places direction.reassembly.incoming → AreDeliveredByStream direction.beginning.keeps direction.queued direction.read
+      → IncomingOrdered (uncut (gapless_of direction)) (sent_messages direction.queued history) quiet got base places direction.reassembly.incoming → AreDeliveredByStream direction.beginning.keeps direction.queued direction.read
   read_gapless quiet loud got base places were once o =
       record {
         ordered = record {
@@ -429,14 +429,14 @@ module _ (direction : Direction) (history : History) (counts : (id : ℕ) → Co
         no_gap = λ id kept are. (
             let is : gapless_of direction id ≡ true = rw kept (so_unlimited id direction.queued are) in
             let here : OrderedStream (uncut (gapless_of direction) id) direction.queued history id (places ++ o.holds.places) (o.holds.waits id) (stream_on id direction.reassembly.incoming.streams) =
-            subst (λ (b : Bool). IsOrderedOrReset (uncut (gapless_of direction) id) b direction.queued history id (places ++ o.holds.places) (o.holds.waits id) (stream_on id direction.reassembly.incoming.streams)) (loud id is) (o.order id (counts id)) in
+            subst (λ (b : Bool). IsOrderedOrReset (uncut (gapless_of direction) id) b (sent_messages direction.queued history) id (places ++ o.holds.places) (o.holds.waits id) (stream_on id direction.reassembly.incoming.streams)) (loud id is) (o.order id (counts id)) in
             no_gap_front direction.queued id places o.holds.places here.order.in_order
             (filled_no_gap direction.queued history id (places ++ o.holds.places) (o.holds.waits id) (stream_on id direction.reassembly.incoming.streams) (counts id) (turns id is) here.order (here.filled is))
             );
       }
 
   read_so : (quiet : ℕ → Bool) → ((id : ℕ) → gapless_of direction id ≡ true → quiet id ≡ false) → (first : ℕ) (got places : List ℕ) → WereQueued direction.queued places direction.read → AreDistinct places
-      → ReassemblesInOrder (uncut (gapless_of direction)) direction.queued history quiet first got places direction.reassembly.incoming → AreDeliveredByStream direction.beginning.keeps direction.queued direction.read
+      → ReassemblesInOrder (uncut (gapless_of direction)) (sent_messages direction.queued history) quiet first got places direction.reassembly.incoming → AreDeliveredByStream direction.beginning.keeps direction.queued direction.read
   read_so quiet loud first got places were once (none_handled none last empty) = read_gapless quiet loud [] 0 places were once (empty 0)
   read_so quiet loud first got places were once (some_handled base at holds) = read_gapless quiet loud got base places were once holds
 

@@ -5,7 +5,7 @@ use Rattle.dcsctp_spec_lemmas.specs.spec.queues.Incoming.{IncomingModel, stream_
 use Rattle.dcsctp_spec_lemmas.specs.spec.queues.Reassembly.{ReassemblyState, waiting_of, with_ready}
 use Rattle.dcsctp_spec_lemmas.specs.spec.queues.Tracker.{TrackerState}
 use Rattle.dcsctp_delivery_sending.specs.Places.{HasEntry}
-use Rattle.dcsctp_delivery_sending.specs.Log.{Message, History}
+use Rattle.dcsctp_delivery_sending.specs.Log.{Message, History, sent_messages}
 use Rattle.dcsctp_delivery_receiving.specs.Ready.{WasQueued, WereQueued}
 use Rattle.dcsctp_delivery_receiving.proofs.Continuing.{GoesOn, defers_more}
 use Rattle.dcsctp_delivery_receiving.proofs.Distinct.{has_left, has_right}
@@ -24,13 +24,13 @@ pub record TakesInOrder (watch : ℕ → Watch) (queued : List Message) (history
   pub place : ℕ
   pub was : WasQueued queued place message
   pub fresh : HasEntry place read → ⊥
-  pub received : HasReceivedInOrder watch queued history quiet first (read ++ place ∷ []) tracker (with_ready messages reassembly)
+  pub received : HasReceivedInOrder watch (sent_messages queued history) quiet first (read ++ place ∷ []) tracker (with_ready messages reassembly)
 
 pub takes_in_order : (watch : ℕ → Watch) (queued : List Message) (history : History) (quiet : ℕ → Bool) (first : ℕ) (read : List ℕ) (tracker : TrackerState) (reassembly : ReassemblyState) (message : MessageContent) (messages : List MessageContent)
-    → reassembly.incoming.ready ≡ message ∷ messages → HasReceivedInOrder watch queued history quiet first read tracker reassembly → TakesInOrder watch queued history quiet first read tracker reassembly message messages
+    → reassembly.incoming.ready ≡ message ∷ messages → HasReceivedInOrder watch (sent_messages queued history) quiet first read tracker reassembly → TakesInOrder watch queued history quiet first read tracker reassembly message messages
 takes_in_order watch queued history quiet first read tracker reassembly message messages is r = go r.holds
   where
-    go : ReassemblesInOrder watch queued history quiet first r.got read reassembly.incoming → TakesInOrder watch queued history quiet first read tracker reassembly message messages
+    go : ReassemblesInOrder watch (sent_messages queued history) quiet first r.got read reassembly.incoming → TakesInOrder watch queued history quiet first read tracker reassembly message messages
     go (some_handled base at holds) =
         let t = taking_in_order watch queued history quiet r.got base read reassembly.incoming message messages is holds in
         record {
@@ -58,7 +58,7 @@ takes_in_order watch queued history quiet first read tracker reassembly message 
 -- ---- the peer goes on
 
 module _ (queued more : List Message) (history later : History) (goes : GoesOn history later) (within : IsWithin history later) (quiet : ℕ → Bool) (read : List ℕ) (contents : List MessageContent) (were : WereQueued queued read contents) where
-  ordered_more : (watch : ℕ → Watch) → ((id : ℕ) → quiet id ≡ false → ComeSince history id (watch id).cuts → ComeSince later id (watch id).cuts) → (got : List ℕ) (base : ℕ) (incoming : IncomingModel) → IncomingOrdered watch queued history quiet got base read incoming → IncomingOrdered watch (more ++ queued) later quiet got base read incoming
+  ordered_more : (watch : ℕ → Watch) → ((id : ℕ) → quiet id ≡ false → ComeSince history id (watch id).cuts → ComeSince later id (watch id).cuts) → (got : List ℕ) (base : ℕ) (incoming : IncomingModel) → IncomingOrdered watch (sent_messages queued history) quiet got base read incoming → IncomingOrdered watch (sent_messages (more ++ queued) later) quiet got base read incoming
   unfolding holds_more
   ordered_more watch fresh got base incoming o =
       record {
@@ -67,11 +67,11 @@ module _ (queued more : List Message) (history later : History) (goes : GoesOn h
             (both_queued queued read o.holds.places contents incoming.ready were o.holds.were_queued) counts (o.order id);
       }
 
-  pub reassembles_more : (watch : ℕ → Watch) → ((id : ℕ) → quiet id ≡ false → ComeSince history id (watch id).cuts → ComeSince later id (watch id).cuts) → (first : ℕ) (got : List ℕ) (incoming : IncomingModel) → ReassemblesInOrder watch queued history quiet first got read incoming → ReassemblesInOrder watch (more ++ queued) later quiet first got read incoming
+  pub reassembles_more : (watch : ℕ → Watch) → ((id : ℕ) → quiet id ≡ false → ComeSince history id (watch id).cuts → ComeSince later id (watch id).cuts) → (first : ℕ) (got : List ℕ) (incoming : IncomingModel) → ReassemblesInOrder watch (sent_messages queued history) quiet first got read incoming → ReassemblesInOrder watch (sent_messages (more ++ queued) later) quiet first got read incoming
   reassembles_more watch fresh first got incoming (none_handled none last empty) = none_handled none last (λ base. ordered_more watch fresh [] base incoming (empty base))
   reassembles_more watch fresh first got incoming (some_handled base is holds) = some_handled base is (ordered_more watch fresh got base incoming holds)
 
-  pub received_later : (watch : ℕ → Watch) → ((id : ℕ) → quiet id ≡ false → ComeSince history id (watch id).cuts → ComeSince later id (watch id).cuts) → (first : ℕ) (tracker : TrackerState) (reassembly : ReassemblyState) → HasReceivedInOrder watch queued history quiet first read tracker reassembly → HasReceivedInOrder watch (more ++ queued) later quiet first read tracker reassembly
+  pub received_later : (watch : ℕ → Watch) → ((id : ℕ) → quiet id ≡ false → ComeSince history id (watch id).cuts → ComeSince later id (watch id).cuts) → (first : ℕ) (tracker : TrackerState) (reassembly : ReassemblyState) → HasReceivedInOrder watch (sent_messages queued history) quiet first read tracker reassembly → HasReceivedInOrder watch (sent_messages (more ++ queued) later) quiet first read tracker reassembly
   received_later watch fresh first tracker reassembly r =
       record {
         taken = r.taken;

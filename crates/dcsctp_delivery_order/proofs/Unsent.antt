@@ -7,7 +7,7 @@ use Rattle.dcsctp_spec_lemmas.specs.spec.queues.Incoming.{IncomingModel, stream_
 use Rattle.dcsctp_spec_lemmas.specs.spec.queues.Reassembly.{ReassemblyState}
 use Rattle.dcsctp_spec_lemmas.specs.spec.queues.Tracker.{TrackerState}
 use Rattle.dcsctp_delivery_sending.specs.Places.{HasEntry, at_place}
-use Rattle.dcsctp_delivery_sending.specs.Log.{Message, Slot, History, IsLogOfPieces}
+use Rattle.dcsctp_delivery_sending.specs.Log.{Message, Slot, History, IsLogOfPieces, sent_messages}
 use Rattle.dcsctp_delivery_sending.specs.Numbers.{AreOfKind}
 use Rattle.dcsctp_delivery_receiving.specs.Clear.{Unsent}
 use Rattle.dcsctp_delivery_receiving.specs.Ready.{WaitQueued, IsNear, fresh, near, HoldsIncoming}
@@ -70,19 +70,19 @@ module _ (queued : List Message) (history : History) (empty : history.log ≡ []
         shuts = λ n f at. absurd (nowhere n (Some f) at);
       }
 
-  holds_none : (gapless : ℕ → Bool) (got : List ℕ) (base : ℕ) (read : List ℕ) (incoming : IncomingModel) → HoldsIncoming queued history got base read incoming → IncomingOrdered (uncut gapless) queued history none_quiet got base read incoming
+  holds_none : (gapless : ℕ → Bool) (got : List ℕ) (base : ℕ) (read : List ℕ) (incoming : IncomingModel) → HoldsIncoming queued history got base read incoming → IncomingOrdered (uncut gapless) (sent_messages queued history) none_quiet got base read incoming
   holds_none gapless got base read incoming holds =
       record {
         holds = holds;
         order = λ id counts. unsent_ordered queued history id no_cut (λ n f at. absurd (nowhere n (Some f) at)) (λ n f at on. absurd (nowhere n (Some f) at)) (uncut gapless id) got base read incoming holds (λ cut has. absurd has);
       }
 
-  pub reassembles_none : (gapless : ℕ → Bool) (first : ℕ) (got read : List ℕ) (incoming : IncomingModel) → Reassembles queued history first got read incoming → ReassemblesInOrder (uncut gapless) queued history none_quiet first got read incoming
+  pub reassembles_none : (gapless : ℕ → Bool) (first : ℕ) (got read : List ℕ) (incoming : IncomingModel) → Reassembles queued history first got read incoming → ReassemblesInOrder (uncut gapless) (sent_messages queued history) none_quiet first got read incoming
   reassembles_none gapless first got read incoming (untouched none' last empty') = none_handled none' last (λ base. holds_none gapless [] base read incoming (empty' base))
   reassembles_none gapless first got read incoming (placed base is holds) = some_handled base is (holds_none gapless got base read incoming holds)
 
   pub received_none : (gapless : ℕ → Bool) (first : ℕ) (read : List ℕ) (tracker : TrackerState) (reassembly : ReassemblyState) → HasReceived queued history first read tracker reassembly
-      → HasReceivedInOrder (uncut gapless) queued history none_quiet first read tracker reassembly
+      → HasReceivedInOrder (uncut gapless) (sent_messages queued history) none_quiet first read tracker reassembly
   received_none gapless first read tracker reassembly r =
       record {
         taken = r.taken;

@@ -4,7 +4,7 @@
 use Rattle.std.specs.Prelude.{ℕ, Bool, true, false, List}
 use Rattle.dcsctp_spec_lemmas.specs.types.queues.Messages.{MessageContent}
 use Rattle.dcsctp_spec_lemmas.specs.spec.queues.Incoming.{IncomingModel}
-use Rattle.dcsctp_delivery_sending.specs.Log.{Message, History}
+use Rattle.dcsctp_delivery_sending.specs.Log.{Message, History, sent_messages}
 use Rattle.dcsctp_delivery_receiving.specs.Ready.{AreDistinct, WereQueued}
 use Rattle.dcsctp_delivery_directions.specs.Directions.{AreDelivered}
 use Rattle.dcsctp_delivery_order.specs.Queue.{ComeInOrder, LeaveNoGap}
@@ -26,7 +26,7 @@ pub record AreDeliveredWithoutGaps (queued : List Message) (read : List MessageC
 abbrev pub ReadIsInOrder : Type 0
 ReadIsInOrder =
     (watch : ℕ → Watch) (queued : List Message) (history : History) (quiet : ℕ → Bool) (got : List ℕ) (base : ℕ) (places : List ℕ) (incoming : IncomingModel) (read : List MessageContent)
-    → WereQueued queued places read → AreDistinct places → ((id : ℕ) → CountsFromZero history id) → IncomingOrdered watch queued history quiet got base places incoming
+    → WereQueued queued places read → AreDistinct places → ((id : ℕ) → CountsFromZero history id) → IncomingOrdered watch (sent_messages queued history) quiet got base places incoming
     → AreDeliveredInOrder queued read
 
 -- They are read without gaps where besides nothing is skipped or reset, and messages are sent in turn.
@@ -34,4 +34,4 @@ abbrev pub ReadIsWithoutGaps : Type 0
 ReadIsWithoutGaps =
     (queued : List Message) (history : History) (got : List ℕ) (base : ℕ) (places : List ℕ) (incoming : IncomingModel) (read : List MessageContent)
     → WereQueued queued places read → AreDistinct places → ((id : ℕ) → CountsFromZero history id) → ((id : ℕ) → SendsInTurn queued history id)
-    → IncomingOrdered (uncut (λ id. true)) queued history (λ id. false) got base places incoming → AreDeliveredWithoutGaps queued read
+    → IncomingOrdered (uncut (λ id. true)) (sent_messages queued history) (λ id. false) got base places incoming → AreDeliveredWithoutGaps queued read

@@ -7,10 +7,10 @@ use Rattle.dcsctp_spec_lemmas.specs.spec.queues.Runs.{RunModel}
 use Rattle.dcsctp_spec_lemmas.specs.spec.queues.IncomingStreams.{StreamModel, is_number_waiting}
 use Rattle.dcsctp_spec_lemmas.specs.spec.queues.Incoming.{IncomingModel, stream_on}
 use Rattle.dcsctp_delivery_sending.specs.Places.{HasEntry, at_place}
-use Rattle.dcsctp_delivery_sending.specs.Log.{Message, Piece, Slot, History, is_end}
+use Rattle.dcsctp_delivery_sending.specs.Log.{Message, Piece, Slot, History, is_end, sent_messages, SentMessages}
 use Rattle.dcsctp_delivery_sending.specs.Numbers.{AreOfKind}
 use Rattle.dcsctp_delivery_sending.specs.Turns.{begun_on, turn_of_tsn, IsSsnOfTurn}
-use Rattle.dcsctp_delivery_receiving.specs.Ready.{HoldsAll}
+use Rattle.dcsctp_delivery_receiving.specs.Ready.{HoldsAll, held_messages, HeldMessages}
 use Rattle.dcsctp_delivery_order.specs.Runs.{LieApart, IsHeldForMessage}
 use Rattle.dcsctp_delivery_order.specs.Order.{StreamInOrder, AreFilled}
 
@@ -74,20 +74,20 @@ IsHeldOrWaits log base id stream n =
 
 -- The stream is in order, without a gap. Its runs lie apart, and each part that was handled is held, or its message is whole. `base`
 -- is the number that the reassembly queue has for the first TSN.
-pub record PlainStream (queued : List Message) (history : History) (got : List ℕ) (base id : ℕ) (all waits : List ℕ) (stream : StreamModel) : Type 0 where
-  pub order : StreamInOrder queued (with_turns history) id all waits stream
-  pub filled : AreFilled (with_turns history) id all stream.next
+pub record PlainStream (user : SentMessages) (got : List ℕ) (base id : ℕ) (all waits : List ℕ) (stream : StreamModel) : Type 0 where
+  pub order : StreamInOrder user.queued (with_turns user.history) id all waits stream
+  pub filled : AreFilled (with_turns user.history) id all stream.next
   pub from : 2 ^ 32 ≤ stream.next
   pub apart : LieApart 0 stream.ordered
-  pub runs : (run : RunModel) → HasEntry run stream.ordered → IsNumberedRun history.log base id run
-  pub held : (n : ℕ) (f : Piece) → CarriesOrdered history.log id n f → HasEntry n got → stream.next ≤ number_of_tsn id n history.log → IsHeldOrWaits history.log base id stream n
+  pub runs : (run : RunModel) → HasEntry run stream.ordered → IsNumberedRun user.history.log base id run
+  pub held : (n : ℕ) (f : Piece) → CarriesOrdered user.history.log id n f → HasEntry n got → stream.next ≤ number_of_tsn id n user.history.log → IsHeldOrWaits user.history.log base id stream n
 
 -- ---- what a receiver has of all streams
 
 -- All that is held was queued, and each of these streams is in order.
-pub record HoldsPlain (these : ℕ → Bool) (queued : List Message) (history : History) (got : List ℕ) (base : ℕ) (read : List ℕ) (streams : ℕ → StreamModel) (unordered : List RunModel) (ready : List MessageContent) : Type 0 where
-  pub holds : HoldsAll queued history got base read streams unordered ready
-  pub order : (id : ℕ) → these id ≡ true → PlainStream queued history got base id (read ++ holds.places) (holds.waits id) (streams id)
+pub record HoldsPlain (these : ℕ → Bool) (user : SentMessages) (got : List ℕ) (base : ℕ) (read : List ℕ) (held : HeldMessages) : Type 0 where
+  pub holds : HoldsAll user got base read held
+  pub order : (id : ℕ) → these id ≡ true → PlainStream user got base id (read ++ holds.places) (holds.waits id) (held.streams id)
 
 abbrev pub IncomingPlain : (ℕ → Bool) → List Message → History → List ℕ → ℕ → List ℕ → IncomingModel → Type 0
-IncomingPlain these queued history got base read incoming = HoldsPlain these queued history got base read (λ id. stream_on id incoming.streams) incoming.unordered incoming.ready
+IncomingPlain these queued history got base read incoming = HoldsPlain these (sent_messages queued history) got base read (held_messages (λ id. stream_on id incoming.streams) incoming.unordered incoming.ready)

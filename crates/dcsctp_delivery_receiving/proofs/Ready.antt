@@ -6,13 +6,13 @@ use Rattle.dcsctp_spec_lemmas.specs.types.declared.arrivals.Numbering.TheVariant
 use Rattle.dcsctp_spec_lemmas.specs.types.declared.arrivals.Taken.{Taken}
 use Rattle.dcsctp_spec_lemmas.specs.spec.queues.Numbers.{number_near, short_number_from, fragment_place}
 use Rattle.dcsctp_spec_lemmas.specs.spec.queues.Runs.{RunModel, WholeModel, Assembly, part_dropped, part_kept, message_whole}
-use Rattle.dcsctp_spec_lemmas.specs.spec.queues.IncomingStreams.{StreamModel, ChunkModel, data_part, delivered_as, UnorderedOutcome, TakesAhead, TakesInOrder, TakesOutOfOrder, is_number_waiting, TakesNumbered}
+use Rattle.dcsctp_spec_lemmas.specs.spec.queues.IncomingStreams.{StreamModel, ChunkModel, data_part, delivered_as, UnorderedOutcome, TakesAhead, TakesInOrder, TakesOutOfOrder, is_number_waiting, TakesNumberedPart, numbered_part}
 use Rattle.dcsctp_spec_lemmas.specs.spec.queues.Incoming.{IncomingModel, stream_on, TakesChunk, TakesIncomingChunk}
 use Rattle.std.specs.Prelude.{Some}
 use Rattle.dcsctp_delivery_sending.specs.Places.{HasEntry, at_place, table_with}
-use Rattle.dcsctp_delivery_sending.specs.Log.{Message, History, IsLogOfPieces}
+use Rattle.dcsctp_delivery_sending.specs.Log.{Message, History, IsLogOfPieces, sent_messages}
 use Rattle.dcsctp_delivery_receiving.specs.Rows.{IsPiecePlaced, IsPart, AreRows, Spent, MakesQueued}
-use Rattle.dcsctp_delivery_receiving.specs.Ready.{IsOn, IsApart, IsOfStream, ReadsMids, ordered_base, unordered_base, StreamRows, AreDistinct, WaitQueued, StreamHolds, HoldsAll, HoldsIncoming, IsNumbered, BearsPiece}
+use Rattle.dcsctp_delivery_receiving.specs.Ready.{IsOn, IsApart, IsOfStream, ReadsMids, ordered_base, unordered_base, StreamRows, AreDistinct, WaitQueued, StreamHolds, HoldsAll, HoldsIncoming, IsNumbered, BearsPiece, held_messages}
 use Rattle.dcsctp_delivery_sending.proofs.Places.{decide, set_same, set_other}
 use Rattle.dcsctp_delivery_receiving.proofs.Chaining.{one_kind}
 use Rattle.dcsctp_delivery_receiving.proofs.SpentRows.{stay_rows, rows_got, spent_got, was_handled, of_message, IsOfMessage}
@@ -31,7 +31,7 @@ LeavesBeside queued history got base read id waits places incoming =
 
 module _ (queued : List Message) (history : History) (cut : IsLogOfPieces queued history.log) (told : IsUnambiguous history) (got : List ℕ) (base : ℕ) (read : List ℕ) where
   module _ (tsn_number : ℕ) (chunk : ChunkModel) (bears : BearsPiece history base tsn_number chunk) (is_new : HasEntry bears.offset got → ⊥) (streams : ℕ → StreamModel) (unordered : List RunModel) (ready : List MessageContent)
-      (holds : HoldsAll queued history got base read streams unordered ready) where
+      (holds : HoldsAll (sent_messages queued history) got base read (held_messages streams unordered ready)) where
     all : List ℕ
     all = read ++ holds.places
 
@@ -207,7 +207,7 @@ module _ (queued : List Message) (history : History) (cut : IsLogOfPieces queued
   by_numbering tsn_number (Ordered ssn) chunk old new is bears numbered is_new holds takes =
       let number : ℕ = short_number_from (stream_on chunk.stream old.streams).next ssn in
       let does : TakesAhead (data_part chunk (fragment_place number tsn_number) number) (stream_on chunk.stream old.streams) old.ready takes.taken (stream_on chunk.stream new.streams) new.ready =
-      subst (λ (n : Numbering). TakesNumbered tsn_number chunk n (stream_on chunk.stream old.streams) old.ready takes.taken (stream_on chunk.stream new.streams) new.ready) is takes.does in
+      subst (λ (n : Numbering). TakesNumberedPart (numbered_part tsn_number chunk n (stream_on chunk.stream old.streams)) (stream_on chunk.stream old.streams) old.ready takes.taken (stream_on chunk.stream new.streams) new.ready) is takes.does in
       ahead tsn_number chunk bears is_new (λ id. stream_on id old.streams) old.unordered old.ready holds (fragment_place number tsn_number) number (λ id. stream_on id new.streams) new.unordered new.ready takes.taken
       (ordered_placed history base tsn_number number chunk bears numbered.0) (sym bears.stream, λ i. absurd (let clash : true ≡ false = sym i ∙ numbered.0 in cc)) takes.unordered takes.others does
   by_numbering tsn_number Unordered chunk old new is bears numbered is_new holds takes =
@@ -221,14 +221,14 @@ module _ (queued : List Message) (history : History) (cut : IsLogOfPieces queued
       let next : ℕ = (stream_on chunk.stream old.streams).next in
       let named = named_so history base told tsn_number mid false chunk bears next numbered.0 numbered.1 numbered.2 (holds.streams_hold chunk.stream).rows.next in
       let does : TakesInOrder (data_part chunk (fragment_place (number_near next mid) fsn) (number_near next mid)) (stream_on chunk.stream old.streams) old.ready takes.taken (stream_on chunk.stream new.streams) new.ready =
-      subst (λ (n : Numbering). TakesNumbered tsn_number chunk n (stream_on chunk.stream old.streams) old.ready takes.taken (stream_on chunk.stream new.streams) new.ready) is takes.does in
+      subst (λ (n : Numbering). TakesNumberedPart (numbered_part tsn_number chunk n (stream_on chunk.stream old.streams)) (stream_on chunk.stream old.streams) old.ready takes.taken (stream_on chunk.stream new.streams) new.ready) is takes.does in
       in_order tsn_number chunk bears is_new (λ id. stream_on id old.streams) old.unordered old.ready holds (fragment_place (number_near next mid) fsn) (number_near next mid) (λ id. stream_on id new.streams) new.unordered new.ready takes.taken
       (apart_placed history base tsn_number (number_near next mid) fsn chunk bears numbered.0 numbered.3) (sym bears.stream, named.0) takes.unordered takes.others does
   by_numbering tsn_number (InterleavedUnordered mid fsn) chunk old new is bears numbered is_new holds takes =
       let last : ℕ = (stream_on chunk.stream old.streams).last_unordered in
       let named = named_so history base told tsn_number mid true chunk bears last numbered.0 numbered.1 numbered.2 (holds.streams_hold chunk.stream).rows.last in
       let does : TakesOutOfOrder (data_part chunk (fragment_place (number_near last mid) fsn) (number_near last mid)) (stream_on chunk.stream old.streams) old.ready takes.taken (stream_on chunk.stream new.streams) new.ready =
-      subst (λ (n : Numbering). TakesNumbered tsn_number chunk n (stream_on chunk.stream old.streams) old.ready takes.taken (stream_on chunk.stream new.streams) new.ready) is takes.does in
+      subst (λ (n : Numbering). TakesNumberedPart (numbered_part tsn_number chunk n (stream_on chunk.stream old.streams)) (stream_on chunk.stream old.streams) old.ready takes.taken (stream_on chunk.stream new.streams) new.ready) is takes.does in
       out_of_order tsn_number chunk bears is_new (λ id. stream_on id old.streams) old.unordered old.ready holds (fragment_place (number_near last mid) fsn) (number_near last mid) (λ id. stream_on id new.streams) new.unordered new.ready takes.taken
       (apart_placed history base tsn_number (number_near last mid) fsn chunk bears numbered.0 numbered.3) (sym bears.stream, named.0) named.1 takes.unordered takes.others does
 

@@ -12,9 +12,9 @@ use Rattle.dcsctp_spec_lemmas.specs.spec.queues.Runs.{RunModel, WholeModel, behi
 use Rattle.dcsctp_spec_lemmas.specs.spec.queues.IncomingStreams.{StreamModel, new_stream, delivered_as, due, next_past, skipped_stream, stream_after_skip, skip_deliveries}
 use Rattle.dcsctp_spec_lemmas.specs.spec.queues.Incoming.{IncomingModel, stream_on, skipped_on, stream_skipping, deliveries_of_skips, MovesOn, is_named, ResetsStreams}
 use Rattle.dcsctp_delivery_sending.specs.Places.{HasEntry, table_with}
-use Rattle.dcsctp_delivery_sending.specs.Log.{Message, Piece, History}
+use Rattle.dcsctp_delivery_sending.specs.Log.{Message, Piece, History, sent_messages}
 use Rattle.dcsctp_delivery_receiving.specs.Rows.{AreRows}
-use Rattle.dcsctp_delivery_receiving.specs.Ready.{IsOn, IsApart, IsOfStream, fresh, ReadsMids, ordered_base, unordered_base, NamesCurrent, AreNamed, StreamRows, AreDistinct, WereQueued, StreamHolds, HoldsAll, HoldsIncoming}
+use Rattle.dcsctp_delivery_receiving.specs.Ready.{IsOn, IsApart, IsOfStream, fresh, ReadsMids, ordered_base, unordered_base, NamesCurrent, AreNamed, StreamRows, AreDistinct, WereQueued, StreamHolds, HoldsAll, HoldsIncoming, held_messages}
 use Rattle.dcsctp_delivery_sending.proofs.Places.{decide, set_same, set_other}
 use Rattle.dcsctp_delivery_receiving.proofs.Distinct.{has_left, has_either, appended, distinct_left, distinct_apart, distinct_front}
 use Rattle.dcsctp_delivery_receiving.proofs.Reading.{reads_moved, reads_past, reads_due}
@@ -47,7 +47,7 @@ module _ (queued : List Message) (history : History) (got : List ℕ) (base : �
       go false rest = are
 
   -- one stream is left so
-  holds_left : (id : ℕ) (streams later : ℕ → StreamModel) (unordered : List RunModel) (ready after : List MessageContent) (holds : HoldsAll queued history got base read streams unordered ready)
+  holds_left : (id : ℕ) (streams later : ℕ → StreamModel) (unordered : List RunModel) (ready after : List MessageContent) (holds : HoldsAll (sent_messages queued history) got base read (held_messages streams unordered ready))
       → StreamRows history got base id (later id) → ((other : ℕ) → other ≢ id → later other ≡ streams other)
       → Leaves queued history got (read ++ holds.places) holds.places id (later id).waiting after → HoldsBeside queued history got base read (λ other. other ≡ id) holds.waits holds.places later unordered after
   holds_left id streams later unordered ready after holds rows others leaves =
@@ -152,7 +152,7 @@ module _ (queued : List Message) (history : History) (got : List ℕ) (base : �
       go true e = absurd (cc)
       go false e = refl
 
-  one_skipped : (passed : ℕ) (entry : SkippedTo) (streams : ℕ → StreamModel) (unordered : List RunModel) (ready : List MessageContent) (holds : HoldsAll queued history got base read streams unordered ready)
+  one_skipped : (passed : ℕ) (entry : SkippedTo) (streams : ℕ → StreamModel) (unordered : List RunModel) (ready : List MessageContent) (holds : HoldsAll (sent_messages queued history) got base read (held_messages streams unordered ready))
       → NamesCurrent history passed entry → HoldsBeside queued history got base read (λ other. other ≡ skipped_stream entry) holds.waits holds.places (λ id. skipped_on entry id (streams id)) unordered (ready ++ skip_deliveries entry (streams (skipped_stream entry)))
   one_skipped passed entry streams unordered ready holds names =
       let id : ℕ = skipped_stream entry in
@@ -164,12 +164,12 @@ module _ (queued : List Message) (history : History) (got : List ℕ) (base : �
       (subst (λ (s : StreamModel). Leaves queued history got (read ++ holds.places) holds.places id s.waiting (ready ++ skip_deliveries entry (streams id))) (sym is)
       (skipped_leaves (read ++ holds.places) holds.places (holds.waits id) id entry (streams id) ready here holds.were_queued (holds.once id)))
 
-  nothing_beside : (Named : ℕ → Type 0) (streams : ℕ → StreamModel) (unordered : List RunModel) (ready : List MessageContent) (holds : HoldsAll queued history got base read streams unordered ready)
+  nothing_beside : (Named : ℕ → Type 0) (streams : ℕ → StreamModel) (unordered : List RunModel) (ready : List MessageContent) (holds : HoldsAll (sent_messages queued history) got base read (held_messages streams unordered ready))
       → HoldsBeside queued history got base read Named holds.waits holds.places streams unordered ready
   nothing_beside Named streams unordered ready holds =
       record { holds = holds; more = []; places_are = sym (append-nil holds.places); on = λ q h. absurd h; others = λ other ne. refl }
 
-  all_skipped : (entries : List SkippedTo) (streams : ℕ → StreamModel) (unordered : List RunModel) (ready : List MessageContent) (holds : HoldsAll queued history got base read streams unordered ready)
+  all_skipped : (entries : List SkippedTo) (streams : ℕ → StreamModel) (unordered : List RunModel) (ready : List MessageContent) (holds : HoldsAll (sent_messages queued history) got base read (held_messages streams unordered ready))
       → AreNamed history entries → HoldsBeside queued history got base read (IsSkipped entries) holds.waits holds.places (λ id. stream_skipping entries id (streams id)) unordered (ready ++ deliveries_of_skips entries streams)
   all_skipped [] streams unordered ready holds names =
       subst (λ (l : List MessageContent). HoldsBeside queued history got base read (IsSkipped []) holds.waits holds.places streams unordered l) (sym (append-nil ready)) (nothing_beside (IsSkipped []) streams unordered ready holds)
@@ -238,7 +238,7 @@ module _ (queued : List Message) (history : History) (got : List ℕ) (base : �
 
   -- these streams are new, and the others unchanged
   unfoldable pub holds_renewed : (named : ℕ → Bool) (streams later : ℕ → StreamModel) (unordered others : List RunModel) (ready : List MessageContent) → ((id : ℕ) → later id ≡ (if named id then new_stream id else streams id))
-      → AreRows history.log got (unordered_base base) IsOfStream others → HoldsAll queued history got base read streams unordered ready → HoldsAll queued history got base read later others ready
+      → AreRows history.log got (unordered_base base) IsOfStream others → HoldsAll (sent_messages queued history) got base read (held_messages streams unordered ready) → HoldsAll (sent_messages queued history) got base read (held_messages later others ready)
   holds_renewed named streams later unordered others ready are rows holds =
       record {
         waits = λ id. if named id then [] else holds.waits id;
@@ -260,10 +260,10 @@ module _ (queued : List Message) (history : History) (got : List ℕ) (base : �
 
   pub resets_on : (streams : List ℕ) (old new : IncomingModel) → HoldsIncoming queued history got base read old → ResetsStreams streams old new → HoldsIncoming queued history got base read new
   resets_on [] old new holds resets =
-      subst (λ (l : List MessageContent). HoldsAll queued history got base read (λ id. stream_on id new.streams) new.unordered l) (sym resets.kept.ready)
+      subst (λ (l : List MessageContent). HoldsAll (sent_messages queued history) got base read (held_messages (λ id. stream_on id new.streams) new.unordered l)) (sym resets.kept.ready)
       (holds_renewed (λ id. true) (λ id. stream_on id old.streams) (λ id. stream_on id new.streams) old.unordered new.unordered old.ready resets.streams
       (subst (λ (l : List RunModel). AreRows history.log got (unordered_base base) IsOfStream l) (sym resets.unordered) tt) holds)
   resets_on (reset ∷ others) old new holds resets =
-      subst (λ (l : List MessageContent). HoldsAll queued history got base read (λ id. stream_on id new.streams) new.unordered l) (sym resets.kept.ready)
+      subst (λ (l : List MessageContent). HoldsAll (sent_messages queued history) got base read (held_messages (λ id. stream_on id new.streams) new.unordered l)) (sym resets.kept.ready)
       (holds_renewed (is_named (reset ∷ others)) (λ id. stream_on id old.streams) (λ id. stream_on id new.streams) old.unordered new.unordered old.ready resets.streams
       (subst (λ (l : List RunModel). AreRows history.log got (unordered_base base) IsOfStream l) (sym resets.unordered) (rows_filter (unordered_base base) IsOfStream (λ run. not (is_named (reset ∷ others) run.number)) old.unordered holds.rows)) holds)

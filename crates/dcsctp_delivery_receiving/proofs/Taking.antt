@@ -13,7 +13,7 @@ use Rattle.dcsctp_spec_lemmas.specs.spec.queues.Tracker.{has_received, TrackerSt
 use Rattle.dcsctp_spec_lemmas.specs.spec.queues.Transfer.{Transfer, part_overhead}
 use Rattle.dcsctp_spec_lemmas.specs.spec.endpoint.TransferMoves.{SkipsIfMoved, MovesIfForward, MovesForward}
 use Rattle.dcsctp_delivery_sending.specs.Places.{HasEntry}
-use Rattle.dcsctp_delivery_sending.specs.Log.{Message, History}
+use Rattle.dcsctp_delivery_sending.specs.Log.{Message, History, sent_messages}
 use Rattle.dcsctp_delivery_sending.specs.Numbers.{AreCurrent}
 use Rattle.dcsctp_delivery_receiving.specs.Ready.{AreDistinct, WereQueued, WasQueued, HoldsIncoming}
 use Rattle.dcsctp_delivery_receiving.specs.Tracked.{tracked_number, Tracks}
@@ -106,10 +106,10 @@ taken_first queued history got base read incoming message messages is holds =
         }
 
 pub reads_on : (queued : List Message) (history : History) (first : ℕ) (read : List ℕ) (tracker : TrackerState) (reassembly : ReassemblyState) (message : MessageContent) (messages : List MessageContent)
-    → reassembly.incoming.ready ≡ message ∷ messages → HasReceived queued history first read tracker reassembly → ReadsQueued queued history first read tracker reassembly message messages
+    → reassembly.incoming.ready ≡ message ∷ messages → HasReceived queued history first read tracker reassembly → ReadsQueued (sent_messages queued history) first read tracker reassembly message messages
 reads_on queued history first read tracker reassembly message messages is r = go r.holds
   where
-    go : Reassembles queued history first r.got read reassembly.incoming → ReadsQueued queued history first read tracker reassembly message messages
+    go : Reassembles queued history first r.got read reassembly.incoming → ReadsQueued (sent_messages queued history) first read tracker reassembly message messages
     go (placed base at holds) =
         let t = taken_first queued history r.got base read reassembly.incoming message messages is holds in
         record {

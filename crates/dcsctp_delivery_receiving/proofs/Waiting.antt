@@ -7,9 +7,9 @@ use Rattle.dcsctp_spec_lemmas.specs.types.declared.arrivals.Taken.{Taken}
 use Rattle.dcsctp_spec_lemmas.specs.spec.queues.Runs.{RunModel, PartModel, WholeModel, Assembly, part_dropped, part_kept, message_whole}
 use Rattle.dcsctp_spec_lemmas.specs.spec.queues.IncomingStreams.{StreamModel, delivered_as, next_after, due, not_due, ready_with, WaitsAmong, TakesWhole, OrderedOutcome, UnorderedOutcome}
 use Rattle.dcsctp_delivery_sending.specs.Places.{HasEntry, at_place}
-use Rattle.dcsctp_delivery_sending.specs.Log.{Message, Piece, Slot, History}
+use Rattle.dcsctp_delivery_sending.specs.Log.{Message, Piece, Slot, History, sent_messages}
 use Rattle.dcsctp_delivery_receiving.specs.Rows.{Spent, IsQueued, MakesQueued}
-use Rattle.dcsctp_delivery_receiving.specs.Ready.{IsOn, IsApart, ordered_base, AreDistinct, WasQueued, WereQueued, WaitQueued, StreamRows, StreamHolds, HoldsAll}
+use Rattle.dcsctp_delivery_receiving.specs.Ready.{IsOn, IsApart, ordered_base, AreDistinct, WasQueued, WereQueued, WaitQueued, StreamRows, StreamHolds, HoldsAll, held_messages}
 use Rattle.dcsctp_delivery_receiving.proofs.SpentRows.{rows_got, spent_got}
 use Rattle.dcsctp_delivery_receiving.proofs.Distinct.{appended, has_left, distinct_with}
 
@@ -40,7 +40,7 @@ module _ (queued : List Message) where
 -- All of it was queued, and beside messages of these streams nothing became ready, and the same waits.
 pub record HoldsBeside (queued : List Message) (history : History) (got : List ℕ) (base : ℕ) (read : List ℕ) (Named : ℕ → Type 0) (waits : ℕ → List ℕ) (places : List ℕ)
     (streams : ℕ → StreamModel) (unordered : List RunModel) (ready : List MessageContent) : Type 0 where
-  pub holds : HoldsAll queued history got base read streams unordered ready
+  pub holds : HoldsAll (sent_messages queued history) got base read (held_messages streams unordered ready)
   pub more : List ℕ
   pub places_are : holds.places ≡ places ++ more
   pub on : (q : ℕ) → HasEntry q more → (id : ℕ) × Named id × ((message : Message) × (at_place q queued ≡ Some message) × (message.stream ≡ id))

@@ -14,7 +14,7 @@ use Rattle.dcsctp_spec_lemmas.specs.types.declared.arrivals.SkippedTo.TheVariant
 use Rattle.dcsctp_delivery_sending.specs.Numbers.{AreOfKind, IsUnambiguous, IsCurrent}
 use Rattle.dcsctp_spec_lemmas.specs.spec.queues.Incoming.{IncomingModel, stream_on, TakesIncomingChunk, MovesOn, ResetsStreams}
 use Rattle.dcsctp_delivery_sending.specs.Places.{HasEntry, at_place}
-use Rattle.dcsctp_delivery_sending.specs.Log.{Message, Piece, Mark, History, Resets, is_beginning, is_end, piece_bytes, IsLogOfPieces}
+use Rattle.dcsctp_delivery_sending.specs.Log.{Message, Piece, Mark, History, Resets, is_beginning, is_end, piece_bytes, IsLogOfPieces, sent_messages, SentMessages}
 use Rattle.dcsctp_delivery_receiving.specs.Rows.{AreRows, Spent, IsQueued}
 
 -- With interleaving the piece is of an ordered or of an unordered message, sent since the last reset of its stream, and its
@@ -101,21 +101,30 @@ pub record StreamHolds (queued : List Message) (history : History) (got : List �
   pub rows : StreamRows history got base id stream
   pub wait : WaitQueued queued history got id places stream.waiting
 
+-- what is held of what was received: by stream, the runs of unordered messages of DATA, and the messages that can be read
+pub record HeldMessages : Type 0 where
+  pub streams : ℕ → StreamModel
+  pub unordered : List RunModel
+  pub ready : List MessageContent
+
+abbrev pub held_messages : (ℕ → StreamModel) → List RunModel → List MessageContent → HeldMessages
+held_messages streams unordered ready = record { streams = streams; unordered = unordered; ready = ready }
+
 -- All that is held of what was received is of what the peer's user queued. `got` has the offsets of the TSNs that were handled,
 -- and `read` the places of the messages that the user has read. No message was read, is ready or waits twice.
-pub record HoldsAll (queued : List Message) (history : History) (got : List ℕ) (base : ℕ) (read : List ℕ) (streams : ℕ → StreamModel) (unordered : List RunModel) (ready : List MessageContent) : Type 0 where
+pub record HoldsAll (user : SentMessages) (got : List ℕ) (base : ℕ) (read : List ℕ) (held : HeldMessages) : Type 0 where
   pub waits : ℕ → List ℕ
-  pub streams_hold : (id : ℕ) → StreamHolds queued history got base id (waits id) (streams id)
-  pub rows : AreRows history.log got (unordered_base base) IsOfStream unordered
+  pub streams_hold : (id : ℕ) → StreamHolds user.queued user.history got base id (waits id) (held.streams id)
+  pub rows : AreRows user.history.log got (unordered_base base) IsOfStream held.unordered
   pub places : List ℕ
-  pub were_queued : WereQueued queued places ready
-  pub spent : (place : ℕ) → HasEntry place (read ++ places) → Spent history.log got place
+  pub were_queued : WereQueued user.queued places held.ready
+  pub spent : (place : ℕ) → HasEntry place (read ++ places) → Spent user.history.log got place
   pub once : (id : ℕ) → AreDistinct ((read ++ places) ++ waits id)
 
 -- This holds for the received messages of an association.
 abbrev pub HoldsIncoming : List Message → History → List ℕ → ℕ → List ℕ → IncomingModel → Type 0
 HoldsIncoming queued history got base read incoming =
-    HoldsAll queued history got base read (λ id. stream_on id incoming.streams) incoming.unordered incoming.ready
+    HoldsAll (sent_messages queued history) got base read (held_messages (λ id. stream_on id incoming.streams) incoming.unordered incoming.ready)
 
 -- The chunk of a piece is numbered by whether its message is unordered. That of an interleaved one says two of the piece's
 -- numbers, and that of an ordered message of DATA its SSN.

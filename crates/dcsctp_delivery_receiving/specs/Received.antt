@@ -15,7 +15,7 @@ use Rattle.dcsctp_spec_lemmas.specs.spec.endpoint.TransferMoves.{ReceivesData, M
 use Rattle.dcsctp_delivery_sending.specs.Places.{HasEntry, at_place}
 use Rattle.dcsctp_spec_lemmas.specs.spec.queues.Numbers.{is_tsn_beyond}
 use Rattle.dcsctp_spec_lemmas.specs.spec.endpoint.BegunResets.{BegunReset}
-use Rattle.dcsctp_delivery_sending.specs.Log.{Message, Piece, Slot, Mark, History, Resets, log_extended, with_mark, new_history, is_beginning, is_end, piece_bytes, IsLogOfPieces}
+use Rattle.dcsctp_delivery_sending.specs.Log.{Message, Piece, Slot, Mark, History, Resets, log_extended, with_mark, new_history, is_beginning, is_end, piece_bytes, IsLogOfPieces, sent_messages, SentMessages}
 use Rattle.dcsctp_delivery_receiving.specs.Ready.{AreDistinct, IsNumbered, SkipAll, NamesCurrent, NameAll, HoldsIncoming}
 use Rattle.dcsctp_delivery_sending.specs.Numbers.{IsUnambiguous, IsCurrent, AreCurrent}
 use Rattle.dcsctp_delivery_receiving.specs.Tracked.{tracked_number, Tracks}
@@ -172,18 +172,18 @@ AwaitingReceives =
     → HasReceived queued history first read tracker reassembly → HasReceived queued (new_history floors) first read tracker reassembly
 
 -- The message that the user reads was queued, and wasn't read before.
-pub record ReadsQueued (queued : List Message) (history : History) (first : ℕ) (read : List ℕ) (tracker : TrackerState) (reassembly : ReassemblyState) (message : MessageContent) (messages : List MessageContent) : Type 0 where
+pub record ReadsQueued (user : SentMessages) (first : ℕ) (read : List ℕ) (tracker : TrackerState) (reassembly : ReassemblyState) (message : MessageContent) (messages : List MessageContent) : Type 0 where
   pub place : ℕ
   pub sent : Message
-  pub at : at_place place queued ≡ Some sent
+  pub at : at_place place user.queued ≡ Some sent
   pub stream : message.stream ≡ sent.stream
   pub ppid : message.ppid ≡ sent.ppid
   pub payload : message.payload ≡ sent.payload
   pub fresh : HasEntry place read → ⊥
-  pub received : HasReceived queued history first (read ++ place ∷ []) tracker (with_ready messages reassembly)
+  pub received : HasReceived user.queued user.history first (read ++ place ∷ []) tracker (with_ready messages reassembly)
 
 -- This holds for the first message that is ready.
 abbrev pub TakingReads : Type 0
 TakingReads =
     (queued : List Message) (history : History) (first : ℕ) (read : List ℕ) (tracker : TrackerState) (reassembly : ReassemblyState) (message : MessageContent) (messages : List MessageContent)
-    → reassembly.incoming.ready ≡ message ∷ messages → HasReceived queued history first read tracker reassembly → ReadsQueued queued history first read tracker reassembly message messages
+    → reassembly.incoming.ready ≡ message ∷ messages → HasReceived queued history first read tracker reassembly → ReadsQueued (sent_messages queued history) first read tracker reassembly message messages

@@ -21,7 +21,7 @@ use Rattle.dcsctp_spec.specs.queues.SendQueue.{SendQueueState}
 use Rattle.dcsctp_spec.specs.queues.Sending.{DiscardsNamed}
 use Rattle.dcsctp_spec.specs.queues.Transfer.{Transfer, EndpointQueues, may_give, is_idle}
 use Rattle.dcsctp_spec.specs.endpoint.BegunResets.{BegunReset, streams_within, request_contents, queue_requesting, retransmission_begun}
-use Rattle.dcsctp_spec.specs.endpoint.FlushOutcomes.{filling_event, Answer, answer_contents, filled_draft, asked_outcome, next_draft, flush_of, Ask, first_ask, later_ask, room_of_draft, GivesUpThenForwards, may_forward, FillsIfAllowed, Gives, GivesUnlessIdle, IsAnswerOfQueues, IsFlushAnswer, stage_of, nothing_waits, AreFlushAnswers, at_limit, at_empty, after_packet, FlushAnswers, goes_out, FillingEvent, amount_is_low, total_amount_is_low, message_is_sent, message_may_have_expired, message_has_expired, message_ends}
+use Rattle.dcsctp_spec.specs.endpoint.FlushOutcomes.{filling_event, Answer, answer_contents, filled_draft, asked_outcome, next_draft, flush_of, Ask, first_ask, later_ask, room_of_draft, GivesUpThenForwards, may_forward, FillsIfAllowed, Gives, GivesUnlessIdle, IsAnswerOfQueues, IsFlushAnswer, stage_of, nothing_waits, AreFlushAnswers, at_limit, at_empty, after_packet, FlushAnswers, goes_out, FillingEvent, amount_is_low, total_amount_is_low, message_is_sent, message_may_have_expired, message_has_expired, message_ends, forward_made}
 use Rattle.dcsctp_delivery_sending.specs.ChunkCounts.{counts, chunks_among, chunks_among_packets, going, tsns_of, tsns_if_connected, tsns_of_queues}
 use Rattle.dcsctp_delivery_sending.specs.Flushes.{NoPlain, NoContent, NoData}
 use Rattle.dcsctp_delivery_sending.proofs.Filling.{counted_outstanding}
@@ -152,7 +152,7 @@ chunks_counted outstanding (t ∷ tsns) (c ∷ chunks) are =
 
 -- ---- an answer
 
-given_up_few : (now room : ℕ) (b : Bool) (transfer : Transfer) (old new : Stage) (next : Option ℕ) (chunks : List Plain) → GivesUpThenForwards b now transfer room old new next chunks → Fewer old new
+given_up_few : (now room : ℕ) (b : Bool) (transfer : Transfer) (old new : Stage) (next : Option ℕ) (chunks : List Plain) → GivesUpThenForwards b now transfer room old new (forward_made next chunks) → Fewer old new
 given_up_few now room false transfer old new next chunks gives = subst (λ (s : Stage). Fewer old s) (sym gives.0) (fewer_same old)
 given_up_few now room true transfer old new next chunks gives = fewer_steps now old new gives.0.steps
 

@@ -9,7 +9,7 @@ use Rattle.dcsctp_spec.specs.queues.SendQueue.{SendQueueState}
 use Rattle.dcsctp_spec.specs.queues.Transfer.{EndpointQueues}
 use Rattle.dcsctp_spec.specs.endpoint.BegunResets.{BegunReset}
 use Rattle.dcsctp_spec.specs.endpoint.FlushOutcomes.{Answer, asked_outcome, next_draft, flush_of, Ask, first_ask, later_ask, AreFlushAnswers, at_limit, at_empty, after_packet, FlushAnswers, packets_allowed}
-use Rattle.dcsctp_delivery_sending.specs.Log.{Message, History, log_extended, with_mark}
+use Rattle.dcsctp_delivery_sending.specs.Log.{Message, History, log_extended, with_mark, sent_messages}
 use Rattle.dcsctp_delivery_sending.specs.Flushes.{begun_reset_of, SayAll, PacketsSay, QueuesFollowLog, SendsLogged}
 use Rattle.dcsctp_delivery_sending.proofs.Noted.{marked_twice, current_before}
 use Rattle.dcsctp_delivery_sending.proofs.Pauses.{PausesStay, kept_later, kept_both, current_both}
@@ -26,7 +26,7 @@ next_empty history first acknowledged (cookie_echoed my held cookie) draft = tt
 next_empty history first acknowledged (open_in phase my held) draft = tt
 
 still_sends : (queued : List Message) (history : History) (first acknowledged : ℕ) (e : Endpoint) → QueuesFollowLog queued history first acknowledged e.queues
-    → SendsLogged queued history first acknowledged e.queues.queue None (still e).after.queues (still e).events
+    → SendsLogged (sent_messages queued history) first acknowledged e.queues.queue None (still e).after.queues (still e).events
 still_sends queued history first acknowledged e stands =
     record {
       more = [];
@@ -45,8 +45,8 @@ still_sends queued history first acknowledged e stands =
 
 -- what begins no reset goes after what may
 sends_then : (queued : List Message) (history : History) (first acknowledged : ℕ) (old : SendQueueState) (begun : Option BegunReset) (between after : EndpointQueues) (events others : List (Event Emission))
-    (one : SendsLogged queued history first acknowledged old begun between events) → PausesStay between.queue.streams after.queue.streams
-    → SendsLogged queued (with_mark begun one.ids one.bound (log_extended one.more history)) first acknowledged between.queue None after others → SendsLogged queued history first acknowledged old begun after (events ++ others)
+    (one : SendsLogged (sent_messages queued history) first acknowledged old begun between events) → PausesStay between.queue.streams after.queue.streams
+    → SendsLogged (sent_messages queued (with_mark begun one.ids one.bound (log_extended one.more history))) first acknowledged between.queue None after others → SendsLogged (sent_messages queued history) first acknowledged old begun after (events ++ others)
 sends_then queued history first acknowledged old begun between after events others one paused two =
     let noted : History = with_mark begun one.ids one.bound (log_extended one.more history) in
     let same = marked_twice begun one.ids one.bound two.more one.more history in
@@ -68,7 +68,7 @@ sends_then queued history first acknowledged old begun between after events othe
 
 answers_send : (queued : List Message) (history : History) (first acknowledged : ℕ) (ask : Ask) (n : ℕ) (e : Endpoint) (draft : Emission) (answers : List Answer) → QueuesFollowLog queued history first acknowledged e.queues
     → SayAll history first acknowledged draft.packet.contents → AreFlushAnswers ask n e draft answers
-    → SendsLogged queued history first acknowledged e.queues.queue (begun_reset_of answers) (flush_of e draft answers).after.queues (flush_of e draft answers).events
+    → SendsLogged (sent_messages queued history) first acknowledged e.queues.queue (begun_reset_of answers) (flush_of e draft answers).after.queues (flush_of e draft answers).events
 answers_send queued history first acknowledged _ _ _ _ _ stands say (at_limit ask e draft) = still_sends queued history first acknowledged e stands
 answers_send queued history first acknowledged _ _ _ _ _ stands say (at_empty ask more e draft answer is empty) =
     let one = asked_sends queued history first acknowledged ask e draft answer stands say is in
@@ -83,10 +83,10 @@ answers_send queued history first acknowledged _ _ _ _ _ stands say (after_packe
     let events : List (Event Emission) = (flush_of between (next_draft e.core draft) answers).events in
     let two = answers_send queued noted first acknowledged later_ask more between (next_draft e.core draft) answers one.stands (next_empty noted first acknowledged e.core draft) rest in
     sends_then queued history first acknowledged e.queues.queue answer.begun between.queues after (asked_outcome e draft answer).events events one (later_paused more between (next_draft e.core draft) answers rest)
-    (subst (λ (begun : Option BegunReset). SendsLogged queued noted first acknowledged between.queues.queue begun after events) (later_begun more between (next_draft e.core draft) answers rest) two)
+    (subst (λ (begun : Option BegunReset). SendsLogged (sent_messages queued noted) first acknowledged between.queues.queue begun after events) (later_begun more between (next_draft e.core draft) answers rest) two)
 
 pub flush_sends : (queued : List Message) (history : History) (first acknowledged : ℕ) (e : Endpoint) (draft : Emission) (answers : List Answer) → QueuesFollowLog queued history first acknowledged e.queues
     → SayAll history first acknowledged draft.packet.contents → FlushAnswers e draft answers
-    → SendsLogged queued history first acknowledged e.queues.queue (begun_reset_of answers) (flush_of e draft answers).after.queues (flush_of e draft answers).events
+    → SendsLogged (sent_messages queued history) first acknowledged e.queues.queue (begun_reset_of answers) (flush_of e draft answers).after.queues (flush_of e draft answers).events
 flush_sends queued history first acknowledged e draft answers stands say allowed =
     answers_send queued history first acknowledged first_ask (packets_allowed e.options.max_burst e.core) e draft answers stands say allowed

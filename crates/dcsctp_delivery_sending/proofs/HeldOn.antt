@@ -12,7 +12,7 @@ use Rattle.dcsctp_spec.specs.types.queues.SendStreams.{Waiting, Stream, stream_a
 use Rattle.dcsctp_spec.specs.endpoint.Event.{Event}
 use Rattle.dcsctp_spec.specs.endpoint.Endpoint.{Endpoint}
 use Rattle.dcsctp_spec.specs.endpoint.BegunResets.{streams_within, request_contents, queue_requesting, retransmission_begun}
-use Rattle.dcsctp_spec.specs.endpoint.FlushOutcomes.{Ask, Gives, room_of_draft, stage_of, may_forward, filling_event, Answer, answer_contents, filled_draft, asked_outcome, next_draft, flush_of, GivesUpThenForwards, FillsIfAllowed, GivesUnlessIdle, IsAnswerOfQueues, IsFlushAnswer, AreFlushAnswers, at_limit, at_empty, after_packet}
+use Rattle.dcsctp_spec.specs.endpoint.FlushOutcomes.{Ask, Gives, room_of_draft, stage_of, may_forward, filling_event, Answer, answer_contents, filled_draft, asked_outcome, next_draft, flush_of, GivesUpThenForwards, FillsIfAllowed, GivesUnlessIdle, IsAnswerOfQueues, IsFlushAnswer, AreFlushAnswers, at_limit, at_empty, after_packet, forward_made}
 use Rattle.dcsctp_spec.specs.queues.Abandoning.{GivesUpFirst, GivesUpAll}
 use Rattle.dcsctp_spec.specs.queues.Filling.{Stage, ClosesMessage, DropsRestOfMessage, GivesUpItem, SendsMarked, payload_room, SendsNew, FindsNone, StepAgain, StepNew, StageSteps, none as no_steps, more as more_steps, resent_packet_counted, FillsPacket}
 use Rattle.dcsctp_spec.specs.queues.ItemMessages.{EndsDropped}
@@ -304,7 +304,7 @@ module _ (P : ℕ → Type 0) where
   gives_up_held now old new free gives =
       steps_held (GivesUpFirst now) (λ o n f step. given_up_held now step.place o n step.is_due.item step.is_due.at step.is_due.due f step.gives_up) old new free gives.steps
 
-  gives_up_where_held : (b : Bool) (now room : ℕ) (transfer : Transfer) (old new : Stage) (next : Option ℕ) (chunks : List Plain) → FreeStageOn old → GivesUpThenForwards b now transfer room old new next chunks → HoldsStage old new
+  gives_up_where_held : (b : Bool) (now room : ℕ) (transfer : Transfer) (old new : Stage) (next : Option ℕ) (chunks : List Plain) → FreeStageOn old → GivesUpThenForwards b now transfer room old new (forward_made next chunks) → HoldsStage old new
   gives_up_where_held true now room transfer old new next chunks free gives = gives_up_held now old new free gives.0
   gives_up_where_held false now room transfer old new next chunks free gives = same_stage old new gives.0 free
 

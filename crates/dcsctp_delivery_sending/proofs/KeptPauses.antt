@@ -7,7 +7,7 @@ use Rattle.dcsctp_spec.specs.association.Choices.{plain_contents}
 use Rattle.dcsctp_spec.specs.endpoint.BegunResets.{streams_within, request_contents, queue_requesting, retransmission_begun}
 use Rattle.dcsctp_spec.specs.endpoint.Endpoint.{Endpoint}
 use Rattle.dcsctp_spec.specs.endpoint.Event.{Event}
-use Rattle.dcsctp_spec.specs.endpoint.FlushOutcomes.{Ask, Gives, room_of_draft, stage_of, may_forward, Answer, filled_draft, GivesUpThenForwards, FillsIfAllowed}
+use Rattle.dcsctp_spec.specs.endpoint.FlushOutcomes.{Ask, Gives, room_of_draft, stage_of, may_forward, Answer, filled_draft, GivesUpThenForwards, FillsIfAllowed, forward_made}
 use Rattle.dcsctp_spec.specs.types.declared.sending.UnderWay.{UnderWay}
 use Rattle.dcsctp_spec.specs.types.queues.SendStreams.{Waiting, Stream, without_front, stream_counted, served_stream, stream_at}
 use Rattle.dcsctp_spec.specs.queues.Abandoning.{GivesUpFirst}
@@ -147,7 +147,7 @@ module _ (Relates : List Stream → List Stream → Type 0) (follows : FollowsPa
 
   -- ---- one packet, before the request and after it
 
-  by_giving_up_where : (b : Bool) (now room : ℕ) (transfer : Transfer) (old new : Stage) (next : Option ℕ) (chunks : List Plain) → GivesUpThenForwards b now transfer room old new next chunks → StagesRelate old new
+  by_giving_up_where : (b : Bool) (now room : ℕ) (transfer : Transfer) (old new : Stage) (next : Option ℕ) (chunks : List Plain) → GivesUpThenForwards b now transfer room old new (forward_made next chunks) → StagesRelate old new
   by_giving_up_where true now room transfer old new next chunks gives = by_steps (GivesUpFirst now) (λ o n s. by_giving_up now s.place o n s.gives_up) old new gives.0.steps
   by_giving_up_where false now room transfer old new next chunks gives = same_stage old new (ap (λ (s : Stage). s.waiting) gives.0)
 

@@ -14,9 +14,9 @@ use Rattle.dcsctp_spec.specs.queues.SendQueue.{SendQueueState, stream_changed}
 use Rattle.dcsctp_spec.specs.queues.Transfer.{Transfer, EndpointQueues, may_give, is_idle}
 use Rattle.dcsctp_spec.specs.endpoint.Endpoint.{Endpoint}
 use Rattle.dcsctp_spec.specs.endpoint.BegunResets.{BegunReset, streams_within, request_contents, queue_requesting, retransmission_begun}
-use Rattle.dcsctp_spec.specs.endpoint.FlushOutcomes.{Ask, Gives, room_of_draft, stage_of, may_forward, filling_event, Answer, answer_contents, filled_draft, asked_outcome, next_draft, flush_of, first_ask, packets_allowed, GivesUpThenForwards, FillsIfAllowed, GivesUnlessIdle, IsAnswerOfQueues, IsFlushAnswer, AreFlushAnswers, at_limit, at_empty, after_packet, FlushAnswers}
+use Rattle.dcsctp_spec.specs.endpoint.FlushOutcomes.{Ask, Gives, room_of_draft, stage_of, may_forward, filling_event, Answer, answer_contents, filled_draft, asked_outcome, next_draft, flush_of, first_ask, packets_allowed, GivesUpThenForwards, FillsIfAllowed, GivesUnlessIdle, IsAnswerOfQueues, IsFlushAnswer, AreFlushAnswers, at_limit, at_empty, after_packet, FlushAnswers, forward_made}
 use Rattle.dcsctp_delivery_sending.specs.Places.{HasEntry, at_place}
-use Rattle.dcsctp_delivery_sending.specs.Log.{Message, Slot, IsLogOfPieces, History, log_extended, with_mark}
+use Rattle.dcsctp_delivery_sending.specs.Log.{Message, Slot, IsLogOfPieces, History, log_extended, with_mark, sent_messages}
 use Rattle.dcsctp_delivery_sending.specs.Pieces.{WaitingWasQueued, AllQueued, HoldsQueued}
 use Rattle.dcsctp_delivery_sending.specs.Flushes.{InFlight, QueuesFollowLog, SendsLogged, begun_reset_of}
 use Rattle.dcsctp_delivery_sending.specs.Losing.{AreUnlimited, WasSentOf, IsKept, NoneLost}
@@ -28,7 +28,7 @@ use Rattle.dcsctp_delivery_sending.proofs.Places.{at_cases}
 
 -- ---- one packet
 
-gives_up_where_keeps : (b : Bool) (now room : ℕ) (transfer : Transfer) (old new : Stage) (next : Option ℕ) (chunks : List Plain) → FreeStage old → GivesUpThenForwards b now transfer room old new next chunks → KeepsStage old new
+gives_up_where_keeps : (b : Bool) (now room : ℕ) (transfer : Transfer) (old new : Stage) (next : Option ℕ) (chunks : List Plain) → FreeStage old → GivesUpThenForwards b now transfer room old new (forward_made next chunks) → KeepsStage old new
 gives_up_where_keeps true now room transfer old new next chunks free gives = gives_up_keeps now old new free gives.0
 gives_up_where_keeps false now room transfer old new next chunks free gives = same_keeps old new gives.0 free
 
@@ -193,7 +193,7 @@ marked_log (Some begun) ids bound history = refl
 
 pub flushing_loses_none : (queued : List Message) (history : History) (first acknowledged : ℕ) (e : Endpoint) (draft : Emission) (answers : List Answer) → AreUnlimited queued → QueuesFollowLog queued history first acknowledged e.queues
     → FlushAnswers e draft answers
-    → (sends : SendsLogged queued history first acknowledged e.queues.queue (begun_reset_of answers) (flush_of e draft answers).after.queues (flush_of e draft answers).events)
+    → (sends : SendsLogged (sent_messages queued history) first acknowledged e.queues.queue (begun_reset_of answers) (flush_of e draft answers).after.queues (flush_of e draft answers).events)
     → NoneLost queued history.log e.queues.queue.streams → NoneLost queued (sends.more ++ history.log) (flush_of e draft answers).after.queues.queue.streams
 flushing_loses_none queued history first acknowledged e draft answers are stands allowed sends lost =
     let new : History = with_mark (begun_reset_of answers) sends.ids sends.bound (log_extended sends.more history) in

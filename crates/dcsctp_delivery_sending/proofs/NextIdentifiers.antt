@@ -14,7 +14,7 @@ use Rattle.dcsctp_spec.specs.queues.Sending.{Fragment, Drops, none as drops_none
 use Rattle.dcsctp_spec.specs.types.queues.SendStreams.{Waiting}
 use Rattle.dcsctp_spec.specs.queues.Transfer.{Transfer, EndpointQueues, is_idle}
 use Rattle.dcsctp_spec.specs.endpoint.BegunResets.{BegunReset, queue_requesting}
-use Rattle.dcsctp_spec.specs.endpoint.FlushOutcomes.{filling_event, Answer, answer_contents, filled_draft, asked_outcome, next_draft, flush_of, Ask, later_ask, GivesUpThenForwards, FillsIfAllowed, GivesUnlessIdle, IsAnswerOfQueues, IsFlushAnswer, AreFlushAnswers, at_limit, at_empty, after_packet}
+use Rattle.dcsctp_spec.specs.endpoint.FlushOutcomes.{filling_event, Answer, answer_contents, filled_draft, asked_outcome, next_draft, flush_of, Ask, later_ask, GivesUpThenForwards, FillsIfAllowed, GivesUnlessIdle, IsAnswerOfQueues, IsFlushAnswer, AreFlushAnswers, at_limit, at_empty, after_packet, forward_made}
 use Rattle.dcsctp_delivery_sending.proofs.Packets.{out_below}
 
 -- ---- both stay
@@ -93,7 +93,7 @@ unfolding Next
 fills_where_next now true old new fills = fills_next now old new fills
 fills_where_next now false old new fills = elim fills [ inl e ↦ ap (λ (s : Stage). fixed s.waiting) e | inr e ↦ fills_next now old new e ]
 
-gives_where_next : (b : Bool) (now room : ℕ) (transfer : Transfer) (old new : Stage) (next : Option ℕ) (chunks : List Plain) → GivesUpThenForwards b now transfer room old new next chunks → Next old new
+gives_where_next : (b : Bool) (now room : ℕ) (transfer : Transfer) (old new : Stage) (next : Option ℕ) (chunks : List Plain) → GivesUpThenForwards b now transfer room old new (forward_made next chunks) → Next old new
 unfolding Next
 gives_where_next true now room transfer old new next chunks gives = steps_next (GivesUpFirst now) (λ o n s. gives_next now s.place o n s.gives_up) old new gives.0.steps
 gives_where_next false now room transfer old new next chunks gives = ap (λ (s : Stage). fixed s.waiting) gives.0

@@ -9,8 +9,8 @@ use Rattle.dcsctp_spec.specs.queues.OwnResets.{ready_streams}
 use Rattle.dcsctp_spec.specs.queues.SendQueue.{SendQueueState}
 use Rattle.dcsctp_spec.specs.queues.Transfer.{Transfer, EndpointQueues, may_give, is_idle}
 use Rattle.dcsctp_spec.specs.endpoint.BegunResets.{streams_within, request_contents, queue_requesting, retransmission_begun}
-use Rattle.dcsctp_spec.specs.endpoint.FlushOutcomes.{may_be_asked, filling_event, Answer, answer_contents, filled_draft, asked_outcome, Ask, room_of_draft, GivesUpThenForwards, may_forward, FillsIfAllowed, Gives, GivesUnlessIdle, IsAnswerOfQueues, IsFlushAnswer, stage_of, nothing_waits}
-use Rattle.dcsctp_delivery_sending.specs.Log.{Message, Slot, History, log_extended, with_mark, IsLogOfPieces}
+use Rattle.dcsctp_spec.specs.endpoint.FlushOutcomes.{may_be_asked, filling_event, Answer, answer_contents, filled_draft, asked_outcome, Ask, room_of_draft, GivesUpThenForwards, may_forward, FillsIfAllowed, Gives, GivesUnlessIdle, IsAnswerOfQueues, IsFlushAnswer, stage_of, nothing_waits, forward_made}
+use Rattle.dcsctp_delivery_sending.specs.Log.{Message, Slot, History, log_extended, with_mark, IsLogOfPieces, sent_messages}
 use Rattle.dcsctp_delivery_sending.specs.Stages.{Bears, Stands, Stays}
 use Rattle.dcsctp_delivery_sending.specs.Flushes.{IsNamedByReset, AreHandedFor, SayAll, InFlight, PendsIfConnected, QueuesFollowLog, SendsLogged}
 use Rattle.dcsctp_delivery_sending.proofs.BegunMarks.{bears_marked, pends_marked, marks_marked}
@@ -28,11 +28,11 @@ use Rattle.dcsctp_delivery_sending.specs.Numbers.{stream_named, is_handed_out, A
 use Rattle.dcsctp_delivery_sending.proofs.Packets.{said_sacks, out_below, out_says, say_both, said_chunks, said_request, said_forwards}
 
 gives_up_where : (queued : List Message) (history : History) (first acknowledged now room : ℕ) (b : Bool) (transfer : Transfer) (old new : Stage) (next : Option ℕ) (chunks : List Plain) → Stands queued history first acknowledged old
-    → GivesUpThenForwards b now transfer room old new next chunks → Ends queued history first acknowledged new
+    → GivesUpThenForwards b now transfer room old new (forward_made next chunks) → Ends queued history first acknowledged new
 gives_up_where queued history first acknowledged now room false transfer old new next chunks stands gives = end queued history first acknowledged new (subst (λ (s : Stage). Stands queued history first acknowledged s) (sym gives.0) stands)
 gives_up_where queued history first acknowledged now room true transfer old new next chunks stands gives = give_up_all_ends queued history first acknowledged now old new stands gives.0
 
-forwards_where : (queued : List Message) (history : History) → IsLogOfPieces queued history.log → (first acknowledged now room : ℕ) (b : Bool) (transfer : Transfer) (old new : Stage) (next : Option ℕ) (chunks : List Plain) → AreOfKind new.queue.outstanding.is_interleaved history.log → Bears history first acknowledged new.queue.outstanding → GivesUpThenForwards b now transfer room old new next chunks
+forwards_where : (queued : List Message) (history : History) → IsLogOfPieces queued history.log → (first acknowledged now room : ℕ) (b : Bool) (transfer : Transfer) (old new : Stage) (next : Option ℕ) (chunks : List Plain) → AreOfKind new.queue.outstanding.is_interleaved history.log → Bears history first acknowledged new.queue.outstanding → GivesUpThenForwards b now transfer room old new (forward_made next chunks)
     → SayAll history first acknowledged (plain_contents chunks)
 forwards_where queued history cut first acknowledged now room false transfer old new next chunks kinds bears gives = subst (λ (l : List Plain). SayAll history first acknowledged (plain_contents l)) (sym gives.2) tt
 forwards_where queued history cut first acknowledged now room true transfer old new next chunks kinds bears gives = said_forwards history first acknowledged queued cut _ now transfer room new.queue next chunks kinds bears (λ made. made) gives.1
@@ -220,7 +220,7 @@ answered_below queued history first acknowledged ask e draft (Some transfer) ans
     gives_where queued history first acknowledged ask (is_idle e.queues.queue transfer) e draft transfer answer known stands answered
 
 pub asked_sends : (queued : List Message) (history : History) (first acknowledged : ℕ) (ask : Ask) (e : Endpoint) (draft : Emission) (answer : Answer) → QueuesFollowLog queued history first acknowledged e.queues → SayAll history first acknowledged draft.packet.contents
-    → IsFlushAnswer ask e draft answer → SendsLogged queued history first acknowledged e.queues.queue answer.begun (asked_outcome e draft answer).after.queues (asked_outcome e draft answer).events
+    → IsFlushAnswer ask e draft answer → SendsLogged (sent_messages queued history) first acknowledged e.queues.queue answer.begun (asked_outcome e draft answer).after.queues (asked_outcome e draft answer).events
 asked_sends queued history first acknowledged ask e draft answer stands say answered =
     let left = answered_below queued history first acknowledged ask e draft e.queues.transfer answer refl stands answered.by_transfer in
     let contents : List Content = (filled_draft draft (answer_contents answer)).packet.contents in

@@ -17,7 +17,7 @@ use Rattle.dcsctp_spec.specs.queues.Skipping.{entry_bytes}
 use Rattle.std.specs.List.{flat_map}
 use Rattle.dcsctp_spec.specs.queues.Transfer.{Transfer, EndpointQueues}
 use Rattle.dcsctp_spec.specs.endpoint.FlushOutcomes.{Answer, FlushAnswers, flush_of}
-use Rattle.dcsctp_delivery_sending.specs.Log.{Message, Piece, Slot, IsEndSlot, IsLogOfPieces, History, log_extended, with_mark, Mark, Resets}
+use Rattle.dcsctp_delivery_sending.specs.Log.{Message, Piece, Slot, IsEndSlot, IsLogOfPieces, History, log_extended, with_mark, Mark, Resets, sent_messages, SentMessages}
 use Rattle.dcsctp_delivery_sending.specs.Places.{HasEntry, at_place}
 use Rattle.dcsctp_delivery_sending.specs.Numbers.{stream_named, is_handed_out, AreCurrent, AreKept, NumbersMessages, IsPieceOfKind, IsOfKind}
 use Rattle.dcsctp_delivery_sending.specs.Pieces.{HoldsQueued}
@@ -208,15 +208,15 @@ AreHandedFor (Some begun) ids streams = (id : ℕ) → names_stream begun.reset.
 -- which isn't handed out to be reset again. The reset that was begun, if one was, is in the history, with the TSNs that were
 -- assigned before it. The streams that are handed out now were before, or were handed out for it. All that were before still are,
 -- and so are all that it names.
-pub record SendsLogged (queued : List Message) (history : History) (first acknowledged : ℕ) (old : SendQueueState) (begun : Option BegunReset) (after : EndpointQueues) (events : List (Event Emission)) : Type 0 where
+pub record SendsLogged (user : SentMessages) (first acknowledged : ℕ) (old : SendQueueState) (begun : Option BegunReset) (after : EndpointQueues) (events : List (Event Emission)) : Type 0 where
   pub more : List Slot
   pub ids : List ℕ
   pub bound : ℕ
-  pub low : length history.log ≤ bound
-  pub high : bound ≤ length more + length history.log
-  pub stands : QueuesFollowLog queued (with_mark begun ids bound (log_extended more history)) first acknowledged after
-  pub packets : PacketsSay (with_mark begun ids bound (log_extended more history)) first acknowledged (packets_of_events events)
-  pub current : AreCurrent history more
+  pub low : length user.history.log ≤ bound
+  pub high : bound ≤ length more + length user.history.log
+  pub stands : QueuesFollowLog user.queued (with_mark begun ids bound (log_extended more user.history)) first acknowledged after
+  pub packets : PacketsSay (with_mark begun ids bound (log_extended more user.history)) first acknowledged (packets_of_events events)
+  pub current : AreCurrent user.history more
   pub kept : AreKept after.queue.streams more
   pub handed : (id : ℕ) → is_handed_out (stream_named id after.queue.streams).pause ≡ true → (is_handed_out (stream_named id old.streams).pause ≡ true) ⊎ IsNamedByReset begun ids id
   pub stay : (id : ℕ) → is_handed_out (stream_named id old.streams).pause ≡ true → is_handed_out (stream_named id after.queue.streams).pause ≡ true
@@ -227,4 +227,4 @@ abbrev pub FlushesSendPieces : Type 0
 FlushesSendPieces =
     (queued : List Message) (history : History) (first acknowledged : ℕ) (e : Endpoint) (draft : Emission) (answers : List Answer) → QueuesFollowLog queued history first acknowledged e.queues
     → SayAll history first acknowledged draft.packet.contents → FlushAnswers e draft answers
-    → SendsLogged queued history first acknowledged e.queues.queue (begun_reset_of answers) (flush_of e draft answers).after.queues (flush_of e draft answers).events
+    → SendsLogged (sent_messages queued history) first acknowledged e.queues.queue (begun_reset_of answers) (flush_of e draft answers).after.queues (flush_of e draft answers).events

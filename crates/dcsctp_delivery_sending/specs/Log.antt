@@ -110,6 +110,14 @@ pub record History : Type 0 where
   -- wrap: after a reset they continue at a multiple of 2^32 above all earlier ones.
   pub floors : ℕ → Bool → ℕ
 
+-- what the user has sent, and how it went out
+pub record SentMessages : Type 0 where
+  pub queued : List Message
+  pub history : History
+
+abbrev pub sent_messages : List Message → History → SentMessages
+sent_messages queued history = record { queued = queued; history = history }
+
 -- more TSNs were assigned
 abbrev pub log_extended : List Slot → History → History
 log_extended more history = record history { log = more ++ history.log }

@@ -8,7 +8,7 @@ use Rattle.dcsctp_spec.specs.types.queues.SendStreams.{Waiting, Stream, stream_a
 use Rattle.dcsctp_spec.specs.endpoint.Endpoint.{Endpoint}
 use Rattle.dcsctp_spec.specs.endpoint.FlushOutcomes.{Answer, FlushAnswers, flush_of}
 use Rattle.dcsctp_delivery_sending.specs.Places.{HasEntry, at_place}
-use Rattle.dcsctp_delivery_sending.specs.Log.{Message, Piece, Slot, History}
+use Rattle.dcsctp_delivery_sending.specs.Log.{Message, Piece, Slot, History, sent_messages}
 use Rattle.dcsctp_delivery_sending.specs.Flushes.{QueuesFollowLog, SendsLogged, begun_reset_of}
 
 -- None of these messages may be abandoned: they have no lifetime, and no limit on retransmissions.
@@ -63,5 +63,5 @@ abbrev pub FlushingLosesNone : Type 0
 FlushingLosesNone =
     (queued : List Message) (history : History) (first acknowledged : ℕ) (e : Endpoint) (draft : Emission) (answers : List Answer) → AreUnlimited queued → QueuesFollowLog queued history first acknowledged e.queues
     → FlushAnswers e draft answers
-    → (sends : SendsLogged queued history first acknowledged e.queues.queue (begun_reset_of answers) (flush_of e draft answers).after.queues (flush_of e draft answers).events)
+    → (sends : SendsLogged (sent_messages queued history) first acknowledged e.queues.queue (begun_reset_of answers) (flush_of e draft answers).after.queues (flush_of e draft answers).events)
     → NoneLost queued history.log e.queues.queue.streams → NoneLost queued (sends.more ++ history.log) (flush_of e draft answers).after.queues.queue.streams

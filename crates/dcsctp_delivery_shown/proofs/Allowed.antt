@@ -19,7 +19,7 @@ use Rattle.dcsctp_spec_lemmas.specs.spec.queues.Skipping.{forward_chunk, SaysFor
 use Rattle.dcsctp_spec_lemmas.specs.spec.queues.Tracker.{TrackerState}
 use Rattle.dcsctp_spec_lemmas.specs.spec.queues.Transfer.{Transfer}
 use Rattle.dcsctp_spec_lemmas.specs.spec.endpoint.BegunResets.{BegunReset, request_contents}
-use Rattle.dcsctp_spec_lemmas.specs.spec.endpoint.FlushOutcomes.{own_sack, where_fits, Ask, first_ask, later_ask, may_abandon, may_forward, Acknowledges, ForwardsIfAbandoned, GivesUpThenForwards}
+use Rattle.dcsctp_spec_lemmas.specs.spec.endpoint.FlushOutcomes.{own_sack, where_fits, Ask, first_ask, later_ask, may_abandon, may_forward, Acknowledges, ForwardsIfAbandoned, GivesUpThenForwards, forward_made}
 use Rattle.dcsctp_spec_lemmas.specs.spec.endpoint.PlainOutcomes.{data_violation, i_data_violation, forward_tsn_violation, i_forward_tsn_violation, violation_of_capabilities}
 use Rattle.dcsctp_delivery_sending.specs.Flushes.{NoPlain, NoContent, NoData}
 use Rattle.dcsctp_delivery_turns.specs.Actions.{NotStale, NoneStale, IsStaleFirst}
@@ -140,7 +140,7 @@ module _ (kinds : Capabilities) where
       sym (left_of state.partial_reliability (nat_lt 0 (outstanding_count state)) (right_of (nat_le e.no_forward_tsn_before e.moment) (may_abandon state) may)) ∙ is.1
 
   pub forwards_go : (b : Bool) (ask : Ask) (e : Endpoint) (transfer : Transfer) (room : ℕ) (old new : Stage) (next : Option ℕ) (chunks : List Plain) → may_forward ask e transfer.retransmission ≡ b
-      → IsOf kinds transfer.retransmission → old.queue ≡ transfer.retransmission → GivesUpThenForwards b e.moment transfer room old new next chunks → IsOf kinds new.queue × AllByRecursion (MayGo kinds) chunks
+      → IsOf kinds transfer.retransmission → old.queue ≡ transfer.retransmission → GivesUpThenForwards b e.moment transfer room old new (forward_made next chunks) → IsOf kinds new.queue × AllByRecursion (MayGo kinds) chunks
   forwards_go false ask e transfer room old new next chunks may is same does =
       (subst (λ (s : Stage). IsOf kinds s.queue) (sym does.0) (subst (IsOf kinds) (sym same) is), subst (AllByRecursion (MayGo kinds)) (sym does.2) tt)
   forwards_go true ask e transfer room old new next chunks may is same does =

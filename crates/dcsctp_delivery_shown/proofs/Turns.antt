@@ -16,7 +16,7 @@ use Rattle.dcsctp_theorem_sockets.proofs.Bursts.{packets_of_events-append}
 use Rattle.dcsctp_delivery_sending.specs.Log.{Message}
 use Rattle.dcsctp_delivery_directions.specs.Directions.{nothing_asked}
 use Rattle.dcsctp_delivery_turns.specs.Asking.{own_of, SomeFit}
-use Rattle.dcsctp_delivery_turns.specs.Actions.{ledger_of, content_of_input, RecordsOpening, opening_queues, kept_inside, IsOpening, Inside, inside, LeadsToLedger, MakesAlso, OwnEnds, unended, committed, rolled_back, PeerResets, unreset, absent, deferred, reset_now, Becomes, goes_on, pauses, prepared_inside, works_resets, renews, ends, begins, collides, IsCall, peer_tag, queued_after, read_after}
+use Rattle.dcsctp_delivery_turns.specs.Actions.{ledger_of, content_of_input, RecordsOpening, opening_queues, kept_inside, IsOpening, Inside, inside, LeadsToLedger, MakesAlso, OwnEnds, unended, committed, rolled_back, PeerResets, unreset, absent, deferred, reset_now, Becomes, goes_on, pauses, prepared_inside, works_resets, renews, ends, begins, collides, IsCall, peer_tag, queued_after, read_after, exchange_of}
 use Rattle.dcsctp_delivery_turns.proofs.Fixed.{queue_all_core, refusal_none, prepared_none}
 use Rattle.dcsctp_delivery_turns.proofs.Fronts.{renewed_fit, own_ends_fit}
 use Rattle.dcsctp_delivery_turns.proofs.Beginnings.{nothing_fits, unlinked_fits}
@@ -142,7 +142,7 @@ module _ (kinds : Capabilities) where
   makes_is : (came : Option Content) (to : ℕ) (adds : List Message → List Message) (taken : List MessageContent → List MessageContent) (old new : Inside) (packets : List Emission) → InsideIs old
       → MakesAlso came to adds taken old packets new → MadeIs new packets
   makes_is came to adds taken old new packets h makes =
-      let made : LeadsToLedger came to (ledger_of [] old.queues [] [] h.asks.asking) h.asks.first new (adds []) packets (taken []) = makes [] [] [] h.asks.first h.asks.asking h.asks.fits in
+      let made : LeadsToLedger came to (ledger_of [] old.queues [] [] h.asks.asking) h.asks.first new (exchange_of (adds []) packets (taken [])) = makes [] [] [] h.asks.first h.asks.asking h.asks.fits in
       let is : LedgerIs kinds (ledger_of (adds []) new.queues packets (taken []) made.asking) =
       actions_are kinds came to (ledger_of [] old.queues [] [] h.asks.asking) (ledger_of (adds []) new.queues packets (taken []) made.asking) (record { left = h.left; says = tt }) made.actions in
       record { inside_is = record { left = is.left; asks = record { first = h.asks.first; asking = made.asking; fits = made.fits } }; says = is.says }

@@ -23,7 +23,7 @@ use Rattle.dcsctp_delivery_sending.specs.Places as places
 use Rattle.dcsctp_delivery_sending.specs.Flushes.{NoData}
 use Rattle.dcsctp_delivery_turns.specs.Actions.{IsOpening, content_of_input, IsCall}
 use Rattle.dcsctp_delivery_turns.specs.Sides.{WasSent}
-use Rattle.dcsctp_delivery_associations.specs.Ends.{Ends, IsOfEnds, HadBoth}
+use Rattle.dcsctp_delivery_associations.specs.Ends.{Ends, IsOfEnds, HadBoth, sending_side, receiving_side}
 use Rattle.dcsctp_delivery_associations.specs.Laws.{AsksLittle, AreEnds}
 use Rattle.dcsctp_delivery_associations.specs.Reads.{Reading, reading_after, Tags, tags_of, tags_or}
 use Rattle.dcsctp_delivery_sockets.specs.Echoes.{AllMayFollow, ContentsGo, GoesToMaker}
@@ -81,7 +81,7 @@ packets_apart packets t turns = append_assoc packets (packets_of_events t.outcom
 
 module _ (never_resets : ℕ → Bool) (options : Options) (e : Endpoint) (queued : List Message) (past : List Effect) (packets : List Emission) (few : length queued < 2 ^ 64) (little : AsksLittle packets) (emission : Emission) (has : places.HasEntry emission packets) where
   abbrev Have : List (Event Emission) → Endpoint → List Effect → Reading → Type 0
-  Have seen d their_past reading = AreEnds never_resets seen options e queued past packets d their_past reading
+  Have seen d their_past reading = AreEnds never_resets seen options (sending_side e queued past packets) (receiving_side d their_past reading)
 
   -- what is to be shown of turns
   abbrev Leave : List (Event Emission) → Endpoint → List Effect → Reading → List Transition → Type 0
@@ -104,7 +104,7 @@ module _ (never_resets : ℕ → Bool) (options : Options) (e : Endpoint) (queue
       → Have (seen ++ t.outcome.events) t.outcome.after (after_effects t.outcome.effects their_past) (reading_after d t.input t.outcome.after reading)
   one_turn seen d their_past reading input t h turn new sent may =
       subst (λ (i : Input). Have (seen ++ t.outcome.events) t.outcome.after (after_effects t.outcome.effects their_past) (reading_after d i t.outcome.after reading)) (sym turn.is)
-      (subst (λ (n : ℕ → Bool). AreEnds n (seen ++ t.outcome.events) options e queued past packets t.outcome.after (after_effects t.outcome.effects their_past) (reading_after d input t.outcome.after reading)) h.is
+      (subst (λ (n : ℕ → Bool). AreEnds n (seen ++ t.outcome.events) options (sending_side e queued past packets) (receiving_side t.outcome.after (after_effects t.outcome.effects their_past) (reading_after d input t.outcome.after reading))) h.is
       (receiver_turns options h.ends e queued past packets d their_past reading h.between few new.0 input t.outcome (λ begun opening linked. new.1 begun (subst (λ (i : Input). IsOpening (content_of_input i)) (sym turn.is) opening) linked)
       h.answered little new.3.0 may turn.comes seen h.reported new.2 sent))
 

@@ -34,6 +34,7 @@ use Rattle.dcsctp_delivery_sockets.proofs.Early.{AllFound, NoneRestored, StandsS
 use Rattle.dcsctp_delivery_sockets.proofs.NewLinks.{AllPerformed, new_peers, new_tags}
 use Rattle.dcsctp_delivery_sockets.proofs.Known.{past_more, GoodPacket, SideKnown, rest_turns, rest_moves, rest_refused, rest_resets, ran_front}
 use Rattle.dcsctp_delivery_sockets.proofs.UserMessages.{SaysSame, nothing_same, turns_same}
+use Rattle.dcsctp_delivery_associations.specs.Ends.{sending_side, receiving_side}
 
 -- ---- what two sockets have done
 
@@ -49,7 +50,7 @@ reading_of options turns = reading_through (fresh_endpoint options) turns nothin
 -- the direction from the one to the other
 abbrev pub Stand : (ℕ → Bool) → Options → Options → List Transition → List Transition → Type 0
 Stand never_resets mine theirs turns others =
-    AreEnds never_resets (events_of others) theirs (endpoint_after mine turns) (queued_of mine turns) (recorded_past turns) (packets_of turns) (endpoint_after theirs others) (recorded_past others) (reading_of theirs others)
+    AreEnds never_resets (events_of others) theirs (sending_side (endpoint_after mine turns) (queued_of mine turns) (recorded_past turns) (packets_of turns)) (receiving_side (endpoint_after theirs others) (recorded_past others) (reading_of theirs others))
 
 queued_more : (e : Endpoint) (turns more : List Transition) (queued : List Message) → queued_through e (turns ++ more) queued ≡ queued_through (after_all e turns) more (queued_through e turns queued)
 queued_more e [] more queued = refl
@@ -74,12 +75,12 @@ few_queued options turns little = (let same = queued_same options turns in let f
 
 module _ (never_resets : ℕ → Bool) (seen : List (Event Emission)) (theirs : Options) (d : Endpoint) (their_past : List Effect) (reading : Reading) where
   same_sender : (e e' : Endpoint) (queued queued' : List Message) (past past' : List Effect) (packets packets' : List Emission) → e ≡ e' → queued ≡ queued' → past ≡ past' → packets ≡ packets'
-      → AreEnds never_resets seen theirs e queued past packets d their_past reading → AreEnds never_resets seen theirs e' queued' past' packets' d their_past reading
+      → AreEnds never_resets seen theirs (sending_side e queued past packets) (receiving_side d their_past reading) → AreEnds never_resets seen theirs (sending_side e' queued' past' packets') (receiving_side d their_past reading)
   same_sender e e' queued queued' past past' packets packets' same_e same_queued same_past same_packets h =
-      subst (λ (x : Endpoint). AreEnds never_resets seen theirs x queued' past' packets' d their_past reading) same_e
-      (subst (λ (x : List Message). AreEnds never_resets seen theirs e x past' packets' d their_past reading) same_queued
-      (subst (λ (x : List Effect). AreEnds never_resets seen theirs e queued x packets' d their_past reading) same_past
-      (subst (λ (x : List Emission). AreEnds never_resets seen theirs e queued past x d their_past reading) same_packets h)))
+      subst (λ (x : Endpoint). AreEnds never_resets seen theirs (sending_side x queued' past' packets') (receiving_side d their_past reading)) same_e
+      (subst (λ (x : List Message). AreEnds never_resets seen theirs (sending_side e x past' packets') (receiving_side d their_past reading)) same_queued
+      (subst (λ (x : List Effect). AreEnds never_resets seen theirs (sending_side e queued x packets') (receiving_side d their_past reading)) same_past
+      (subst (λ (x : List Emission). AreEnds never_resets seen theirs (sending_side e queued past x) (receiving_side d their_past reading)) same_packets h)))
 
 pub sender_more : (never_resets : ℕ → Bool) (mine theirs : Options) (turns others more : List Transition) → Stand never_resets mine theirs turns others → SideKnown never_resets mine (recorded_past others) (turns ++ more)
     → MatchOrUnmatched mine theirs (recorded_past (turns ++ more)) (recorded_past others) → StandsSo (endpoint_after mine turns) (recorded_past turns) → AllPerformed (recorded_past (turns ++ more)) (recorded_past others)
@@ -110,12 +111,12 @@ sender_more never_resets mine theirs turns others more h known matched stands pe
 
 module _ (never_resets : ℕ → Bool) (theirs : Options) (e : Endpoint) (queued : List Message) (past : List Effect) (packets : List Emission) where
   same_receiver : (seen seen' : List (Event Emission)) (d d' : Endpoint) (their_past their_past' : List Effect) (reading reading' : Reading) → seen ≡ seen' → d ≡ d' → their_past ≡ their_past' → reading ≡ reading'
-      → AreEnds never_resets seen theirs e queued past packets d their_past reading → AreEnds never_resets seen' theirs e queued past packets d' their_past' reading'
+      → AreEnds never_resets seen theirs (sending_side e queued past packets) (receiving_side d their_past reading) → AreEnds never_resets seen' theirs (sending_side e queued past packets) (receiving_side d' their_past' reading')
   same_receiver seen seen' d d' their_past their_past' reading reading' same_seen same_d same_past same_reading h =
-      subst (λ (x : List (Event Emission)). AreEnds never_resets x theirs e queued past packets d' their_past' reading') same_seen
-      (subst (λ (x : Endpoint). AreEnds never_resets seen theirs e queued past packets x their_past' reading') same_d
-      (subst (λ (x : List Effect). AreEnds never_resets seen theirs e queued past packets d x reading') same_past
-      (subst (λ (x : Reading). AreEnds never_resets seen theirs e queued past packets d their_past x) same_reading h)))
+      subst (λ (x : List (Event Emission)). AreEnds never_resets x theirs (sending_side e queued past packets) (receiving_side d' their_past' reading')) same_seen
+      (subst (λ (x : Endpoint). AreEnds never_resets seen theirs (sending_side e queued past packets) (receiving_side x their_past' reading')) same_d
+      (subst (λ (x : List Effect). AreEnds never_resets seen theirs (sending_side e queued past packets) (receiving_side d x reading')) same_past
+      (subst (λ (x : Reading). AreEnds never_resets seen theirs (sending_side e queued past packets) (receiving_side d their_past x)) same_reading h)))
 
 module _ (never_resets their_never : ℕ → Bool) (mine theirs : Options) (turns others more : List Transition) (h : Stand never_resets mine theirs turns others) (known : SideKnown their_never theirs (recorded_past turns) (others ++ more))
     (each : Each (IsOfNewTagsBut mine (recorded_past (others ++ more))) (recorded_past turns)) (matched : MatchOrUnmatched theirs mine (recorded_past (others ++ more)) (recorded_past turns)) (stands : StandsSo (endpoint_after theirs others) (recorded_past others))
@@ -129,8 +130,8 @@ module _ (never_resets their_never : ℕ → Bool) (mine theirs : Options) (turn
       (subst (λ (p : List Effect). MatchOrUnmatched theirs mine p (recorded_past turns)) same matched)
       (subst (λ (p : List Effect). AllFound p (recorded_past turns)) same found) (subst NoneRestored same restored)
 
-  now_stands : AreEnds never_resets (events_of others ++ events_of more) theirs (endpoint_after mine turns) (queued_of mine turns) (recorded_past turns) (packets_of turns) (after_all (endpoint_after theirs others) more) (after_effects (effects_of more) (recorded_past others))
-      (reading_through (endpoint_after theirs others) more (reading_of theirs others)) → Stand never_resets mine theirs turns (others ++ more)
+  now_stands : AreEnds never_resets (events_of others ++ events_of more) theirs (sending_side (endpoint_after mine turns) (queued_of mine turns) (recorded_past turns) (packets_of turns)) (receiving_side (after_all (endpoint_after theirs others) more) (after_effects (effects_of more) (recorded_past others))
+      (reading_through (endpoint_after theirs others) more (reading_of theirs others))) → Stand never_resets mine theirs turns (others ++ more)
   now_stands after =
       same_receiver never_resets theirs (endpoint_after mine turns) (queued_of mine turns) (recorded_past turns) (packets_of turns) (events_of others ++ events_of more) (events_of (others ++ more)) (after_all (endpoint_after theirs others) more) (endpoint_after theirs (others ++ more))
       (after_effects (effects_of more) (recorded_past others)) (recorded_past (others ++ more)) (reading_through (endpoint_after theirs others) more (reading_of theirs others)) (reading_of theirs (others ++ more))

@@ -16,7 +16,7 @@ use Rattle.dcsctp_delivery_sending.specs.Places as places
 use Rattle.dcsctp_delivery_turns.specs.Actions.{content_of_input, IsOpening, BeginsAssociation}
 use Rattle.dcsctp_delivery_turns.specs.PeerRequests.{KnowsPeerOfCore}
 use Rattle.dcsctp_delivery_associations.specs.Answered.{AreAnswered}
-use Rattle.dcsctp_delivery_associations.specs.Ends.{Ends, NewTag, AreSeen, Between, PlaceWasTaken}
+use Rattle.dcsctp_delivery_associations.specs.Ends.{Ends, NewTag, AreSeen, Between, PlaceWasTaken, sending_side, receiving_side}
 use Rattle.dcsctp_delivery_associations.specs.Laws.{NewPeerTags, AsksLittle, AreEnds}
 use Rattle.dcsctp_delivery_associations.specs.Reads.{Reading, reading_after}
 use Rattle.dcsctp_delivery_sockets.specs.Echoes.{GoesToMaker}
@@ -52,6 +52,6 @@ AreNewTags options their_past past e (turn ∷ turns) =
 abbrev pub PacketsKeepEnds : Type 0
 PacketsKeepEnds =
     (seen : List (Event Emission)) (options : Options) (ends : Ends) (e : Endpoint) (queued : List Message) (past : List Effect) (packets : List Emission) (other : Endpoint) (their_past : List Effect) (reading : Reading) (emission : Emission)
-    (turns : List Transition) → Between options ends e queued past packets other their_past reading → AreAnswered ends e past other their_past → AreSeen ends other their_past seen → length queued < 2 ^ 64 → AsksLittle packets → places.HasEntry emission packets
+    (turns : List Transition) → Between options ends (sending_side e queued past packets) (receiving_side other their_past reading) → AreAnswered ends e past other their_past → AreSeen ends other their_past seen → length queued < 2 ^ 64 → AsksLittle packets → places.HasEntry emission packets
     → GoesToMaker emission → AreNewTags options their_past past other turns → AdmittedTurns other emission.packet (admits other.core emission.packet) turns
-    → AreEnds ends.never_resets (seen ++ events_of turns) options e queued past packets (after_all other turns) (after_effects (effects_of turns) their_past) (reading_through other turns reading)
+    → AreEnds ends.never_resets (seen ++ events_of turns) options (sending_side e queued past packets) (receiving_side (after_all other turns) (after_effects (effects_of turns) their_past) (reading_through other turns reading))

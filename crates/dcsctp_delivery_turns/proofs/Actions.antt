@@ -17,7 +17,7 @@ use Rattle.dcsctp_delivery_sending.specs.Log.{Message}
 use Rattle.dcsctp_delivery_sending.specs.Flushes.{NoData, begun_reset_of}
 use Rattle.dcsctp_delivery_directions.specs.Directions.{Asking, asking_with}
 use Rattle.dcsctp_delivery_turns.specs.Asking.{own_of, AsksFit}
-use Rattle.dcsctp_delivery_turns.specs.Actions.{Ledger, ledger_of, Action, flushes, speaks, Actions, nothing, further, IsStaleFirst, NoneStale, NoEnd, ReportsTo, AreReports, Inside, inside, LeadsToLedger, MakesPackets, Becomes, ends}
+use Rattle.dcsctp_delivery_turns.specs.Actions.{Ledger, ledger_of, Action, flushes, speaks, Actions, nothing, further, IsStaleFirst, NoneStale, NoEnd, ReportsTo, AreReports, Inside, inside, LeadsToLedger, MakesPackets, Becomes, ends, exchange_of}
 use Rattle.dcsctp_spec_lemmas.specs.spec.association.Effect.{identity_of_core}
 use Rattle.dcsctp_delivery_turns.specs.Reports.{AllReportSo, NoReports, IsCumulative}
 use Rattle.dcsctp_delivery_turns.specs.Tags.{IsPeerTag}
@@ -54,9 +54,9 @@ module _ (came : Option Content) (to : ℕ) where
 
   pub both : (old between new : Inside) (packets later : List Emission) → MakesPackets came to old packets between → MakesPackets came to between later new → MakesPackets came to old (packets ++ later) new
   both old between new packets later first second = λ queued sent read tsn asking fit.
-      let one : LeadsToLedger came to (ledger_of queued old.queues sent read asking) tsn between queued (sent ++ packets) read = first queued sent read tsn asking fit in
-      let two : LeadsToLedger came to (ledger_of queued between.queues (sent ++ packets) read one.asking) tsn new queued ((sent ++ packets) ++ later) read = second queued (sent ++ packets) read tsn one.asking one.fits in
-      subst (λ (s : List Emission). LeadsToLedger came to (ledger_of queued old.queues sent read asking) tsn new queued s read) (append_assoc sent packets later)
+      let one : LeadsToLedger came to (ledger_of queued old.queues sent read asking) tsn between (exchange_of queued (sent ++ packets) read) = first queued sent read tsn asking fit in
+      let two : LeadsToLedger came to (ledger_of queued between.queues (sent ++ packets) read one.asking) tsn new (exchange_of queued ((sent ++ packets) ++ later) read) = second queued (sent ++ packets) read tsn one.asking one.fits in
+      subst (λ (s : List Emission). LeadsToLedger came to (ledger_of queued old.queues sent read asking) tsn new (exchange_of queued s read)) (append_assoc sent packets later)
       (record {
         asking = two.asking;
         grows = grows_then asking one.asking two.asking one.grows two.grows;
@@ -67,9 +67,9 @@ module _ (came : Option Content) (to : ℕ) where
   -- actions without a packet that begin no request
   pub made_of : (old : Inside) (new : EndpointQueues) (queued later : List Message) (sent : List Emission) (read taken : List MessageContent) (tsn : ℕ) (asking : Asking) → AsksFit tsn old.own asking
       → Actions came to (ledger_of queued old.queues sent read asking) (ledger_of later new sent taken asking)
-      → LeadsToLedger came to (ledger_of queued old.queues sent read asking) tsn (with_inside new old) later (sent ++ []) taken
+      → LeadsToLedger came to (ledger_of queued old.queues sent read asking) tsn (with_inside new old) (exchange_of later (sent ++ []) taken)
   made_of old new queued later sent read taken tsn asking fit does =
-      subst (λ (s : List Emission). LeadsToLedger came to (ledger_of queued old.queues sent read asking) tsn (with_inside new old) later s taken) (sym (append-nil sent))
+      subst (λ (s : List Emission). LeadsToLedger came to (ledger_of queued old.queues sent read asking) tsn (with_inside new old) (exchange_of later s taken)) (sym (append-nil sent))
       (record { asking = asking; grows = grows_not asking; fits = fit; actions = does })
 
   -- one action without a packet

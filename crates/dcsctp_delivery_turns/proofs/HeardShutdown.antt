@@ -6,7 +6,7 @@ use Rattle.dcsctp_spec_lemmas.specs.types.declared.options.Options.{Options}
 use Rattle.dcsctp_spec_lemmas.specs.spec.Packet.{Content}
 use Rattle.dcsctp_spec_lemmas.specs.spec.association.Effect.{identity_of_core}
 use Rattle.dcsctp_spec_lemmas.specs.spec.endpoint.Endpoint.{Endpoint, Core, closed, cookie_wait, cookie_echoed, open_in, OpenPhase, shutdown_received}
-use Rattle.dcsctp_spec_lemmas.specs.spec.endpoint.HeardShutdown.{said_by_shutdown, may_have_sent, acknowledges_by_shutdown, HearsValidShutdown, HearsShutdown, ShutdownTurn}
+use Rattle.dcsctp_spec_lemmas.specs.spec.endpoint.HeardShutdown.{said_by_shutdown, may_have_sent, acknowledges_by_shutdown, HearsValidShutdown, HearsShutdown, ShutdownTurn, open_association}
 use Rattle.dcsctp_spec_lemmas.specs.spec.endpoint.Outcome.{Outcome}
 use Rattle.dcsctp_spec_lemmas.specs.spec.endpoint.ShutdownOutcomes.{endpoint_in_phase}
 use Rattle.dcsctp_spec_lemmas.specs.spec.queues.Acknowledging.{is_sack_valid}
@@ -31,7 +31,7 @@ inside_with e core = record { queues = e.queues; own = own_of_core core e.outsta
 
 module _ (came : Option Content) (calm : IsCalm came) (tsn : ℕ) (may : MayAcknowledge came tsn) (to : ℕ) where
   where_goes : (b : Bool) (e : Endpoint) (phase : OpenPhase) (my : Pair) (held : Held) (transfer : Transfer) (o : Outcome) → e.core ≡ open_in phase my held → held.peer.tag ≡ to → e.queues.transfer ≡ Some transfer
-      → acknowledges_by_shutdown e.options phase transfer tsn ≡ b → HearsValidShutdown b e phase my held transfer tsn o → Goes came to e o
+      → acknowledges_by_shutdown e.options phase transfer tsn ≡ b → HearsValidShutdown b e (open_association phase my held) transfer tsn o → Goes came to e o
   unfolding inside_with
   where_goes true e phase my held transfer o at peer known heeds turn =
       let base : Endpoint = endpoint_in_phase e shutdown_received my held in

@@ -28,7 +28,7 @@ use Rattle.dcsctp_spec_runs.specs.Past.{HasEffect}
 use Rattle.dcsctp_delivery_sending.specs.Log.{Message}
 use Rattle.dcsctp_delivery_directions.specs.Directions.{nothing_asked}
 use Rattle.dcsctp_delivery_turns.specs.Asking.{own_with, own_of_core, own_of, SomeFit}
-use Rattle.dcsctp_delivery_turns.specs.Actions.{ledger_of, content_of_input, IsOpening, opening_queues, kept_inside, Inside, inside, LeadsToLedger, MakesAlso, OwnEnds, unended, committed, rolled_back, PeerResets, unreset, absent, deferred, reset_now, Becomes, goes_on, pauses, prepared_inside, works_resets, renews, ends, begins, collides, IsCall, AcknowledgesNothing}
+use Rattle.dcsctp_delivery_turns.specs.Actions.{ledger_of, content_of_input, IsOpening, opening_queues, kept_inside, Inside, inside, LeadsToLedger, MakesAlso, OwnEnds, unended, committed, rolled_back, PeerResets, unreset, absent, deferred, reset_now, Becomes, goes_on, pauses, prepared_inside, works_resets, renews, ends, begins, collides, IsCall, AcknowledgesNothing, exchange_of}
 use Rattle.dcsctp_delivery_turns.specs.Runs.{OpensSmall}
 use Rattle.dcsctp_delivery_turns.specs.Untouched.{IsUntouched, IsTransferUntouched, IsOfMaker, EchoesMaker}
 use Rattle.dcsctp_delivery_turns.proofs.Fronts.{renewed_fit, own_ends_fit}
@@ -138,7 +138,7 @@ makes_fit {adds = adds} {taken = taken} old new h makes =
 makes_left : (came : Option Content) (to : ℕ) (adds : List Message → List Message) (taken : List MessageContent → List MessageContent) (packets : List Emission) (first : ℕ) (kinds : Capabilities) (old new : Inside) → AcknowledgesNothing came → SomeFit old.own
     → IsTransferUntouched first kinds old.queues.transfer → MakesAlso came to adds taken old packets new → IsTransferUntouched first kinds new.queues.transfer
 makes_left came to adds taken packets first kinds old new quiet h left makes =
-    let made : LeadsToLedger came to (ledger_of [] old.queues [] [] h.asking) h.first new (adds []) packets (taken []) = makes [] [] [] h.first h.asking h.fits in
+    let made : LeadsToLedger came to (ledger_of [] old.queues [] [] h.asking) h.first new (exchange_of (adds []) packets (taken [])) = makes [] [] [] h.first h.asking h.fits in
     actions_are first kinds came to (ledger_of [] old.queues [] [] h.asking) (ledger_of (adds []) new.queues packets (taken []) made.asking) quiet left made.actions
 
 -- What a RE-CONFIG does before leaves it.

@@ -17,7 +17,7 @@ use Rattle.dcsctp_spec_lemmas.specs.spec.endpoint.MessageOutcomes.{MessageRefusa
 use Rattle.dcsctp_spec_lemmas.specs.spec.endpoint.PreparedResets.{ResetRefusal, reset_refusal, endpoint_with_queue, PreparesUnlessRefused, OwnResetsTurn}
 use Rattle.dcsctp_theorem_sockets.proofs.Bursts.{packets_of_events-append}
 use Rattle.dcsctp_delivery_sending.specs.Log.{Fits, Message}
-use Rattle.dcsctp_delivery_turns.specs.Actions.{IsCalm, Ledger, Inside, inside, ledger_of, queues_with_transfer, Actions, nothing, further, LeadsToLedger, MakesPackets, MakesAlso, Becomes, goes_on, pauses, queued_unless_refused, queued_together, with_first, read_if_connected}
+use Rattle.dcsctp_delivery_turns.specs.Actions.{IsCalm, Ledger, Inside, inside, ledger_of, queues_with_transfer, Actions, nothing, further, LeadsToLedger, MakesPackets, MakesAlso, Becomes, goes_on, pauses, queued_unless_refused, queued_together, with_first, read_if_connected, exchange_of}
 use Rattle.dcsctp_spec_lemmas.specs.spec.association.Effect.{identity_of_core}
 use Rattle.dcsctp_delivery_turns.specs.Tags.{IsPeerTag}
 use Rattle.dcsctp_delivery_turns.specs.Asking.{Own, AsksFit}
@@ -123,7 +123,7 @@ module _ (came : Option Content) (calm : IsCalm came) (to : ℕ) where
       (goes_on calm (send_where_link (takes_any e sendings) all.after turn.0 turn.1 ∙ ap identity_of_core (queue_all_core e sendings)) (subst (λ (l : List Emission). MakesAlso came to (queued_together e sendings) (λ read. read) (inside e) l (inside last.after)) (sym is)
       (λ queued sent read tsn asking asks.
       let later : List Message = queued_together e sendings queued in
-      let made : LeadsToLedger came to (ledger_of later all.after.queues sent read asking) tsn (inside last.after) later (sent ++ packets_of_events last.events) read =
+      let made : LeadsToLedger came to (ledger_of later all.after.queues sent read asking) tsn (inside last.after) (exchange_of later (sent ++ packets_of_events last.events) read) =
       send_where_makes (takes_any e sendings) all.after turn.0 (subst (λ (c : Core). IsPeerTag c to) (sym (queue_all_core e sendings)) at) turn.1 later sent read tsn asking
       (subst (λ (own : Option Own). AsksFit tsn own asking) (sym (queue_all_own e sendings)) asks) in
       record {

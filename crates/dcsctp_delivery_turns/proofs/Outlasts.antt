@@ -18,10 +18,10 @@ use Rattle.dcsctp_spec_lemmas.specs.spec.queues.Tracker.{TrackerState, new_track
 use Rattle.dcsctp_spec_lemmas.specs.spec.queues.Transfer.{Transfer, EndpointQueues, part_overhead}
 use Rattle.dcsctp_delivery_directions.specs.Directions.{Asking, nothing_asked, Direction, HasReached, DirectionRun}
 use Rattle.dcsctp_delivery_directions.proofs.Awaited.{kept_goes}
-use Rattle.dcsctp_delivery_turns.specs.Actions.{ledger_of, inside, LeadsToLedger, MakesPackets, content_of_input, read_after, BeginsAssociation, Collides, kept_inside}
+use Rattle.dcsctp_delivery_turns.specs.Actions.{ledger_of, inside, LeadsToLedger, MakesPackets, content_of_input, read_after, BeginsAssociation, Collides, kept_inside, exchange_of}
 use Rattle.dcsctp_delivery_turns.specs.Asking.{SomeFit, own_of, AsksFit}
 use Rattle.dcsctp_delivery_turns.specs.PeerRequests.{SameWaits}
-use Rattle.dcsctp_delivery_turns.specs.Runs.{direction_with_sender, new_direction, OpensSmall, OpensAssociation, Outlasts}
+use Rattle.dcsctp_delivery_turns.specs.Runs.{direction_with_sender, new_direction, OpensSmall, OpensAssociation, Outlasts, taken_turn}
 use Rattle.dcsctp_delivery_turns.specs.Sides.{receiving, ReceivingSteps}
 use Rattle.dcsctp_delivery_turns.proofs.Addressed.{data_goes_to_peer}
 use Rattle.dcsctp_delivery_turns.proofs.Beginnings.{nothing_fits}
@@ -49,7 +49,7 @@ module _ (options : Options) (first size : ℕ) (direction : Direction) (e : End
   fits_kept : AsksFit first (kept_inside collision again).own nothing_asked
   fits_kept = subst (λ (n : ℕ). AsksFit first (Some (record { number = None; next = n; again = again })) nothing_asked) first_is (nothing_fits first again small)
 
-  pub outlasts_goes : Outlasts options first size direction e input o collision
+  pub outlasts_goes : Outlasts options first size direction (taken_turn e input o) collision
   unfolding to
   outlasts_goes =
       let made = makes direction.queued direction.sent [] first nothing_asked fits_kept in
@@ -85,7 +85,7 @@ module _ (e : Endpoint) (input : Input) (o : Outcome) (collision : Collides (con
   abbrev nothing_sent : Direction
   nothing_sent = new_direction e.options 0 0 [] (record { queue = empty_queue e.options; transfer = None }) 0 [] (record { from_zero = false; keeps = λ id. false })
 
-  made : (read : List MessageContent) → LeadsToLedger (content_of_input input) collision.opened.link.peer.tag (ledger_of [] (kept_inside collision again).queues [] read nothing_asked) collision.opened.link.my.first_tsn (inside o.after) [] ([] ++ packets_of_events o.events) read
+  made : (read : List MessageContent) → LeadsToLedger (content_of_input input) collision.opened.link.peer.tag (ledger_of [] (kept_inside collision again).queues [] read nothing_asked) collision.opened.link.my.first_tsn (inside o.after) (exchange_of [] ([] ++ packets_of_events o.events) read)
   made read = makes [] [] read collision.opened.link.my.first_tsn nothing_asked (nothing_fits collision.opened.link.my.first_tsn again small)
 
   received : (direction : Direction) → ReceivingSteps direction collision.kept (ledger_of [] (kept_inside collision again).queues [] direction.read nothing_asked)

@@ -7,11 +7,11 @@ use Rattle.dcsctp_spec_lemmas.specs.spec.endpoint.Outcome.{Outcome}
 use Rattle.dcsctp_spec_lemmas.specs.spec.endpoint.Turn.{Input}
 use Rattle.dcsctp_spec_lemmas.specs.spec.queues.SendQueue.{empty_queue}
 use Rattle.dcsctp_spec_lemmas.specs.spec.queues.Transfer.{Transfer, EndpointQueues}
-use Rattle.dcsctp_delivery_turns.specs.Actions.{ledger_of, Inside, inside, LeadsToLedger, MakesPackets, MakesAlso, IsOpening, begun_transfer, content_of_input, queued_after, read_after, peer_tag, BeginsAssociation, opening_queues, Becomes, streams_user_resets, goes_on, pauses, prepared_inside, works_resets, renews, ends, begins, collides, IsCalm}
+use Rattle.dcsctp_delivery_turns.specs.Actions.{ledger_of, Inside, inside, LeadsToLedger, MakesPackets, MakesAlso, IsOpening, begun_transfer, content_of_input, queued_after, read_after, peer_tag, BeginsAssociation, opening_queues, Becomes, streams_user_resets, goes_on, pauses, prepared_inside, works_resets, renews, ends, begins, collides, IsCalm, exchange_of}
 use Rattle.dcsctp_delivery_turns.specs.Sides.{WasAsked, WasSent, receiving, ReceivingSteps}
 use Rattle.dcsctp_spec_lemmas.specs.spec.association.Effect.{identity_of, identity_of_core}
 use Rattle.dcsctp_spec_lemmas.specs.types.queues.Messages.{MessageContent}
-use Rattle.dcsctp_delivery_turns.specs.Runs.{new_direction, OpensSmall, KnowsRequest, performed_if_reset, ReceiverTurns, receiver_goes_on, receiver_ends, receiver_begins, OpensAssociation, IdleTurns, idle_stays, idle_begins}
+use Rattle.dcsctp_delivery_turns.specs.Runs.{new_direction, OpensSmall, KnowsRequest, performed_if_reset, ReceiverTurns, receiver_goes_on, receiver_ends, receiver_begins, OpensAssociation, IdleTurns, idle_stays, idle_begins, taken_turn}
 use Rattle.dcsctp_delivery_directions.specs.Directions.{Asking, HasAsked, nothing_asked, Direction, DirectionRun}
 use Rattle.dcsctp_spec_lemmas.specs.spec.association.FlushChanges.{reset_request}
 use Rattle.dcsctp_spec_lemmas.specs.spec.endpoint.BegunResets.{BegunReset}
@@ -53,7 +53,7 @@ module _ (e : Endpoint) (input : Input) (o : Outcome) (small : OpensSmall e inpu
         empty = got.waits;
       }
     where
-      made : (read : List MessageContent) → LeadsToLedger (content_of_input input) begun.held.peer.tag (ledger_of [] (opening_queues e o begun) [] read nothing_asked) begun.my.first_tsn (inside o.after) [] ([] ++ packets_of_events o.events) read
+      made : (read : List MessageContent) → LeadsToLedger (content_of_input input) begun.held.peer.tag (ledger_of [] (opening_queues e o begun) [] read nothing_asked) begun.my.first_tsn (inside o.after) (exchange_of [] ([] ++ packets_of_events o.events) read)
       made read = makes [] [] read begun.my.first_tsn nothing_asked (nothing_fits begun.my.first_tsn again (small begun opening linked))
 
       received : (direction : Direction) → ReceivingSteps direction (begun_transfer e o begun) (ledger_of [] (opening_queues e o begun) [] direction.read nothing_asked)
@@ -116,7 +116,7 @@ module _ (is_known : Bool) (options : Options) (first size : ℕ) (direction : D
 
   goes_further : identity_of_core o.after.core ≡ identity_of_core e.core → (is_reset : Bool) → (is_reset ≡ false → (has_reset o.effects ≡ false) ⊎ IsCalm (content_of_input input)) → (is_reset ≡ true → has_reset o.effects ≡ true) → (worked : Inside) (between : Transfer)
       → worked.queues.transfer ≡ Some between → (asked : SomeFit worked.own) → DirectionRun options first size (resetting is_known direction between is_reset)
-      → MakesAlso (content_of_input input) (peer_tag e.core) (queued_after e input) (read_after e input) worked (packets_of_events o.events) (inside o.after) → ReceiverTurns is_known options first size direction transfer e input o
+      → MakesAlso (content_of_input input) (peer_tag e.core) (queued_after e input) (read_after e input) worked (packets_of_events o.events) (inside o.after) → ReceiverTurns is_known options first size direction transfer (taken_turn e input o)
   goes_further linked is_reset none some worked between there asked start makes =
       let made = makes [] [] direction.read asked.first asked.asking asked.fits in
       let got = actions_receive (content_of_input input) (peer_tag e.core) (ledger_of [] worked.queues [] direction.read asked.asking)
@@ -124,7 +124,7 @@ module _ (is_known : Bool) (options : Options) (first size : ℕ) (direction : D
       receiver_goes_on linked got.left got.is (record { first = asked.first; asking = made.asking; fits = made.fits }) (performed_if_reset is_known is_reset direction.asking) (is_reset, none, some, refl)
       (steps_go_on options first size (receiving (worked_direction is_reset) between direction.read) (receiving (worked_direction is_reset) got.left (read_after e input direction.read)) start got.steps)
 
-  pub receiver_becomes : Becomes (streams_user_resets input) (content_of_input input) (peer_tag e.core) (queued_after e input) (read_after e input) e o → ReceiverTurns is_known options first size direction transfer e input o
+  pub receiver_becomes : Becomes (streams_user_resets input) (content_of_input input) (peer_tag e.core) (queued_after e input) (read_after e input) e o → ReceiverTurns is_known options first size direction transfer (taken_turn e input o)
   receiver_becomes (goes_on calm linked makes) =
       goes_further linked false (λ no. inr calm) (λ is. absurd (cc)) (inside e) transfer known fits
       (subst (λ (a : Asking). DirectionRun options first size (record (receiving direction transfer direction.read) { asking = a })) (sym (unperformed is_known direction.asking)) run) makes

@@ -9,7 +9,7 @@ use Rattle.dcsctp_spec_lemmas.specs.spec.association.Choices.{plain_contents}
 use Rattle.dcsctp_spec_lemmas.specs.spec.endpoint.BegunResets.{BegunReset, request_contents}
 use Rattle.dcsctp_spec_lemmas.specs.spec.endpoint.Endpoint.{Endpoint, Core, closed, cookie_wait, cookie_echoed, open_in}
 use Rattle.dcsctp_spec_lemmas.specs.spec.endpoint.Event.{Event, sent, packets_of_events}
-use Rattle.dcsctp_spec_lemmas.specs.spec.endpoint.FlushOutcomes.{FillingEvent, filling_event, Answer, answer_contents, filled_draft, goes_out, asked_outcome, next_draft, flush_of, FlushAnswers, Ask, first_ask, later_ask, AreFlushAnswers, at_limit, at_empty, after_packet, packets_allowed, IsFlushAnswer, IsAnswerOfQueues, Gives, GivesUnlessIdle, GivesUpThenForwards, ForwardsIfAbandoned, Acknowledges, wants_sack, room_of_draft, own_sack, where_fits, may_forward}
+use Rattle.dcsctp_spec_lemmas.specs.spec.endpoint.FlushOutcomes.{FillingEvent, filling_event, Answer, answer_contents, filled_draft, goes_out, asked_outcome, next_draft, flush_of, FlushAnswers, Ask, first_ask, later_ask, AreFlushAnswers, at_limit, at_empty, after_packet, packets_allowed, IsFlushAnswer, IsAnswerOfQueues, Gives, GivesUnlessIdle, GivesUpThenForwards, ForwardsIfAbandoned, Acknowledges, wants_sack, room_of_draft, own_sack, where_fits, may_forward, forward_made}
 use Rattle.dcsctp_spec_lemmas.specs.spec.queues.Chunks.{AreChunksOfTsns, chunk_said}
 use Rattle.dcsctp_spec_lemmas.specs.spec.queues.Filling.{Stage}
 use Rattle.dcsctp_spec_lemmas.specs.spec.queues.Items.{is_first_abandoned}
@@ -69,7 +69,7 @@ module _ (so : ℕ → Type 0) where
       subst (λ (l : List Plain). AllReportSo so (plain_contents l)) (sym is)
       (fitting_reports room (unworked chunk) (subst (λ (c : ChunkContent). ReportsSo so (plain (unworked c))) (sym says.is) (forward_reports state.outstanding.is_interleaved _ says.entries)))
 
-  gives_up_reports : (b : Bool) (now : ℕ) (transfer : Transfer) (room : ℕ) (old new : Stage) (next : Option ℕ) (chunks : List Plain) → GivesUpThenForwards b now transfer room old new next chunks → AllReportSo so (plain_contents chunks)
+  gives_up_reports : (b : Bool) (now : ℕ) (transfer : Transfer) (room : ℕ) (old new : Stage) (next : Option ℕ) (chunks : List Plain) → GivesUpThenForwards b now transfer room old new (forward_made next chunks) → AllReportSo so (plain_contents chunks)
   gives_up_reports false now transfer room old new next chunks gives = subst (λ (l : List Plain). AllReportSo so (plain_contents l)) (sym gives.2) tt
   gives_up_reports true now transfer room old new next chunks gives = forwards_report (is_first_abandoned new.queue.outstanding.items) now transfer room new.queue next chunks gives.1
 

@@ -10,7 +10,7 @@ use Rattle.dcsctp_spec_lemmas.specs.spec.Packet.{Emission}
 use Rattle.dcsctp_spec_lemmas.specs.spec.endpoint.Turn.{Input}
 use Rattle.dcsctp_spec_lemmas.specs.spec.queues.Transfer.{Transfer, EndpointQueues}
 use Rattle.dcsctp_delivery_sending.specs.Log.{Fits, Message}
-use Rattle.dcsctp_delivery_turns.specs.Actions.{ledger_of, Inside, inside, LeadsToLedger, MakesAlso, content_of_input, queued_after, read_after, peer_tag, opening_queues, Becomes, streams_user_resets, goes_on, pauses, prepared_inside, works_resets, renews, ends, begins, collides, NoEnd}
+use Rattle.dcsctp_delivery_turns.specs.Actions.{ledger_of, Inside, inside, LeadsToLedger, MakesAlso, content_of_input, queued_after, read_after, peer_tag, opening_queues, Becomes, streams_user_resets, goes_on, pauses, prepared_inside, works_resets, renews, ends, begins, collides, NoEnd, exchange_of}
 use Rattle.dcsctp_delivery_sending.specs.Queueing.{QueueWaits}
 use Rattle.dcsctp_delivery_turns.specs.Addressed.{AreAddressed}
 use Rattle.dcsctp_delivery_turns.specs.Reports.{ComesReported}
@@ -51,7 +51,7 @@ module _ (options : Options) (first size : ℕ) (direction : Direction) (e : End
 
   -- Actions lead on from where a run is.
   moved : (old : Inside) (asking : Asking) → (e.queues.transfer ≡ None → old.queues.transfer ≡ None) → DirectionRun options first size (sending_by direction old asking) → (last : Inside)
-      → (made : LeadsToLedger (content_of_input input) (peer_tag e.core) (ledger_of direction.queued old.queues direction.sent [] asking) first last (queued_after e input direction.queued) (direction.sent ++ packets_of_events o.events) (read_after e input []))
+      → (made : LeadsToLedger (content_of_input input) (peer_tag e.core) (ledger_of direction.queued old.queues direction.sent [] asking) first last (exchange_of (queued_after e input direction.queued) (direction.sent ++ packets_of_events o.events) (read_after e input [])))
       → (acknowledged : ℕ) × DirectionRun options first size (after_turn last.queues acknowledged made.asking)
   moved old asking nowhere start last made =
       let sends = actions_send (content_of_input input) (peer_tag e.core) (ledger_of direction.queued old.queues direction.sent [] asking)
@@ -63,7 +63,7 @@ module _ (options : Options) (first size : ℕ) (direction : Direction) (e : End
   starts = subst (λ (b : EndpointQueues). DirectionRun options first size (record direction { queues = b })) same run
 
   addressed : (to : ℕ) (old : Inside) (asking : Asking) (start : ℕ) (last : Inside) (queued : List Message) (read : List MessageContent)
-      → LeadsToLedger (content_of_input input) to (ledger_of direction.queued old.queues [] [] asking) start last queued ([] ++ packets_of_events o.events) read → AreAddressed to (packets_of_events o.events)
+      → LeadsToLedger (content_of_input input) to (ledger_of direction.queued old.queues [] [] asking) start last (exchange_of queued ([] ++ packets_of_events o.events) read) → AreAddressed to (packets_of_events o.events)
   addressed to old asking start last queued read made = data_goes_to_peer (content_of_input input) to _ _ tt made.actions
 
   -- The turn continues after these steps.

@@ -14,7 +14,7 @@ use Rattle.dcsctp_spec_lemmas.specs.spec.endpoint.TransferMoves.{timed_transfer,
 use Rattle.dcsctp_spec_lemmas.specs.spec.queues.Retransmission.{RetransmissionState}
 use Rattle.dcsctp_delivery_directions.proofs.Standing.{timed_outstanding, timed_begun}
 use Rattle.dcsctp_delivery_turns.specs.Actions.{Ledger, MayAcknowledge, Action, queues, sets, flushes, resends, resends_nothing, speaks, asks_again, acknowledges, loses, receives, receives_interleaved, forwards, forwards_interleaved, tracks, times, takes, Actions, nothing, further}
-use Rattle.dcsctp_delivery_turns.specs.Sides.{DirectionSteps, stays, moves, sending, SendingSteps, WasInSentPacket, WasSent, receiving, ReceivingSteps}
+use Rattle.dcsctp_delivery_turns.specs.Sides.{DirectionSteps, stays, moves, sending, SendingSteps, WasInSentPacket, WasSent, receiving, ReceivingSteps, received_so_far}
 use Rattle.dcsctp_delivery_directions.specs.Directions.{Direction, Beginning, HasReached, DirectionStep, DirectionRun, SameFlight, goes_on}
 use Rattle.dcsctp_spec_lemmas.specs.spec.queues.Arrivals.{data_arrival, i_data_arrival, named_skips, skipped_messages}
 use Rattle.dcsctp_delivery_turns.specs.PeerRequests.{SameWaits}
@@ -76,10 +76,10 @@ reported (Some shutdown_ack) tsn so may says = absurd may
 reported (Some (shutdown_complete t)) tsn so may says = absurd may
 
 module _ (came : Option Content) (to first_tsn : ℕ) (tracker : TrackerState) (reassembly : ReassemblyState) (read : List MessageContent) (beginning : Beginning) where
-  by : (old new : Ledger) (acknowledged later : ℕ) → DirectionStep (sending old acknowledged first_tsn tracker reassembly read beginning) (sending new later first_tsn tracker reassembly read beginning) → SendingSteps old new acknowledged first_tsn tracker reassembly read beginning
+  by : (old new : Ledger) (acknowledged later : ℕ) → DirectionStep (sending old acknowledged first_tsn tracker reassembly read beginning) (sending new later first_tsn tracker reassembly read beginning) → SendingSteps old new acknowledged first_tsn (received_so_far tracker reassembly read) beginning
   by old new acknowledged later step = record { later = later; steps = one_step (sending old acknowledged first_tsn tracker reassembly read beginning) (sending new later first_tsn tracker reassembly read beginning) step }
 
-  action_sends : (old new : Ledger) (acknowledged : ℕ) → ((transfer : Transfer) → old.queues.transfer ≡ Some transfer → ComesReported (HasReached first_tsn tracker) came) → Action came to old new → SendingSteps old new acknowledged first_tsn tracker reassembly read beginning
+  action_sends : (old new : Ledger) (acknowledged : ℕ) → ((transfer : Transfer) → old.queues.transfer ≡ Some transfer → ComesReported (HasReached first_tsn tracker) came) → Action came to old new → SendingSteps old new acknowledged first_tsn (received_so_far tracker reassembly read) beginning
   action_sends old _ acknowledged told (queues now message fits some) = by old _ acknowledged acknowledged (directions.queues now message fits some)
   action_sends old _ acknowledged told (sets setting small) = by old _ acknowledged acknowledged (directions.sets setting small)
   action_sends old _ acknowledged told (flushes e draft answers same at tag no_data no_end stale says allowed) = by old _ acknowledged acknowledged (directions.flushes e draft answers same no_data allowed)
@@ -110,7 +110,7 @@ module _ (came : Option Content) (to first_tsn : ℕ) (tracker : TrackerState) (
       go None none = (let gone = actions_none came to old between first none in let clash : ◌≡◌ {A = Option Transfer} None (Some transfer) = sym gone ∙ there in absurd (cc))
       go (Some other) known = told other known
 
-  all_send : (old new : Ledger) (acknowledged : ℕ) → ((transfer : Transfer) → old.queues.transfer ≡ Some transfer → ComesReported (HasReached first_tsn tracker) came) → Actions came to old new → SendingSteps old new acknowledged first_tsn tracker reassembly read beginning
+  all_send : (old new : Ledger) (acknowledged : ℕ) → ((transfer : Transfer) → old.queues.transfer ≡ Some transfer → ComesReported (HasReached first_tsn tracker) came) → Actions came to old new → SendingSteps old new acknowledged first_tsn (received_so_far tracker reassembly read) beginning
   all_send old _ acknowledged told nothing = record { later = acknowledged; steps = stays }
   all_send old _ acknowledged told (further between new first last) =
       let before = all_send old between acknowledged told first in
@@ -121,7 +121,7 @@ module _ (came : Option Content) (to first_tsn : ℕ) (tracker : TrackerState) (
       }
 
 pub actions_send : (came : Option Content) (to : ℕ) (old new : Ledger) (acknowledged first_tsn : ℕ) (tracker : TrackerState) (reassembly : ReassemblyState) (read : List MessageContent) (beginning : Beginning)
-    → ((transfer : Transfer) → old.queues.transfer ≡ Some transfer → ComesReported (HasReached first_tsn tracker) came) → Actions came to old new → SendingSteps old new acknowledged first_tsn tracker reassembly read beginning
+    → ((transfer : Transfer) → old.queues.transfer ≡ Some transfer → ComesReported (HasReached first_tsn tracker) came) → Actions came to old new → SendingSteps old new acknowledged first_tsn (received_so_far tracker reassembly read) beginning
 actions_send came to old new acknowledged first_tsn tracker reassembly read beginning told actions = all_send came to first_tsn tracker reassembly read beginning old new acknowledged told actions
 
 -- ---- the direction on which it receives

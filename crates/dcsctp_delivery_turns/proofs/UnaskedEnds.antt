@@ -12,7 +12,7 @@ use Rattle.dcsctp_spec_lemmas.specs.spec.Packet.{shutdown_complete}
 use Rattle.dcsctp_spec_lemmas.specs.spec.endpoint.Turn.{BeginTurn}
 use Rattle.dcsctp_spec_lemmas.specs.spec.endpoint.EndOutcomes.{abort_outcome, abort_to, aborting_outcome, end_of}
 use Rattle.dcsctp_spec_lemmas.specs.spec.endpoint.HandoverOutcomes.{hand_over_outcome}
-use Rattle.dcsctp_spec_lemmas.specs.spec.endpoint.HeardShutdown.{said_by_shutdown, acknowledges_by_shutdown, HearsValidShutdown, HearsShutdown, ShutdownTurn}
+use Rattle.dcsctp_spec_lemmas.specs.spec.endpoint.HeardShutdown.{said_by_shutdown, acknowledges_by_shutdown, HearsValidShutdown, HearsShutdown, ShutdownTurn, open_association}
 use Rattle.dcsctp_spec_lemmas.specs.spec.endpoint.ShutdownOutcomes.{shut_down_echoed, endpoint_in_phase, may_continue_shutdown, step_if_acknowledged, step_outcome, step_from, t1_stopped, shut_down_outcome, shutdown_outcome, shutdown_ack_outcome, shutdown_complete_outcome, shutdown_sent_again}
 use Rattle.dcsctp_spec_lemmas.specs.spec.endpoint.TimerOutcomes.{t1_gives_up_outcome}
 use Rattle.dcsctp_spec_lemmas.specs.spec.queues.Transfer.{Transfer}
@@ -64,7 +64,7 @@ shutdown_asks e (open_in shutdown_received my held) = rests e
 shutdown_asks e (open_in shutdown_ack_sent my held) = said e _ tt refl refl
 
 heard_where_asks : (b : Bool) (e : Endpoint) (phase : OpenPhase) (my : Pair) (held : Held) (transfer : Transfer) (tsn : ℕ) (o : Outcome) → e.queues.transfer ≡ Some transfer
-    → HearsValidShutdown b e phase my held transfer tsn o → AsksNothing e.queues.transfer e.renewable o
+    → HearsValidShutdown b e (open_association phase my held) transfer tsn o → AsksNothing e.queues.transfer e.renewable o
 heard_where_asks true e phase my held transfer tsn o known turn = acknowledges_asks (endpoint_in_phase e shutdown_received my held) held transfer (said_by_shutdown tsn transfer.retransmission) o known turn
 heard_where_asks false e phase my held transfer tsn o known turn = as_this e.queues.transfer e.renewable o _ turn (shutdown_asks e (open_in phase my held))
 

@@ -15,7 +15,7 @@ use Rattle.dcsctp_spec_lemmas.specs.spec.Packet.{Content, Emission}
 use Rattle.dcsctp_spec_lemmas.specs.spec.association.Choices.{plain_contents}
 use Rattle.dcsctp_spec_lemmas.specs.spec.endpoint.Endpoint.{Endpoint}
 use Rattle.dcsctp_spec_lemmas.specs.spec.endpoint.BegunResets.{BegunReset, streams_within, request_contents, queue_requesting, retransmission_begun}
-use Rattle.dcsctp_spec_lemmas.specs.spec.endpoint.FlushOutcomes.{Answer, answer_contents, filled_draft, asked_outcome, next_draft, flush_of, Ask, first_ask, later_ask, packets_allowed, room_of_draft, stage_of, may_forward, GivesUpThenForwards, FillsIfAllowed, Gives, GivesUnlessIdle, IsAnswerOfQueues, IsFlushAnswer, AreFlushAnswers, at_limit, at_empty, after_packet}
+use Rattle.dcsctp_spec_lemmas.specs.spec.endpoint.FlushOutcomes.{Answer, answer_contents, filled_draft, asked_outcome, next_draft, flush_of, Ask, first_ask, later_ask, packets_allowed, room_of_draft, stage_of, may_forward, GivesUpThenForwards, FillsIfAllowed, Gives, GivesUnlessIdle, IsAnswerOfQueues, IsFlushAnswer, AreFlushAnswers, at_limit, at_empty, after_packet, forward_made}
 use Rattle.dcsctp_spec_lemmas.specs.spec.endpoint.TransferMoves.{timed_transfer}
 use Rattle.dcsctp_spec_lemmas.specs.spec.queues.Abandoning.{GivesUpFirst, GivesUpAll}
 use Rattle.dcsctp_spec_lemmas.specs.spec.queues.AtOnce.{empty_stage, SendsAtOnce}
@@ -156,7 +156,7 @@ module _ (first : ℕ) (kinds : Capabilities) where
   pub of_known : (transfer : Transfer) (below : Option Transfer) → below ≡ Some transfer → IsTransferUntouched first kinds below → IsUntouched first kinds transfer.retransmission
   of_known transfer below known is = subst (IsTransferUntouched first kinds) known is
 
-  given_up : (b : Bool) (now : ℕ) (transfer : Transfer) (room : ℕ) (old new : Stage) (next : _) (forwards : _) → StageIs old → GivesUpThenForwards b now transfer room old new next forwards → StageIs new
+  given_up : (b : Bool) (now : ℕ) (transfer : Transfer) (room : ℕ) (old new : Stage) (next : _) (forwards : _) → StageIs old → GivesUpThenForwards b now transfer room old new (forward_made next forwards) → StageIs new
   given_up false now transfer room old new next forwards h does = subst StageIs (sym does.0) h
   given_up true now transfer room old new next forwards h does = gives_all_is now old new h does.0
 

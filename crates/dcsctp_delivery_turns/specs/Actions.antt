@@ -193,24 +193,33 @@ pub record Inside : Type 0 where
 abbrev pub inside : Endpoint → Inside
 inside e = record { queues = e.queues; own = own_of e }
 
+-- what the user has sent, the packets, and what the user has read
+pub record Exchange : Type 0 where
+  pub queued : List Message
+  pub sent : List Emission
+  pub read : List MessageContent
+
+abbrev pub exchange_of : List Message → List Emission → List MessageContent → Exchange
+exchange_of queued sent read = record { queued = queued; sent = sent; read = read }
+
 -- Actions lead from the ledger to this one; what the socket keeps of its requests is of those that were begun.
-pub record LeadsToLedger (came : Option Content) (to : ℕ) (old : Ledger) (first : ℕ) (new : Inside) (queued : List Message) (sent : List Emission) (read : List MessageContent) : Type 0 where
+pub record LeadsToLedger (came : Option Content) (to : ℕ) (old : Ledger) (first : ℕ) (new : Inside) (exchange : Exchange) : Type 0 where
   pub asking : Asking
   pub grows : AskingGrows old.asking asking
   pub fits : AsksFit first new.own asking
-  pub actions : Actions came to old (ledger_of queued new.queues sent read asking)
+  pub actions : Actions came to old (ledger_of exchange.queued new.queues exchange.sent exchange.read asking)
 
 -- Whatever was queued, sent, read and begun before, actions lead from the queues before to those after, with these packets.
 abbrev pub MakesPackets : Option Content → ℕ → Inside → List Emission → Inside → Type 0
 MakesPackets came to old packets new =
     (queued : List Message) (sent : List Emission) (read : List MessageContent) (first : ℕ) (asking : Asking) → AsksFit first old.own asking
-    → LeadsToLedger came to (ledger_of queued old.queues sent read asking) first new queued (sent ++ packets) read
+    → LeadsToLedger came to (ledger_of queued old.queues sent read asking) first new (exchange_of queued (sent ++ packets) read)
 
 -- So they do, with what a turn queues and reads.
 abbrev pub MakesAlso : Option Content → ℕ → (List Message → List Message) → (List MessageContent → List MessageContent) → Inside → List Emission → Inside → Type 0
 MakesAlso came to adds taken old packets new =
     (queued : List Message) (sent : List Emission) (read : List MessageContent) (first : ℕ) (asking : Asking) → AsksFit first old.own asking
-    → LeadsToLedger came to (ledger_of queued old.queues sent read asking) first new (adds queued) (sent ++ packets) (taken read)
+    → LeadsToLedger came to (ledger_of queued old.queues sent read asking) first new (exchange_of (adds queued) (sent ++ packets) (taken read))
 
 -- ---- what a RE-CONFIG does before
 

@@ -56,16 +56,25 @@ pub data IsBetween (happened : List Effect) (old : Asking) : Asking → Type 0 w
   once_refused : has_refused happened ≡ true → IsBetween happened old (all_ended old)
   once_renewed : (newest : BegunReset) (earlier : List BegunReset) (number : ℕ) → old.requests ≡ newest ∷ earlier → old.out ≡ 1 → number ≡ next_number newest.number → IsBetween happened old (asking_renewed number newest old)
 
+-- a turn: what the endpoint was before it, and what it does
+pub record TakenTurn : Type 0 where
+  pub before : Endpoint
+  pub input : Input
+  pub outcome : Outcome
+
+abbrev pub taken_turn : Endpoint → Input → Outcome → TakenTurn
+taken_turn before input outcome = record { before = before; input = input; outcome = outcome }
+
 -- Both ends began at the same time (RFC 9260, section 5.2.4, action B). All data goes to the other peer's tag, and the run
 -- continues.
-pub record Outlasts (options : Options) (first size : ℕ) (direction : Direction) (e : Endpoint) (input : Input) (o : Outcome) (collision : Collides (content_of_input input) e o) : Type 0 where
+pub record Outlasts (options : Options) (first size : ℕ) (direction : Direction) (turn : TakenTurn) (collision : Collides (content_of_input turn.input) turn.before turn.outcome) : Type 0 where
   pub acknowledged : ℕ
   pub asking : Asking
   pub grows : AskingGrows nothing_asked asking
-  pub fits : AsksFit first (own_of o.after) asking
-  pub addressed : AreAddressed collision.opened.link.peer.tag (packets_of_events o.events)
-  pub kind : o.after.queues.queue.is_interleaved ≡ e.queues.queue.is_interleaved
-  pub run : DirectionRun options first size (direction_with_sender direction direction.queued o.after.queues acknowledged (direction.sent ++ packets_of_events o.events) asking)
+  pub fits : AsksFit first (own_of turn.outcome.after) asking
+  pub addressed : AreAddressed collision.opened.link.peer.tag (packets_of_events turn.outcome.events)
+  pub kind : turn.outcome.after.queues.queue.is_interleaved ≡ turn.before.queues.queue.is_interleaved
+  pub run : DirectionRun options first size (direction_with_sender direction direction.queued turn.outcome.after.queues acknowledged (direction.sent ++ packets_of_events turn.outcome.events) asking)
 
 -- A turn of the sender continues the run; or the association ends after its last packets, and there is none; or another one
 -- begins, whoever receives, and whatever that side has done before. All data goes to the peer's tag. When an association ends or
@@ -88,7 +97,7 @@ pub data SenderTurns (options : Options) (first size : ℕ) (direction : Directi
       × DirectionRun other begun.my.first_tsn room (record (direction_with_sender awaiting queued o.after.queues acknowledged (packets_of_events o.events) asking) { beginning = beginning }))
       → SenderTurns options first size direction e input o
   run_outlasts : (collision : Collides (content_of_input input) e o) → queued_after e input direction.queued ≡ direction.queued
-      → (first ≡ collision.opened.link.my.first_tsn → direction.asking ≡ nothing_asked → Outlasts options first size direction e input o collision) → SenderTurns options first size direction e input o
+      → (first ≡ collision.opened.link.my.first_tsn → direction.asking ≡ nothing_asked → Outlasts options first size direction (taken_turn e input o) collision) → SenderTurns options first size direction e input o
 
 -- Where the turn ends a request as performed, the receiver has performed the newest one, with interleaving.
 abbrev pub EndsPerformed : Endpoint → Outcome → Asking → Type 0
@@ -177,17 +186,17 @@ PerformsByTurn is_known input o direction asking =
 
 -- A turn of the receiver continues the run, if what it handles was sent; or the association ends, maybe after it has received
 -- more; or another one begins.
-pub data ReceiverTurns (is_known : Bool) (options : Options) (first size : ℕ) (direction : Direction) (transfer : Transfer) (e : Endpoint) (input : Input) (o : Outcome) : Type 0 where
-  receiver_goes_on : identity_of_core o.after.core ≡ identity_of_core e.core → (left : Transfer) → o.after.queues.transfer ≡ Some left → SomeFit (own_of o.after) → (asking : Asking) → PerformsByTurn is_known input o direction asking
-      → DirectionRun options first size (record (receiving direction left (read_after e input direction.read)) { asking = asking }) → ReceiverTurns is_known options first size direction transfer e input o
-  receiver_ends : identity_of_core o.after.core ≡ None → o.after.queues.transfer ≡ None → ((read : List MessageContent) → read_after e input read ≡ read) → ReceiverTurns is_known options first size direction transfer e input o
-  receiver_begins : OpensAssociation e input o → ReceiverTurns is_known options first size direction transfer e input o
+pub data ReceiverTurns (is_known : Bool) (options : Options) (first size : ℕ) (direction : Direction) (transfer : Transfer) (turn : TakenTurn) : Type 0 where
+  receiver_goes_on : identity_of_core turn.outcome.after.core ≡ identity_of_core turn.before.core → (left : Transfer) → turn.outcome.after.queues.transfer ≡ Some left → SomeFit (own_of turn.outcome.after) → (asking : Asking) → PerformsByTurn is_known turn.input turn.outcome direction asking
+      → DirectionRun options first size (record (receiving direction left (read_after turn.before turn.input direction.read)) { asking = asking }) → ReceiverTurns is_known options first size direction transfer turn
+  receiver_ends : identity_of_core turn.outcome.after.core ≡ None → turn.outcome.after.queues.transfer ≡ None → ((read : List MessageContent) → read_after turn.before turn.input read ≡ read) → ReceiverTurns is_known options first size direction transfer turn
+  receiver_begins : OpensAssociation turn.before turn.input turn.outcome → ReceiverTurns is_known options first size direction transfer turn
 
 -- This holds for each turn.
 abbrev pub ReceiversGoOn : Type 0
 ReceiversGoOn =
     (is_known : Bool) (options : Options) (first size : ℕ) (direction : Direction) (transfer : Transfer) (e : Endpoint) (input : Input) (o : Outcome) → DirectionRun options first size (receiving direction transfer direction.read)
-    → e.queues.transfer ≡ Some transfer → WasSent direction.sent (content_of_input input) → KnowsRequest is_known direction transfer (content_of_input input) o.effects → SomeFit (own_of e) → OpensSmall e input o → IsCall input → Turn e input o → ReceiverTurns is_known options first size direction transfer e input o
+    → e.queues.transfer ≡ Some transfer → WasSent direction.sent (content_of_input input) → KnowsRequest is_known direction transfer (content_of_input input) o.effects → SomeFit (own_of e) → OpensSmall e input o → IsCall input → Turn e input o → ReceiverTurns is_known options first size direction transfer (taken_turn e input o)
 
 -- Where there is no association, none is there after the turn, and nothing is read in one; or one begins.
 pub data IdleTurns (e : Endpoint) (input : Input) (o : Outcome) : Type 0 where

@@ -32,17 +32,28 @@ abbrev pub sending : Ledger → ℕ → ℕ → TrackerState → ReassemblyState
 sending own acknowledged first_tsn tracker reassembly read beginning =
     record { queued = own.queued; queues = own.queues; acknowledged = acknowledged; sent = own.sent; first_tsn = first_tsn; tracker = tracker; reassembly = reassembly; read = read; asking = own.asking; beginning = beginning }
 
+-- what the other side has received, and its user has read
+pub record ReceivedSoFar : Type 0 where
+  pub tracker : TrackerState
+  pub reassembly : ReassemblyState
+  pub read : List MessageContent
+
+abbrev pub received_so_far : TrackerState → ReassemblyState → List MessageContent → ReceivedSoFar
+received_so_far tracker reassembly read = record { tracker = tracker; reassembly = reassembly; read = read }
+
 -- The socket comes there by steps; more TSNs may have been acknowledged.
-pub record SendingSteps (old new : Ledger) (acknowledged first_tsn : ℕ) (tracker : TrackerState) (reassembly : ReassemblyState) (read : List MessageContent) (beginning : Beginning) : Type 0 where
+pub record SendingSteps (old new : Ledger) (acknowledged first_tsn : ℕ) (received : ReceivedSoFar) (beginning : Beginning) : Type 0 where
   pub later : ℕ
-  pub steps : DirectionSteps (sending old acknowledged first_tsn tracker reassembly read beginning) (sending new later first_tsn tracker reassembly read beginning)
+  pub steps : DirectionSteps
+      (sending old acknowledged first_tsn received.tracker received.reassembly received.read beginning)
+      (sending new later first_tsn received.tracker received.reassembly received.read beginning)
 
 -- Whatever is received, the actions of a socket are steps of the direction on which it sends, where what acknowledges reports a TSN
 -- that the other side has reached.
 abbrev pub ActionsSend : Type 0
 ActionsSend =
     (came : Option Content) (to : ℕ) (old new : Ledger) (acknowledged first_tsn : ℕ) (tracker : TrackerState) (reassembly : ReassemblyState) (read : List MessageContent) (beginning : Beginning)
-    → ((transfer : Transfer) → old.queues.transfer ≡ Some transfer → ComesReported (HasReached first_tsn tracker) came) → Actions came to old new → SendingSteps old new acknowledged first_tsn tracker reassembly read beginning
+    → ((transfer : Transfer) → old.queues.transfer ≡ Some transfer → ComesReported (HasReached first_tsn tracker) came) → Actions came to old new → SendingSteps old new acknowledged first_tsn (received_so_far tracker reassembly read) beginning
 
 -- ---- the direction on which it receives
 

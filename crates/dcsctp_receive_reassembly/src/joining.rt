@@ -90,9 +90,8 @@ fn joined(
         ≡ capped_u128
         (lent_used overhead (lent_run before.entry)
         + lent_used overhead (lent_run behind.entry))) }
-    ensures whole { IfOk result
-        (λ whole. whole_of whole
-        ≡ whole_run (run_with_part (lent_run before.entry) (part_of part) (lent_run behind.entry))) }
+    ensures whole { IfOk result (λ whole. whole_of whole ≡ whole_run
+        (run_with_part (lent_run before.entry) (part_of part) (lent_run behind.entry))) }
 {
     let used = used_by(before, overhead).saturating_add(used_by(behind, overhead));
     let front = before.map_or(0, |(_, run)| size_of_run(run));

@@ -78,8 +78,8 @@ fn run_behind<'x>(part: &Part, runs: &'x BTreeMap<u128, Run>) -> Option<(u128, &
 
 // Is the message of the part whole with the runs on both sides?
 fn is_whole(before: Option<(u128, &Run)>, part: &Part, behind: Option<(u128, &Run)>) -> bool
-    ensures { result
-        ≡ is_whole (run_with_part (lent_run before.entry) (part_of part.now) (lent_run behind.entry)) }
+    ensures { result ≡ is_whole (run_with_part (lent_run before.entry) (part_of part.now)
+        (lent_run behind.entry)) }
 {
     let has_beginning = match before {
         Some((_, run)) => run.has_beginning,

@@ -43,8 +43,9 @@ pub fn append(run: &mut Run, part: Part) -> Result<(), AllocError>
 /// The parts of another run follow on those of a run of one part. There is room for one more in front.
 pub fn take_over(run: &mut Run, behind: Run)
     requires { length behind.others.items < deque_capacity behind.others }
-    ensures { (next : ℕ) (part : PartModel) → run_model (part.place, run.old) ≡ single_run part
-        → run_model (part.place, run.new) ≡ run_with_part None part (Some (run_model (next, behind))) }
+    ensures { (next : ℕ) (part : PartModel) → run_model (part.place, run.old) ≡ single_run part →
+        run_model (part.place, run.new) ≡ run_with_part None part
+        (Some (run_model (next, behind))) }
 {
     let Run {
         payload,

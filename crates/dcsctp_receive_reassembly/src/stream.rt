@@ -529,7 +529,8 @@ impl Stream {
         ready: &mut VecDeque<Message>,
     ) -> u128
         requires { deque_len ready.old + btree_map_len self.old.waiting ≤ deque_capacity ready.old }
-        ensures stream { stream_model self.new ≡ stream_after_skip entry.now (stream_model self.old) }
+        ensures stream { stream_model self.new ≡ stream_after_skip entry.now
+            (stream_model self.old) }
         ensures ready { map message_content ready.new.items
             ≡ map message_content ready.old.items
             ++ skip_deliveries entry.now (stream_model self.old) }

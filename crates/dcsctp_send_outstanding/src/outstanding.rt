@@ -71,6 +71,7 @@ impl Outstanding {
     ghost use Rattle.dcsctp_send_outstanding.specs.Handing.{TriesItem};
     ghost use Rattle.dcsctp_send_outstanding.specs.NamedPlaces.{IsLeftBetween};
     ghost use Rattle.dcsctp_send_streams.specs.Telling.{contents};
+    ghost use Rattle.dcsctp_api.specs.spec.queues.ItemMessages.{item_stage};
 
     /// Nothing was sent yet. Allocates nothing.
     pub fn new(alloc: Global, first_tsn: u32, interleaving: bool) -> Outstanding
@@ -423,8 +424,8 @@ impl Outstanding {
         requires room { length self.old.items + 1 < 2 ^ 31 }
         requires max { (1 ≤ max) × (max ≤ 65535) }
         ensures tries { TriesNext now max self.old self.new result }
-        ensures takes { TriesItem now max begins_after_reset self.old queue.old
-            (contents events.old) self.new queue.new (contents events.new) result }
+        ensures takes { TriesItem now max begins_after_reset (item_stage self.old queue.old
+            (contents events.old)) (item_stage self.new queue.new (contents events.new)) result }
         ensures none { IfOk result (λ sent. IfNone sent (HasNone queue.new)) }
     {
         self.items.reserve(1)?;

@@ -60,7 +60,8 @@ impl Backlog {
 
     /// A stream that was never used.
     pub fn new_stream(&self, stream_id: StreamId) -> OutgoingStream
-        ensures { result ≡ unused_stream stream_id.0 self.now.default_priority self.now.default_threshold }
+        ensures { result ≡ unused_stream stream_id.0 self.now.default_priority
+            self.now.default_threshold }
     {
         OutgoingStream::new(
             self.alloc,

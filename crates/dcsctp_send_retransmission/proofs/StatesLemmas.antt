@@ -21,6 +21,7 @@ use Rattle.dcsctp_send_retransmission.specs.States.{stage, RefusesClosing, GoesF
 use Rattle.dcsctp_api.specs.spec.queues.Filling.{Stage, DropsRestOfMessage, ClosesMessage, payload_room, SendsNew, StepAgain, MayAdd, StepNew, resent_packet_counted, StageSteps, none, more, SendsMarked}
 use Rattle.dcsctp_api.specs.spec.queues.AtOnce.{SendsFirst, is_first_marked}
 use Rattle.dcsctp_send_outstanding.specs.Handing.{SendsItem}
+use Rattle.dcsctp_api.specs.spec.queues.ItemMessages.{item_stage}
 
 -- there is one item at a place
 pub same_at : (items : List Item) (place : ℕ) (a b : Item) → slice_get items place ≡ Some a → slice_get items place ≡ Some b → a ≡ b
@@ -97,7 +98,7 @@ sends_first_later false tsn (suc place) old items new later is first = ap is_fir
 
 -- a new item is sent
 pub sends_new : (now max : ℕ) (old : RetransmissionState) (before after : Packet) (place size tsn : ℕ) (new : OutstandingState) (waiting left : SendQueueState) (events telling : List SocketEvent)
-    → SendsItem now max old.reset_begun old.outstanding waiting (contents events) new left (contents telling) tsn → place ≡ length old.outstanding.items
+    → SendsItem now max old.reset_begun (item_stage old.outstanding waiting (contents events)) (item_stage new left (contents telling)) tsn → place ≡ length old.outstanding.items
     → IfSome (slice_get new.items place) (λ item. size ≡ item_size (header new) item) → max ≡ payload_room (header old.outstanding) before.room
     → after.tsns.items ≡ before.tsns.items ++ tsn ∷ [] → after.room ≡ before.room - size
     → SendsNew now (stage old waiting events before.tsns.items before.room) (stage (with_outstanding new false old) left telling after.tsns.items after.room)

@@ -24,19 +24,29 @@ queue_come_to now queue = if is_expired_timer now queue.timer.running then after
 
 -- ---- a SACK
 
+-- what is in flight, and the events so far
+pub record QueueAndEvents : Type 0 where
+  pub queue : RetransmissionState
+  pub events : List (Event (List ℕ))
+
+abbrev pub queue_and_events : RetransmissionState → List (Event (List ℕ)) → QueueAndEvents
+queue_and_events queue events = record { queue = queue; events = events }
+
 -- What a SACK does to the queue and the events, by its result.
-abbrev pub HandlesSackInQueue : ℕ → ℕ → ℕ → List GapAckBlock → RetransmissionState → List (Event (List ℕ)) → RetransmissionState → List (Event (List ℕ)) → Result HandleSackResult AllocError → Type 0
-HandlesSackInQueue now cumulative window blocks old told new telling (Ok Invalid) =
-    (length old.outstanding.items < acknowledged_count old.outstanding cumulative) × (new ≡ old) × (telling ≡ told)
-HandlesSackInQueue now cumulative window blocks old told new telling (Ok (Valid rtt reset_error_counter)) =
-    (acknowledged_count old.outstanding cumulative ≤ length old.outstanding.items)
-    × AcknowledgesItems now cumulative window blocks old new
-    × (telling ≡ told ++ delivered_up_to cumulative old)
-    × MeasuresRoundTrip now (acknowledged_count old.outstanding cumulative) blocks old.outstanding.items (option_map as_nanos rtt)
-    × (reset_error_counter ≡ has_acknowledged old new)
-    × SaysAnswer reset_error_counter (acknowledged_count old.outstanding cumulative) blocks old.outstanding.items
-HandlesSackInQueue now cumulative window blocks old told new telling (Err error) =
-    (acknowledged_count old.outstanding cumulative ≤ length old.outstanding.items) × (new ≡ old) × AddsFront told (delivered_up_to cumulative old) telling
+abbrev pub HandlesSackInQueue : ℕ → ℕ → ℕ → List GapAckBlock → QueueAndEvents → QueueAndEvents → Result HandleSackResult AllocError → Type 0
+HandlesSackInQueue now cumulative window blocks old new (Ok Invalid) =
+    (length old.queue.outstanding.items < acknowledged_count old.queue.outstanding cumulative)
+    × (new.queue ≡ old.queue) × (new.events ≡ old.events)
+HandlesSackInQueue now cumulative window blocks old new (Ok (Valid rtt reset_error_counter)) =
+    (acknowledged_count old.queue.outstanding cumulative ≤ length old.queue.outstanding.items)
+    × AcknowledgesItems now cumulative window blocks old.queue new.queue
+    × (new.events ≡ old.events ++ delivered_up_to cumulative old.queue)
+    × MeasuresRoundTrip now (acknowledged_count old.queue.outstanding cumulative) blocks old.queue.outstanding.items (option_map as_nanos rtt)
+    × (reset_error_counter ≡ has_acknowledged old.queue new.queue)
+    × SaysAnswer reset_error_counter (acknowledged_count old.queue.outstanding cumulative) blocks old.queue.outstanding.items
+HandlesSackInQueue now cumulative window blocks old new (Err error) =
+    (acknowledged_count old.queue.outstanding cumulative ≤ length old.queue.outstanding.items)
+    × (new.queue ≡ old.queue) × AddsFront old.events (delivered_up_to cumulative old.queue) new.events
 
 -- ---- what is abandoned
 

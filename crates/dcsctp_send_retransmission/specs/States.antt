@@ -79,22 +79,31 @@ StopsFilling now old new = StopsBetweenSteps now (StepAgain now) old new ⊎ Sto
 abbrev pub GoesFilling : {A : Type 0} → ℕ → Stage → Stage → Result A AllocError → Type 0
 GoesFilling now old new result = ByResult (λ done. FillsStage now old new) (StopsFilling now old new) result
 
--- A packet is filled that had that many bytes of room, from a queue, a send queue and events to others.
-pub record FillsFromQueue (now bytes : ℕ) (old : RetransmissionState) (waiting : SendQueueState) (events : List SocketEvent) (new : RetransmissionState) (left : SendQueueState) (telling : List SocketEvent) (tsns : List ℕ) : Type 0 where
+-- what is in flight, what waits in the send queue, and the events so far
+pub record QueueStage : Type 0 where
+  pub queue : RetransmissionState
+  pub waiting : SendQueueState
+  pub events : List SocketEvent
+
+abbrev pub queue_stage : RetransmissionState → SendQueueState → List SocketEvent → QueueStage
+queue_stage queue waiting events = record { queue = queue; waiting = waiting; events = events }
+
+-- A packet is filled that had that many bytes of room.
+pub record FillsFromQueue (now bytes : ℕ) (old new : QueueStage) (tsns : List ℕ) : Type 0 where
   pub room : ℕ
-  pub fills : FillsStage now (stage old waiting events [] bytes) (stage new left telling tsns room)
+  pub fills : FillsStage now (stage old.queue old.waiting old.events [] bytes) (stage new.queue new.waiting new.events tsns room)
 
 -- a packet is filled by whether an allocation failed
-abbrev pub TriesPacket : ℕ → ℕ → RetransmissionState → SendQueueState → List SocketEvent → RetransmissionState → SendQueueState → List SocketEvent → Result (Vec ℕ Global) AllocError → Type 0
-TriesPacket now bytes old waiting events new left telling result =
-    ByResult (λ (tsns : Vec ℕ Global). FillsFromQueue now bytes old waiting events new left telling tsns.items)
-    (StopsFilling now (stage old waiting events [] bytes) (stage new left telling [] bytes)) result
+abbrev pub TriesPacket : ℕ → ℕ → QueueStage → QueueStage → Result (Vec ℕ Global) AllocError → Type 0
+TriesPacket now bytes old new result =
+    ByResult (λ (tsns : Vec ℕ Global). FillsFromQueue now bytes old new tsns.items)
+    (StopsFilling now (stage old.queue old.waiting old.events [] bytes) (stage new.queue new.waiting new.events [] bytes)) result
 
 -- The same, and then the timer runs while something is outstanding.
-pub record SendsPacket (now bytes : ℕ) (old : RetransmissionState) (waiting : SendQueueState) (events : List SocketEvent) (new : RetransmissionState) (left : SendQueueState) (telling : List SocketEvent) (result : Result (Vec ℕ Global) AllocError) : Type 0 where
+pub record SendsPacket (now bytes : ℕ) (old new : QueueStage) (result : Result (Vec ℕ Global) AllocError) : Type 0 where
   pub sent : RetransmissionState
-  pub fills : TriesPacket now bytes old waiting events sent left telling result
-  pub is : new ≡ record sent { timer = timer_with now sent.outstanding.items sent.timer }
+  pub fills : TriesPacket now bytes old (queue_stage sent new.waiting new.events) result
+  pub is : new.queue ≡ record sent { timer = timer_with now sent.outstanding.items sent.timer }
 
 -- ---- one chunk
 

@@ -305,7 +305,8 @@ impl Streams {
     /// The stream has this turn.
     pub fn serve(&mut self, place: usize, turn: u64)
         requires { place < length self.old }
-        ensures { self.new ≡ slice_set self.old place (served_stream turn (stream_at self.old place)) }
+        ensures { self.new ≡ slice_set self.old place (served_stream turn
+            (stream_at self.old place)) }
     {
         if self.items.at(place).last_turn() != turn {
             self.give_turn(place, turn);
@@ -315,7 +316,8 @@ impl Streams {
     // The same, and the stream's turn comes later.
     fn give_turn(&mut self, place: usize, turn: u64)
         requires { place < length self.old }
-        ensures { self.new ≡ slice_set self.old place (served_stream turn (stream_at self.old place)) }
+        ensures { self.new ≡ slice_set self.old place (served_stream turn
+            (stream_at self.old place)) }
     {
         let stream = self.items.at_mut(place);
         let before = stream.turn();

@@ -78,13 +78,19 @@ abbrev pub SendsCopies : List OutgoingRecord → SendOptions → Session → Lis
 SendsCopies messages options old before status after new =
     SendsNothing statuses.OutOfMemory old before status after new ⊎ CallsSendMany (map outgoing_content messages) options old before status after new
 
--- By whether there are too few results, and whether the options are valid: the messages are sent by what these say.
-abbrev pub SendsManyIfValid : Bool → Bool → List OutgoingRecord → SendOptionsRecord → Session → List ℤ → Status → List ℤ → Session → Type 0
-SendsManyIfValid true valid messages numbers old before status after new = SendsNothing statuses.BufferTooSmall old before status after new
-SendsManyIfValid false false messages numbers old before status after new = SendsNothing statuses.InvalidSendOptions old before status after new
-SendsManyIfValid false true messages numbers old before status after new =
-    (options : SendOptions) × SaysSendOptions numbers options × SendsCopies messages options old before status after new
+-- why none is sent: there are too few results, or the options aren't valid
+abbrev pub refusal_of_many : Bool → Bool → Option Status
+refusal_of_many true valid = Some statuses.BufferTooSmall
+refusal_of_many false false = Some statuses.InvalidSendOptions
+refusal_of_many false true = None
+
+-- This happens, unless there is a reason against it.
+abbrev pub HappensUnlessRefused : Option Status → Type 0 → Session → List ℤ → Status → List ℤ → Session → Type 0
+HappensUnlessRefused (Some why) Happens old before status after new = SendsNothing why old before status after new
+HappensUnlessRefused None Happens old before status after new = Happens
 
 abbrev pub SendsManyRecords : List OutgoingRecord → SendOptionsRecord → Session → List ℤ → Status → List ℤ → Session → Type 0
 SendsManyRecords messages numbers old before status after new =
-    SendsManyIfValid (nat_lt (length before) (length messages)) (is_valid_sending numbers) messages numbers old before status after new
+    HappensUnlessRefused (refusal_of_many (nat_lt (length before) (length messages)) (is_valid_sending numbers))
+    ((options : SendOptions) × SaysSendOptions numbers options × SendsCopies messages options old before status after new)
+    old before status after new

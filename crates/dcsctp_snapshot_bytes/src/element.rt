@@ -69,8 +69,8 @@ fn read_elements<T: Element>(
     count: u64,
     reader: &mut Reader,
 ) -> Result<Vec<T>, ReadError>
-    ensures { ReadsValue (λ elements. map T.part_of elements.items) (leading_elements T.part_at count)
-        reader.old.rest.now result reader.new.rest.now }
+    ensures { ReadsValue (λ elements. map T.part_of elements.items)
+        (leading_elements T.part_at count) reader.old.rest.now result reader.new.rest.now }
 {
     let mut elements = Vec::new(alloc);
     for _ in 0..count {

@@ -132,8 +132,8 @@ impl<'a> Reader<'a> {
     /// A number of two bytes after a flag.
     #[tactic(auto, unfolding(crate::specs::Fields::leading_optional))]
     pub(crate) fn optional_u16(&mut self) -> Result<Option<u16>, ReadError>
-        ensures { ReadsValue (λ value. value) (leading_optional (number_of_width w16)) self.old.rest.now
-            result self.new.rest.now }
+        ensures { ReadsValue (λ value. value) (leading_optional (number_of_width w16))
+            self.old.rest.now result self.new.rest.now }
     {
         if self.flag()? {
             Ok(Some(self.u16()?))
@@ -145,8 +145,8 @@ impl<'a> Reader<'a> {
     /// A number of four bytes after a flag.
     #[tactic(auto, unfolding(crate::specs::Fields::leading_optional))]
     pub(crate) fn optional_u32(&mut self) -> Result<Option<u32>, ReadError>
-        ensures { ReadsValue (λ value. value) (leading_optional (number_of_width w32)) self.old.rest.now
-            result self.new.rest.now }
+        ensures { ReadsValue (λ value. value) (leading_optional (number_of_width w32))
+            self.old.rest.now result self.new.rest.now }
     {
         if self.flag()? {
             Ok(Some(self.u32()?))
@@ -158,8 +158,8 @@ impl<'a> Reader<'a> {
     /// A number of four bytes with a sign, after a flag.
     #[tactic(auto, unfolding(crate::specs::Fields::leading_optional))]
     pub(crate) fn optional_i32(&mut self) -> Result<Option<i32>, ReadError>
-        ensures { ReadsValue (λ value. value) (leading_optional leading_signed) self.old.rest.now result
-            self.new.rest.now }
+        ensures { ReadsValue (λ value. value) (leading_optional leading_signed) self.old.rest.now
+            result self.new.rest.now }
     {
         if self.flag()? {
             Ok(Some(self.i32()?))

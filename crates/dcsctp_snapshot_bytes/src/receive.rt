@@ -56,7 +56,8 @@ pub(crate) fn write_receive(out: &mut Vec<u8>, rx: &HandoverReceive) -> Result<(
 /// Reads all that concerns receiving from the front of bytes.
 #[tactic(auto, unfolding(crate::specs::Reading::leading_receive_part))]
 pub(crate) fn read_receive(alloc: Global, reader: &mut Reader) -> Result<HandoverReceive, ReadError>
-    ensures { ReadsValue received_part leading_receive_part reader.old.rest.now result reader.new.rest.now }
+    ensures { ReadsValue received_part leading_receive_part reader.old.rest.now result
+        reader.new.rest.now }
 {
     let numbers = read_numbers(reader)?;
     let ordered_streams = read_list(alloc, reader)?;

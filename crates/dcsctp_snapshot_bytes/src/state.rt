@@ -129,7 +129,8 @@ fn read_header(reader: &mut Reader) -> Result<(), ReadError>
 
 #[tactic(auto, unfolding(crate::specs::Reading::leading_tags))]
 fn read_tags(reader: &mut Reader) -> Result<Tags, ReadError>
-    ensures { ReadsValue (λ tags. tags) leading_tags reader.old.rest.now result reader.new.rest.now }
+    ensures { ReadsValue (λ tags. tags) leading_tags reader.old.rest.now result
+        reader.new.rest.now }
 {
     Ok(Tags {
         my_verification_tag: reader.u32()?,

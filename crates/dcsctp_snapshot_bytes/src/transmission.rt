@@ -85,7 +85,8 @@ pub(crate) fn read_transmission(
     alloc: Global,
     reader: &mut Reader,
 ) -> Result<HandoverTransmission, ReadError>
-    ensures { ReadsValue send_part leading_send_part reader.old.rest.now result reader.new.rest.now }
+    ensures { ReadsValue send_part leading_send_part reader.old.rest.now result
+        reader.new.rest.now }
 {
     let windows = read_windows(reader)?;
     let progress = read_progress(reader)?;

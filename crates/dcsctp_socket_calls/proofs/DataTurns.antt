@@ -16,7 +16,7 @@ use Rattle.dcsctp_core.specs.spec.endpoint.DataOutcomes.{no_user_data_outcome, R
 use Rattle.dcsctp_core.specs.spec.queues.Acknowledging.{is_sack_valid}
 use Rattle.dcsctp_core.specs.spec.endpoint.FlushOutcomes.{Answer, first_ask, packets_allowed, draft_to, flush_answered}
 use Rattle.dcsctp_core.specs.spec.endpoint.HandshakeOutcomes.{connected_after, cookie_ack_with_flush, CookieAckAnswers, CookieAckTurn}
-use Rattle.dcsctp_core.specs.spec.endpoint.HeardShutdown.{said_by_shutdown, acknowledges_by_shutdown, HearsValidShutdown, HearsShutdown, ShutdownTurn}
+use Rattle.dcsctp_core.specs.spec.endpoint.HeardShutdown.{said_by_shutdown, acknowledges_by_shutdown, HearsValidShutdown, HearsShutdown, ShutdownTurn, open_association}
 use Rattle.dcsctp_core.specs.spec.endpoint.ShutdownOutcomes.{may_continue_shutdown, step_if_acknowledged, endpoint_in_phase, shutdown_outcome_by_phase}
 use Rattle.dcsctp_core.specs.spec.endpoint.ResetOutcomes.{responses_outcome, responses_unless_refused, ResponseAnswers, handled_parameters_of, answer_to_own, resets_handled, renewable_left, reset_events_of, HandlesResets, ResetTurn}
 use Rattle.dcsctp_core.proofs.spec_lemmas.FlushKeeps.{flush_keeps}
@@ -81,7 +81,7 @@ shutdown_in_goes e shutdown_sent my held = refl
 shutdown_in_goes e shutdown_received my held = refl
 shutdown_in_goes e shutdown_ack_sent my held = refl
 
-shutdown_where : (heeds : Bool) (e : Endpoint) (phase : OpenPhase) (my : Pair) (held : Held) (transfer : Transfer) (tsn : ℕ) (o : Outcome) → HearsValidShutdown heeds e phase my held transfer tsn o → GoesOn o
+shutdown_where : (heeds : Bool) (e : Endpoint) (phase : OpenPhase) (my : Pair) (held : Held) (transfer : Transfer) (tsn : ℕ) (o : Outcome) → HearsValidShutdown heeds e (open_association phase my held) transfer tsn o → GoesOn o
 shutdown_where false e phase my held transfer tsn o is = goes_as o _ is (shutdown_in_goes e phase my held)
 shutdown_where true e phase my held transfer tsn o h =
     sack_where true (endpoint_in_phase e shutdown_received my held) held transfer (said_by_shutdown tsn transfer.retransmission) o h

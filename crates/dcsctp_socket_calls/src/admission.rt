@@ -61,7 +61,8 @@ fn first_abort(chunks: &[Chunk<'_>]) -> Option<bool>
 
 // The T bit of the first SHUTDOWN COMPLETE, if there is one.
 fn first_shutdown_complete(chunks: &[Chunk<'_>]) -> Option<bool>
-    ensures { result ≡ first_shutdown_complete (map content_of_chunk (map chunk_content chunks.now)) }
+    ensures { result ≡ first_shutdown_complete (map content_of_chunk
+        (map chunk_content chunks.now)) }
 {
     for chunk in chunks {
         if let Chunk::ShutdownComplete(complete) = chunk {

@@ -75,7 +75,8 @@ fn handle_chunks<R: Rng>(
 
 // Is this DATA, or with `Options::follow_rfc` I-DATA?
 fn is_data(follows_rfc: bool, chunk: &Chunk<'_>) -> bool
-    ensures { result ≡ has_data_chunk follows_rfc (content_of_chunk (chunk_content chunk.now) ∷ []) }
+    ensures { result ≡ has_data_chunk follows_rfc (content_of_chunk (chunk_content chunk.now) ∷
+        []) }
 {
     if let Chunk::Data(_) = chunk {
         return true;
@@ -88,7 +89,8 @@ fn is_data(follows_rfc: bool, chunk: &Chunk<'_>) -> bool
 
 // Is there data among these? With `Options::follow_rfc` I-DATA counts, too.
 fn has_data(follows_rfc: bool, chunks: &[Chunk<'_>]) -> bool
-    ensures { result ≡ has_data_chunk follows_rfc (map content_of_chunk (map chunk_content chunks.now)) }
+    ensures { result ≡ has_data_chunk follows_rfc (map content_of_chunk
+        (map chunk_content chunks.now)) }
 {
     for chunk in chunks {
         if is_data(follows_rfc, chunk) {
@@ -126,8 +128,8 @@ fn answer_shutdown_ack<R: Rng>(
     chunk: &Chunk<'_>,
 ) -> Result<Following, AllocError>
     requires { is_open_core (core_of context.old.state) ≡ false }
-    ensures { HandlesAck R.stream header_tag (content_of_chunk (chunk_content chunk.now)) context.old result
-        context.new }
+    ensures { HandlesAck R.stream header_tag (content_of_chunk (chunk_content chunk.now))
+        context.old result context.new }
 {
     if let Chunk::ShutdownAck = chunk {
         return reflect_shutdown_ack(context, header_tag);
@@ -159,7 +161,8 @@ fn handle_packet<R: Rng>(
     context: &mut Context<R>,
     packet: &SctpPacket<'_>,
 ) -> Result<(), AllocError>
-    ensures { HandlesCountedPacket R.stream (packet_content packet.now) context.old result context.new }
+    ensures { HandlesCountedPacket R.stream (packet_content packet.now) context.old result
+        context.new }
 {
     match admit(&context.state, packet) {
         Admission::AllChunks => handle_whole(context, packet)?,
@@ -175,8 +178,8 @@ fn handle_packet<R: Rng>(
 /// Handles a packet (RFC 9260, section 8.5): it is counted, read, admitted or refused, and each chunk is
 /// handled.
 pub fn handle_input<R: Rng>(context: &mut Context<R>, packet: &[u8]) -> Result<(), AllocError>
-    ensures { MakesAnsweredCall R.stream NoAnswer (InputTurns packet.now) (CutsCall (FirstOfInput packet.now))
-        context.old result context.new }
+    ensures { MakesAnsweredCall R.stream NoAnswer (InputTurns packet.now)
+        (CutsCall (FirstOfInput packet.now)) context.old result context.new }
 {
     context.begin_call();
     context.count_packet();
@@ -195,8 +198,8 @@ pub fn handle_input<R: Rng>(context: &mut Context<R>, packet: &[u8]) -> Result<(
 /// Begins an association if there is none (RFC 9260, section 5.1). `Err`: an allocation failed, and no event
 /// was added.
 pub fn connect<R: Rng>(context: &mut Context<R>) -> Result<(), AllocError>
-    ensures turn { MakesAnsweredCall R.stream NoAnswer (TurnsOf connect_call) DrewAlone context.old result
-        context.new }
+    ensures turn { MakesAnsweredCall R.stream NoAnswer (TurnsOf connect_call) DrewAlone context.old
+        result context.new }
     ensures open { is_closed (core_of context.old.state) ≡ false → IsOk result }
 {
     context.begin_call();

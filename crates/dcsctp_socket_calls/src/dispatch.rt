@@ -42,7 +42,8 @@ fn needs_connection(chunk: &Chunk<'_>) -> bool
 
 // Does such a chunk come before the COOKIE ACK? With `Options::follow_rfc` it is dropped (RFC 9260, section 6).
 fn comes_early<R: Rng>(context: &Context<R>, chunk: &Chunk<'_>) -> bool
-    ensures { result ≡ comes_early (endpoint_of context.now) (content_of_chunk (chunk_content chunk.now)) }
+    ensures { result ≡ comes_early (endpoint_of context.now)
+        (content_of_chunk (chunk_content chunk.now)) }
 {
     context.state.awaits_cookie_ack() && context.options.follow_rfc && needs_connection(chunk)
 }
@@ -54,8 +55,8 @@ pub(crate) fn handle_chunk<R: Rng>(
     header_tag: u32,
     chunk: &Chunk<'_>,
 ) -> Result<Following, AllocError>
-    ensures { HandlesChunk R.stream header_tag (content_of_chunk (chunk_content chunk.now)) context.old
-        result context.new }
+    ensures { HandlesChunk R.stream header_tag (content_of_chunk (chunk_content chunk.now))
+        context.old result context.new }
 {
     if comes_early(context, chunk) {
         return Ok(Following::NextChunk);
@@ -75,12 +76,12 @@ fn dispatch_chunk<R: Rng>(
     header_tag: u32,
     chunk: &Chunk<'_>,
 ) -> Result<Following, AllocError>
-    requires late { comes_early (endpoint_of context.old) (content_of_chunk (chunk_content chunk.now))
-        ≡ false }
+    requires late { comes_early (endpoint_of context.old)
+        (content_of_chunk (chunk_content chunk.now)) ≡ false }
     requires unbroken { violation_of_content (core_of context.old.state)
         (content_of_chunk (chunk_content chunk.now)) ≡ None }
-    ensures { HandlesChunk R.stream header_tag (content_of_chunk (chunk_content chunk.now)) context.old
-        result context.new }
+    ensures { HandlesChunk R.stream header_tag (content_of_chunk (chunk_content chunk.now))
+        context.old result context.new }
 {
     match chunk {
         Chunk::Init(init) => {

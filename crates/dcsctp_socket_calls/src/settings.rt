@@ -30,7 +30,8 @@ pub fn set_buffered_amount_low_threshold<R: Rng>(
     stream_id: StreamId,
     bytes: usize,
 ) -> Result<(), AllocError>
-    ensures { ChangesSetting (stream_low_threshold stream_id.0 bytes) context.old result context.new }
+    ensures { ChangesSetting (stream_low_threshold stream_id.0 bytes) context.old result
+        context.new }
 {
     context.begin_call();
     context

@@ -12,7 +12,7 @@ use Rattle.dcsctp_spec_lemmas.specs.spec.queues.Transfer.{Transfer, may_give, is
 use Rattle.dcsctp_spec_lemmas.specs.spec.endpoint.BegunResets.{BegunReset, streams_within, request_contents, queue_requesting, retransmission_begun}
 use Rattle.dcsctp_spec_lemmas.specs.spec.endpoint.Endpoint.{Endpoint}
 use Rattle.dcsctp_spec_lemmas.specs.spec.endpoint.Event.{Event}
-use Rattle.dcsctp_spec_lemmas.specs.spec.endpoint.FlushOutcomes.{Ask, Answer, answer_contents, filled_draft, goes_out, filling_event, asked_outcome, next_draft, flush_of, room_of_draft, stage_of, GivesUpThenForwards, FillsIfAllowed, Gives, GivesUnlessIdle, IsAnswerOfQueues, IsFlushAnswer, AreFlushAnswers, at_limit, at_empty, after_packet}
+use Rattle.dcsctp_spec_lemmas.specs.spec.endpoint.FlushOutcomes.{Ask, Answer, answer_contents, filled_draft, goes_out, filling_event, asked_outcome, next_draft, flush_of, room_of_draft, stage_of, GivesUpThenForwards, FillsIfAllowed, Gives, GivesUnlessIdle, IsAnswerOfQueues, IsFlushAnswer, AreFlushAnswers, at_limit, at_empty, after_packet, forward_made}
 use Rattle.dcsctp_spec_lemmas.proofs.FlushKeeps.{asked_keeps}
 use Rattle.dcsctp_spec_laws.specs.WindowLaws.{in_flight_of, most_of, FlushesKeepWindow}
 use Rattle.dcsctp_spec_laws.proofs.WindowLemmas.{Keeps, keeps_same, keeps_given_up, keeps_steps, keeps_packet}
@@ -20,7 +20,7 @@ use Rattle.dcsctp_spec_laws.proofs.WindowLemmas.{Keeps, keeps_same, keeps_given_
 -- ---- one packet
 
 gives_up_keeps : (b : Bool) (now : ℕ) (transfer : Transfer) (room : ℕ) (old new : Stage) (next : Option ℕ) (chunks : List Plain)
-    → GivesUpThenForwards b now transfer room old new next chunks → Keeps old new
+    → GivesUpThenForwards b now transfer room old new (forward_made next chunks) → Keeps old new
 gives_up_keeps false now transfer room old new next chunks up = keeps_same old new up.0
 gives_up_keeps true now transfer room old new next chunks up =
     keeps_steps (GivesUpFirst now) (λ from to step. keeps_given_up now step.place from to step.gives_up) old new up.0.steps

@@ -11,7 +11,7 @@ use Rattle.dcsctp_spec.specs.queues.Retransmission.{RetransmissionState}
 use Rattle.dcsctp_spec.specs.queues.SendQueue.{SendQueueState}
 use Rattle.dcsctp_spec.specs.queues.Transfer.{Transfer, may_give, is_idle}
 use Rattle.dcsctp_spec.specs.endpoint.BegunResets.{BegunReset, streams_within, last_assigned_tsn, request_contents, queue_requesting, retransmission_begun}
-use Rattle.dcsctp_spec.specs.endpoint.FlushOutcomes.{may_be_asked, Answer, answer_contents, filled_draft, asked_outcome, next_draft, IsWithinMtu, nothing_waits, Ask, later_ask, room_of_draft, wants_sack, stage_of, may_forward, GivesUpThenForwards, begun_by_ask, GivesUnlessIdle, IsAnswerOfQueues, IsFlushAnswer, AreFlushAnswers, at_limit, at_empty, after_packet}
+use Rattle.dcsctp_spec.specs.endpoint.FlushOutcomes.{may_be_asked, Answer, answer_contents, filled_draft, asked_outcome, next_draft, IsWithinMtu, nothing_waits, Ask, later_ask, room_of_draft, wants_sack, stage_of, may_forward, GivesUpThenForwards, begun_by_ask, GivesUnlessIdle, IsAnswerOfQueues, IsFlushAnswer, AreFlushAnswers, at_limit, at_empty, after_packet, forward_made}
 use Rattle.dcsctp_spec_lemmas.proofs.AnswerParts.{sacks_where, tracker_where, acknowledges_where, some_forwarded, fills_where}
 use Rattle.dcsctp_spec_lemmas.proofs.FilledAnswers.{Completes, completes_sooner, GivesUntilFull, answer_filling}
 use Rattle.dcsctp_spec_lemmas.proofs.FilledOutcomes.{Filled, some_filled}
@@ -22,7 +22,7 @@ use Rattle.dcsctp_spec_lemmas.proofs.GivingUpOutcomes.{some_given_up}
 -- once messages were abandoned, which needs no further answer
 answer_given_up : (ask : Ask) (e : Endpoint) (draft : Emission) (transfer : Transfer) (gave_up : Stage) (next : Option ℕ) (forwards : List Plain)
     → GivesUpThenForwards (may_forward ask e transfer.retransmission) e.moment transfer
-    (room_of_draft e (filled_draft draft (plain_contents (sacks_where (wants_sack ask e.queues.queue transfer) (room_of_draft e draft) transfer)))) (stage_of e.queues.queue transfer.retransmission [] 0) gave_up next forwards
+    (room_of_draft e (filled_draft draft (plain_contents (sacks_where (wants_sack ask e.queues.queue transfer) (room_of_draft e draft) transfer)))) (stage_of e.queues.queue transfer.retransmission [] 0) gave_up (forward_made next forwards)
     → e.queues.transfer ≡ Some transfer → is_idle e.queues.queue transfer ≡ false → Completes ask e draft gave_up.told
 answer_given_up ask e draft transfer gave_up next forwards gives_up holds busy =
     let wants : Bool = wants_sack ask e.queues.queue transfer in
@@ -56,7 +56,7 @@ answer_giving_up ask e draft transfer gave_up holds busy may gives_up =
     let start : Stage = stage_of e.queues.queue transfer.retransmission [] 0 in
     let some = some_forwarded (is_first_abandoned gave_up.queue.outstanding.items) e.moment transfer room gave_up.queue in
     answer_given_up ask e draft transfer gave_up some.next some.chunks
-    (subst (λ (b : Bool). GivesUpThenForwards b e.moment transfer room start gave_up some.next some.chunks) (sym may) (gives_up, some.is)) holds busy
+    (subst (λ (b : Bool). GivesUpThenForwards b e.moment transfer room start gave_up (forward_made some.next some.chunks)) (sym may) (gives_up, some.is)) holds busy
 
 -- ---- each ask
 
@@ -80,7 +80,7 @@ busy_answer ask e draft transfer true may holds busy =
 busy_answer ask e draft transfer false may holds busy =
     let room : ℕ = room_of_draft e (filled_draft draft (plain_contents (sacks_where (wants_sack ask e.queues.queue transfer) (room_of_draft e draft) transfer))) in
     let start : Stage = stage_of e.queues.queue transfer.retransmission [] 0 in
-    answer_given_up ask e draft transfer start None [] (subst (λ (b : Bool). GivesUpThenForwards b e.moment transfer room start start None []) (sym may) (refl, refl, refl)) holds busy
+    answer_given_up ask e draft transfer start None [] (subst (λ (b : Bool). GivesUpThenForwards b e.moment transfer room start start (forward_made None [])) (sym may) (refl, refl, refl)) holds busy
 
 answer_by : (ask : Ask) (e : Endpoint) (draft : Emission) (transfer : Transfer) (idle : Bool) → e.queues.transfer ≡ Some transfer → is_idle e.queues.queue transfer ≡ idle
     → Completes ask e draft []

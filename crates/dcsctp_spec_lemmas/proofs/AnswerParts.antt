@@ -15,7 +15,7 @@ use Rattle.dcsctp_spec.specs.queues.Retransmission.{RetransmissionState}
 use Rattle.dcsctp_spec.specs.queues.Skipping.{SaysForward}
 use Rattle.dcsctp_spec.specs.queues.Tracker.{TrackerState, tracker_after_sack}
 use Rattle.dcsctp_spec.specs.queues.Transfer.{Transfer}
-use Rattle.dcsctp_spec.specs.endpoint.FlushOutcomes.{filled_draft, room_of_draft, where_fits, own_sack, Acknowledges, FitsPlain, next_forward, ForwardsIfAbandoned, GivesUpThenForwards, FillsIfAllowed}
+use Rattle.dcsctp_spec.specs.endpoint.FlushOutcomes.{filled_draft, room_of_draft, where_fits, own_sack, Acknowledges, FitsPlain, next_forward, ForwardsIfAbandoned, GivesUpThenForwards, FillsIfAllowed, forward_made}
 use Rattle.dcsctp_spec_lemmas.proofs.ForwardOutcomes.{some_forward, forward_fits}
 use Rattle.dcsctp_spec_lemmas.proofs.PackedLemmas.{IsPacked}
 use Rattle.dcsctp_spec_lemmas.proofs.PackingLemmas.{packed_packet}
@@ -47,7 +47,7 @@ forward_len : (b : Bool) (now : ℕ) (transfer : Transfer) (room : ℕ) (state :
 forward_len false now transfer room state next chunks h = rw h.1 (omega arith)
 forward_len true now transfer room state next chunks (later, (chunk, says, is)) = rw is (where_fits_len room (unworked chunk))
 
-forwards_len : (b : Bool) (now : ℕ) (transfer : Transfer) (room : ℕ) (old new : Stage) (next : Option ℕ) (chunks : List Plain) → GivesUpThenForwards b now transfer room old new next chunks
+forwards_len : (b : Bool) (now : ℕ) (transfer : Transfer) (room : ℕ) (old new : Stage) (next : Option ℕ) (chunks : List Plain) → GivesUpThenForwards b now transfer room old new (forward_made next chunks)
     → contents_len (plain_contents chunks) ≤ room
 forwards_len false now transfer room old new next chunks (same, never, none) = rw none (omega arith)
 forwards_len true now transfer room old new next chunks (gives_up, forwards) = forward_len (is_first_abandoned new.queue.outstanding.items) now transfer room new.queue next chunks forwards
@@ -65,7 +65,7 @@ forward_fit true now transfer room state next chunks small (later, (chunk, says,
 
 -- A FORWARD-TSN that fits into a packet fits its fields.
 pub forwards_fit_where : (b : Bool) (now : ℕ) (transfer : Transfer) (room : ℕ) (old new : Stage) (next : Option ℕ) (chunks : List Plain) → room ≤ 65535
-    → GivesUpThenForwards b now transfer room old new next chunks → AllByRecursion FitsPlain chunks
+    → GivesUpThenForwards b now transfer room old new (forward_made next chunks) → AllByRecursion FitsPlain chunks
 forwards_fit_where false now transfer room old new next chunks small (same, never, none) = rw none tt
 forwards_fit_where true now transfer room old new next chunks small (gives_up, forwards) =
     forward_fit (is_first_abandoned new.queue.outstanding.items) now transfer room new.queue next chunks small forwards
@@ -84,7 +84,7 @@ some_forwarded true now transfer room state =
 
 -- both together
 pub acknowledgements_len : (wants may : Bool) (e : Endpoint) (draft : Emission) (transfer : Transfer) (tracker : TrackerState) (sacks forwards : List Plain) (old new : Stage) (next : Option ℕ)
-    → Acknowledges wants (room_of_draft e draft) transfer tracker sacks → GivesUpThenForwards may e.moment transfer (room_of_draft e (filled_draft draft (plain_contents sacks))) old new next forwards
+    → Acknowledges wants (room_of_draft e draft) transfer tracker sacks → GivesUpThenForwards may e.moment transfer (room_of_draft e (filled_draft draft (plain_contents sacks))) old new (forward_made next forwards)
     → contents_len (plain_contents (sacks ++ forwards)) ≤ room_of_draft e draft
 acknowledgements_len wants may e draft transfer tracker sacks forwards old new next acknowledges gives_up =
     let both = ap contents_len (map-append plain sacks forwards) in
@@ -94,7 +94,7 @@ acknowledgements_len wants may e draft transfer tracker sacks forwards old new n
     let second = forwards_len may e.moment transfer (room_of_draft e (filled_draft draft (plain_contents sacks))) old new next forwards gives_up in
     omega (arith, both, sum, behind, first, second)
 
-pub tells_given_up_where : (b : Bool) (now : ℕ) (transfer : Transfer) (room : ℕ) (old new : Stage) (next : Option ℕ) (chunks : List Plain) → GivesUpThenForwards b now transfer room old new next chunks
+pub tells_given_up_where : (b : Bool) (now : ℕ) (transfer : Transfer) (room : ℕ) (old new : Stage) (next : Option ℕ) (chunks : List Plain) → GivesUpThenForwards b now transfer room old new (forward_made next chunks)
     → TellsMore old.told new.told
 tells_given_up_where false now transfer room old new next chunks (same, never, none) = tells_same old.told new.told (ap (λ (s : Stage). s.told) same)
 tells_given_up_where true now transfer room old new next chunks (gives_up, forwards) = tells_abandoned now old new gives_up

@@ -12,7 +12,7 @@ use Rattle.dcsctp_spec.specs.queues.SendQueue.{SendQueueState}
 use Rattle.dcsctp_spec.specs.queues.Tracker.{TrackerState}
 use Rattle.dcsctp_spec.specs.queues.Transfer.{Transfer, may_give, is_idle}
 use Rattle.dcsctp_spec.specs.endpoint.BegunResets.{BegunReset, streams_within, last_assigned_tsn, request_contents, queue_requesting, retransmission_begun, after_begun}
-use Rattle.dcsctp_spec.specs.endpoint.FlushOutcomes.{may_be_asked, FillingEvent, filling_event_content, Answer, filled_draft, IsWithinMtu, Ask, room_of_draft, wants_sack, Acknowledges, stage_of, may_forward, GivesUpThenForwards, forward_moment, FillsIfAllowed, begun_by_ask, Gives, GivesUnlessIdle, IsAnswerOfQueues, timers_with, IsFlushAnswer}
+use Rattle.dcsctp_spec.specs.endpoint.FlushOutcomes.{may_be_asked, FillingEvent, filling_event_content, Answer, filled_draft, IsWithinMtu, Ask, room_of_draft, wants_sack, Acknowledges, stage_of, may_forward, GivesUpThenForwards, forward_moment, FillsIfAllowed, begun_by_ask, Gives, GivesUnlessIdle, IsAnswerOfQueues, timers_with, IsFlushAnswer, forward_made}
 use Rattle.dcsctp_spec_lemmas.proofs.AnswerParts.{forwards_fit_where, acknowledgements_len, tells_given_up_where, packed_where}
 use Rattle.dcsctp_spec_lemmas.proofs.ChunkOutcomes.{SomeChunks, some_chunks}
 use Rattle.dcsctp_spec_lemmas.proofs.PackingLemmas.{packed_none}
@@ -48,7 +48,7 @@ pub record GivesUntilFull (ask : Ask) (e : Endpoint) (draft : Emission) (transfe
   pub gave_up : Stage
   pub next : Option ℕ
   pub gives_up : GivesUpThenForwards (may_forward ask e transfer.retransmission) e.moment transfer (room_of_draft e (filled_draft draft (plain_contents sacks)))
-      (stage_of e.queues.queue transfer.retransmission [] 0) gave_up next forwards
+      (stage_of e.queues.queue transfer.retransmission [] 0) gave_up (forward_made next forwards)
   pub begun : Option BegunReset
   pub begins : begun
       ≡ begun_by_ask ask e.options.follow_rfc (may_be_asked e.core e.options.follow_rfc) (room_of_draft e (filled_draft draft (plain_contents (sacks ++ forwards)))) (last_assigned_tsn gave_up.queue) gave_up.waiting

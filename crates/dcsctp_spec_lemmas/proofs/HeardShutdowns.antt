@@ -8,7 +8,7 @@ use Rattle.dcsctp_spec.specs.endpoint.Endpoint.{Endpoint, Core, closed, cookie_w
 use Rattle.dcsctp_spec.specs.endpoint.Outcome.{Outcome}
 use Rattle.dcsctp_spec.specs.endpoint.DataOutcomes.{TakesSackAndFlushes}
 use Rattle.dcsctp_spec.specs.endpoint.ShutdownOutcomes.{endpoint_in_phase, shutdown_outcome_by_phase, shutdown_outcome}
-use Rattle.dcsctp_spec.specs.endpoint.HeardShutdown.{said_by_shutdown, may_have_sent, acknowledges_by_shutdown, HearsValidShutdown, HearsShutdown, ShutdownTurn}
+use Rattle.dcsctp_spec.specs.endpoint.HeardShutdown.{said_by_shutdown, may_have_sent, acknowledges_by_shutdown, HearsValidShutdown, HearsShutdown, ShutdownTurn, open_association}
 
 -- one that acknowledges
 pub record Heeds (e : Endpoint) (core : Core) (tsn : ℕ) (o : Outcome) : Type 0 where
@@ -30,7 +30,7 @@ all_three true false c is = absurd (cc)
 all_three false b c is = absurd (cc)
 
 heard_where : (b : Bool) (e : Endpoint) (phase : OpenPhase) (my : Pair) (held : Held) (transfer : Transfer) (tsn : ℕ) (o : Outcome) → e.queues.transfer ≡ Some transfer
-    → acknowledges_by_shutdown e.options phase transfer tsn ≡ b → HearsValidShutdown b e phase my held transfer tsn o → (o ≡ shutdown_outcome_by_phase e phase my held) ⊎ Heeds e (open_in phase my held) tsn o
+    → acknowledges_by_shutdown e.options phase transfer tsn ≡ b → HearsValidShutdown b e (open_association phase my held) transfer tsn o → (o ≡ shutdown_outcome_by_phase e phase my held) ⊎ Heeds e (open_in phase my held) tsn o
 heard_where false e phase my held transfer tsn o stands heeds turn = inl turn
 heard_where true e phase my held transfer tsn o stands heeds turn =
     let each = all_three e.options.follow_rfc (may_have_sent phase) (is_sack_valid transfer.retransmission tsn) heeds in

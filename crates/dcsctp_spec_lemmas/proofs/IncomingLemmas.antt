@@ -11,7 +11,7 @@ use Rattle.dcsctp_spec.specs.types.declared.arrivals.Numbering.TheVariants.{Orde
 use Rattle.dcsctp_spec.specs.types.declared.arrivals.SkippedTo.{SkippedTo}
 use Rattle.dcsctp_spec.specs.types.declared.arrivals.Taken.{Taken}
 use Rattle.dcsctp_spec.specs.queues.Incoming.{IncomingModel, MovesOn, ResetsStreams, TakesChunk, TakesIncomingChunk, TakesStreamData, is_named, stream_skipping, stream_on}
-use Rattle.dcsctp_spec.specs.queues.IncomingStreams.{ChunkModel, IsNumberPlace, IsNumberedBelow, StreamModel, TakesAhead, TakesInOrder, TakesNumbered, TakesOrdered, TakesUnordered, WaitsAmong, data_part, delivered_as, is_number_waiting, new_stream, next_after, not_due, stream_after_skip, skipped_stream}
+use Rattle.dcsctp_spec.specs.queues.IncomingStreams.{ChunkModel, IsNumberPlace, IsNumberedBelow, StreamModel, TakesAhead, TakesInOrder, TakesNumberedPart, numbered_part, TakesOrdered, TakesUnordered, WaitsAmong, data_part, delivered_as, is_number_waiting, new_stream, next_after, not_due, stream_after_skip, skipped_stream}
 use Rattle.dcsctp_spec.specs.types.queues.Messages.{MessageContent}
 use Rattle.dcsctp_spec.specs.queues.Numbers.{fragment_place, number_near, short_number_from}
 use Rattle.dcsctp_spec.specs.queues.Runs.{AssemblesPart, AddsPart, Assembly, IsRunPlace, PartModel, PassesAlone, RunModel, WholeModel, entry_before, following, follows, is_held_before, is_whole, merged_run, message_whole, part_dropped, part_kept, precedes, preceding}
@@ -138,7 +138,7 @@ any_in_order part old before =
     let (taken, new, after, takes) = any_ahead part old before in
     (taken, new, after, record { past = λ below. absurd (grind (arith, nat_tests)); ahead = λ _. takes }))
 
-any_numbered : (tsn : ℕ) (chunk : ChunkModel) (numbering : Numbering) (old : StreamModel) (before : List MessageContent) → HasOutcome (TakesNumbered tsn chunk numbering old before)
+any_numbered : (tsn : ℕ) (chunk : ChunkModel) (numbering : Numbering) (old : StreamModel) (before : List MessageContent) → HasOutcome (TakesNumberedPart (numbered_part tsn chunk numbering old) old before)
 any_numbered tsn chunk (Ordered ssn) old before =
     any_ahead (data_part chunk (fragment_place (short_number_from old.next ssn) tsn) (short_number_from old.next ssn)) old before
 any_numbered tsn chunk Unordered old before =

@@ -12,7 +12,7 @@ use Rattle.dcsctp_spec_lemmas.specs.spec.queues.Retransmission.{RetransmissionSt
 use Rattle.dcsctp_spec_lemmas.specs.spec.queues.Sending.{Fragment}
 use Rattle.dcsctp_spec_lemmas.specs.spec.queues.Skipping.{forward_chunk}
 use Rattle.dcsctp_spec_lemmas.specs.spec.queues.Transfer.{Transfer}
-use Rattle.dcsctp_spec_lemmas.specs.spec.endpoint.FlushOutcomes.{ForwardsIfAbandoned, GivesUpThenForwards}
+use Rattle.dcsctp_spec_lemmas.specs.spec.endpoint.FlushOutcomes.{ForwardsIfAbandoned, GivesUpThenForwards, forward_made}
 
 -- a FORWARD-TSN, or with interleaving an I-FORWARD-TSN (RFC 3758, section 3.2; RFC 8260, section 2.3.1)
 abbrev pub IsForward : Bool → Plain → Type 0
@@ -58,7 +58,7 @@ kind_where true now transfer room state next chunks h =
     (one_forward interleaving (nat_le (length (chunk_bytes (plain_out (unworked chunk)))) room) (unworked chunk)
     (subst (λ (c : ChunkContent). IsForward interleaving (unworked c)) (sym says.is) (is_forward interleaving _ says.entries)))
 
-pub forwards_are_forwards : (b : Bool) (now : ℕ) (transfer : Transfer) (room : ℕ) (old new : Stage) (next : Option ℕ) (chunks : List Plain) → GivesUpThenForwards b now transfer room old new next chunks
+pub forwards_are_forwards : (b : Bool) (now : ℕ) (transfer : Transfer) (room : ℕ) (old new : Stage) (next : Option ℕ) (chunks : List Plain) → GivesUpThenForwards b now transfer room old new (forward_made next chunks)
     → AllByRecursion (IsForward new.queue.outstanding.is_interleaved) chunks
 forwards_are_forwards false now transfer room old new next chunks h = subst (AllByRecursion (IsForward new.queue.outstanding.is_interleaved)) (sym h.2) tt
 forwards_are_forwards true now transfer room old new next chunks h =

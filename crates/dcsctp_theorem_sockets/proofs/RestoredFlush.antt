@@ -12,7 +12,7 @@ use Rattle.dcsctp_spec_lemmas.specs.spec.queues.SendQueue.{SendQueueState, numbe
 use Rattle.dcsctp_spec_lemmas.specs.spec.queues.Transfer.{Transfer, is_idle}
 use Rattle.dcsctp_spec_lemmas.specs.spec.endpoint.BegunResets.{BegunReset, streams_within, last_assigned_tsn, stream_field, begun_if_ready, begun_if_connected, after_begun}
 use Rattle.dcsctp_spec_lemmas.specs.spec.endpoint.DataOutcomes.{AnswersTo, flush_to_peer}
-use Rattle.dcsctp_spec_lemmas.specs.spec.endpoint.FlushOutcomes.{may_be_asked, Answer, first_ask, GivesUpThenForwards, GivesUnlessIdle, IsAnswerOfQueues, AreFlushAnswers, at_limit, at_empty, after_packet, may_forward, packets_allowed, draft_to, filled_draft, room_of_draft, stage_of}
+use Rattle.dcsctp_spec_lemmas.specs.spec.endpoint.FlushOutcomes.{may_be_asked, Answer, first_ask, GivesUpThenForwards, GivesUnlessIdle, IsAnswerOfQueues, AreFlushAnswers, at_limit, at_empty, after_packet, may_forward, packets_allowed, draft_to, filled_draft, room_of_draft, stage_of, forward_made}
 use Rattle.dcsctp_spec_lemmas.specs.spec.endpoint.RestoreOutcomes.{RestoreTurn}
 use Rattle.dcsctp_spec_lemmas.proofs.FlushKeeps.{begun_by, flush_keeps}
 use Rattle.dcsctp_theorem_sockets.specs.Restores.{RestoredSocketsBeginNothing}
@@ -35,7 +35,7 @@ begins_nothing follows (Some held) room last_tsn queue are =
     ap (λ (streams : List ℕ). begun_if_ready follows held.own_outstanding held.own_next last_tsn (map stream_field streams)) (none_taken (streams_within room) (ready_streams queue) (nothing_ready queue are))
     ∙ no_stream follows held.own_outstanding held.own_next last_tsn
 
-gave_up_open : (b : Bool) (now : ℕ) (transfer : Transfer) (room : ℕ) (old new : Stage) (next : Option ℕ) (chunks : List Plain) → GivesUpThenForwards b now transfer room old new next chunks
+gave_up_open : (b : Bool) (now : ℕ) (transfer : Transfer) (room : ℕ) (old new : Stage) (next : Option ℕ) (chunks : List Plain) → GivesUpThenForwards b now transfer room old new (forward_made next chunks)
     → IsStageOpen old → IsStageOpen new
 gave_up_open false now transfer room old new next chunks h are = subst IsStageOpen (sym h.0) are
 gave_up_open true now transfer room old new next chunks h are = steps_open now old new h.0.steps are

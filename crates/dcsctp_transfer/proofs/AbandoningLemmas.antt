@@ -16,7 +16,7 @@ use Rattle.dcsctp_send_retransmission.specs.spec.queues.Items.{Item, is_first_ab
 use Rattle.dcsctp_send_retransmission.specs.spec.queues.Retransmission.{RetransmissionState, outstanding_count}
 use Rattle.dcsctp_send_retransmission.specs.spec.queues.SendQueue.{SendQueueState}
 use Rattle.dcsctp_send_retransmission.specs.spec.queues.Transfer.{Transfer}
-use Rattle.dcsctp_send_retransmission.specs.spec.endpoint.FlushOutcomes.{FitsPlain, where_fits, stage_of, next_forward, may_abandon, ForwardsIfAbandoned, GivesUpThenForwards}
+use Rattle.dcsctp_send_retransmission.specs.spec.endpoint.FlushOutcomes.{FitsPlain, where_fits, stage_of, next_forward, may_abandon, ForwardsIfAbandoned, GivesUpThenForwards, forward_made}
 use Rattle.dcsctp_send_retransmission.proofs.spec_lemmas.TellingLemmas.{tells_abandoned}
 use Rattle.dcsctp_send_retransmission.proofs.spec_lemmas.ToldLemmas.{behind_events, given_up_before}
 use Rattle.dcsctp_send_retransmission.specs.send_streams.Telling.{contents}
@@ -28,6 +28,7 @@ use Rattle.dcsctp_send_retransmission.proofs.SendingLemmas.{keeps_refl, keeps_tr
 use Rattle.dcsctp_transfer.specs.Forwarding.{PutsForward, MakesForwardTsn, AddsFirstOfAbandoning}
 use Rattle.dcsctp_transfer.proofs.ForwardingLemmas.{adds_fitting}
 use Rattle.dcsctp_transfer.proofs.StoppedUpLemmas.{stops_giving_up}
+use Rattle.dcsctp_transfer.specs.Filling.{packet_stage}
 
 -- ---- if partial reliability wasn't negotiated, or nothing is outstanding
 
@@ -47,13 +48,13 @@ no_steps now old new not_negotiated (more between new' steps step) =
 
 -- nothing is abandoned
 pub forwards_none : (now : ℕ) (transfer : Transfer) (waiting : SendQueueState) (events : List (Event (List ℕ))) (packet : Building) → may_abandon transfer.retransmission ≡ false
-    → MakesForwardTsn now transfer waiting events packet transfer waiting events packet None
+    → MakesForwardTsn now transfer (packet_stage waiting events packet) transfer (packet_stage waiting events packet) None
 forwards_none now transfer waiting events packet never =
     let start : Stage = stage_of waiting transfer.retransmission [] 0 in
     record {
       gave_up = start;
       chunks = [];
-      gives_up = subst (λ (b : Bool). GivesUpThenForwards b now transfer (bytes_remaining packet) start start None []) (sym never) (refl, refl, refl);
+      gives_up = subst (λ (b : Bool). GivesUpThenForwards b now transfer (bytes_remaining packet) start start (forward_made None [])) (sym never) (refl, refl, refl);
       fits = tt;
       adds = ap (λ (body : List ℕ). record packet { body = body }) (sym (append-nil packet.body));
       told = [];
@@ -101,14 +102,14 @@ record Makes (now : ℕ) (old : Transfer) (room : ℕ) (state : RetransmissionSt
 
 forwards_all : (now : ℕ) (old new : Transfer) (after : RetransmissionState) (shown left : SendQueueState) (events telling : Events) (packet filled : Building) (next : Option ℕ) → may_abandon old.retransmission ≡ true
     → AbandonsAll now old shown after left events telling → new ≡ record old { retransmission = after } → Makes now old (bytes_remaining packet) after packet filled next
-    → MakesForwardTsn now old shown events packet new left telling filled next
+    → MakesForwardTsn now old (packet_stage shown events packet) new (packet_stage left telling filled) next
 forwards_all now old new after shown left events telling packet filled next may abandons new_is makes =
     let start : Stage = stage_of shown old.retransmission [] 0 in
     let tells = tells_abandoned now start abandons.gave_up abandons.all in
     record {
       gave_up = abandons.gave_up;
       chunks = makes.chunks;
-      gives_up = subst (λ (b : Bool). GivesUpThenForwards b now old (bytes_remaining packet) start abandons.gave_up next makes.chunks) (sym may)
+      gives_up = subst (λ (b : Bool). GivesUpThenForwards b now old (bytes_remaining packet) start abandons.gave_up (forward_made next makes.chunks)) (sym may)
           (abandons.all, subst (λ (q : RetransmissionState). ForwardsIfAbandoned (is_first_abandoned q.outstanding.items) now old (bytes_remaining packet) q next makes.chunks) (sym abandons.queue) makes.forwards);
       fits = makes.fits;
       adds = makes.adds;
@@ -157,7 +158,7 @@ both_true false b is = absurd (cc)
 pub forwards_due : (now : ℕ) (old new : Transfer) (before after : RetransmissionState) (waiting shown left : SendQueueState) (events telling : List SocketEvent) (packet filled : Building) (next : ℕ) → before ≡ old.retransmission
     → waiting ≡ shown → new ≡ record old { retransmission = after } → (outstanding_count old.retransmission ≡ 0 → ⊥) → GivesUpAll now (stage before waiting events [] 0) (stage after left telling [] 0)
     → (before.partial_reliability && is_first_abandoned after.outstanding.items) ≡ true → next ≡ next_forward now old → PutsForward after packet filled
-    → MakesForwardTsn now old shown (contents events) packet new left (contents telling) filled (Some next)
+    → MakesForwardTsn now old (packet_stage shown (contents events) packet) new (packet_stage left (contents telling) filled) (Some next)
 forwards_due now old new before after waiting shown left events telling packet filled next old_is shown_is new_is some all due next_is puts =
     let both = both_true before.partial_reliability (is_first_abandoned after.outstanding.items) due in
     let negotiated = ap (λ (q : RetransmissionState). q.partial_reliability) (sym old_is) ∙ both.0 in
@@ -166,10 +167,10 @@ forwards_due now old new before after waiting shown left events telling packet f
 
 pub forwards_not_due : (now : ℕ) (old new : Transfer) (before after : RetransmissionState) (waiting shown left : SendQueueState) (events telling : List SocketEvent) (packet : Building) → before ≡ old.retransmission → waiting ≡ shown
     → new ≡ record old { retransmission = after } → (outstanding_count old.retransmission ≡ 0 → ⊥) → GivesUpAll now (stage before waiting events [] 0) (stage after left telling [] 0)
-    → (before.partial_reliability && is_first_abandoned after.outstanding.items) ≡ false → MakesForwardTsn now old shown (contents events) packet new left (contents telling) packet None
+    → (before.partial_reliability && is_first_abandoned after.outstanding.items) ≡ false → MakesForwardTsn now old (packet_stage shown (contents events) packet) new (packet_stage left (contents telling) packet) None
 forwards_not_due now old new before after waiting shown left events telling packet old_is shown_is new_is some all due = by_negotiated before.partial_reliability refl due
   where
-    by_negotiated : (b : Bool) → before.partial_reliability ≡ b → (b && is_first_abandoned after.outstanding.items) ≡ false → MakesForwardTsn now old shown (contents events) packet new left (contents telling) packet None
+    by_negotiated : (b : Bool) → before.partial_reliability ≡ b → (b && is_first_abandoned after.outstanding.items) ≡ false → MakesForwardTsn now old (packet_stage shown (contents events) packet) new (packet_stage left (contents telling) packet) None
     by_negotiated true negotiated not_first =
         forwards_all now old new after shown left (contents events) (contents telling) packet packet None (may_if old.retransmission (ap (λ (q : RetransmissionState). q.partial_reliability) (sym old_is) ∙ negotiated) some)
         (abandons_all now old before after waiting shown left events telling old_is shown_is all) new_is (makes_none now old after packet not_first)

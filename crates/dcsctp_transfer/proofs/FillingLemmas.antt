@@ -23,9 +23,9 @@ use Rattle.dcsctp_send_retransmission.proofs.spec_lemmas.ToldLemmas.{behind_even
 use Rattle.dcsctp_send_retransmission.specs.send_streams.Telling.{contents}
 use Rattle.dcsctp_send_retransmission.specs.send_outstanding.Outstanding.{FindsPlaces}
 use Rattle.dcsctp_send_retransmission.specs.Halting.{FillsUp}
-use Rattle.dcsctp_send_retransmission.specs.States.{stage, StopsFilling, SendsPacket}
+use Rattle.dcsctp_send_retransmission.specs.States.{stage, StopsFilling, SendsPacket, queue_stage}
 use Rattle.dcsctp_transfer.specs.Adding.{AddsChunks}
-use Rattle.dcsctp_transfer.specs.Filling.{has_chunks, FillsDataPacket, AddsFirstOfFilling}
+use Rattle.dcsctp_transfer.specs.Filling.{has_chunks, FillsDataPacket, AddsFirstOfFilling, packet_stage}
 use Rattle.dcsctp_transfer.proofs.RoomLemmas.{halts_there}
 use Rattle.dcsctp_transfer.proofs.StoppedLemmas.{stops_filling}
 
@@ -49,7 +49,7 @@ may_give_none waiting state nothing empty =
     ap (λ (items : List Item). nat_lt 0 (marked_items items) || (has_queued_data waiting && can_send state)) empty ∙ ap (λ (b : Bool). b && can_send state) nothing
 
 pub fills_none : (now : ℕ) (transfer : Transfer) (waiting : SendQueueState) (events : List (Event (List ℕ))) (packet : Building) → (has_queued_data waiting || nat_lt 0 (outstanding_count transfer.retransmission)) ≡ false
-    → FillsDataPacket now transfer waiting events packet transfer waiting events packet false
+    → FillsDataPacket now transfer (packet_stage waiting events packet) transfer (packet_stage waiting events packet) false
 fills_none now transfer waiting events packet idle =
     let both = none_waits (has_queued_data waiting) (nat_lt 0 (outstanding_count transfer.retransmission)) idle in
     let start : Stage = stage_of waiting transfer.retransmission [] (bytes_remaining packet) in
@@ -92,7 +92,7 @@ untimed now room queue timer waiting (inr anew) = inr anew
 
 -- what was sent, once the timer runs
 sent_packet : (now bytes : ℕ) (before after : RetransmissionState) (waiting left : SendQueueState) (events telling : List SocketEvent) (tsns : Vec ℕ Global)
-    → SendsPacket now bytes before waiting events after left telling (Ok tsns) → FillsUp now bytes after left tsns.items → (0 < length tsns.items → FindsPlaces after.outstanding)
+    → SendsPacket now bytes (queue_stage before waiting events) (queue_stage after left telling) (Ok tsns) → FillsUp now bytes after left tsns.items → (0 < length tsns.items → FindsPlaces after.outstanding)
     → (room : ℕ) × Fills now (stage before waiting events [] bytes) (stage after left telling tsns.items room)
 sent_packet now bytes before after waiting left events telling tsns sends up places =
     let sent : Stage = stage sends.sent left telling tsns.items sends.fills.room in
@@ -110,9 +110,9 @@ sent_packet now bytes before after waiting left events telling tsns sends up pla
 pub fills_some : (now bytes : ℕ) (old new : Transfer) (before after : RetransmissionState) (waiting shown left : SendQueueState) (events telling : List SocketEvent) (packet filled : Building) (tsns : Vec ℕ Global) (any : Bool)
     → before ≡ old.retransmission → waiting ≡ shown → bytes ≡ bytes_remaining packet → new ≡ record old { retransmission = after }
     → (has_queued_data shown || nat_lt 0 (outstanding_count old.retransmission)) ≡ true
-    → SendsPacket now bytes before waiting events after left telling (Ok tsns) → FillsUp now bytes after left tsns.items → (0 < length tsns.items → FindsPlaces after.outstanding)
+    → SendsPacket now bytes (queue_stage before waiting events) (queue_stage after left telling) (Ok tsns) → FillsUp now bytes after left tsns.items → (0 < length tsns.items → FindsPlaces after.outstanding)
     → AddsChunks after.outstanding tsns.items packet filled → any ≡ not (length tsns.items == 0)
-    → FillsDataPacket now old shown (contents events) packet new left (contents telling) filled any
+    → FillsDataPacket now old (packet_stage shown (contents events) packet) new (packet_stage left (contents telling) filled) any
 fills_some now bytes old new before after waiting shown left events telling packet filled tsns any old_is shown_is bytes_is new_is some sends up places adds answer =
     let (room, fills) = sent_packet now bytes before after waiting left events telling tsns sends up places in
     let start : Stage = stage_of shown old.retransmission [] (bytes_remaining packet) in

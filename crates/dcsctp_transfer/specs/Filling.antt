@@ -28,21 +28,31 @@ abbrev pub FillsRoom : ℕ → ℕ → Transfer → SendQueueState → Stage →
 FillsRoom now room transfer waiting sent =
     FillsIfAllowed (may_give waiting transfer.retransmission) now (stage_of waiting transfer.retransmission [] room) sent
 
+-- what waits in the send queue, the events so far, and the packet
+pub record PacketStage : Type 0 where
+  pub waiting : SendQueueState
+  pub events : List (Event (List ℕ))
+  pub packet : Building
+
+abbrev pub packet_stage : SendQueueState → List (Event (List ℕ)) → Building → PacketStage
+packet_stage waiting events packet = record { waiting = waiting; events = events; packet = packet }
+
 -- Chunks with data were put into a packet, or none, and their events were added. Where nothing waits and nothing is outstanding,
 -- nothing has changed.
-pub record FillsDataPacket (now : ℕ) (old : Transfer) (waiting : SendQueueState) (events : List (Event (List ℕ))) (packet : Building) (new : Transfer) (left : SendQueueState) (telling : List (Event (List ℕ))) (filled : Building) (any : Bool) : Type 0 where
+pub record FillsDataPacket (now : ℕ) (old : Transfer) (before : PacketStage) (new : Transfer) (after : PacketStage) (any : Bool) : Type 0 where
   pub sent : Stage
-  pub fills : FillsRoom now (bytes_remaining packet) old waiting sent
-  pub idle : has_queued_data waiting ≡ false → outstanding_count old.retransmission ≡ 0 → sent ≡ stage_of waiting old.retransmission [] (bytes_remaining packet)
+  pub fills : FillsRoom now (bytes_remaining before.packet) old before.waiting sent
+  pub idle : has_queued_data before.waiting ≡ false → outstanding_count old.retransmission ≡ 0
+      → sent ≡ stage_of before.waiting old.retransmission [] (bytes_remaining before.packet)
   pub chunks : List ChunkContent
   pub are : AreChunksOfTsns sent.queue.outstanding sent.tsns (map unworked chunks)
   pub fits : AllByRecursion FitsChunk chunks
-  pub adds : filled ≡ record packet { body = packet.body ++ flat_map chunk_bytes chunks }
+  pub adds : after.packet ≡ record before.packet { body = before.packet.body ++ flat_map chunk_bytes chunks }
   pub told : List FillingEvent
   pub are_told : map filling_event_content told ≡ sent.told
-  pub tells : telling ≡ events ++ sent.told
+  pub tells : after.events ≡ before.events ++ sent.told
   pub answers : any ≡ has_chunks chunks
-  pub queue : left ≡ sent.waiting
+  pub queue : after.waiting ≡ sent.waiting
   pub is : new ≡ record old { retransmission = sent.queue }
 
 -- If an allocation failed, the first events of some such filling were added.

@@ -13,11 +13,11 @@ use Rattle.dcsctp_send_retransmission.specs.spec.queues.Retransmission.{Retransm
 use Rattle.dcsctp_send_retransmission.specs.spec.queues.SendQueue.{SendQueueState}
 use Rattle.dcsctp_send_retransmission.specs.spec.queues.Skipping.{SaysForward}
 use Rattle.dcsctp_send_retransmission.specs.spec.queues.Transfer.{Transfer}
-use Rattle.dcsctp_send_retransmission.specs.spec.endpoint.FlushOutcomes.{FillingEvent, filling_event_content, FitsPlain, stage_of, may_abandon, GivesUpThenForwards}
+use Rattle.dcsctp_send_retransmission.specs.spec.endpoint.FlushOutcomes.{FillingEvent, filling_event_content, FitsPlain, stage_of, may_abandon, GivesUpThenForwards, forward_made}
 use Rattle.dcsctp_send_retransmission.specs.send_streams.Telling.{AddsFront}
 use Rattle.dcsctp_send_retransmission.specs.declared.forward_tsn.Skipped.{Skipped}
 use Rattle.dcsctp_send_retransmission.specs.declared.forward_tsn.Skipped.TheVariants.{Streams, Messages}
-use Rattle.dcsctp_transfer.specs.Filling.{with_chunk}
+use Rattle.dcsctp_transfer.specs.Filling.{with_chunk, PacketStage}
 
 -- the chunk with this new cumulative TSN, and with entries as they lie in memory
 abbrev pub forward_said : ℕ → List ℕ → Skipped → ChunkContent
@@ -34,19 +34,19 @@ pub record PutsForward (state : RetransmissionState) (packet filled : Building) 
 -- what the queues do before a FORWARD-TSN, and which chunks that brings
 abbrev pub AbandonsExpired : ℕ → ℕ → Transfer → SendQueueState → Stage → Option ℕ → List Plain → Type 0
 AbandonsExpired now room transfer waiting gave_up next chunks =
-    GivesUpThenForwards (may_abandon transfer.retransmission) now transfer room (stage_of waiting transfer.retransmission [] 0) gave_up next chunks
+    GivesUpThenForwards (may_abandon transfer.retransmission) now transfer room (stage_of waiting transfer.retransmission [] 0) gave_up (forward_made next chunks)
 
 -- Messages were abandoned, and their events were added. If a chunk was made, the result says when the next one may be made.
-pub record MakesForwardTsn (now : ℕ) (old : Transfer) (waiting : SendQueueState) (events : List (Event (List ℕ))) (packet : Building) (new : Transfer) (left : SendQueueState) (telling : List (Event (List ℕ))) (filled : Building) (next : Option ℕ) : Type 0 where
+pub record MakesForwardTsn (now : ℕ) (old : Transfer) (before : PacketStage) (new : Transfer) (after : PacketStage) (next : Option ℕ) : Type 0 where
   pub gave_up : Stage
   pub chunks : List Plain
-  pub gives_up : AbandonsExpired now (bytes_remaining packet) old waiting gave_up next chunks
+  pub gives_up : AbandonsExpired now (bytes_remaining before.packet) old before.waiting gave_up next chunks
   pub fits : AllByRecursion FitsPlain chunks
-  pub adds : filled ≡ record packet { body = packet.body ++ flat_map chunk_bytes (map plain_out chunks) }
+  pub adds : after.packet ≡ record before.packet { body = before.packet.body ++ flat_map chunk_bytes (map plain_out chunks) }
   pub told : List FillingEvent
   pub are_told : map filling_event_content told ≡ gave_up.told
-  pub tells : telling ≡ events ++ gave_up.told
-  pub queue : left ≡ gave_up.waiting
+  pub tells : after.events ≡ before.events ++ gave_up.told
+  pub queue : after.waiting ≡ gave_up.waiting
   pub is : new ≡ record old { retransmission = gave_up.queue }
 
 -- If an allocation failed, the first of these events were added.

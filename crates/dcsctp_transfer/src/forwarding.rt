@@ -9,7 +9,7 @@ ghost use Rattle.dcsctp_send_retransmission.specs.spec.endpoint.Timers.{moment_a
 ghost use Rattle.dcsctp_send_retransmission.specs.spec.queues.Retransmission.{outstanding_count};
 ghost use Rattle.dcsctp_send_retransmission.specs.send_streams.Telling.{contents};
 ghost use Rattle.dcsctp_send_retransmission.specs.SkippedBytes.{ReadsAs};
-ghost use Rattle.dcsctp_transfer.specs.Filling.{with_chunk};
+ghost use Rattle.dcsctp_transfer.specs.Filling.{with_chunk, packet_stage};
 ghost use Rattle.dcsctp_transfer.specs.Forwarding.{forward_said, PutsForward, MakesForwardTsn, AddsFirstOfAbandoning};
 
 use crate::sending::in_bytes;
@@ -41,11 +41,11 @@ impl Transfer {
         now: SocketTime,
         packet: &mut SctpPacketBuilder,
     ) -> Result<Option<SocketTime>, AllocError>
-        ensures ok { IfOk result
-            (λ next. MakesForwardTsn now self.old queue.old (contents events.old) packet.old
-            self.new queue.new (contents events.new) packet.new next) }
-        ensures told { OnErr result
-            (AddsFirstOfAbandoning now self.old queue.old (contents events.old) (contents events.new)) }
+        ensures ok { IfOk result (λ next. MakesForwardTsn now self.old
+            (packet_stage queue.old (contents events.old) packet.old) self.new
+            (packet_stage queue.new (contents events.new) packet.new) next) }
+        ensures told { OnErr result (AddsFirstOfAbandoning now self.old queue.old
+            (contents events.old) (contents events.new)) }
         ensures kept { OnErr result (packet.new ≡ packet.old) }
         ensures idle { outstanding_count self.old.retransmission ≡ 0 → IsOk result }
     {

@@ -15,7 +15,7 @@ ghost use Rattle.dcsctp_send_retransmission.specs.send_outstanding.Outstanding.{
 ghost use Rattle.dcsctp_send_retransmission.specs.send_streams.Telling.{contents};
 ghost use Rattle.dcsctp_send_retransmission.specs.spec.queues.Items.{chunk_size, is_first_abandoned};
 ghost use Rattle.dcsctp_send_retransmission.specs.Sending.{HandsOut};
-ghost use Rattle.dcsctp_transfer.specs.Filling.{AddsFirstOfFilling, FillsDataPacket, is_sack_wanted, with_chunk, FillsRequestedSack};
+ghost use Rattle.dcsctp_transfer.specs.Filling.{AddsFirstOfFilling, FillsDataPacket, is_sack_wanted, with_chunk, FillsRequestedSack, packet_stage};
 ghost use Rattle.dcsctp_send_retransmission.specs.spec.queues.Transfer.{may_give};
 ghost use Rattle.dcsctp_transfer.specs.Sacks.{FillsAtOnce};
 ghost use Rattle.dcsctp_transfer.specs.Adding.{HasChunkWithin, AddsChunkOf, AddsChunks, sack_said};
@@ -44,12 +44,11 @@ impl Transfer {
         now: SocketTime,
         packet: &mut SctpPacketBuilder,
     ) -> Result<bool, AllocError>
-        ensures ok { IfOk result
-            (λ any. FillsDataPacket now self.old queue.old (contents events.old) packet.old
-            self.new queue.new (contents events.new) packet.new any) }
-        ensures told { OnErr result
-            (AddsFirstOfFilling now (bytes_remaining packet.old) self.old queue.old (contents events.old)
-            (contents events.new)) }
+        ensures ok { IfOk result (λ any. FillsDataPacket now self.old
+            (packet_stage queue.old (contents events.old) packet.old) self.new
+            (packet_stage queue.new (contents events.new) packet.new) any) }
+        ensures told { OnErr result (AddsFirstOfFilling now (bytes_remaining packet.old) self.old
+            queue.old (contents events.old) (contents events.new)) }
         ensures kept { OnErr result (packet.new ≡ packet.old) }
         ensures idle { has_queued_data queue.old ≡ false
             → outstanding_count self.old.retransmission ≡ 0 → IsOk result }

@@ -82,7 +82,8 @@ impl Capabilities {
     /// What an end with these options and a peer that announced `self` both support. That is what both offer,
     /// the method if it is the same, and the smaller count of streams each way.
     pub fn negotiate(&self, options: &Options) -> Capabilities
-        ensures { result ≡ negotiated_capabilities (offer_of options.now) (offer_of_capabilities self.now) }
+        ensures { result ≡ negotiated_capabilities (offer_of options.now)
+            (offer_of_capabilities self.now) }
     {
         let mine = options.zero_checksum_alternate_error_detection_method;
         let incoming = options.announced_maximum_incoming_streams;

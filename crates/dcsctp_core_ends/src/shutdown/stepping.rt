@@ -22,7 +22,8 @@ use std::time::Duration;
 // how often a packet is sent again. Unlike RFC 9260, section 9.2, `t2_shutdown_timeout` is not used
 // (docs/design/decisions.md, Shutdown).
 fn started_t2(options: &Options, rto: Duration, now: SocketTime) -> ShutdownState
-    ensures { result.t2_shutdown.running ≡ started_timer now (t2_settings options.now (as_nanos rto)) }
+    ensures { result.t2_shutdown.running ≡ started_timer now
+        (t2_settings options.now (as_nanos rto)) }
 {
     let mut t2_shutdown = Timer::new(
         rto,

@@ -13,7 +13,7 @@ use std::alloc::{AllocError, Global};
 impl Outstanding {
     ghost use Rattle.std.specs.Prelude.{◌⊎◌, ◌==◌, OnOk, OnErr, length};
     ghost use Rattle.dcsctp_send_outstanding.specs.Outstanding.{MayAddEnd};
-    ghost use Rattle.dcsctp_api.specs.spec.queues.ItemMessages.{AtPlace, StartsMessage, EndsMessage, AreMessageItems, DropsRest};
+    ghost use Rattle.dcsctp_api.specs.spec.queues.ItemMessages.{AtPlace, StartsMessage, EndsMessage, AreMessageItems, DropsRest, item_stage};
     ghost use Rattle.dcsctp_send_streams.specs.Telling.{contents};
     ghost use Rattle.dcsctp_send_queue.specs.Calls.{StopsDiscarding};
 
@@ -31,10 +31,9 @@ impl Outstanding {
         requires place { place < length self.old.items }
         requires room { length self.old.items + 1 < 2 ^ 31 }
         ensures may { MayAddEnd self.old self.new }
-        ensures ok { AtPlace self.old.items place
-            (λ last. OnOk result
-            (DropsRest now begins_after_reset last self.old queue.old (contents events.old)
-            self.new queue.new (contents events.new))) }
+        ensures ok { AtPlace self.old.items place (λ last. OnOk result
+            (DropsRest now begins_after_reset last (item_stage self.old queue.old
+            (contents events.old)) (item_stage self.new queue.new (contents events.new)))) }
         ensures err { OnErr result ((self.new ≡ self.old) × (queue.new ≡ queue.old)) }
         ensures front { AtPlace self.old.items place
             (λ last. OnErr result

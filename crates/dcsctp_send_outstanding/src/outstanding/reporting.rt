@@ -117,7 +117,10 @@ impl Outstanding {
     /// Acknowledges the items that the blocks name, from the place `count` on.
     pub fn acknowledge_blocks(&mut self, count: usize, blocks: &[GapAckBlock])
         requires { count ≤ length self.old.items }
-        ensures { self.new ≡ record self.old { items = reported_items count blocks.now self.old.items } }
+        ensures { self.new ≡ record self.old {
+          items = reported_items count blocks.now
+              self.old.items;
+        } }
     {
         let _ = self.len();
         let mut row = 0;

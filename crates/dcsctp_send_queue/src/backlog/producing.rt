@@ -144,10 +144,9 @@ impl Backlog {
         ensures some { (message : Waiting)
             → front_of (stream_at self.old.streams place).messages ≡ Some message
             → 0 < length message.payload }
-        ensures left { (message : Waiting)
-            → front_of (stream_at self.old.streams place).messages ≡ Some message
-            → OnOk result
-            (queue_of self.new ≡ queue_after_producing place max message under_way (queue_of self.old)) }
+        ensures left { (message : Waiting) → front_of (stream_at self.old.streams place).messages ≡
+            Some message → OnOk result (queue_of self.new ≡ queue_after_producing place max message
+            under_way (queue_of self.old)) }
         ensures told { (message : Waiting)
             → front_of (stream_at self.old.streams place).messages ≡ Some message
             → OnOk result

@@ -43,7 +43,8 @@ impl Backlog {
 
     /// Drops the messages of the stream that haven't been started, and pauses it, if it isn't paused yet.
     pub fn prepare(&mut self, events: &mut Events, stream_id: StreamId) -> Result<(), AllocError>
-        ensures ok { OnOk result (queue_of self.new ≡ queue_with_prepared stream_id.0 (queue_of self.old)) }
+        ensures ok { OnOk result (queue_of self.new ≡ queue_with_prepared stream_id.0
+            (queue_of self.old)) }
         ensures told { OnOk result
             (contents events.new
             ≡ contents events.old ++ prepare_events stream_id.0 (queue_of self.old)) }

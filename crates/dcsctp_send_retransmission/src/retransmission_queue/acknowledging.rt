@@ -20,7 +20,7 @@ impl RetransmissionQueue {
     ghost use Rattle.std.specs.Option.{option_map};
     ghost use Rattle.dcsctp_api.specs.spec.queues.Reports.{MissesUntil, IsNewlyAcknowledged, IsLastPlace};
     ghost use Rattle.dcsctp_api.specs.spec.queues.Outstanding.{tsn_at};
-    ghost use Rattle.dcsctp_send_retransmission.specs.Queue.{HandlesSackInQueue};
+    ghost use Rattle.dcsctp_send_retransmission.specs.Queue.{HandlesSackInQueue, queue_and_events};
     ghost use Rattle.dcsctp_api.specs.spec.queues.Acknowledging.{acknowledged_until, missed_until, window_after_settling, is_recovering, is_sack_valid};
     ghost use Rattle.dcsctp_api.specs.spec.queues.RoundTrip.{round_trip_of_place};
 
@@ -51,8 +51,9 @@ impl RetransmissionQueue {
         a_rwnd: u32,
         blocks: &[GapAckBlock],
     ) -> Result<HandleSackResult, AllocError>
-        ensures turn { HandlesSackInQueue now cumulative_tsn_ack a_rwnd blocks.now self.old
-            (contents events.old) self.new (contents events.new) result }
+        ensures turn { HandlesSackInQueue now cumulative_tsn_ack a_rwnd blocks.now
+            (queue_and_events self.old (contents events.old))
+            (queue_and_events self.new (contents events.new)) result }
         ensures start { self.old.outstanding.first_tsn < 2 ^ 32 }
     {
         let count = self
@@ -115,7 +116,8 @@ impl RetransmissionQueue {
     // The round trip of the item at the place, unless it was sent again or was to be (RFC 9260, section 6.3.1).
     fn round_trip(&self, place: Option<usize>, now: SocketTime) -> Option<Duration>
         requires { IfSome place (λ newest. newest < length self.now.outstanding.items) }
-        ensures { option_map as_nanos result ≡ round_trip_of_place now self.now.outstanding.items place }
+        ensures { option_map as_nanos result ≡ round_trip_of_place now self.now.outstanding.items
+            place }
     {
         let item = self.outstanding.item(place?);
         if item.progress.times_sent_again == 0 && !item.progress.state.is_marked() {

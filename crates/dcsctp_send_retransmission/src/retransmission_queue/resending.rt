@@ -84,7 +84,8 @@ impl RetransmissionQueue {
             (SendsAgain place self.old.outstanding packet.old.room self.new.outstanding
             packet.new.room) }
         ensures sends { AtPlace self.old.outstanding.items place
-            (λ item. IfOk result (SendsItemAgain place item self.old packet.old self.new packet.new)) }
+            (λ item. IfOk result (SendsItemAgain place item self.old packet.old self.new
+            packet.new)) }
         ensures err { OnErr result (self.new ≡ self.old) }
     {
         let item = self.outstanding.item(place);

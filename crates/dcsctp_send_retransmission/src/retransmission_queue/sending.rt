@@ -17,7 +17,7 @@ impl RetransmissionQueue {
     ghost use Rattle.dcsctp_send_outstanding.specs.Fresh.{SendsFresh, EndsFresh};
     ghost use Rattle.dcsctp_api.specs.spec.queues.NextItem.{HasNone, HaltsNew, Halts};
     ghost use Rattle.dcsctp_send_retransmission.specs.Halting.{FillsUp};
-    ghost use Rattle.dcsctp_send_retransmission.specs.States.{stage, Goes, GoesFilling, TriesPacket, SendsPacket};
+    ghost use Rattle.dcsctp_send_retransmission.specs.States.{stage, Goes, GoesFilling, TriesPacket, SendsPacket, queue_stage};
     ghost use Rattle.dcsctp_api.specs.spec.queues.Filling.{StepNew};
     ghost use Rattle.dcsctp_send_retransmission.specs.Sending.{KeepsAllFragments, ContinuesPacket, SendsItems};
 
@@ -41,8 +41,8 @@ impl RetransmissionQueue {
         ensures fills { IfOk result (λ tsns. FillsUp now bytes self.new queue.new tsns.items) }
         ensures fresh { IfOk result
             (λ tsns. EndsFresh now self.old.outstanding self.new.outstanding tsns.items) }
-        ensures steps { SendsPacket now bytes self.old queue.old events.old self.new queue.new
-            events.new result }
+        ensures steps { SendsPacket now bytes (queue_stage self.old queue.old events.old)
+            (queue_stage self.new queue.new events.new) result }
     {
         let tsns = self.empty_list();
         let filled = self.fill_packet(events, queue, now, Packet { tsns, room: bytes });
@@ -74,8 +74,8 @@ impl RetransmissionQueue {
             (λ tsns. FillsUp now packet.room self.new queue.new tsns.items) }
         ensures fresh { IfOk result
             (λ tsns. EndsFresh now self.old.outstanding self.new.outstanding tsns.items) }
-        ensures steps { TriesPacket now packet.room self.old queue.old events.old self.new
-            queue.new events.new result }
+        ensures steps { TriesPacket now packet.room (queue_stage self.old queue.old events.old)
+            (queue_stage self.new queue.new events.new) result }
     {
         let mut packet = packet;
         self.fill(events, queue, now, &mut packet)?;

@@ -42,7 +42,8 @@ impl Streams {
     /// Keeps only that many of the stream's messages, the oldest, and pauses the stream.
     pub fn pause(&mut self, place: usize, kept: usize)
         requires { place < length self.old }
-        ensures { self.new ≡ slice_set self.old place (paused_stream kept (stream_at self.old place)) }
+        ensures { self.new ≡ slice_set self.old place (paused_stream kept
+            (stream_at self.old place)) }
     {
         let stream = self.items.at_mut(place);
         let id = stream.id();
@@ -74,7 +75,8 @@ impl Streams {
     /// Ends the stream's pause, and counts its messages from 0 again.
     pub fn begin_anew(&mut self, place: usize)
         requires { place < length self.old }
-        ensures { self.new ≡ slice_set self.old place (renumbered_stream (stream_at self.old place)) }
+        ensures { self.new ≡ slice_set self.old place (renumbered_stream
+            (stream_at self.old place)) }
     {
         let stream = self.items.at_mut(place);
         let id = stream.id();
@@ -90,7 +92,8 @@ impl Streams {
     /// It was reset, if it was handed out: its pause ends, and its messages are counted from 0 again.
     pub fn commit(&mut self, place: usize)
         requires { place < length self.old }
-        ensures { self.new ≡ slice_set self.old place (committed_stream (stream_at self.old place)) }
+        ensures { self.new ≡ slice_set self.old place (committed_stream
+            (stream_at self.old place)) }
     {
         let stream = self.items.at_mut(place);
         let id = stream.id();

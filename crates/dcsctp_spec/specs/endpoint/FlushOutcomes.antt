@@ -181,11 +181,19 @@ ForwardsIfAbandoned false now transfer room state next chunks = (next ≡ None) 
 ForwardsIfAbandoned true now transfer room state next chunks =
     (next ≡ Some (next_forward now transfer)) × ((chunk : ChunkContent) × SaysForward state chunk × (chunks ≡ where_fits room (unworked chunk)))
 
+-- what may be made for messages that were abandoned: a FORWARD-TSN, and then the moment before which no other one is sent
+pub record ForwardMade : Type 0 where
+  pub next : Option ℕ
+  pub chunks : List Plain
+
+abbrev pub forward_made : Option ℕ → List Plain → ForwardMade
+forward_made next chunks = record { next = next; chunks = chunks }
+
 -- Before it, messages are abandoned that may not be sent any more.
-abbrev pub GivesUpThenForwards : Bool → ℕ → Transfer → ℕ → Stage → Stage → Option ℕ → List Plain → Type 0
-GivesUpThenForwards false now transfer room old new next chunks = (new ≡ old) × (next ≡ None) × (chunks ≡ [])
-GivesUpThenForwards true now transfer room old new next chunks =
-    GivesUpAll now old new × ForwardsIfAbandoned (is_first_abandoned new.queue.outstanding.items) now transfer room new.queue next chunks
+abbrev pub GivesUpThenForwards : Bool → ℕ → Transfer → ℕ → Stage → Stage → ForwardMade → Type 0
+GivesUpThenForwards false now transfer room old new made = (new ≡ old) × (made.next ≡ None) × (made.chunks ≡ [])
+GivesUpThenForwards true now transfer room old new made =
+    GivesUpAll now old new × ForwardsIfAbandoned (is_first_abandoned new.queue.outstanding.items) now transfer room new.queue made.next made.chunks
 
 -- the moment before which no FORWARD-TSN is sent, by whether one was made
 abbrev pub forward_moment : Option ℕ → ℕ → ℕ
@@ -224,7 +232,7 @@ pub record Gives (ask : Ask) (e : Endpoint) (draft : Emission) (transfer : Trans
   pub gave_up : Stage
   pub next : Option ℕ
   pub gives_up : GivesUpThenForwards (may_forward ask e transfer.retransmission) e.moment transfer (room_of_draft e (filled_draft draft (plain_contents sacks)))
-      (stage_of e.queues.queue transfer.retransmission [] 0) gave_up next forwards
+      (stage_of e.queues.queue transfer.retransmission [] 0) gave_up (forward_made next forwards)
   pub later : answer.after.no_forward_tsn_before ≡ forward_moment next e.no_forward_tsn_before
   pub begins : answer.begun
       ≡ begun_by_ask ask e.options.follow_rfc (may_be_asked e.core e.options.follow_rfc) (room_of_draft e (filled_draft draft (plain_contents answer.acknowledgements))) (last_assigned_tsn gave_up.queue) gave_up.waiting

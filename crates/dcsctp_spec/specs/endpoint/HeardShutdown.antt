@@ -28,15 +28,25 @@ may_have_sent shutdown_ack_sent = false
 abbrev pub acknowledges_by_shutdown : Options → OpenPhase → Transfer → ℕ → Bool
 acknowledges_by_shutdown options phase transfer tsn = options.follow_rfc && (may_have_sent phase && is_sack_valid transfer.retransmission tsn)
 
+-- what a socket knows of an association that it has: its phase, its own pair, and the peer
+pub record OpenAssociation : Type 0 where
+  pub phase : OpenPhase
+  pub my : Pair
+  pub held : Held
+
+abbrev pub open_association : OpenPhase → Pair → Held → OpenAssociation
+open_association phase my held = record { phase = phase; my = my; held = held }
+
 -- The association is in ShutdownReceived, and what the TSN acknowledges is taken into account there.
-abbrev pub HearsValidShutdown : Bool → Endpoint → OpenPhase → Pair → Held → Transfer → ℕ → Outcome → Type 0
-HearsValidShutdown true e phase my held transfer tsn o =
-    TakesSackAndFlushes (endpoint_in_phase e shutdown_received my held) held transfer (said_by_shutdown tsn transfer.retransmission) o
-HearsValidShutdown false e phase my held transfer tsn o = o ≡ shutdown_outcome_by_phase e phase my held
+abbrev pub HearsValidShutdown : Bool → Endpoint → OpenAssociation → Transfer → ℕ → Outcome → Type 0
+HearsValidShutdown true e association transfer tsn o =
+    TakesSackAndFlushes (endpoint_in_phase e shutdown_received association.my association.held) association.held transfer
+    (said_by_shutdown tsn transfer.retransmission) o
+HearsValidShutdown false e association transfer tsn o = o ≡ shutdown_outcome_by_phase e association.phase association.my association.held
 
 abbrev pub HearsShutdown : Endpoint → OpenPhase → Pair → Held → Option Transfer → ℕ → Outcome → Type 0
 HearsShutdown e phase my held None tsn o = o ≡ shutdown_outcome_by_phase e phase my held
-HearsShutdown e phase my held (Some transfer) tsn o = HearsValidShutdown (acknowledges_by_shutdown e.options phase transfer tsn) e phase my held transfer tsn o
+HearsShutdown e phase my held (Some transfer) tsn o = HearsValidShutdown (acknowledges_by_shutdown e.options phase transfer tsn) e (open_association phase my held) transfer tsn o
 
 -- A SHUTDOWN with this cumulative TSN ack is received.
 abbrev pub ShutdownTurn : Endpoint → Core → ℕ → Outcome → Type 0

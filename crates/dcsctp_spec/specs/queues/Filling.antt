@@ -3,7 +3,7 @@
 use Rattle.std.specs.Prelude.{◌≡◌, ◌⊎◌, ◌+◌, ◌-◌, ◌*◌, ◌/◌, ◌^◌, ◌<◌, ◌≤◌, min, ℕ, Bool, true, false, Option, None, Some, List, [], ◌∷◌, ◌++◌, length, slice_get}
 use Rattle.dcsctp_types.specs.declared.progress.Change.TheVariants.{SendAgain, Abandon}
 use Rattle.dcsctp_spec.specs.endpoint.Event.{Event, lifecycle_message_maybe_expired, lifecycle_end}
-use Rattle.dcsctp_spec.specs.queues.ItemMessages.{AreMessageItems, DropsRest}
+use Rattle.dcsctp_spec.specs.queues.ItemMessages.{AreMessageItems, DropsRest, item_stage}
 use Rattle.dcsctp_spec.specs.queues.Items.{Item, item_size, marked_items, changed_between}
 use Rattle.dcsctp_spec.specs.queues.NextItem.{IsNextMarked, Halts, is_abandonment_due}
 use Rattle.dcsctp_spec.specs.queues.Outstanding.{OutstandingState, header, tsn_at, next_tsn}
@@ -34,7 +34,7 @@ maybe_expired (Some id) = lifecycle_message_maybe_expired id ∷ lifecycle_end i
 -- What waits of the message of that last item is dropped.
 pub record DropsRestOfMessage (now : ℕ) (last : Item) (old new : Stage) : Type 0 where
   pub outstanding : OutstandingState
-  pub drops : DropsRest now old.queue.reset_begun last old.queue.outstanding old.waiting old.told outstanding new.waiting new.told
+  pub drops : DropsRest now old.queue.reset_begun last (item_stage old.queue.outstanding old.waiting old.told) (item_stage outstanding new.waiting new.told)
   pub is : new ≡ record old { queue = record old.queue { outstanding = outstanding }; waiting = new.waiting; told = new.told }
 
 -- A message that was fully sent is reported as abandoned. Of another, what waits is dropped, if TSNs are left.

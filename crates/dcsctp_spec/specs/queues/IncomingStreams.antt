@@ -187,6 +187,13 @@ pub record TakesApart (part : PartModel) (old : StreamModel) (before : List Mess
   pub others : (new.id ≡ old.id) × (new.next ≡ old.next) × (new.waiting ≡ old.waiting) × (new.ordered ≡ old.ordered)
   pub last : new.last_unordered ≡ old.last_unordered
 
+-- a part that has come: of an ordered message of DATA, of an unordered one, and the same of I-DATA
+pub data NumberedPart : Type 0 where
+  numbered_ahead : PartModel → NumberedPart
+  numbered_apart : PartModel → NumberedPart
+  numbered_in_order : PartModel → NumberedPart
+  numbered_out_of_order : PartModel → NumberedPart
+
 -- Data of a stream was received, whose TSN has this number. The parts of a message of DATA go by their TSNs, those of I-DATA by
 -- their fragment numbers; those of one message go together.
 --
@@ -194,17 +201,22 @@ pub record TakesApart (part : PartModel) (old : StreamModel) (before : List Mess
 -- message that was delivered or skipped count as received (RFC 3758, section 3.5). A message identifier is read as the nearest
 -- number: nobody is 2^31 messages ahead. A part of a skipped message may come late, since parts of I-DATA messages need not have
 -- TSNs in a row.
-abbrev pub TakesNumbered : ℕ → ChunkModel → Numbering → StreamModel → List MessageContent → Taken → StreamModel → List MessageContent → Type 0
-TakesNumbered tsn chunk (Ordered ssn) old before taken new after =
-    TakesAhead (data_part chunk (fragment_place (short_number_from old.next ssn) tsn) (short_number_from old.next ssn)) old before taken new after
-TakesNumbered tsn chunk Unordered old before taken new after = TakesApart (data_part chunk tsn 0) old before taken new after
-TakesNumbered tsn chunk (InterleavedOrdered mid fsn) old before taken new after =
-    TakesInOrder (data_part chunk (fragment_place (number_near old.next mid) fsn) (number_near old.next mid)) old before taken new after
-TakesNumbered tsn chunk (InterleavedUnordered mid fsn) old before taken new after =
-    TakesOutOfOrder (data_part chunk (fragment_place (number_near old.last_unordered mid) fsn) (number_near old.last_unordered mid)) old before taken new after
+abbrev pub numbered_part : ℕ → ChunkModel → Numbering → StreamModel → NumberedPart
+numbered_part tsn chunk (Ordered ssn) old = numbered_ahead (data_part chunk (fragment_place (short_number_from old.next ssn) tsn) (short_number_from old.next ssn))
+numbered_part tsn chunk Unordered old = numbered_apart (data_part chunk tsn 0)
+numbered_part tsn chunk (InterleavedOrdered mid fsn) old = numbered_in_order (data_part chunk (fragment_place (number_near old.next mid) fsn) (number_near old.next mid))
+numbered_part tsn chunk (InterleavedUnordered mid fsn) old =
+    numbered_out_of_order (data_part chunk (fragment_place (number_near old.last_unordered mid) fsn) (number_near old.last_unordered mid))
+
+-- The stream takes a part that has come, by where it belongs.
+abbrev pub TakesNumberedPart : NumberedPart → StreamModel → List MessageContent → Taken → StreamModel → List MessageContent → Type 0
+TakesNumberedPart (numbered_ahead part) old before taken new after = TakesAhead part old before taken new after
+TakesNumberedPart (numbered_apart part) old before taken new after = TakesApart part old before taken new after
+TakesNumberedPart (numbered_in_order part) old before taken new after = TakesInOrder part old before taken new after
+TakesNumberedPart (numbered_out_of_order part) old before taken new after = TakesOutOfOrder part old before taken new after
 
 abbrev pub TakesOnStream : ℕ → ChunkModel → StreamModel → List MessageContent → Taken → StreamModel → List MessageContent → Type 0
-TakesOnStream tsn chunk old before taken new after = TakesNumbered tsn chunk chunk.numbering old before taken new after
+TakesOnStream tsn chunk old before taken new after = TakesNumberedPart (numbered_part tsn chunk chunk.numbering old) old before taken new after
 
 -- ---- messages that are skipped (RFC 3758, section 3.6; RFC 8260, section 2.3.1)
 

@@ -57,9 +57,18 @@ abbrev pub EndsDropped : ℕ → Bool → Item → OutstandingState → Outstand
 EndsDropped now begins last old new true = AddsEndOf now begins last old new
 EndsDropped now begins last old new false = new ≡ old
 
+-- what changes while one item is added: what is outstanding, what waits in the send queue, and the events so far
+pub record ItemStage : Type 0 where
+  pub outstanding : OutstandingState
+  pub waiting : SendQueueState
+  pub events : List (Event (List ℕ))
+
+abbrev pub item_stage : OutstandingState → SendQueueState → List (Event (List ℕ)) → ItemStage
+item_stage outstanding waiting events = record { outstanding = outstanding; waiting = waiting; events = events }
+
 -- What waits of the message in the send queue is dropped. If the flag is set, streams were reset since the last item was added:
 -- the end of the message lies after the reset.
-pub record DropsRest (now : ℕ) (begins : Bool) (last : Item) (old : OutstandingState) (waiting : SendQueueState) (told : List (Event (List ℕ))) (new : OutstandingState) (left : SendQueueState) (telling : List (Event (List ℕ))) : Type 0 where
+pub record DropsRest (now : ℕ) (begins : Bool) (last : Item) (old new : ItemStage) : Type 0 where
   pub is_dropped : Bool
-  pub drops : DiscardsNamed waiting last.fragment.stream last.fragment.message_id told is_dropped left telling
-  pub ends : EndsDropped now begins last old new is_dropped
+  pub drops : DiscardsNamed old.waiting last.fragment.stream last.fragment.message_id old.events is_dropped new.waiting new.events
+  pub ends : EndsDropped now begins last old.outstanding new.outstanding is_dropped
