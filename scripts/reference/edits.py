@@ -6,7 +6,7 @@ import re
 from reference import tree
 
 # The edits of these folders change definitions. This is the highest crate that may refuse one.
-HIGHEST = {'definitions': 'dcsctp_theorem_association', 'delivery': 'dcsctp_delivery_shown'}
+HIGHEST = {'definitions': 'dcsctp_theorem_association', 'delivery': 'dcsctp_delivery_sockets'}
 TRIED = 'attacks/tried'
 
 

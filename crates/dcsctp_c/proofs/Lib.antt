@@ -1,1 +1,3 @@
 mod ExportLemmas
+mod SlotRows
+mod TwoWords

@@ -7,8 +7,8 @@ ghost use Rattle.dcsctp_session.specs.Many.{SendsManyRecords};
 ghost use Rattle.dcsctp_channel_session.specs.Calls.{ChannelsConnect, ChannelsShutDown, ChannelsAbort, ChannelsHandle, ChannelsAdvance, ChannelsLimit};
 ghost use Rattle.dcsctp_c.specs.Exports.{CallsSession, CallsBelowChannels, WritesBelowChannels};
 
+use crate::handle::Handle;
 use dcsctp_channel_session::Held;
-use dcsctp_handle::Handle;
 use dcsctp_session::{OutgoingRecord, SendOptionsRecord, Status};
 
 /// Begins an association.

@@ -7,10 +7,10 @@ ghost use Rattle.dcsctp_c.specs.Channels.{BeginsChannels, OnChannels, WritesOnCh
 ghost use Rattle.dcsctp_c.specs.Queries.{buffer_of, output_place};
 
 use crate::answers::put;
+use crate::handle::Handle;
 use dcsctp_channel_session::{
     ChannelEventRecord, ChannelOptionsRecord, Held, LimitsRecord, ShownOptions, TrafficRecord,
 };
-use dcsctp_handle::Handle;
 use dcsctp_session::Status;
 
 /// Gives a new socket channels.

@@ -6,8 +6,8 @@ ghost use Rattle.dcsctp_channel_session.specs.Handover.{ChannelsHandedOver, Chan
 ghost use Rattle.dcsctp_c.specs.Exports.{CallsSession};
 ghost use Rattle.dcsctp_c.specs.Queries.{QueriesSession, CopiesSnapshotFrom, CopiesChannelsFrom, buffer_of};
 
+use crate::handle::Handle;
 use dcsctp_channel_session::Held;
-use dcsctp_handle::Handle;
 use dcsctp_session::Status;
 
 /// Takes the socket's snapshot, and ends the association here.

@@ -3,8 +3,8 @@
 ghost use Rattle.std.specs.Prelude.{◌≡◌, None};
 ghost use Rattle.dcsctp_c.specs.Exports.{GivesDefault, CreatesOnce};
 
+use crate::handle::Handle;
 use dcsctp_channel_session::Held;
-use dcsctp_handle::Handle;
 use dcsctp_session::{OptionsRecord, Session, Status};
 use std::alloc::Global;
 

@@ -7,8 +7,8 @@ ghost use Rattle.dcsctp_session.specs.Views.{view};
 ghost use Rattle.dcsctp_c.specs.Queries.{QueriesSession, QueriesBelowChannels, WritesAnswer, QueriesTag, QueriesDeadline, AmountIs, ReadinessAsked, WritesOptions, ChannelsWriteOptions, GivesOptions, QueriesMetrics, GivesMetrics, QueriesCounts, GivesCounts, ReturnsState, ReturnsFailed};
 
 use crate::answers::{state_number, take};
+use crate::handle::Handle;
 use dcsctp_channel_session::Held;
-use dcsctp_handle::Handle;
 use dcsctp_session::{CountsRecord, MetricsRecord, OptionsRecord, Status};
 
 /// The state of the association.

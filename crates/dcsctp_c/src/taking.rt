@@ -6,8 +6,8 @@ ghost use Rattle.dcsctp_c.specs.Exports.{WritesBelowChannels, WritesEvent, Write
 ghost use Rattle.dcsctp_c.specs.Queries.{QueriesBelowChannels, CopiesFrom, buffer_of, ShowsFrom, output_place};
 
 use crate::answers::take;
+use crate::handle::Handle;
 use dcsctp_channel_session::Held;
-use dcsctp_handle::Handle;
 use dcsctp_session::{EventRecord, MessageRecord, Status};
 
 /// Takes the event that was added first.

@@ -4,14 +4,14 @@ use Rattle.std.specs.Global.{Vec}
 use Rattle.std.specs.Prelude.{IfOk, IfSome, option_map}
 use Rattle.std.specs.Int.{w32, w64}
 use Rattle.std.proofs.lemmas.List.{append-nil}
-use Rattle.dcsctp_channel_handover.specs.channel_calls.api.types.Snapshot.{Snapshot}
-use Rattle.dcsctp_channel_handover.specs.Handover.{ChannelsPart}
-use Rattle.dcsctp_channel_handover.specs.declared.state.HandoverChannel.{HandoverChannel}
-use Rattle.dcsctp_channel_handover.specs.channel_calls.messages.channel_spec.declared.types.Delivery.{Delivery}
-use Rattle.dcsctp_channel_handover.specs.channel_calls.messages.channel_spec.declared.types.Reliability.{Reliability}
-use Rattle.dcsctp_channel_handover.specs.channel_calls.messages.channel_spec.declared.types.Reliability.TheVariants.{Reliable, Retransmissions, Lifetime}
-use Rattle.dcsctp_channel_handover.specs.channel_calls.messages.channel_spec.declared.types.Role.{Role}
-use Rattle.dcsctp_channel_handover.specs.channel_calls.messages.channel_spec.declared.types.Role.TheVariants.{Client, Server}
+use Rattle.dcsctp_channel_calls.specs.api.types.Snapshot.{Snapshot}
+use Rattle.dcsctp_channel_calls.specs.Handover.{ChannelsPart}
+use Rattle.dcsctp_channel_calls.specs.declared.handover.HandoverChannel.{HandoverChannel}
+use Rattle.dcsctp_channel_calls.specs.messages.channel_spec.declared.types.Delivery.{Delivery}
+use Rattle.dcsctp_channel_calls.specs.messages.channel_spec.declared.types.Reliability.{Reliability}
+use Rattle.dcsctp_channel_calls.specs.messages.channel_spec.declared.types.Reliability.TheVariants.{Reliable, Retransmissions, Lifetime}
+use Rattle.dcsctp_channel_calls.specs.messages.channel_spec.declared.types.Role.{Role}
+use Rattle.dcsctp_channel_calls.specs.messages.channel_spec.declared.types.Role.TheVariants.{Client, Server}
 use Rattle.dcsctp_channel_bytes.specs.declared.channel.ChannelCounts.{ChannelCounts}
 use Rattle.dcsctp_snapshot_bytes.specs.Fields.{number_bytes, payload_bytes}
 use Rattle.dcsctp_snapshot_bytes.specs.Laws.{AreBytes}

@@ -2,7 +2,7 @@
 use Rattle.std.proofs.Common.{◌≡◌, ℕ, suc, ◌-◌, ◌+◌, ◌<◌, List, ◌++◌, take, get_or, length, Option, None, refl, sym, ap, ◌∙◌, arith}
 use Rattle.std.specs.List.{flat_map}
 use Rattle.std.proofs.lemmas.List.{flat_map_more, take_more}
-use Rattle.dcsctp_channel_handover.specs.declared.state.HandoverChannel.{HandoverChannel}
+use Rattle.dcsctp_channel_calls.specs.declared.handover.HandoverChannel.{HandoverChannel}
 use Rattle.dcsctp_channel_bytes.specs.declared.reader.ReadError.{ReadError}
 use Rattle.dcsctp_channel_bytes.specs.declared.reader.ReadError.TheVariants.{Malformed, OutOfMemory}
 use Rattle.dcsctp_channel_bytes.specs.Channels.{channel_bytes, leading_channel}

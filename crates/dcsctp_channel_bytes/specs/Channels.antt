@@ -3,16 +3,16 @@
 use Rattle.std.specs.Prelude.{◌≡◌, ℕ, ◌<◌, ◌^◌, ◌==◌, Bool, true, false, List, ◌++◌, length, Option, Some, None, option_map, if◌then◌else◌}
 use Rattle.std.specs.Borrow.{Bor}
 use Rattle.std.specs.Int.{w16, w32, w64}
-use Rattle.dcsctp_channel_handover.specs.channel_calls.api.types.Snapshot.{Snapshot, snapshot}
-use Rattle.dcsctp_channel_handover.specs.channel_calls.api.types.declared.snapshot.SocketHandoverState.{SocketHandoverState}
-use Rattle.dcsctp_channel_handover.specs.Handover.{ChannelsPart, channels_part}
-use Rattle.dcsctp_channel_handover.specs.declared.state.HandoverChannel.{HandoverChannel}
-use Rattle.dcsctp_channel_handover.specs.declared.state.HandoverChannels.{HandoverChannels}
-use Rattle.dcsctp_channel_handover.specs.channel_calls.messages.channel_spec.declared.types.Delivery.{Delivery}
-use Rattle.dcsctp_channel_handover.specs.channel_calls.messages.channel_spec.declared.types.Reliability.{Reliability}
-use Rattle.dcsctp_channel_handover.specs.channel_calls.messages.channel_spec.declared.types.Reliability.TheVariants.{Reliable, Retransmissions, Lifetime}
-use Rattle.dcsctp_channel_handover.specs.channel_calls.messages.channel_spec.declared.types.Role.{Role}
-use Rattle.dcsctp_channel_handover.specs.channel_calls.messages.channel_spec.declared.types.Role.TheVariants.{Client, Server}
+use Rattle.dcsctp_channel_calls.specs.api.types.Snapshot.{Snapshot, snapshot}
+use Rattle.dcsctp_channel_calls.specs.api.types.declared.snapshot.SocketHandoverState.{SocketHandoverState}
+use Rattle.dcsctp_channel_calls.specs.Handover.{ChannelsPart, channels_part}
+use Rattle.dcsctp_channel_calls.specs.declared.handover.HandoverChannel.{HandoverChannel}
+use Rattle.dcsctp_channel_calls.specs.declared.handover.HandoverChannels.{HandoverChannels}
+use Rattle.dcsctp_channel_calls.specs.messages.channel_spec.declared.types.Delivery.{Delivery}
+use Rattle.dcsctp_channel_calls.specs.messages.channel_spec.declared.types.Reliability.{Reliability}
+use Rattle.dcsctp_channel_calls.specs.messages.channel_spec.declared.types.Reliability.TheVariants.{Reliable, Retransmissions, Lifetime}
+use Rattle.dcsctp_channel_calls.specs.messages.channel_spec.declared.types.Role.{Role}
+use Rattle.dcsctp_channel_calls.specs.messages.channel_spec.declared.types.Role.TheVariants.{Client, Server}
 use Rattle.dcsctp_snapshot_bytes.specs.Fields.{◌>>=◌, number_bytes, flag_bytes, payload_bytes, optional_bytes, element_list_bytes, number_of_width, leading_flag, leading_payload, leading_optional, leading_list}
 use Rattle.dcsctp_snapshot_bytes.specs.Fits.{FitsElements}
 use Rattle.dcsctp_snapshot_bytes.specs.Reading.{read_snapshot}

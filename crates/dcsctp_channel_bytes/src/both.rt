@@ -1,8 +1,8 @@
 //! A snapshot with channels as bytes.
 
 ghost use Rattle.std.specs.Prelude.{◌≡◌, ◌<◌, ◌^◌, ℕ, List, length, IfOk, Some, option_map};
-ghost use Rattle.dcsctp_channel_handover.specs.Handover.{channels_part};
-ghost use Rattle.dcsctp_channel_handover.specs.channel_calls.api.types.Snapshot.{snapshot};
+ghost use Rattle.dcsctp_channel_calls.specs.Handover.{channels_part};
+ghost use Rattle.dcsctp_channel_calls.specs.api.types.Snapshot.{snapshot};
 ghost use Rattle.dcsctp_snapshot_bytes.specs.Reading.{read_snapshot};
 ghost use Rattle.dcsctp_snapshot_bytes.specs.Spelling.{snapshot_bytes};
 ghost use Rattle.dcsctp_channel_bytes.specs.Channels.{bytes_with_channels, read_behind_magic, read_parts, read_with_channels, parts_said, both_said, FitsBoth};
@@ -11,8 +11,8 @@ ghost use Rattle.dcsctp_channel_bytes.specs.Gives.{ReadsFront, ReadsWhole};
 use crate::channels::{read_channels, write_channels};
 use crate::reader::{ReadError, Reader};
 use crate::writer::{write_payload, write_u32};
-use dcsctp_channel_handover::HandoverChannels;
-use dcsctp_channel_handover::channel_calls::api::handover::SocketHandoverState;
+use dcsctp_channel_calls::HandoverChannels;
+use dcsctp_channel_calls::api::handover::SocketHandoverState;
 use dcsctp_snapshot_bytes::{from_bytes, to_bytes};
 use std::alloc::{AllocError, Global};
 

@@ -6,10 +6,8 @@ ghost use Rattle.dcsctp_channel_bytes.specs.Gives.{ReadsFront};
 
 use crate::reader::{ReadError, Reader};
 use crate::writer::{write_flag, write_optional_u32, write_u16, write_u64};
-use dcsctp_channel_handover::HandoverChannel;
-use dcsctp_channel_handover::channel_calls::channel_messages::channel_spec::{
-    Delivery, Reliability,
-};
+use dcsctp_channel_calls::HandoverChannel;
+use dcsctp_channel_calls::channel_messages::channel_spec::{Delivery, Reliability};
 use std::alloc::AllocError;
 
 // What was counted of a channel.

@@ -2,7 +2,7 @@
 
 ghost use Rattle.std.specs.Prelude.{◌≡◌, ◌++◌, OnOk, option_map};
 ghost use Rattle.std.specs.List.{flat_map, AllByRecursion};
-ghost use Rattle.dcsctp_channel_handover.specs.Handover.{channels_part};
+ghost use Rattle.dcsctp_channel_calls.specs.Handover.{channels_part};
 ghost use Rattle.dcsctp_snapshot_bytes.specs.Fields.{flag_bytes, optional_bytes, element_list_bytes, leading_elements, leading_list};
 ghost use Rattle.dcsctp_snapshot_bytes.specs.Fits.{FitsElements};
 ghost use Rattle.dcsctp_channel_bytes.specs.Channels.{channel_bytes, channels_bytes, leading_channel, leading_role, leading_channels, is_client, role_of, FitsChannel, FitsPart};
@@ -11,8 +11,8 @@ ghost use Rattle.dcsctp_channel_bytes.specs.Gives.{ReadsFront};
 use crate::channel::{read_channel, write_channel};
 use crate::reader::{ReadError, Reader};
 use crate::writer::{write_flag, write_u64};
-use dcsctp_channel_handover::channel_calls::channel_messages::channel_spec::Role;
-use dcsctp_channel_handover::{HandoverChannel, HandoverChannels};
+use dcsctp_channel_calls::channel_messages::channel_spec::Role;
+use dcsctp_channel_calls::{HandoverChannel, HandoverChannels};
 use std::alloc::{AllocError, Global};
 
 fn is_client(role: Role) -> bool

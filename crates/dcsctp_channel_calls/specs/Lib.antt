@@ -10,3 +10,4 @@ pub mod Polls
 pub mod Queries
 pub mod Sending
 pub mod View
+pub mod Handover

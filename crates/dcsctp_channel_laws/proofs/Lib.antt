@@ -12,3 +12,5 @@ pub mod BeginsTell
 pub mod CallsTell
 pub mod PollsTell
 pub mod Room
+pub mod GoingOn
+pub mod Restoring

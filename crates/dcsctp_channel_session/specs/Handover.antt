@@ -7,15 +7,14 @@ use Rattle.dcsctp_session.specs.declared.status.Status.TheVariants as statuses
 use Rattle.dcsctp_channel_bytes.specs.Channels.{bytes_with_channels, read_with_channels}
 use Rattle.dcsctp_snapshot_bytes.specs.Seal.{sealed_snapshot, IsBroken, IsOfOthers}
 use Rattle.dcsctp_channel_calls.specs.Calls.{Answers}
-use Rattle.dcsctp_channel_handover.specs.Handover.{HandsOverChannels, RestoresChannels}
+use Rattle.dcsctp_channel_calls.specs.Handover.{ChannelsPart, HandsOverChannels, RestoresChannels, channels_part}
 use Rattle.dcsctp_channel_calls.specs.api.declared.errors.HandoverError.{HandoverError}
 use Rattle.dcsctp_channel_calls.specs.api.declared.errors.SocketFault.{SocketFault}
 use Rattle.dcsctp_channel_calls.specs.api.types.Snapshot.{Snapshot, snapshot}
 use Rattle.dcsctp_channel_calls.specs.api.types.declared.options.Options.{Options}
-use Rattle.dcsctp_channel_handover.specs.declared.state.ChannelsHandoverState.{ChannelsHandoverState}
-use Rattle.dcsctp_channel_handover.specs.declared.state.RestoreChannelsError.{RestoreChannelsError}
-use Rattle.dcsctp_channel_handover.specs.declared.state.RestoreChannelsError.TheVariants as errors
-use Rattle.dcsctp_channel_handover.specs.Handover.{ChannelsPart, channels_part}
+use Rattle.dcsctp_channel_calls.specs.declared.handover.ChannelsHandoverState.{ChannelsHandoverState}
+use Rattle.dcsctp_channel_calls.specs.declared.handover.RestoreChannelsError.{RestoreChannelsError}
+use Rattle.dcsctp_channel_calls.specs.declared.handover.RestoreChannelsError.TheVariants as errors
 use Rattle.dcsctp_channel_session.specs.Calls.{CallsLayer}
 use Rattle.dcsctp_channel_session.specs.Views.{channels_view}
 use Rattle.dcsctp_channel_session.specs.declared.session.ChannelSession.{ChannelSession}

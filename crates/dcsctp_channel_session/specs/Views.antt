@@ -10,7 +10,7 @@ use Rattle.dcsctp_channel_calls.specs.View.{ChannelsView, LayerView}
 use Rattle.dcsctp_channel_calls.specs.declared.channel.ChannelState.{ChannelState}
 use Rattle.dcsctp_channel_calls.specs.declared.channel.ChannelState.TheVariants as states
 use Rattle.dcsctp_channel_calls.specs.declared.channel.ChannelTraffic.{ChannelTraffic}
-use Rattle.dcsctp_channel_handover.specs.Handover.{readiness_with_channels}
+use Rattle.dcsctp_channel_calls.specs.Handover.{readiness_with_channels}
 use Rattle.dcsctp_channels.specs.Shown.{channels_shown}
 use Rattle.dcsctp_channel_session.specs.declared.session.ChannelSession.{ChannelSession}
 

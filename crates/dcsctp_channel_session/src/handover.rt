@@ -8,7 +8,7 @@ ghost use Rattle.dcsctp_channel_session.specs.Handover.{ChannelsHandedOver, chan
 use crate::session::ChannelSession;
 use dcsctp_channel_bytes::{from_bytes_with_channels, to_bytes_with_channels};
 use dcsctp_channel_calls::api::{HandoverError, SocketFault};
-use dcsctp_channel_handover::{ChannelsHandoverState, RestoreChannelsError};
+use dcsctp_channel_calls::{ChannelsHandoverState, RestoreChannelsError};
 use dcsctp_session::{Status, copy_bytes};
 use dcsctp_snapshot_bytes::{SealError, seal, unseal};
 use dcsctp_socket::{DcSctpSocket, Options};

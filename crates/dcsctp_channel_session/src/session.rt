@@ -2,8 +2,7 @@
 
 ghost use Rattle.dcsctp_channel_session.specs.Begin.{HasFreshChannels};
 
-use dcsctp_channel_calls::{ChannelEvent, Limits};
-use dcsctp_channel_handover::ChannelsHandoverState;
+use dcsctp_channel_calls::{ChannelEvent, ChannelsHandoverState, Limits};
 use dcsctp_channels::Channels;
 use dcsctp_session::{Session, Socket};
 use rand_chacha::ChaCha20Rng;

@@ -13,7 +13,7 @@ use Rattle.dcsctp_channel_calls.specs.View.{WaitingChannel, ReportedEvent, of_ch
 use Rattle.dcsctp_channel_calls.specs.declared.channel.Limits.{Limits}
 use Rattle.dcsctp_channel_calls.specs.Calls.{KeepsTaking, on_layer}
 use Rattle.dcsctp_channel_calls.specs.Events.{with_notices, HandlesEventUnlessEnded}
-use Rattle.dcsctp_channel_handover.specs.Handover.{ChannelPlaces}
+use Rattle.dcsctp_channel_calls.specs.Handover.{ChannelPlaces}
 use Rattle.dcsctp_channel_calls.specs.Late.{DoesLate, NothingIsLate}
 use Rattle.dcsctp_channel_calls.specs.Polls.{HandlesNext, NothingToDo}
 use Rattle.dcsctp_channels.specs.declared.arrivals.Kind.{Kind}

@@ -11,7 +11,7 @@ ghost use Rattle.dcsctp_channel_calls.specs.Calls.{Answers, SocketConnects, Sock
 ghost use Rattle.dcsctp_channel_calls.specs.Sending.{SendsContent, channel_closed, SetsChannelThreshold, stream_of_name};
 ghost use Rattle.dcsctp_channel_calls.specs.Opening.{SetsRole, OpensChannel};
 ghost use Rattle.dcsctp_channel_calls.specs.Polls.{PollsChannels, deadline_with};
-ghost use Rattle.dcsctp_channel_handover.specs.Handover.{channels_part, readiness_with_channels, HandsOverChannels, RestoresChannels};
+ghost use Rattle.dcsctp_channel_calls.specs.Handover.{channels_part, readiness_with_channels, HandsOverChannels, RestoresChannels};
 ghost use Rattle.dcsctp_channel_calls.specs.api.types.Snapshot.{snapshot};
 ghost use Rattle.dcsctp_channels.specs.Layer.{layer_view, fresh_layer};
 ghost use Rattle.dcsctp_channels.specs.Shown.{channels_shown};
@@ -31,9 +31,9 @@ use dcsctp_channel_calls::api::{
 };
 use dcsctp_channel_calls::channel_messages::channel_spec::Role;
 use dcsctp_channel_calls::{
-    ChannelError, ChannelEvent, ChannelId, ChannelOptions, ChannelState, ChannelTraffic, Limits,
+    ChannelError, ChannelEvent, ChannelId, ChannelOptions, ChannelState, ChannelTraffic,
+    ChannelsHandoverState, Limits, RestoreChannelsError,
 };
-use dcsctp_channel_handover::{ChannelsHandoverState, RestoreChannelsError};
 use std::alloc::Global;
 
 /// The channels of one association, with its socket (RFC 8831). Once the association has ended, so has each channel,

@@ -5,7 +5,7 @@ ghost use Rattle.std.specs.List.{list_all};
 ghost use Rattle.dcsctp_channel_calls.specs.api.types.Snapshot.{snapshot, is_valid_snapshot};
 ghost use Rattle.dcsctp_channel_calls.specs.View.{stream_count};
 ghost use Rattle.dcsctp_channel_calls.specs.Calls.{PartGoes};
-ghost use Rattle.dcsctp_channel_handover.specs.Handover.{is_plain, has_settled, are_settled, is_all_taken, has_association, readiness_with_channels, carried_channel, carried_channels, channels_part, layer_handed_over, HandsOverNow, HandsOverChannels, ChannelPlaces, held_again, has_own_place, places_with_channel, places_beside, no_places, is_of_association, is_valid_below, streams_of_snapshot, is_unused, RestoresChannels, RestoresIfPlaced};
+ghost use Rattle.dcsctp_channel_calls.specs.Handover.{is_plain, has_settled, are_settled, is_all_taken, has_association, readiness_with_channels, carried_channel, carried_channels, channels_part, layer_handed_over, HandsOverNow, HandsOverChannels, ChannelPlaces, held_again, has_own_place, places_with_channel, places_beside, no_places, is_of_association, is_valid_below, streams_of_snapshot, is_unused, RestoresChannels, RestoresIfPlaced};
 ghost use Rattle.dcsctp_channels.specs.Layer.{layer_view, whole_view, Leaves, places_of, PlacesAre};
 
 use crate::below::{gather, stream_count};
@@ -17,10 +17,9 @@ use dcsctp_channel_calls::api::handover::{
 };
 use dcsctp_channel_calls::api::{DcSctpSocket, HandoverError, Options, SocketState, SocketTime};
 use dcsctp_channel_calls::channel_messages::channel_spec::{OwnReset, StreamUse};
-use dcsctp_channel_calls::{ChannelEvent, ChannelTraffic, HeldStream};
-use dcsctp_channel_handover::{
-    CHANNELS_UNSETTLED, ChannelsHandoverState, EVENTS_NOT_TAKEN, HandoverChannel, HandoverChannels,
-    RestoreChannelsError,
+use dcsctp_channel_calls::{
+    CHANNELS_UNSETTLED, ChannelEvent, ChannelTraffic, ChannelsHandoverState, EVENTS_NOT_TAKEN,
+    HandoverChannel, HandoverChannels, HeldStream, RestoreChannelsError,
 };
 use std::alloc::{AllocError, Global};
 

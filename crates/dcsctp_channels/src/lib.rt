@@ -21,4 +21,3 @@ pub use channels::Channels;
 
 // The crates below, for those above.
 pub use dcsctp_channel_calls as channel_calls;
-pub use dcsctp_channel_handover as channel_handover;

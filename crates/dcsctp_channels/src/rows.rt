@@ -3,7 +3,7 @@
 ghost use Rattle.std.specs.Prelude.{◌≡◌};
 ghost use Rattle.dcsctp_channel_calls.specs.View.{may_reopen};
 ghost use Rattle.dcsctp_channel_calls.specs.Arrivals.{owes_now};
-ghost use Rattle.dcsctp_channel_handover.specs.Handover.{lasting_use};
+ghost use Rattle.dcsctp_channel_calls.specs.Handover.{lasting_use};
 ghost use Rattle.dcsctp_channel_calls.specs.Late.{may_reset};
 ghost use Rattle.dcsctp_channel_calls.specs.messages.channel_spec.Slots.{used, accepted_use, refused_use, opened_use, agreed_use};
 ghost use Rattle.dcsctp_channel_calls.specs.messages.channel_spec.Table.{becomes, ends_as, end_if_heard, heard_reports, on_ack, on_close, on_room, on_all_sent, on_no_reset, on_performed, on_refused, on_peer_reset, on_association_end, outcome_of, settled_use, given_up};

@@ -17,3 +17,15 @@ pub mod Resets
 pub mod Delivery
 pub mod Replaced
 pub mod Opening
+pub mod InFlight
+pub mod Allowed
+pub mod Actions
+pub mod Turns
+pub mod Stays
+pub mod Begins
+pub mod Calm
+pub mod ShownActs
+pub mod Sides
+pub mod Steps
+pub mod Runs
+pub mod ShownDelivery

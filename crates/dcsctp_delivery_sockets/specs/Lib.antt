@@ -4,3 +4,5 @@ pub mod Acts
 pub mod UserMessages
 pub mod Ordered
 pub mod Delivery
+pub mod Shown
+pub mod ShownDelivery

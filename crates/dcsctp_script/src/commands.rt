@@ -5,10 +5,9 @@ use crate::script::Script;
 use crate::words::Words;
 use dcsctp_api::types::{Call, Outside, Side, Step};
 use dcsctp_api::{DcSctpSocket, Message, PpId, SendOptions, SocketEvent, StreamId};
-use dcsctp_script_lines::{Command, Line, parse_line};
-use dcsctp_script_printing::{
-    print_association, print_event, print_handover_refusal, print_refusal, print_reset_refusal,
-    print_state, print_taken, print_timeout,
+use dcsctp_script_lines::{
+    Command, Line, parse_line, print_association, print_event, print_handover_refusal,
+    print_refusal, print_reset_refusal, print_state, print_taken, print_timeout,
 };
 use dcsctp_world::{Reply, World};
 use std::alloc::Global;

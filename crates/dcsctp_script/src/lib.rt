@@ -14,7 +14,6 @@ mod script;
 mod setup;
 mod words;
 
-pub use dcsctp_script_lines::set_option;
-pub use dcsctp_script_printing::print_event;
+pub use dcsctp_script_lines::{print_event, set_option};
 pub use failure::Status;
 pub use run::run_script;

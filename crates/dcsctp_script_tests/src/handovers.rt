@@ -4,7 +4,7 @@ use crate::checks::same;
 use dcsctp_api::types::Side;
 use dcsctp_api::{HandoverError, HandoverReadiness};
 use dcsctp_script::run_script;
-use dcsctp_script_printing::print_handover_refusal;
+use dcsctp_script_lines::print_handover_refusal;
 use std::alloc::Global;
 use std::process::Abort;
 use std::str;

@@ -1,9 +1,8 @@
 //! What an exchange of packets is: what each side does, step by step, and which events follow.
 
 use crate::shown::Shown;
-use dcsctp_refusal_testing::{ExpectedEvent, How, is_told};
 use dcsctp_socket::{HandoverReadiness, Options, ResetStreamsError, SocketEvent, StreamId};
-use dcsctp_testing::Counting;
+use dcsctp_testing::{Counting, ExpectedEvent, How, is_told};
 
 /// The two sides.
 #[derive(Clone, Copy, Debug, PartialEq, Eq)]

@@ -12,13 +12,13 @@ use crate::exchange::Act::{
 };
 use crate::exchange::Exchange;
 use crate::exchange::Name::{A, B};
-use dcsctp_refusal_testing::ExpectedEvent::{Event, Packet};
-use dcsctp_refusal_testing::How::{Lives, Named, Plain, SentOnce, Unordered};
-use dcsctp_refusal_testing::{
+use dcsctp_socket::StreamId;
+use dcsctp_testing::ExpectedEvent::{Event, Packet};
+use dcsctp_testing::How::{Lives, Named, Plain, SentOnce, Unordered};
+use dcsctp_testing::{
     ABORT, COOKIE_ACK, COOKIE_ECHO, DATA, FORWARD_TSN, HEARTBEAT, HEARTBEAT_ACK, INIT, INIT_ACK,
     RE_CONFIG, SACK, SHUTDOWN, SHUTDOWN_ACK, SHUTDOWN_COMPLETE,
 };
-use dcsctp_socket::StreamId;
 
 /// The exchange.
 pub static LONG_EXCHANGE: Exchange = Exchange {

@@ -5,12 +5,12 @@ use crate::exchange::Memoryless;
 use crate::handing_over::restore_from;
 use crate::shown::answers_at;
 use crate::side::{Answer, Side};
-use dcsctp_refusal_testing::{at, begin_span, end_span};
 use dcsctp_socket::api::handover::SocketHandoverState;
 use dcsctp_socket::{
     DcSctpSocket, HandoverError, HandoverReadiness, ResetStreamsError, RestoreError, SocketFault,
     StreamId,
 };
+use dcsctp_testing::{at, begin_span, end_span};
 use std::process::Abort;
 
 impl Side {

@@ -11,13 +11,13 @@ use crate::exchange::Memoryless::{
 };
 use crate::exchange::Name::{A, B};
 use crate::shown::Shown;
-use dcsctp_refusal_testing::ExpectedEvent::{Event, Packet};
-use dcsctp_refusal_testing::How::{Named, Plain};
-use dcsctp_refusal_testing::{
+use dcsctp_socket::{HandoverReadiness, ResetStreamsError};
+use dcsctp_testing::ExpectedEvent::{Event, Packet};
+use dcsctp_testing::How::{Named, Plain};
+use dcsctp_testing::{
     ABORT, COOKIE_ACK, COOKIE_ECHO, DATA, INIT, INIT_ACK, SACK, SHUTDOWN, SHUTDOWN_ACK,
     SHUTDOWN_COMPLETE,
 };
-use dcsctp_socket::{HandoverReadiness, ResetStreamsError};
 
 /// Calls that change nothing, in each phase (RFC 9260, section 4). No clock goes back: T1 runs from the moment 30 on,
 /// and the heartbeat interval from 40 on.

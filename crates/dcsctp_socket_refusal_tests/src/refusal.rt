@@ -7,12 +7,11 @@ use crate::answers::ask;
 use crate::handing_over::restore_from;
 use crate::room::Handed;
 use crate::side::Side;
-use dcsctp_refusal_testing::is_gone;
 use dcsctp_socket::api::handover::SocketHandoverState;
 use dcsctp_socket::{
     DcSctpSocket, SendOptions, Socket, SocketFault, SocketState, SocketTime, StreamId,
 };
-use dcsctp_testing::Counting;
+use dcsctp_testing::{Counting, is_gone};
 use std::alloc::Global;
 use std::process::Abort;
 

@@ -1,7 +1,7 @@
 //! What a side needs once there is no memory. It is made before.
 
-use dcsctp_refusal_testing::message;
 use dcsctp_socket::Message;
+use dcsctp_testing::message;
 use std::alloc::{AllocError, Global};
 use std::collections::VecDeque;
 

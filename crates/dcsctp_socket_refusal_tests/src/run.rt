@@ -6,8 +6,8 @@ use crate::refusal::keeps_promises;
 use crate::room::Room;
 use crate::short_exchanges::{COLLISION, HANDOVER, REPEATED_REQUEST, RESTART};
 use crate::side::Side;
-use dcsctp_refusal_testing::is_gone;
 use dcsctp_socket::{DcSctpSocket, Socket, SocketFault};
+use dcsctp_testing::is_gone;
 use std::alloc::Global;
 use std::process::Abort;
 

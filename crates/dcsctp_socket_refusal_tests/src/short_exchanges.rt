@@ -10,12 +10,10 @@ use crate::exchange::Act::{
 use crate::exchange::Exchange;
 use crate::exchange::Memoryless::{RefusesHandover, RefusesReset, RefusesRestore};
 use crate::exchange::Name::{A, B};
-use dcsctp_refusal_testing::ExpectedEvent::{Event, Packet};
-use dcsctp_refusal_testing::How::{Plain, Unordered};
-use dcsctp_refusal_testing::{
-    ABORT, COOKIE_ACK, COOKIE_ECHO, DATA, INIT, INIT_ACK, RE_CONFIG, SACK,
-};
 use dcsctp_socket::{HandoverReadiness, ResetStreamsError, StreamId};
+use dcsctp_testing::ExpectedEvent::{Event, Packet};
+use dcsctp_testing::How::{Plain, Unordered};
+use dcsctp_testing::{ABORT, COOKIE_ACK, COOKIE_ECHO, DATA, INIT, INIT_ACK, RE_CONFIG, SACK};
 
 /// Both connect at once: each answers the other's INIT, and each takes the other's cookie (RFC 9260, section 5.2.1).
 pub static COLLISION: Exchange = Exchange {

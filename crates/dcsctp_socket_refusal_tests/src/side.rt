@@ -2,10 +2,9 @@
 
 use crate::exchange::{Act, Exchange, Name};
 use crate::room::{Handed, Room};
-use dcsctp_refusal_testing::{How, at, is_message, message, options};
 use dcsctp_socket::api::handover::SocketHandoverState;
 use dcsctp_socket::{DcSctpSocket, SendOptions, Socket, SocketEvent, SocketFault, StreamId};
-use dcsctp_testing::Counting;
+use dcsctp_testing::{Counting, How, at, is_message, message, options};
 use std::alloc::{AllocError, Global};
 use std::process::Abort;
 

@@ -1,6 +1,5 @@
 //! Calls of values that take no memory, with answers that were computed by hand.
 
-use dcsctp_refusal_testing::at;
 use dcsctp_socket::api::handover::{
     HandoverOrderedStream, HandoverOutstandingData, HandoverReceive, HandoverSocketState,
     HandoverStreamMessage, HandoverTransmission, SocketHandoverState,
@@ -10,6 +9,7 @@ use dcsctp_socket::{
     SocketEvent, SocketTime, StateCookie, StreamId, TxErrorCounter,
     ZERO_CHECKSUM_ALTERNATE_ERROR_DETECTION_METHOD_LOWER_LAYER_DTLS,
 };
+use dcsctp_testing::at;
 use dcsctp_wire::Parameter;
 use std::alloc::{AllocError, Global};
 use std::hash::{DefaultHasher, Hash, Hasher};

@@ -4,9 +4,9 @@
 use crate::memoryless_exchanges::{EACH_PHASE, QUERIES, UNSUPPORTED_RESET};
 use crate::run::is_kept;
 use crate::values;
-use dcsctp_refusal_testing::{begin_span, end_span, is_gone};
 use dcsctp_socket::Events;
 use dcsctp_socket::api::handover::SocketHandoverState;
+use dcsctp_testing::{begin_span, end_span, is_gone};
 use std::alloc::{AllocError, Global};
 use std::process::Abort;
 

@@ -64,3 +64,11 @@ pub mod StepMoves
 mod T1Chunks
 mod T1Data
 mod T1Shutdown
+mod CookieRules
+mod ResetsKeep
+mod ChangesKeep
+mod TurnsKeep
+mod ChunksIn
+mod GivenLemmas
+pub mod GivenRuns
+pub mod Ages

@@ -6,3 +6,6 @@ pub mod OneSocket
 pub mod Restores
 pub mod Telling
 pub mod Deadlines
+pub mod Ages
+pub mod Cookies
+pub mod CookieLaws

@@ -17,9 +17,9 @@ use Rattle.dcsctp_theorem_sockets.specs.Handshake.{ConnectThroughout, handshake_
 use Rattle.dcsctp_theorem_sockets.specs.Laws.{SocketLaws}
 use Rattle.dcsctp_theorem_sockets.specs.OneSocket.{IsWithinLimit}
 use Rattle.dcsctp_theorem_sockets.specs.Telling.{HasRecordedAssociation}
-use Rattle.dcsctp_theorem_cookies.specs.Laws.{CookieLaws}
+use Rattle.dcsctp_theorem_sockets.specs.CookieLaws.{CookieLaws}
 use Rattle.dcsctp_theorem_progress.specs.Laws.{ProgressLaws}
-use Rattle.dcsctp_delivery_shown.specs.Delivery.{UsersReadWhatWasSent}
+use Rattle.dcsctp_delivery_sockets.specs.ShownDelivery.{UsersReadWhatWasSent}
 use Rattle.dcsctp_core.specs.types.Schedule.{ActContent}
 use Rattle.dcsctp_world.specs.Shown.{ShownSide, WorldView, options_of}
 use Rattle.dcsctp_world.specs.Run.{SideRuns, IsRun, GoesWell}

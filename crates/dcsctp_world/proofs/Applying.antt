@@ -11,11 +11,11 @@ use Rattle.dcsctp_core.specs.spec.endpoint.Endpoint.{association_of}
 use Rattle.dcsctp_core.specs.spec.endpoint.CallTurns.{Transition, events_of, words_of, pairs_of}
 use Rattle.dcsctp_spec_runs.specs.SoundRuns.{SocketsStaySound}
 use Rattle.dcsctp_spec_runs.specs.Sockets.{Both, of_side, of_other, side_of_act, TurnsOfAct}
-use Rattle.dcsctp_theorem_cookies.specs.Laws.{CookieLaws}
+use Rattle.dcsctp_theorem_sockets.specs.CookieLaws.{CookieLaws}
 use Rattle.dcsctp_theorem_progress.specs.Laws.{ProgressLaws}
 use Rattle.dcsctp_theorem_sockets.specs.Laws.{SocketLaws}
 use Rattle.dcsctp_theorem_sockets.specs.Restores.{RestoredSocketsBeginNothing}
-use Rattle.dcsctp_delivery_shown.specs.Delivery.{UsersReadWhatWasSent}
+use Rattle.dcsctp_delivery_sockets.specs.ShownDelivery.{UsersReadWhatWasSent}
 use Rattle.dcsctp_delivery_sockets.specs.Delivery.{FitsAct}
 use Rattle.dcsctp_delivery_sockets.specs.UserMessages.{messages_of_turns, read_of}
 use Rattle.dcsctp_core.specs.api.declared.errors.SocketFault.{SocketFault}

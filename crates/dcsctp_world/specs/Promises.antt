@@ -13,9 +13,9 @@ use Rattle.dcsctp_theorem_sockets.specs.Deadlines.{RunsT1}
 use Rattle.dcsctp_theorem_sockets.specs.Handshake.{AreFitting, ConnectThroughout}
 use Rattle.dcsctp_theorem_sockets.specs.OneSocket.{EndsByAnswer, ReportsEnd, IsWithinLimit, TurnKeepsBurst, TimeIsQuiet}
 use Rattle.dcsctp_theorem_sockets.specs.Telling.{ReportsRecorded, HasRecordedAssociation, AreNewRecords}
-use Rattle.dcsctp_theorem_cookies.specs.Ages.{AgeThroughout}
-use Rattle.dcsctp_theorem_cookies.specs.Cookies.{GivesCookiesThroughout}
-use Rattle.dcsctp_delivery_shown.specs.Delivery.{DeliverThroughout}
+use Rattle.dcsctp_theorem_sockets.specs.Ages.{AgeThroughout}
+use Rattle.dcsctp_theorem_sockets.specs.Cookies.{GivesCookiesThroughout}
+use Rattle.dcsctp_delivery_sockets.specs.ShownDelivery.{DeliverThroughout}
 use Rattle.dcsctp_world.specs.Connecting.{ShownRoundsConnect}
 use Rattle.dcsctp_world.specs.Drawing.{AreWhole}
 use Rattle.dcsctp_world.specs.Handshake.{ShownHandshakeConnects}

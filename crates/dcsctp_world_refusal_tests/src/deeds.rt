@@ -2,8 +2,7 @@
 //! association after it.
 
 use crate::snapshot::fill;
-use dcsctp_refusal_testing::{ExpectedEvent, at, is_message, message};
-use dcsctp_testing::Counting;
+use dcsctp_testing::{Counting, ExpectedEvent, at, is_message, message};
 use dcsctp_world::socket::api::handover::SocketHandoverState;
 use dcsctp_world::socket::{Phase, SendOptions, SocketFault, StreamId};
 use dcsctp_world::{Act, Call, Outside, Reply, Side, Step, World};

@@ -5,8 +5,8 @@ use crate::deeds::Deed::{
 };
 use crate::deeds::Row;
 use crate::worlds::{Way, keeps_promises};
-use dcsctp_refusal_testing::ExpectedEvent::{Event, Packet};
-use dcsctp_refusal_testing::{ABORT, COOKIE_ACK, COOKIE_ECHO, DATA, INIT, INIT_ACK};
+use dcsctp_testing::ExpectedEvent::{Event, Packet};
+use dcsctp_testing::{ABORT, COOKIE_ACK, COOKIE_ECHO, DATA, INIT, INIT_ACK};
 use dcsctp_world::Side::{A, B};
 use dcsctp_world::socket::Phase::{CookieEchoed, CookieWait, Established};
 

@@ -4,8 +4,7 @@
 use crate::deeds::Row;
 use crate::taking::{stays_failed, takes};
 use crate::views::{Lengths, VIEWS, answers, are_fronts, lengths, lengths_of, other};
-use dcsctp_refusal_testing::is_told;
-use dcsctp_testing::Counting;
+use dcsctp_testing::{Counting, is_told};
 use dcsctp_world::socket::{Pair, Phase, SocketEvent, SocketFault, Word};
 use dcsctp_world::{Act, Side, World};
 use std::alloc::Global;

@@ -5,12 +5,11 @@ use crate::deeds::Deed::{Connects, Passes, Reads, Resets, Sends, ShutsDown, Take
 use crate::deeds::{Row, steps};
 use crate::taking::{has_run_out, is_well, new_world, stays_failed, takes};
 use crate::twins::{Twin, goes_first};
-use dcsctp_refusal_testing::ExpectedEvent::{Event, Packet};
-use dcsctp_refusal_testing::{
-    COOKIE_ACK, COOKIE_ECHO, DATA, INIT, INIT_ACK, RE_CONFIG, SACK, SHUTDOWN, SHUTDOWN_ACK,
-    SHUTDOWN_COMPLETE, is_gone,
+use dcsctp_testing::ExpectedEvent::{Event, Packet};
+use dcsctp_testing::{
+    COOKIE_ACK, COOKIE_ECHO, Counting, DATA, INIT, INIT_ACK, RE_CONFIG, SACK, SHUTDOWN,
+    SHUTDOWN_ACK, SHUTDOWN_COMPLETE, is_gone,
 };
-use dcsctp_testing::Counting;
 use dcsctp_world::Side::{A, B};
 use dcsctp_world::World;
 use dcsctp_world::socket::Phase::{

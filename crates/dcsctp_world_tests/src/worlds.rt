@@ -3,7 +3,7 @@
 use crate::checks::{holds, same};
 use dcsctp_testing::TwoWords;
 use dcsctp_world::socket::{DcSctpSocket, Options, SocketState};
-use dcsctp_world::{Act, Call, Reply, Side, Step, World};
+use dcsctp_world::{Act, Call, Outside, Reply, Side, Step, World};
 use rand_core::Rng;
 use std::alloc::Global;
 use std::process::Abort;
@@ -26,9 +26,8 @@ const HANDSHAKE_ACTS: [Act; 5] = [
     Act::Step(Step::Deliver(Side::A, 2)),
 ];
 
-// Two sockets, of which A draws tag 7 and first TSN 100, and B tag 9 and first TSN 200.
-pub fn new_world(rt: &impl Abort, alloc: Global) -> World<TwoWords> {
-    let options = Options::default();
+// Two closed sockets with these options, of which A draws tag 7 and first TSN 100, and B tag 9 and first TSN 200.
+fn world_with(rt: &impl Abort, alloc: Global, options: &Options) -> World<TwoWords> {
     assert!(rt; options.is_valid(), "the options are not valid");
     let rng_a = TwoWords {
         first: 100,
@@ -38,7 +37,26 @@ pub fn new_world(rt: &impl Abort, alloc: Global) -> World<TwoWords> {
         first: 200,
         second: 8,
     };
-    World::new(alloc, &options, &options, rng_a, rng_b).expect(rt, "no world")
+    World::new(alloc, options, options, rng_a, rng_b).expect(rt, "no world")
+}
+
+// Such sockets with default options.
+pub fn new_world(rt: &impl Abort, alloc: Global) -> World<TwoWords> {
+    world_with(rt, alloc, &Options::default())
+}
+
+// Such sockets, of which each offers to accept packets without a checksum.
+pub fn world_without_checksums(rt: &impl Abort, alloc: Global) -> World<TwoWords> {
+    let mut options = Options::default();
+    options.zero_checksum_alternate_error_detection_method.0 = 1;
+    world_with(rt, alloc, &options)
+}
+
+// Such sockets, which look at no checksum.
+pub fn unchecked_world(rt: &impl Abort, alloc: Global) -> World<TwoWords> {
+    let mut options = Options::default();
+    options.disable_checksum_verification = true;
+    world_with(rt, alloc, &options)
 }
 
 // Such a world, after the handshake.
@@ -46,6 +64,26 @@ pub fn world_behind_handshake(rt: &impl Abort, alloc: Global) -> World<TwoWords>
     let mut world = new_world(rt, alloc);
     world.run(&HANDSHAKE).expect(rt, "the handshake failed");
     world
+}
+
+// The other side.
+pub fn other(side: Side) -> Side {
+    match side {
+        Side::A => Side::B,
+        Side::B => Side::A,
+    }
+}
+
+// These bytes are handed to this side from outside. That is always accepted.
+pub fn comes_in(
+    rt: &impl Abort,
+    name: &str,
+    world: &mut World<TwoWords>,
+    to: Side,
+    bytes: Vec<u8>,
+) {
+    let reply = world.outside(Outside::Input(to, bytes));
+    same(rt, name, reply.expect(rt, name), Reply::Done);
 }
 
 // Both sides must be connected.

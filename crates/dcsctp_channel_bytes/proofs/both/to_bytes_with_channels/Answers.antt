@@ -1,5 +1,5 @@
-use Rattle.dcsctp_channel_handover.specs.Handover.{channels_part}
-use Rattle.dcsctp_channel_handover.specs.channel_calls.api.types.Snapshot.{snapshot}
+use Rattle.dcsctp_channel_calls.specs.Handover.{channels_part}
+use Rattle.dcsctp_channel_calls.specs.api.types.Snapshot.{snapshot}
 use Rattle.dcsctp_channel_bytes.proofs.ChannelLaws.{are_read_back}
 use Rattle.dcsctp_channel_bytes.proofs.both.to_bytes_with_channels.Goals as goal
 

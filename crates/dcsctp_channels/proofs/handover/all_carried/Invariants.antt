@@ -1,5 +1,5 @@
 use Rattle.std.proofs.Common.{◌≡◌, ◌++◌, map}
-use Rattle.dcsctp_channel_handover.specs.Handover.{carried_channel}
+use Rattle.dcsctp_channel_calls.specs.Handover.{carried_channel}
 use Rattle.dcsctp_channels.proofs.handover.all_carried.Given as goal
 
 -- The channels so far, and those that are left, are all.

@@ -1,5 +1,5 @@
 use Rattle.std.proofs.Common.{◌≡◌, drop}
-use Rattle.dcsctp_channel_handover.specs.Handover.{places_beside, no_places}
+use Rattle.dcsctp_channel_calls.specs.Handover.{places_beside, no_places}
 use Rattle.dcsctp_channels.specs.Layer.{places_of}
 use Rattle.dcsctp_channels.proofs.handover.all_placed.Given as goal
 

@@ -1,6 +1,6 @@
 use Rattle.std.proofs.Common.{◌≡◌}
 use Rattle.std.specs.List.{list_all}
-use Rattle.dcsctp_channel_handover.specs.Handover.{has_settled}
+use Rattle.dcsctp_channel_calls.specs.Handover.{has_settled}
 use Rattle.dcsctp_channels.proofs.handover.all_settled.Given as goal
 
 -- Those that are left decide.

@@ -1,2 +1,0 @@
-pub use Rattle.dcsctp_channel_calls.specs as channel_calls
-pub mod Handover

@@ -1,8 +1,0 @@
-use Rattle.dcsctp_channel_handover_laws.proofs.GoingOn.{are_gone, go_on}
-use Rattle.dcsctp_channel_handover_laws.proofs.laws.channels_go_on.Goals as goal
-
-pub returns-clause-gone : goal.returns-clause-gone
-returns-clause-gone c = are_gone
-
-pub returns-clause-restored : goal.returns-clause-restored
-returns-clause-restored c = go_on

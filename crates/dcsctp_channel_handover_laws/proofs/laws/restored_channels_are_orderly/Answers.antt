@@ -1,5 +1,0 @@
-use Rattle.dcsctp_channel_handover_laws.proofs.Restoring.{restored_are_orderly}
-use Rattle.dcsctp_channel_handover_laws.proofs.laws.restored_channels_are_orderly.Goals as goal
-
-pub returns : goal.returns
-returns c = restored_are_orderly

@@ -1,5 +1,0 @@
-use Rattle.dcsctp_delivery_shown.proofs.Delivery.{deliver}
-use Rattle.dcsctp_delivery_shown.proofs.laws.users_read_what_was_sent.Goals as goal
-
-pub returns : goal.returns
-returns c = deliver c.sockets_deliver.ensures c.shown_tags_suffice.ensures

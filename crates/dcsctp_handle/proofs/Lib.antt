@@ -1,2 +1,0 @@
-mod SlotRows
-mod TwoWords

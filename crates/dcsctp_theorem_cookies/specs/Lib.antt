@@ -1,3 +1,0 @@
-pub mod Ages
-pub mod Cookies
-pub mod Laws
