@@ -3,8 +3,9 @@
 //! A value is a number within the range of its field, `true` or `false`, or `none` if a field may have no
 //! value; a time is a number of milliseconds.
 
-ghost use Rattle.std.specs.Prelude.{◌≡◌};
-ghost use Rattle.std.specs.Bool.{OnFalse};
+ghost use Rattle.std.specs.Prelude.{◌-◌, ◌^◌};
+ghost use Rattle.dcsctp_script_lines.specs.Number.{ReadsLimit};
+ghost use Rattle.dcsctp_script_lines.specs.Settings.{ReadsTimeLimit, SetsCount, SetsFlag, SetsIfPossible, SetsLimit, SetsMethod, SetsOption, SetsSaidCount, SetsSaidFlag, SetsSaidSize, SetsSaidTime, SetsSize, SetsTime};
 
 use crate::numbers::{limit, number, signed_number};
 use dcsctp_types::{Options, ZeroChecksumAlternateErrorDetectionMethod};
@@ -13,26 +14,39 @@ use std::time::Duration;
 /// Sets the option of this name to this value. False, and nothing is set, if there is no such option or the
 /// value isn't one of its type. Whether the options are valid then isn't looked at.
 pub fn set_option(options: &mut Options, name: &str, value: &str) -> bool
-    ensures refused { OnFalse result (options.new ≡ options.old) }
+    ensures { SetsIfPossible (SetsOption name.now value.now) options.old result options.new }
 {
-    set_count(options, name, value)
-        || set_size(options, name, value)
-        || set_time(options, name, value)
-        || set_limit(options, name, value)
-        || set_flag(options, name, value)
+    if set_count(options, name, value) {
+        return true;
+    }
+    if set_method(options, name, value) {
+        return true;
+    }
+    if set_size(options, name, value) {
+        return true;
+    }
+    if set_time(options, name, value) {
+        return true;
+    }
+    if set_limit(options, name, value) {
+        return true;
+    }
+    set_flag(options, name, value)
 }
 
-// Ports, counts of streams, the priority and the method.
+// Ports, counts of streams, and the priority.
 fn set_count(options: &mut Options, name: &str, value: &str) -> bool
-    ensures refused { OnFalse result (options.new ≡ options.old) }
+    ensures { SetsIfPossible (SetsSaidCount name.now value.now) options.old result options.new }
 {
-    if name == "zero_checksum_alternate_error_detection_method" {
-        return set_method(options, value);
+    match number(value, 0xffff) {
+        Some(count) => set_named_count(options, name, count as u16),
+        None => false,
     }
-    let Some(count) = number(value, 0xffff) else {
-        return false;
-    };
-    let count = count as u16;
+}
+
+fn set_named_count(options: &mut Options, name: &str, count: u16) -> bool
+    ensures { SetsIfPossible (λ old. SetsCount count old name.now) options.old result options.new }
+{
     match name {
         "local_port" => options.local_port = count,
         "remote_port" => options.remote_port = count,
@@ -45,25 +59,34 @@ fn set_count(options: &mut Options, name: &str, value: &str) -> bool
 }
 
 // The alternate error detection method.
-fn set_method(options: &mut Options, value: &str) -> bool
-    ensures refused { OnFalse result (options.new ≡ options.old) }
+fn set_method(options: &mut Options, name: &str, value: &str) -> bool
+    ensures { SetsIfPossible (λ old. SetsMethod value.now old name.now) options.old result
+        options.new }
 {
-    let Some(method) = number(value, 0xffff_ffff) else {
-        return false;
-    };
-    options.zero_checksum_alternate_error_detection_method =
-        ZeroChecksumAlternateErrorDetectionMethod(method as u32);
+    match name {
+        "zero_checksum_alternate_error_detection_method" => match number(value, 0xffff_ffff) {
+            Some(method) => options.zero_checksum_alternate_error_detection_method =
+                ZeroChecksumAlternateErrorDetectionMethod(method as u32),
+            None => return false,
+        },
+        _ => return false,
+    }
     true
 }
 
 // Sizes, thresholds and congestion windows.
 fn set_size(options: &mut Options, name: &str, value: &str) -> bool
-    ensures refused { OnFalse result (options.new ≡ options.old) }
+    ensures { SetsIfPossible (SetsSaidSize name.now value.now) options.old result options.new }
 {
-    let Some(size) = number(value, u64::MAX) else {
-        return false;
-    };
-    let size = size as usize;
+    match number(value, u64::MAX) {
+        Some(size) => set_named_size(options, name, size as usize),
+        None => false,
+    }
+}
+
+fn set_named_size(options: &mut Options, name: &str, size: usize) -> bool
+    ensures { SetsIfPossible (λ old. SetsSize size old name.now) options.old result options.new }
+{
     match name {
         "mtu" => options.mtu = size,
         "max_message_size" => options.max_message_size = size,
@@ -84,12 +107,17 @@ fn set_size(options: &mut Options, name: &str, value: &str) -> bool
 
 // Times that are always there.
 fn set_time(options: &mut Options, name: &str, value: &str) -> bool
-    ensures refused { OnFalse result (options.new ≡ options.old) }
+    ensures { SetsIfPossible (SetsSaidTime name.now value.now) options.old result options.new }
 {
-    let Some(millis) = number(value, u64::MAX) else {
-        return false;
-    };
-    let time = Duration::from_millis(millis);
+    match number(value, u64::MAX) {
+        Some(millis) => set_named_time(options, name, Duration::from_millis(millis)),
+        None => false,
+    }
+}
+
+fn set_named_time(options: &mut Options, name: &str, time: Duration) -> bool
+    ensures { SetsIfPossible (λ old. SetsTime time old name.now) options.old result options.new }
+{
     match name {
         "rtt_max" => options.rtt_max = time,
         "rto_initial" => options.rto_initial = time,
@@ -109,28 +137,24 @@ fn set_time(options: &mut Options, name: &str, value: &str) -> bool
 
 // What may be without a limit, and the burst, which may be negative.
 fn set_limit(options: &mut Options, name: &str, value: &str) -> bool
-    ensures refused { OnFalse result (options.new ≡ options.old) }
+    ensures { SetsIfPossible (λ old. SetsLimit value.now old name.now) options.old result
+        options.new }
 {
     match name {
         "max_burst" => match signed_number(value) {
             Some(burst) => options.max_burst = burst,
             None => return false,
         },
-        "max_timer_backoff_duration" => match limit(value, u64::MAX) {
-            Some(Some(millis)) => options.max_timer_backoff_duration = Some(Duration::from_millis(
-                millis,
-            )),
-            Some(None) => options.max_timer_backoff_duration = None,
+        "max_timer_backoff_duration" => match time_limit(value) {
+            Some(longest) => options.max_timer_backoff_duration = longest,
             None => return false,
         },
-        "max_retransmissions" => match limit(value, 0xffff_ffff) {
-            Some(Some(count)) => options.max_retransmissions = Some(count as u32),
-            Some(None) => options.max_retransmissions = None,
+        "max_retransmissions" => match count_limit(value) {
+            Some(most) => options.max_retransmissions = most,
             None => return false,
         },
-        "max_init_retransmits" => match limit(value, 0xffff_ffff) {
-            Some(Some(count)) => options.max_init_retransmits = Some(count as u32),
-            Some(None) => options.max_init_retransmits = None,
+        "max_init_retransmits" => match count_limit(value) {
+            Some(most) => options.max_init_retransmits = most,
             None => return false,
         },
         _ => return false,
@@ -138,15 +162,42 @@ fn set_limit(options: &mut Options, name: &str, value: &str) -> bool
     true
 }
 
+// A time up to which a timer backs off, or no limit.
+fn time_limit(value: &str) -> Option<Option<Duration>>
+    ensures { ReadsTimeLimit value.now result }
+{
+    match limit(value, u64::MAX) {
+        Some(Some(millis)) => Some(Some(Duration::from_millis(millis))),
+        Some(None) => Some(None),
+        None => None,
+    }
+}
+
+// A number of 32 bits, or no limit.
+fn count_limit(value: &str) -> Option<Option<u32>>
+    ensures { ReadsLimit value.now (2 ^ 32 - 1) result }
+{
+    match limit(value, 0xffff_ffff) {
+        Some(Some(count)) => Some(Some(count as u32)),
+        Some(None) => Some(None),
+        None => None,
+    }
+}
+
 // What is true or false.
 fn set_flag(options: &mut Options, name: &str, value: &str) -> bool
-    ensures refused { OnFalse result (options.new ≡ options.old) }
+    ensures { SetsIfPossible (SetsSaidFlag name.now value.now) options.old result options.new }
 {
-    let flag = match value {
-        "true" => true,
-        "false" => false,
-        _ => return false,
-    };
+    match value {
+        "true" => set_named_flag(options, name, true),
+        "false" => set_named_flag(options, name, false),
+        _ => false,
+    }
+}
+
+fn set_named_flag(options: &mut Options, name: &str, flag: bool) -> bool
+    ensures { SetsIfPossible (λ old. SetsFlag flag old name.now) options.old result options.new }
+{
     match name {
         "enable_partial_reliability" => options.enable_partial_reliability = flag,
         "enable_message_interleaving" => options.enable_message_interleaving = flag,
