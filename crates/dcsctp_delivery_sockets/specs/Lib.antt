@@ -4,5 +4,6 @@ pub mod Acts
 pub mod UserMessages
 pub mod Ordered
 pub mod Delivery
+pub mod Retransmitting
 pub mod Shown
 pub mod ShownDelivery

@@ -8,4 +8,4 @@ mod laws;
 mod shown_laws;
 
 pub use laws::{acts_keep_ends, echoes_go_to_makers, packets_keep_ends, sockets_deliver};
-pub use shown_laws::{shown_tags_suffice, users_read_what_was_sent};
+pub use shown_laws::{shown_tags_suffice, sockets_run_t3, users_read_what_was_sent};

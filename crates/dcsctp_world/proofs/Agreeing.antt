@@ -13,6 +13,7 @@ use Rattle.dcsctp_core.specs.spec.endpoint.Endpoint.{Endpoint}
 use Rattle.dcsctp_core.specs.spec.endpoint.CallTurns.{Transition, events_of}
 use Rattle.dcsctp_spec_runs.specs.Sockets.{PerformedAct, Both, of_side, turns_after, acts_of}
 use Rattle.dcsctp_theorem_sockets.specs.Deadlines.{RunsT1}
+use Rattle.dcsctp_delivery_sockets.specs.Retransmitting.{RunsT3, SocketsRunT3}
 use Rattle.dcsctp_theorem_sockets.specs.Handshake.{ConnectThroughout, handshake_acts, connections_of_events, IsConnected, AreConnected, FittingSocketsConnect}
 use Rattle.dcsctp_theorem_sockets.specs.Laws.{SocketLaws}
 use Rattle.dcsctp_theorem_sockets.specs.OneSocket.{IsWithinLimit}
@@ -94,8 +95,8 @@ keeps_promises law options world run side =
       bursts = law.bursts options run.steps run.run side;
     }
 
-pub world_keeps : {R : Type 0} → SocketLaws → CookieLaws → UsersReadWhatWasSent → ProgressLaws → (world : WorldView (Recording R)) → GoesWell world → Promises world
-world_keeps law cookies delivery progress world well =
+pub world_keeps : {R : Type 0} → SocketLaws → CookieLaws → UsersReadWhatWasSent → SocketsRunT3 → ProgressLaws → (world : WorldView (Recording R)) → GoesWell world → Promises world
+world_keeps law cookies delivery timers progress world well =
     let options : Both Options = options_of world in
     let run : IsRun options world = well.is_run in
     record {
@@ -109,6 +110,8 @@ world_keeps law cookies delivery progress world well =
       connect = λ fit side. law.connect options side run.steps run.usable fit run.run;
       handshake = handshake_connects law.connect options world run;
       connects = λ those shown fit. progress.throughout those shown.steps shown.usable fit shown.run;
+      t3 = λ honest fresh side.
+          subst (λ (e : Endpoint). RunsT3 e.queues.transfer) (sym (run.sides side).endpoint) (timers options run.steps run.usable run.run honest fresh side);
       quiet = law.quiet options run.steps run.run;
       each = keeps_promises law options world run;
     }

@@ -8,8 +8,9 @@ use Rattle.dcsctp_core.specs.spec.endpoint.Endpoint.{fresh_endpoint}
 use Rattle.dcsctp_core.specs.spec.endpoint.CallTurns.{Transition, AlongTurns}
 use Rattle.dcsctp_spec_runs.specs.Past.{Each, InPlace}
 use Rattle.dcsctp_spec_runs.specs.Sockets.{of_side, turns_after, acts_of}
-use Rattle.dcsctp_theorem_sockets.specs.Agreement.{AgreeThroughout, recorded_past}
+use Rattle.dcsctp_theorem_sockets.specs.Agreement.{AgreeThroughout, AreFresh, recorded_past}
 use Rattle.dcsctp_theorem_sockets.specs.Deadlines.{RunsT1}
+use Rattle.dcsctp_delivery_sockets.specs.Retransmitting.{RunsT3}
 use Rattle.dcsctp_theorem_sockets.specs.Handshake.{AreFitting, ConnectThroughout}
 use Rattle.dcsctp_theorem_sockets.specs.OneSocket.{EndsByAnswer, ReportsEnd, IsWithinLimit, TurnKeepsBurst, TimeIsQuiet}
 use Rattle.dcsctp_theorem_sockets.specs.Telling.{ReportsRecorded, HasRecordedAssociation, AreNewRecords}
@@ -75,6 +76,8 @@ pub record Promises {R : Type 0} (world : WorldView (Recording R)) : Type 0 wher
   -- cookie or has it, neither sent a message, and T1 may restart: however many rounds are lost, one that isn't connects sockets that
   -- fit each other. One that is lost in part does too, or costs a restart. In an honest run the cookie is the other's.
   pub connects : ShownRoundsConnect world
+  -- In a run without acts from outside, in which no side drew a tag twice, T3 runs at a socket whose data isn't acknowledged.
+  pub t3 : AreHonest (acts_of run.steps) → AreFresh (turns_after run.steps) → (side : Side) → RunsT3 (of_side side world.sides).socket.view.endpoint.queues.transfer
   -- Time before the next deadline moves the clock alone, but for a socket that awaits a COOKIE ACK.
   pub quiet : TimeIsQuiet (options_of world) run.steps
   -- What each socket keeps by itself.

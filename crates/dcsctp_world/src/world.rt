@@ -5,7 +5,7 @@ use crate::fits::act_fits;
 use crate::recorded::Recorded;
 use crate::watched_socket::WatchedSocket;
 use dcsctp_core::types::{Act, Outside, Side, Step};
-use dcsctp_delivery_sockets::users_read_what_was_sent;
+use dcsctp_delivery_sockets::{sockets_run_t3, users_read_what_was_sent};
 use dcsctp_socket::{Association, Message, Options, Pair, Socket, SocketEvent, SocketFault, Word};
 use dcsctp_spec_runs::{options_fit, sockets_stay_sound};
 use dcsctp_theorem_progress::progress_laws;
@@ -146,6 +146,7 @@ impl<R: Rng + Drop> World<R> {
         socket_laws();
         cookie_laws();
         users_read_what_was_sent();
+        sockets_run_t3();
         progress_laws();
         let a = WatchedSocket::new(alloc, "a", a, Recorded::new(alloc, rng_a))?;
         let b = WatchedSocket::new(alloc, "b", b, Recorded::new(alloc, rng_b))?;
@@ -168,6 +169,7 @@ impl<R: Rng + Drop> World<R> {
         socket_laws();
         cookie_laws();
         users_read_what_was_sent();
+        sockets_run_t3();
         progress_laws();
         sockets_stay_sound();
         restored_sockets_begin_nothing();
@@ -289,6 +291,7 @@ impl<R: Rng + Drop> World<R> {
         socket_laws();
         cookie_laws();
         users_read_what_was_sent();
+        sockets_run_t3();
         progress_laws();
         for step in steps {
             self.apply(step)?;

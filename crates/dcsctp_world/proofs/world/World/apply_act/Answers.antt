@@ -21,6 +21,7 @@ returns-in-Ok g c =
       sockets = c.socket_laws.ensures;
       cookies = c.cookie_laws.ensures;
       delivery = c.users_read_what_was_sent.ensures;
+      timers = c.sockets_run_t3.ensures;
       progress = c.progress_laws.ensures;
       sound = c.sockets_stay_sound.ensures;
       restores = c.restored_sockets_begin_nothing.ensures;
